@@ -3,7 +3,7 @@
 use Rattle.std.specs.Prelude.{ℕ, List, Option, ℤ, pos, ◌-ℤ◌, if◌then◌else◌}
 use Rattle.pli_base.specs.Name.{Name}
 use Rattle.pli_base.specs.declared.syntax.Identifier.{Identifier}
-use Rattle.pli_base.specs.declared.declaration.Bounds.{Bounds}
+use Rattle.pli_base.specs.declared.declaration.WrittenBounds.{WrittenBounds}
 use Rattle.pli_base.specs.declared.declaration.InitialValue.{InitialValue}
 use Rattle.pli_base.specs.declared.declaration.Integer.{Integer}
 
@@ -30,7 +30,7 @@ pub data DescribedAttribute : Type 0 where
 
 -- what ENTRY says of a parameter
 pub record ParameterDescription : Type 0 where
-  pub dimensions : List Bounds
+  pub dimensions : List WrittenBounds
   pub attributes : List DescribedAttribute
 
 -- an attribute of an item
@@ -43,5 +43,5 @@ pub data Attribute : Type 0 where
 pub record Item : Type 0 where
   pub level : Option ℕ
   pub names : List Identifier
-  pub dimensions : List Bounds
+  pub dimensions : List WrittenBounds
   pub attributes : List Attribute

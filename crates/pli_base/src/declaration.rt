@@ -28,7 +28,7 @@ impl Integer {
 
 /// The bounds of a dimension. Where there is no lower bound, it is 1 (X3.74).
 #[derive(Clone, Copy)]
-pub struct Bounds {
+pub struct WrittenBounds {
     pub low: Option<Integer>,
     pub high: Integer,
 }
@@ -83,7 +83,7 @@ pub enum DescribedAttribute {
 /// The description of a parameter of an entry (X3.74).
 #[derive(Drop)]
 pub struct ParameterDescription {
-    pub dimensions: Vec<Bounds>,
+    pub dimensions: Vec<WrittenBounds>,
     pub attributes: Vec<DescribedAttribute>,
 }
 
@@ -102,7 +102,7 @@ pub enum Attribute {
 pub struct Item {
     pub level: Option<u32>,
     pub names: Vec<Identifier>,
-    pub dimensions: Vec<Bounds>,
+    pub dimensions: Vec<WrittenBounds>,
     pub attributes: Vec<Attribute>,
 }
 

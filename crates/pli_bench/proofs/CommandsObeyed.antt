@@ -29,7 +29,7 @@ use Rattle.pli_bench.specs.answers.Obeying.{Does, as_edit, edit_answer, end_answ
 use Rattle.pli_bench.specs.Commands.{Command, command_of}
 use Rattle.pli_bench.specs.Exchanges.{exchange, span}
 use Rattle.pli_bench.specs.Runs.{AnsweredOne, next_after}
-use Rattle.pli_bench.specs.declared.serving.Next.{Next}
+use Rattle.pli_bench.specs.declared.serving.AfterCommand.{AfterCommand}
 use Rattle.pli_bench.specs.declared.serving.WriteFailed.{WriteFailed}
 use Rattle.pli_machine_step.proofs.OutcomesAreOne.{one_outcome}
 use Rattle.pli_bench.specs.Session.{State, Lists, numbered_lines, EditsInMemory, Edits, ending_line, refused, okay, no_memory, not_built, Builds, is_made, Runs, run_answer, build_answer, Breaks, Obeys, Step, quits, is_quit}
@@ -138,7 +138,7 @@ module _ (s : State) (n : ℕ) (m : Module) (stands : s.stands ≡ true) (built 
       (means_at.outcome.output ++ end_answer means_at.outcome.column means_at.outcome.ending, runs_with _ (inl (sym (append_assoc means_at.outcome.output _ _))), p)
 
 -- a command that does not quit
-pub answered_one : {A E : Type 0} (s t : State) (line : List ℕ) (command : Option Command) (a b : Option (List ℕ)) (given : Result A E) (r : Result Next WriteFailed)
+pub answered_one : {A E : Type 0} (s t : State) (line : List ℕ) (command : Option Command) (a b : Option (List ℕ)) (given : Result A E) (r : Result AfterCommand WriteFailed)
     → command_of line ≡ command → is_quit command ≡ false → r ≡ gone given → Does (Obeys command) s t a b given → AnsweredOne Step quits line (span s t) (span a b) r
 answered_one s t line command a b (Ok x) r e q g d =
     subst (AnsweredOne Step quits line (span s t) (span a b)) (sym g) (d.0, subst (λ k. Obeys k (exchange s d.0 t)) (sym e) d.1, d.2, ap next_after (sym (ap is_quit e ∙ q)))

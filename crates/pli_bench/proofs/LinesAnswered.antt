@@ -12,8 +12,8 @@ use Rattle.pli_bench.specs.Lines.{is_line_feed, without_return, complete_from, p
 use Rattle.pli_bench.specs.Exchanges.{Exchange, exchange, span}
 use Rattle.pli_bench.specs.Runs.{Answers, nothing, quitting, going, Broken, Answered, QuitsWithin, Stops, next_after, IsInput}
 use Rattle.pli_bench.specs.answers.Going.{Going}
-use Rattle.pli_bench.specs.declared.serving.Next.{Next}
-use Rattle.pli_bench.specs.declared.serving.Next.TheVariants.{Go, Quit, End}
+use Rattle.pli_bench.specs.declared.serving.AfterCommand.{AfterCommand}
+use Rattle.pli_bench.specs.declared.serving.AfterCommand.TheVariants.{Go, Quit, End}
 use Rattle.pli_bench.specs.declared.serving.WriteFailed.{WriteFailed}
 use Rattle.pli_bench.proofs.LinesOfBytes.{length-without_return, complete_from-append, pending_from-append, complete_from-line_feed, pending_from-line_feed, complete_from-other, pending_from-other, input_lines-append}
 
@@ -45,7 +45,7 @@ alike_ended kept line ended is ended_is = elim (kept_cases kept line is) [
 
 module _ {S : Type 0} (Step : List ℕ → Exchange S → Type 0) (quits : List ℕ → Bool) where
   -- lines after lines that do not quit
-  pub Answers-then : (s t u : S) (xs ys : List (List ℕ)) (a b : List ℕ) (next : Next) → Answers Step quits s xs a t End → Answers Step quits t ys b u next → Answers Step quits s (xs ++ ys) (a ++ b) u next
+  pub Answers-then : (s t u : S) (xs ys : List (List ℕ)) (a b : List ℕ) (next : AfterCommand) → Answers Step quits s xs a t End → Answers Step quits t ys b u next → Answers Step quits s (xs ++ ys) (a ++ b) u next
   Answers-then _ _ u _ ys _ b next (nothing s) rest = rest
   Answers-then _ _ u _ ys _ b next (going s t v line lines answer answers _ goes step more) rest =
       subst (λ l. Answers Step quits s (line ∷ (lines ++ ys)) l u next) (sym (append_assoc answer answers b))
@@ -66,7 +66,7 @@ module _ {S : Type 0} (Step : List ℕ → Exchange S → Type 0) (quits : List 
   Answers-one s t line answer goes step = subst (λ l. Answers Step quits s (line ∷ []) l t End) (append-nil answer) (going s t t line [] answer [] End goes step (nothing t))
 
   -- answered lines before others
-  pub Answered-then : (s t u : S) (xs ys : List (List ℕ)) (answers : List ℕ) (a b d : Option (List ℕ)) (r : Result Next WriteFailed)
+  pub Answered-then : (s t u : S) (xs ys : List (List ℕ)) (answers : List ℕ) (a b d : Option (List ℕ)) (r : Result AfterCommand WriteFailed)
       → Answers Step quits s xs answers t End → Appends a b answers → Answered Step quits ys (span t u) (span b d) r → Answered Step quits (xs ++ ys) (span s u) (span a d) r
   Answered-then s t u xs ys answers a b d (Ok next) front written rest =
       (answers ++ rest.0, Answers-then s t u xs ys answers rest.0 next front rest.1, Appends-then a b d answers rest.0 written rest.2)
@@ -269,7 +269,7 @@ input_ended (Some xs) (Some ys) taken h e = h ∙ ap (λ l. taken ++ l) e ∙ ap
 
 module _ {S : Type 0} (Step : List ℕ → Exchange S → Type 0) (quits : List ℕ → Bool) where
   -- the lines of all of the input begin with those among which the answers stopped
-  pub served_part : (s t u : S) (taken kept piece : List ℕ) (a b d left between left_after : Option (List ℕ)) (r : Result Next WriteFailed)
+  pub served_part : (s t u : S) (taken kept piece : List ℕ) (a b d left between left_after : Option (List ℕ)) (r : Result AfterCommand WriteFailed)
       → ((xs ys : List (List ℕ)) → Answered Step quits xs (span s u) (span a d) r → Answered Step quits (xs ++ ys) (span s u) (span a d) r)
       → Going Step quits s t [] taken kept a b → Consumes left between taken → Consumes between left_after piece → Answered Step quits (complete_from (pending_line taken) piece) (span t u) (span b d) r
       → (input : List ℕ) × IsInput left input × Answered Step quits (input_lines input) (span s u) (span a d) r
@@ -283,7 +283,7 @@ module _ {S : Type 0} (Step : List ℕ → Exchange S → Type 0) (quits : List 
       )
 
   -- at the end of the input the last line is answered
-  pub served_end : (s t u : S) (taken kept : List ℕ) (a b d left between left_after : Option (List ℕ)) (r : Result Next WriteFailed)
+  pub served_end : (s t u : S) (taken kept : List ℕ) (a b d left between left_after : Option (List ℕ)) (r : Result AfterCommand WriteFailed)
       → Going Step quits s t [] taken kept a b → Consumes left between taken → Consumes between left_after [] → IsAtEnd left_after → Answered Step quits (last_line (pending_line taken)) (span t u) (span b d) r
       → (input : List ℕ) × IsInput left input × Answered Step quits (input_lines input) (span s u) (span a d) r
   served_end s t u taken kept a b d left between left_after r so_far before behind ended run = (
@@ -309,13 +309,13 @@ QuitsWithin-then quits limit size taken piece within go_on q = record {
 }
 
 -- at the end of the input reading stops, whatever the last line is
-pub stops_at_end : (quits : List ℕ → Bool) (piece : ℕ) (taken : List ℕ) (left : Option (List ℕ)) (next : Next) → IsAtEnd left → Stops quits piece taken left (Ok next)
+pub stops_at_end : (quits : List ℕ → Bool) (piece : ℕ) (taken : List ℕ) (left : Option (List ℕ)) (next : AfterCommand) → IsAtEnd left → Stops quits piece taken left (Ok next)
 stops_at_end quits piece taken left Go end = tt
 stops_at_end quits piece taken left Quit end = inr end
 stops_at_end quits piece taken left End end = end
 
 -- what does not quit, and is not in the middle, has come to the end
-pub end_from : (next : Next) → (next ≡ Quit → ⊥) → (◌≡◌ {A = Result Next WriteFailed} (Ok next) (Ok Go) → ⊥) → next ≡ End
+pub end_from : (next : AfterCommand) → (next ≡ Quit → ⊥) → (◌≡◌ {A = Result AfterCommand WriteFailed} (Ok next) (Ok Go) → ⊥) → next ≡ End
 end_from Go quit go = absurd (go refl)
 end_from Quit quit go = absurd (quit refl)
 end_from End quit go = refl
@@ -325,6 +325,6 @@ pub quits_from : (is_last : Bool) → Quit ≡ next_after is_last → is_last �
 quits_from true h = refl
 quits_from false h = cc
 
-pub goes_from : (is_last : Bool) (next : Next) → next ≡ next_after is_last → (next ≡ Quit → ⊥) → is_last ≡ false
+pub goes_from : (is_last : Bool) (next : AfterCommand) → next ≡ next_after is_last → (next ≡ Quit → ⊥) → is_last ≡ false
 goes_from true next h other = absurd (other h)
 goes_from false next h other = refl

@@ -5,8 +5,8 @@ use Rattle.std.specs.Io.KnownBytes.{Appends, Consumes, IsAtEnd}
 use Rattle.pli_base.specs.Devices.{AppendsPrefix}
 use Rattle.pli_bench.specs.Exchanges.{Exchange, exchange, Span}
 use Rattle.pli_bench.specs.Lines.{complete_from, pending_from, complete_lines, input_lines}
-use Rattle.pli_bench.specs.declared.serving.Next.{Next}
-use Rattle.pli_bench.specs.declared.serving.Next.TheVariants.{Go, Quit, End}
+use Rattle.pli_bench.specs.declared.serving.AfterCommand.{AfterCommand}
+use Rattle.pli_bench.specs.declared.serving.AfterCommand.TheVariants.{Go, Quit, End}
 use Rattle.pli_bench.specs.declared.serving.WriteFailed.{WriteFailed}
 use Rattle.pli_bench.specs.declared.serving.ServeFault.{ServeFault}
 use Rattle.pli_bench.specs.declared.serving.ServeFault.TheVariants as faults
@@ -14,11 +14,11 @@ use Rattle.pli_bench.specs.declared.serving.ServeFault.TheVariants as faults
 -- how lines lead from a state over answers to another: one after another, to the end of them, or to the first
 -- that quits
 pub data Answers {S : Type 0} (Step : List ℕ → Exchange S → Type 0) (quits : List ℕ → Bool) : S
-    → List (List ℕ) → List ℕ → S → Next → Type 0 where
+    → List (List ℕ) → List ℕ → S → AfterCommand → Type 0 where
   nothing : (s : S) → Answers Step quits s [] [] s End
   quitting : (s t : S) (line : List ℕ) (lines : List (List ℕ)) (answer : List ℕ) → quits line ≡ true
       → Step line (exchange s answer t) → Answers Step quits s (line ∷ lines) answer t Quit
-  going : (s t u : S) (line : List ℕ) (lines : List (List ℕ)) (answer answers : List ℕ) (next : Next)
+  going : (s t u : S) (line : List ℕ) (lines : List (List ℕ)) (answer answers : List ℕ) (next : AfterCommand)
       → quits line ≡ false → Step line (exchange s answer t) → Answers Step quits t lines answers u next
       → Answers Step quits s (line ∷ lines) (answer ++ answers) u next
 
@@ -46,20 +46,20 @@ pub record Broken {S : Type 0} (Step : List ℕ → Exchange S → Type 0) (quit
 
 -- the lines were answered, or the writer failed
 abbrev pub Answered : {S : Type 0} → (Step : List ℕ → Exchange S → Type 0) → (quits : List ℕ → Bool)
-    → List (List ℕ) → (state : Span S) → (writer : Span Bytes) → Result Next WriteFailed → Type 0
+    → List (List ℕ) → (state : Span S) → (writer : Span Bytes) → Result AfterCommand WriteFailed → Type 0
 Answered Step quits lines state writer (Ok next) =
     (answers : List ℕ) × Answers Step quits state.before lines answers state.after next
     × Appends writer.before writer.after answers
 Answered Step quits lines state writer (Err e) = Broken Step quits lines state writer
 
 -- what follows a line
-abbrev pub next_after : Bool → Next
+abbrev pub next_after : Bool → AfterCommand
 next_after is_last = if is_last then Quit else Go
 
 -- a line was answered, and it is told whether it quits; or the writer failed after some first bytes of the
 -- answer
 abbrev pub AnsweredOne : {S : Type 0} → (Step : List ℕ → Exchange S → Type 0) → (quits : List ℕ → Bool)
-    → (line : List ℕ) → (state : Span S) → (writer : Span Bytes) → Result Next WriteFailed → Type 0
+    → (line : List ℕ) → (state : Span S) → (writer : Span Bytes) → Result AfterCommand WriteFailed → Type 0
 AnsweredOne Step quits line state writer (Ok next) =
     (answer : List ℕ) × Step line (exchange state.before answer state.after)
     × Appends writer.before writer.after answer × (next ≡ next_after (quits line))
@@ -93,7 +93,7 @@ pub record Cut {S : Type 0} (Step : List ℕ → Exchange S → Type 0) (quits :
 -- the lines of the input were answered, up to the first that quits; or a device failed, or there were too
 -- many reads for the bytes
 abbrev pub Served : {S : Type 0} → (Step : List ℕ → Exchange S → Type 0) → (quits : List ℕ → Bool)
-    → Service S → Result Next ServeFault → Type 0
+    → Service S → Result AfterCommand ServeFault → Type 0
 Served Step quits service (Ok next) =
     (input : List ℕ) × IsInput service.reader.before input
     × Answered Step quits (input_lines input) service.state service.writer (Ok next)
@@ -125,7 +125,7 @@ pub record QuitsWithin (quits : List ℕ → Bool) (limit : ℕ) (begun bytes : 
 -- where reading stopped: at the end nothing is left, and less than a piece was taken behind the line that
 -- quits, unless that was the last line and no line feed ended it
 abbrev pub Stops : (quits : List ℕ → Bool) → (piece : ℕ) → (taken : List ℕ) → (left : Option (List ℕ))
-    → Result Next ServeFault → Type 0
+    → Result AfterCommand ServeFault → Type 0
 Stops quits piece taken left (Ok Go) = Unit {0}
 Stops quits piece taken left (Ok Quit) = QuitsWithin quits piece [] taken ⊎ IsAtEnd left
 Stops quits piece taken left (Ok End) = IsAtEnd left
@@ -133,7 +133,7 @@ Stops quits piece taken left (Err e) = Unit {0}
 
 -- what was taken of the reader: at most so many pieces, and no more once it was known that the commands end
 pub record Takes {S : Type 0} (quits : List ℕ → Bool) (piece : ℕ) (service : Service S)
-    (result : Result Next ServeFault) : Type 0 where
+    (result : Result AfterCommand ServeFault) : Type 0 where
   pub taken : List ℕ
   pub consumed : Consumes service.reader.before service.reader.after taken
   pub few : length taken ≤ service.reads * piece
@@ -144,7 +144,7 @@ abbrev pub Marked : {A E : Type 0} → Bool → Bool → Result A E → Type 0
 Marked old new result = MatchResult result (λ _. new ≡ old) (λ _. new ≡ true)
 
 -- a fault of a device is told only where its mark is set; where the commands ended, the reader's is not
-abbrev pub Blames : Result Next ServeFault → (reader writer : Bool) → Type 0
+abbrev pub Blames : Result AfterCommand ServeFault → (reader writer : Bool) → Type 0
 Blames (Ok next) reader writer = reader ≡ false
 Blames (Err faults.ReadFailed) reader writer = reader ≡ true
 Blames (Err faults.WriteFailed) reader writer = writer ≡ true

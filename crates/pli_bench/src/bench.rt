@@ -13,7 +13,7 @@ use crate::build::{Built, build};
 use crate::command::{Command, read_command};
 use crate::dumping::put_dump;
 use crate::listing::{put_lines, put_members};
-use crate::serving::{Interpreter, Next, ServeFault, WriteFailed, serve};
+use crate::serving::{AfterCommand, Interpreter, ServeFault, WriteFailed, serve};
 use crate::stored::StoredModule;
 use pli_base::{Failed, Name, Sink, Source};
 use pli_code::Ran;
@@ -71,7 +71,11 @@ impl Bench {
 
     /// Answers the command on a line, which has no line end. A line of more than 200 bytes is no command. All of the
     /// answer is put before the call ends.
-    pub fn command<W: Sink>(&mut self, line: &[u8], writer: &mut W) -> Result<Next, WriteFailed>
+    pub fn command<W: Sink>(
+        &mut self,
+        line: &[u8],
+        writer: &mut W,
+    ) -> Result<AfterCommand, WriteFailed>
         ensures answered { AnsweredOne Step quits line.now (span self.old self.new) (span (W.contents writer.old) (W.contents writer.new)) result }
         ensures mark { Marked (W.failed writer.old) (W.failed writer.new) result }
     {
@@ -106,7 +110,7 @@ impl Bench {
             Some(Command::Dump) => going_on(self.dump(writer)),
             Some(Command::Run(steps)) => going_on(self.execute(steps, writer)),
             Some(Command::Quit) => match put_parts(writer, &[b"OK\n"]) {
-                Ok(()) => Ok(Next::Quit),
+                Ok(()) => Ok(AfterCommand::Quit),
                 Err(Failed) => Err(WriteFailed),
             },
         }
@@ -118,7 +122,7 @@ impl Bench {
         reader: &mut R,
         writer: &mut W,
         reads: u64,
-    ) -> Result<Next, ServeFault>
+    ) -> Result<AfterCommand, ServeFault>
         ensures served { Served Step quits (record {
           state = span self.old self.new;
           reader = span (R.remaining reader.old) (R.remaining reader.new);
@@ -278,7 +282,11 @@ impl Interpreter for Bench {
 
     ghost quits = { quits };
 
-    fn command<W: Sink>(&mut self, line: &[u8], writer: &mut W) -> Result<Next, WriteFailed> {
+    fn command<W: Sink>(
+        &mut self,
+        line: &[u8],
+        writer: &mut W,
+    ) -> Result<AfterCommand, WriteFailed> {
         Bench::command(self, line, writer)
     }
 
@@ -288,11 +296,11 @@ impl Interpreter for Bench {
 }
 
 /// What a command that was answered, or not, tells the session.
-fn going_on(answered: Result<(), Failed>) -> Result<Next, WriteFailed>
+fn going_on(answered: Result<(), Failed>) -> Result<AfterCommand, WriteFailed>
     ensures { result ≡ gone answered }
 {
     match answered {
-        Ok(()) => Ok(Next::Go),
+        Ok(()) => Ok(AfterCommand::Go),
         Err(Failed) => Err(WriteFailed),
     }
 }

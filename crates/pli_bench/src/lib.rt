@@ -14,4 +14,4 @@ mod serving;
 mod stored;
 
 pub use bench::Bench;
-pub use serving::{Next, ServeFault, WriteFailed};
+pub use serving::{AfterCommand, ServeFault, WriteFailed};

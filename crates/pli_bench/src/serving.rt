@@ -5,7 +5,7 @@ ghost use Rattle.pli_bench.specs.answers.Kept.{kept_limit};
 ghost use Rattle.pli_bench.specs.Exchanges.{Exchange, exchange, span};
 ghost use Rattle.pli_bench.specs.Lines.{without_return, complete_from, pending_from, last_line};
 ghost use Rattle.pli_bench.specs.Runs.{AnsweredOne, Answered, Served, QuitsWithin, Takes, Marked, Blames, piece_limit};
-ghost use Rattle.pli_bench.specs.declared.serving.Next.TheVariants.{Go, Quit, End};
+ghost use Rattle.pli_bench.specs.declared.serving.AfterCommand.TheVariants.{Go, Quit, End};
 ghost use Rattle.pli_bench.specs.declared.serving.ServeFault.TheVariants.{TooManyReads};
 
 use crate::pending::Pending;
@@ -17,7 +17,7 @@ const PIECE: usize = 4096;
 
 /// What follows a command, or how the commands ended.
 #[derive(Clone, Copy, Debug, PartialEq, Eq)]
-pub enum Next {
+pub enum AfterCommand {
     /// More commands may come.
     Go,
     /// The command was QUIT.
@@ -71,7 +71,7 @@ pub trait Interpreter {
     ghost quits: { List ℕ → Bool };
 
     /// Answers the command on a line, which has no line end.
-    fn command<W: Sink>(&mut self, line: &[u8], writer: &mut W) -> Result<Next, WriteFailed>
+    fn command<W: Sink>(&mut self, line: &[u8], writer: &mut W) -> Result<AfterCommand, WriteFailed>
         ensures answered { AnsweredOne steps quits line.now (span self.old self.new)
             (span (W.contents writer.old) (W.contents writer.new)) result }
         ensures mark { Marked (W.failed writer.old) (W.failed writer.new) result };
@@ -95,7 +95,7 @@ pub fn serve<T: Interpreter, R: Source, W: Sink>(
     reader: &mut R,
     writer: &mut W,
     reads: u64,
-) -> Result<Next, ServeFault>
+) -> Result<AfterCommand, ServeFault>
     ensures served { Served T.steps T.quits (record {
       state = span bench.old bench.new;
       reader = span (R.remaining reader.old) (R.remaining reader.new);
@@ -133,7 +133,7 @@ fn answer_piece<T: Interpreter, W: Sink>(
     line: &mut Pending,
     piece: &[u8],
     writer: &mut W,
-) -> Result<Next, WriteFailed>
+) -> Result<AfterCommand, WriteFailed>
     ensures answered { (begun : List ℕ) → line.old ≡ take kept_limit begun
         → Answered T.steps T.quits (complete_from begun piece.now) (span bench.old bench.new)
         (span (W.contents writer.old) (W.contents writer.new)) result }
@@ -146,15 +146,15 @@ fn answer_piece<T: Interpreter, W: Sink>(
 {
     for byte in piece {
         if *byte == b'\n' {
-            if let Next::Quit = bench.command(without_return(line.bytes()), writer)? {
-                return Ok(Next::Quit);
+            if let AfterCommand::Quit = bench.command(without_return(line.bytes()), writer)? {
+                return Ok(AfterCommand::Quit);
             }
             line.clear();
         } else {
             line.push(*byte);
         }
     }
-    Ok(Next::End)
+    Ok(AfterCommand::End)
 }
 
 /// Answers the last line, which no line feed ends, where it is not empty.
@@ -162,19 +162,19 @@ fn answer_last<T: Interpreter, W: Sink>(
     bench: &mut T,
     line: &[u8],
     writer: &mut W,
-) -> Result<Next, WriteFailed>
+) -> Result<AfterCommand, WriteFailed>
     ensures answered { (begun : List ℕ) → line.now ≡ take kept_limit begun
         → Answered T.steps T.quits (last_line begun) (span bench.old bench.new)
         (span (W.contents writer.old) (W.contents writer.new)) result }
     ensures mark { Marked (W.failed writer.old) (W.failed writer.new) result }
 {
     if line.is_empty() {
-        return Ok(Next::End);
+        return Ok(AfterCommand::End);
     }
-    if let Next::Quit = bench.command(line, writer)? {
-        return Ok(Next::Quit);
+    if let AfterCommand::Quit = bench.command(line, writer)? {
+        return Ok(AfterCommand::Quit);
     }
-    Ok(Next::End)
+    Ok(AfterCommand::End)
 }
 
 /// As `serve`, in pieces of at most as many bytes as `buffer` has.
@@ -184,7 +184,7 @@ fn serve_pieces<T: Interpreter, R: Source, W: Sink>(
     writer: &mut W,
     reads: u64,
     buffer: &mut [u8],
-) -> Result<Next, ServeFault>
+) -> Result<AfterCommand, ServeFault>
     requires { 0 < length buffer.old }
     ensures served { Served T.steps T.quits (record {
       state = span bench.old bench.new;
@@ -210,8 +210,8 @@ fn serve_pieces<T: Interpreter, R: Source, W: Sink>(
         if count == 0 {
             return Ok(answer_last(bench, line.bytes(), writer)?);
         }
-        if let Next::Quit = answer_piece(bench, &mut line, &buffer[..count], writer)? {
-            return Ok(Next::Quit);
+        if let AfterCommand::Quit = answer_piece(bench, &mut line, &buffer[..count], writer)? {
+            return Ok(AfterCommand::Quit);
         }
     }
     Err(ServeFault::TooManyReads)

@@ -3,7 +3,7 @@ use Rattle.std.proofs.Common.{◌≡◌, ℕ, Result, subst}
 use Rattle.pli_bench.specs.Exchanges.{span}
 use Rattle.pli_bench.specs.Session.{State, Step, quits, opened}
 use Rattle.pli_bench.specs.Runs.{Service, Served, Takes, Blames, piece_limit}
-use Rattle.pli_bench.specs.declared.serving.Next.{Next}
+use Rattle.pli_bench.specs.declared.serving.AfterCommand.{AfterCommand}
 use Rattle.pli_bench.specs.declared.serving.ServeFault.{ServeFault}
 use Rattle.pli_command_line.specs.Statuses.{Devices, Serves}
 
@@ -13,7 +13,7 @@ from first reads d last =
     record { state = span first last; reader = d.reader; writer = d.writer; reads = reads }
 
 -- serving what was just opened
-pub serves : (steps reads : ℕ) (first last : State) (d : Devices) (result : Result Next ServeFault)
+pub serves : (steps reads : ℕ) (first last : State) (d : Devices) (result : Result AfterCommand ServeFault)
     → first ≡ opened steps → Served Step quits (from first reads d last) result
     → Takes quits piece_limit (from first reads d last) result
     → Blames result d.reader_failed d.writer_failed → Serves steps reads d result

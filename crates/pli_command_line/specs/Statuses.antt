@@ -7,7 +7,7 @@ use Rattle.pli_base.specs.Devices.{AppendsPrefix}
 use Rattle.pli_bench.specs.Session.{State, Step, quits, opened}
 use Rattle.pli_bench.specs.Exchanges.{Span, span}
 use Rattle.pli_bench.specs.Runs.{Bytes, Service, Served, Takes, Blames, piece_limit}
-use Rattle.pli_bench.specs.declared.serving.Next.{Next}
+use Rattle.pli_bench.specs.declared.serving.AfterCommand.{AfterCommand}
 use Rattle.pli_bench.specs.declared.serving.ServeFault.{ServeFault}
 use Rattle.pli_command_line.specs.CommandLine.{Refuses, faults}
 use Rattle.pli_command_line.specs.declared.arguments.ArgumentsError.{ArgumentsError}
@@ -42,7 +42,7 @@ service_of steps reads d last =
 
 -- a new workbench, with so many steps for a bare RUN, served a reader to a writer with at most so many reads,
 -- and this came of it
-pub record Serves (steps reads : ℕ) (d : Devices) (result : Result Next ServeFault) : Type 0 where
+pub record Serves (steps reads : ℕ) (d : Devices) (result : Result AfterCommand ServeFault) : Type 0 where
   pub last : State
   pub served : Served Step quits (service_of steps reads d last) result
   pub few : Takes quits piece_limit (service_of steps reads d last) result
@@ -50,7 +50,7 @@ pub record Serves (steps reads : ℕ) (d : Devices) (result : Result Next ServeF
 
 -- status 0: all commands were answered, up to the end of the input or the first QUIT
 abbrev pub EndsServed : (steps reads : ℕ) → Devices → Type 0
-EndsServed steps reads d = (next : Next) × Serves steps reads d (Ok next)
+EndsServed steps reads d = (next : AfterCommand) × Serves steps reads d (Ok next)
 
 -- status 1: a device failed, whose mark is set, or there were too many reads
 abbrev pub BreaksOff : (steps reads : ℕ) → Devices → Type 0

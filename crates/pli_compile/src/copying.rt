@@ -18,7 +18,7 @@ use pli_value::Value;
 use std::alloc::{AllocError, Global};
 
 /// What stands in a table of code.
-trait Entry: Sized + Drop {
+trait TableEntry: Sized + Drop {
     /// What contracts see of an entry: what it says, apart from where it lies in memory.
     ghost View: { Type 0 };
 
@@ -29,7 +29,7 @@ trait Entry: Sized + Drop {
         ensures { IfOk result (λ copied. view copied ≡ view self.now) };
 }
 
-impl Entry for Description {
+impl TableEntry for Description {
     ghost View = { described.Description };
 
     ghost view = { description_view };
@@ -39,7 +39,7 @@ impl Entry for Description {
     }
 }
 
-impl Entry for Value {
+impl TableEntry for Value {
     ghost View = { values.Value };
 
     ghost view = { value_view };
@@ -49,7 +49,7 @@ impl Entry for Value {
     }
 }
 
-impl Entry for InitialScalar {
+impl TableEntry for InitialScalar {
     ghost View = { templates.InitialScalar };
 
     ghost view = { initial_view };
@@ -62,7 +62,7 @@ impl Entry for InitialScalar {
     }
 }
 
-impl Entry for CodedTemplate {
+impl TableEntry for CodedTemplate {
     ghost View = { plain.CodedTemplate };
 
     ghost view = { coded_template_view };
@@ -75,7 +75,7 @@ impl Entry for CodedTemplate {
     }
 }
 
-impl Entry for CodedGlobal {
+impl TableEntry for CodedGlobal {
     ghost View = { plain.CodedGlobal };
 
     ghost view = { global_view };
@@ -97,7 +97,7 @@ impl Entry for CodedGlobal {
     }
 }
 
-impl Entry for Block {
+impl TableEntry for Block {
     ghost View = { plain.CodedBlock };
 
     ghost view = { block_view };
@@ -116,7 +116,7 @@ impl Entry for Block {
 }
 
 /// Copies a table.
-fn copied_table<T: Entry>(alloc: Global, table: &[T]) -> Result<Vec<T>, AllocError>
+fn copied_table<T: TableEntry>(alloc: Global, table: &[T]) -> Result<Vec<T>, AllocError>
     ensures { IfOk result (λ copied. map T.view copied.items ≡ map T.view table.now) }
 {
     let mut copied = Vec::new(alloc);

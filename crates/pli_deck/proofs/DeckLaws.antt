@@ -10,8 +10,8 @@ use Rattle.pli_base.specs.laws.NameLaws.{pointwise-refl}
 use Rattle.pli_value.specs.Packing.{packed_bit, packed, unpacked}
 use Rattle.pli_value.proofs.PackedLaws.{unpacked_packed, packed_length}
 use Rattle.byteorder.specs.Endian.{big_bytes}
-use Rattle.pli_deck.specs.declared.fault.Fault.{Fault}
-use Rattle.pli_deck.specs.declared.fault.Fault.TheVariants.{Truncated, BadMagic, BadVersion}
+use Rattle.pli_deck.specs.declared.fault.DeckFault.{DeckFault}
+use Rattle.pli_deck.specs.declared.fault.DeckFault.TheVariants.{Truncated, BadMagic, BadVersion}
 use Rattle.pli_base.specs.Results.{◌>>=◌}
 use Rattle.pli_deck.specs.Fields.{AreBytes, Reader, Field, nothing, byte, held, ◌⊗◌, list_of, unknown, u1, u2, u4, count_of_one, byte_at, from_to, list}
 use Rattle.pli_deck.specs.Decks.{Constant, Number, Characters, Bits, NullPointer, NullOffset, Global, Static, Controlled, ExternalStatic, ExternalControlled, ExternalEntry}
@@ -115,7 +115,7 @@ bits_again bits rest =
 bit_count_law : IsField (from_to 0 32767 u2)
 bit_count_law = from_to_law 0 32767 u2 u2_law
 
-abbrev bits_of : ℕ × List ℕ → Result (List Bool × List ℕ) Fault
+abbrev bits_of : ℕ × List ℕ → Result (List Bool × List ℕ) DeckFault
 bits_of n = bits_at n.0 n.1
 
 bit_string_takes : (bytes : List ℕ) (bits : List Bool) (rest : List ℕ) → AreBytes bytes → bit_string.read bytes ≡ Ok (bits, rest) → Taken bit_string bytes bits rest
@@ -272,7 +272,7 @@ behind_again : (front rest : List ℕ) → behind front (front ++ rest) ≡ Some
 behind_again [] rest = refl
 behind_again (x ∷ xs) rest = ap (λ t. cond t (behind xs (xs ++ rest)) None) (eq-eqb x x refl) ∙ behind_again xs rest
 
-past_ok : {X : Type 0} (fault : Fault) (read : Reader X) (o : Option (List ℕ)) (y : X × List ℕ) → past fault read o ≡ Ok y → (bytes : List ℕ) × (o ≡ Some bytes) × (read bytes ≡ Ok y)
+past_ok : {X : Type 0} (fault : DeckFault) (read : Reader X) (o : Option (List ℕ)) (y : X × List ℕ) → past fault read o ≡ Ok y → (bytes : List ℕ) × (o ≡ Some bytes) × (read bytes ≡ Ok y)
 past_ok fault read None y e = absurd cc
 past_ok fault read (Some bytes) y e = (bytes, refl, e)
 
@@ -291,7 +291,7 @@ magic_law {X} magic f it = record { takes = take_one; again = once_more }
         ap (λ s. past BadMagic f.read (behind magic s)) (append_assoc magic (f.bytes_of x) rest)
         ∙ ap (past BadMagic f.read) (behind_again magic (f.bytes_of x ++ rest)) ∙ it.again x rest h
 
-version_ok : {X : Type 0} (v : ℕ) (r : Result X Fault) (y : X) → cond (nat_eq v 1) r (Err BadVersion) ≡ Ok y → (v ≡ 1) × (r ≡ Ok y)
+version_ok : {X : Type 0} (v : ℕ) (r : Result X DeckFault) (y : X) → cond (nat_eq v 1) r (Err BadVersion) ≡ Ok y → (v ≡ 1) × (r ≡ Ok y)
 version_ok v r y e = by_test (nat_eq v 1) refl e
   where
     by_test : (t : Bool) → nat_eq v 1 ≡ t → cond t r (Err BadVersion) ≡ Ok y → (v ≡ 1) × (r ≡ Ok y)

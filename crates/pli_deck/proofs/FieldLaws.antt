@@ -10,8 +10,8 @@ use Rattle.std.proofs.lemmas.Nat.{be_bytes_2, be_bytes_4}
 use Rattle.std.proofs.Math.Facts.{Fits-of_z}
 use Rattle.byteorder.specs.Endian.{big_bytes, big_number}
 use Rattle.byteorder.specs.Numbers.{big_number-reads_back, length-bytes_high_first}
-use Rattle.pli_deck.specs.declared.fault.Fault.{Fault}
-use Rattle.pli_deck.specs.declared.fault.Fault.TheVariants.{Truncated}
+use Rattle.pli_deck.specs.declared.fault.DeckFault.{DeckFault}
+use Rattle.pli_deck.specs.declared.fault.DeckFault.TheVariants.{Truncated}
 use Rattle.pli_base.specs.Results.{◌>>=◌}
 use Rattle.pli_deck.specs.Fields.{AreBytes, BothWays, Field, nothing, byte_at, byte, number_at, number, held, checked, is_near, signed, followed, ◌⊗◌, shaped, many, list_of, u2, u4, from_to}
 
@@ -27,11 +27,11 @@ AreBytes-take n bytes h i =
       | inr le ↦ rw (get_or_past (take n bytes) i 0 (omega (arith, length-take n bytes))) (omega arith)
     ]
 
-pub bind_ok : {A B : Type 0} (r : Result A Fault) (f : A → Result B Fault) (y : B) → (r >>= f) ≡ Ok y → (x : A) × (r ≡ Ok x) × (f x ≡ Ok y)
+pub bind_ok : {A B : Type 0} (r : Result A DeckFault) (f : A → Result B DeckFault) (y : B) → (r >>= f) ≡ Ok y → (x : A) × (r ≡ Ok x) × (f x ≡ Ok y)
 bind_ok (Ok x) f y e = (x, refl, e)
 bind_ok (Err d) f y e = absurd cc
 
-abbrev done : {A : Type 0} → A → Result A Fault
+abbrev done : {A : Type 0} → A → Result A DeckFault
 done x = Ok x
 
 pub ok_is : {A : Type 0} (x y : A) → done x ≡ done y → x ≡ y
@@ -41,7 +41,7 @@ pub held_ok : {A : Type 0} (good : Bool) (x y : A) → held good x ≡ Ok y → 
 held_ok true x y e = (refl, ok_is x y e)
 held_ok false x y e = absurd cc
 
-pub guard_ok : {A : Type 0} (short : Bool) (f : Fault) (r : Result A Fault) (y : A) → cond short (Err f) r ≡ Ok y → (short ≡ false) × (r ≡ Ok y)
+pub guard_ok : {A : Type 0} (short : Bool) (f : DeckFault) (r : Result A DeckFault) (y : A) → cond short (Err f) r ≡ Ok y → (short ≡ false) × (r ≡ Ok y)
 guard_ok true f r y e = absurd cc
 guard_ok false f r y e = (refl, e)
 
@@ -168,16 +168,16 @@ u4_law = record { takes = number_takes_4; again = number_again 4 }
 
 -- ---- fields made of fields
 
-abbrev as_signed : (bound : ℕ) → ℕ × List ℕ → Result (ℤ × List ℕ) Fault
+abbrev as_signed : (bound : ℕ) → ℕ × List ℕ → Result (ℤ × List ℕ) DeckFault
 as_signed bound n = held (is_near bound (cast_signed w32 n.0)) (cast_signed w32 n.0, n.1)
 
-abbrev pub with_first : {X Y : Type 0} → X → Y × List ℕ → Result ((X × Y) × List ℕ) Fault
+abbrev pub with_first : {X Y : Type 0} → X → Y × List ℕ → Result ((X × Y) × List ℕ) DeckFault
 with_first x y = Ok ((x, y.0), y.1)
 
-abbrev pub then_second : {X Y : Type 0} → (X → Field Y) → X × List ℕ → Result ((X × Y) × List ℕ) Fault
+abbrev pub then_second : {X Y : Type 0} → (X → Field Y) → X × List ℕ → Result ((X × Y) × List ℕ) DeckFault
 then_second g x = (g x.0).read x.1 >>= with_first x.0
 
-abbrev pub as_shaped : {X Y : Type 0} → (X → Y) → X × List ℕ → Result (Y × List ℕ) Fault
+abbrev pub as_shaped : {X Y : Type 0} → (X → Y) → X × List ℕ → Result (Y × List ℕ) DeckFault
 as_shaped to x = Ok (to x.0, x.1)
 
 pub checked_law : {X : Type 0} (good : X → Bool) (f : Field X) → IsField f → IsField (checked good f)

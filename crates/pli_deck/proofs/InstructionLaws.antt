@@ -1,7 +1,7 @@
 -- The laws of the field of instructions.
 use Rattle.std.proofs.Common.{◌≡◌, ℕ, true, List, ◌++◌, get_or, Ok, refl}
-use Rattle.pli_deck.specs.declared.instruction.Instruction.{Instruction}
-use Rattle.pli_deck.specs.declared.instruction.Instruction.TheVariants as op
+use Rattle.pli_deck.specs.declared.instruction.DeckInstruction.{DeckInstruction}
+use Rattle.pli_deck.specs.declared.instruction.DeckInstruction.TheVariants as op
 use Rattle.pli_deck.specs.Fields.{BothWays, nothing, ◌⊗◌, form, made, unknown, u1, u2, u4}
 use Rattle.pli_deck.specs.Descriptions.{precision, bound}
 use Rattle.pli_deck.specs.Instructions.{error, relation, condition, instruction_form, instruction_readers, instruction}
@@ -19,11 +19,11 @@ condition_law : IsField condition
 condition_law = from_to_law 0 2 u1 byte_law
 
 -- what has no operand
-bare : (i : Instruction) (tag : ℕ) → instruction_form i ≡ form tag nothing tt → Reads instruction_form tag (made (λ (u : Unit {0}). i) nothing)
+bare : (i : DeckInstruction) (tag : ℕ) → instruction_form i ≡ form tag nothing tt → Reads instruction_form tag (made (λ (u : Unit {0}). i) nothing)
 bare i tag same = made_reads nothing nothing_law (λ (u : Unit {0}). i) instruction_form tag (λ x. same)
 
 -- what has one operand of two bytes
-short : (to : ℕ → Instruction) (tag : ℕ) → ((n : ℕ) → instruction_form (to n) ≡ form tag u2 n) → Reads instruction_form tag (made to u2)
+short : (to : ℕ → DeckInstruction) (tag : ℕ) → ((n : ℕ) → instruction_form (to n) ≡ form tag u2 n) → Reads instruction_form tag (made to u2)
 short to tag same = made_reads u2 u2_law to instruction_form tag same
 
 -- each reader reads its form
@@ -100,7 +100,7 @@ forms_read =
     & bare op.IsWithin 63 refl
     & tt
 
-again : (i : Instruction) (rest : List ℕ) → (instruction_form i).fits ≡ true → get_or instruction_readers (instruction_form i).tag unknown ((instruction_form i).bytes ++ rest) ≡ Ok (i, rest)
+again : (i : DeckInstruction) (rest : List ℕ) → (instruction_form i).fits ≡ true → get_or instruction_readers (instruction_form i).tag unknown ((instruction_form i).bytes ++ rest) ≡ Ok (i, rest)
 again (op.Step statement) rest h = made_again u4 u4_law op.Step statement rest h
 again (op.Line statement) rest h = made_again u4 u4_law op.Line statement rest h
 again (op.Jump target) rest h = made_again u2 u2_law op.Jump target rest h

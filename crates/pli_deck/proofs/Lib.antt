@@ -8,6 +8,6 @@ pub mod InstructionLaws
 pub mod LowBytes
 pub mod ModuleLaws
 pub mod ModulePuts
-pub mod Puts
+pub mod PutLemmas
 pub mod SpellingLaws
 pub mod WholeLaws

@@ -3,8 +3,8 @@ use Rattle.std.proofs.Common.{◌≡◌, ℕ, zero, suc, nat_eq, nat_lt, true, f
 use Rattle.std.specs.List.{flat_map, list_all, filter}
 use Rattle.std.proofs.lemmas.Bool.{ltb-false, le-ltb, and_parts, eqb-true, eq-eqb}
 use Rattle.std.proofs.lemmas.List.{take_at, drop_at, take-append-drop, length-append, length-take-le}
-use Rattle.pli_deck.specs.declared.fault.Fault.{Fault}
-use Rattle.pli_deck.specs.declared.fault.Fault.TheVariants.{Truncated}
+use Rattle.pli_deck.specs.declared.fault.DeckFault.{DeckFault}
+use Rattle.pli_deck.specs.declared.fault.DeckFault.TheVariants.{Truncated}
 use Rattle.pli_base.specs.Results.{◌>>=◌}
 use Rattle.pli_deck.specs.Fields.{AreBytes, Field, many, checked, followed, ◌⊗◌, shaped, u1, u2, u4, from_to}
 use Rattle.pli_deck.specs.Decks.{Deck}
@@ -90,7 +90,7 @@ pub record DeckTaken (count : ℕ) (bytes : List ℕ) (d : Deck) (rest : List �
   pub spelled : SpellsDeck (deck_bytes d) d
   pub rest_bytes : AreBytes rest
 
-abbrev with_rest : List ℕ → Deck → Result (Deck × List ℕ) Fault
+abbrev with_rest : List ℕ → Deck → Result (Deck × List ℕ) DeckFault
 with_rest rest d = Ok (d, rest)
 
 deck_takes : (count : ℕ) (bytes : List ℕ) (d : Deck) (rest : List ℕ) → AreBytes bytes → deck_in count bytes ≡ Ok (d, rest) → DeckTaken count bytes d rest
@@ -118,11 +118,11 @@ deck_again d rest s =
     ∙ ap (λ f. and_rest f (deck_read (deck_bytes d))) (drop_at (deck_bytes d) rest k refl)
     ∙ ap (and_rest rest) (spelled_is_read (deck_bytes d) d s)
 
-none_is : (o : Option Fault) → is_none o ≡ true → o ≡ None
+none_is : (o : Option DeckFault) → is_none o ≡ true → o ≡ None
 none_is None h = refl
 none_is (Some f) h = absurd cc
 
-abbrev deck_by_count : ℕ × List ℕ → Result (Deck × List ℕ) Fault
+abbrev deck_by_count : ℕ × List ℕ → Result (Deck × List ℕ) DeckFault
 deck_by_count n = deck_in n.0 n.1
 
 sized_takes : (bytes : List ℕ) (d : Deck) (rest : List ℕ) → AreBytes bytes → sized_deck.read bytes ≡ Ok (d, rest) → Taken sized_deck bytes d rest

@@ -8,13 +8,13 @@ use Rattle.pli_map.specs.Description.{Description, FixedBinary, Character, Varyi
 use Rattle.pli_map.specs.Description.{Array, Structure, Members, NoMembers, MemberThen}
 use Rattle.pli_map.specs.Sizes.{alignment_of, size_of, stride_of}
 use Rattle.pli_value.specs.Numbers.{has_digits}
-use Rattle.pli_deck.specs.declared.fault.Fault.{Fault}
-use Rattle.pli_deck.specs.declared.fault.Fault.TheVariants.{BadJump, BadNumber, OverLimit}
-use Rattle.pli_deck.specs.declared.instruction.Instruction.{Instruction}
-use Rattle.pli_deck.specs.declared.instruction.Instruction.TheVariants as op
+use Rattle.pli_deck.specs.declared.fault.DeckFault.{DeckFault}
+use Rattle.pli_deck.specs.declared.fault.DeckFault.TheVariants.{BadJump, BadNumber, OverLimit}
+use Rattle.pli_deck.specs.declared.instruction.DeckInstruction.{DeckInstruction}
+use Rattle.pli_deck.specs.declared.instruction.DeckInstruction.TheVariants as op
 use Rattle.pli_deck.specs.Decks.{Constant, Number, Characters, Bits, NullPointer, NullOffset, Initial}
-use Rattle.pli_deck.specs.Decks.{Template, Signature, Global, Static, Controlled, ExternalStatic}
-use Rattle.pli_deck.specs.Decks.{ExternalControlled, ExternalEntry, Block, Deck}
+use Rattle.pli_deck.specs.Decks.{DeckTemplate, DeckSignature, Global, Static, Controlled, ExternalStatic}
+use Rattle.pli_deck.specs.Decks.{ExternalControlled, ExternalEntry, DeckBlock, Deck}
 
 -- what an item of a deck names by a number: an entry of a table, or an instruction at which a block begins
 pub data Naming : Type 0 where
@@ -31,11 +31,11 @@ named_by_result None = []
 named_by_result (Some d) = OfDescription d ∷ []
 
 -- a signature names the descriptions of its parameters and of its result
-abbrev pub named_by_signature : Signature → List Naming
+abbrev pub named_by_signature : DeckSignature → List Naming
 named_by_signature s = map OfDescription s.parameters ++ named_by_result s.result
 
 -- a template names its description
-abbrev pub named_by_template : Template → List Naming
+abbrev pub named_by_template : DeckTemplate → List Naming
 named_by_template t = OfDescription t.description ∷ []
 
 -- a global names its template, and an entry what its signature does
@@ -52,11 +52,11 @@ named_by_parent None = []
 named_by_parent (Some b) = OfBlock b ∷ []
 
 -- a block names the one around it, the templates of its variables, and its first instruction
-abbrev pub named_by_block : Block → List Naming
+abbrev pub named_by_block : DeckBlock → List Naming
 named_by_block b = named_by_parent b.parent ++ map OfTemplate b.variables ++ OfInstruction b.entry ∷ []
 
 -- what an instruction names, save by a jump
-abbrev pub named_by_instruction : Instruction → List Naming
+abbrev pub named_by_instruction : DeckInstruction → List Naming
 named_by_instruction (op.Call b _) = OfBlock b ∷ []
 named_by_instruction (op.CallExternal g _) = OfGlobal g ∷ []
 named_by_instruction (op.Begin b) = OfBlock b ∷ []
@@ -98,7 +98,7 @@ is_there d (OfBlock n) = nat_lt n (length d.blocks)
 is_there d (OfInstruction n) = nat_lt n (length d.instructions)
 
 -- where an instruction may jump
-abbrev pub targets_of : Instruction → List ℕ
+abbrev pub targets_of : DeckInstruction → List ℕ
 targets_of (op.Jump i) = i ∷ []
 targets_of (op.JumpUnless i) = i ∷ []
 targets_of (op.Goto _ i) = i ∷ []
@@ -163,7 +163,7 @@ within_limits d =
     16777216
 
 -- the first of these faults
-abbrev pub fault_of : Deck → Option Fault
+abbrev pub fault_of : Deck → Option DeckFault
 fault_of d =
     if not (jumps_within d) then Some BadJump
     else if not (list_all (is_there d) (named_by d)) then Some BadNumber

@@ -7,17 +7,17 @@ use Rattle.std.specs.Str.{bytes_eq}
 use Rattle.pli_base.specs.Name.{Name, name_of}
 use Rattle.pli_map.specs.Description.{Description}
 use Rattle.pli_value.specs.Packing.{packed, unpacked}
-use Rattle.pli_deck.specs.declared.fault.Fault.TheVariants.{Truncated, BadMagic, BadVersion}
-use Rattle.pli_deck.specs.declared.fault.Fault.{Fault}
-use Rattle.pli_deck.specs.declared.instruction.Instruction.{Instruction}
+use Rattle.pli_deck.specs.declared.fault.DeckFault.TheVariants.{Truncated, BadMagic, BadVersion}
+use Rattle.pli_deck.specs.declared.fault.DeckFault.{DeckFault}
+use Rattle.pli_deck.specs.declared.instruction.DeckInstruction.{DeckInstruction}
 use Rattle.pli_base.specs.Results.{◌>>=◌}
 use Rattle.pli_deck.specs.Fields.{Field, Form, Reader, byte_at, nothing, checked, held, signed, ◌⊗◌}
 use Rattle.pli_deck.specs.Fields.{shaped, list_of, form, made, unknown, tagged, byte, u1, u2, u4, from_to}
 use Rattle.pli_deck.specs.Fields.{count_of_one}
 use Rattle.pli_deck.specs.Fields.{list}
 use Rattle.pli_deck.specs.Decks.{Constant, Number, Characters, Bits, NullPointer, NullOffset, Initial}
-use Rattle.pli_deck.specs.Decks.{Template, Signature, Global, Static, Controlled, ExternalStatic}
-use Rattle.pli_deck.specs.Decks.{ExternalControlled, ExternalEntry, Block, Deck}
+use Rattle.pli_deck.specs.Decks.{DeckTemplate, DeckSignature, Global, Static, Controlled, ExternalStatic}
+use Rattle.pli_deck.specs.Decks.{ExternalControlled, ExternalEntry, DeckBlock, Deck}
 use Rattle.pli_deck.specs.Descriptions.{description}
 use Rattle.pli_deck.specs.Instructions.{instruction}
 
@@ -65,7 +65,7 @@ abbrev pub byte_count : (bits : ℕ) → ℕ
 byte_count bits = (bits + 7) / 8
 
 -- so many bits of these bytes, whose last one has zeros behind the bits
-abbrev pub bits_in : (count : ℕ) → List ℕ → (rest : List ℕ) → Result (List Bool × List ℕ) Fault
+abbrev pub bits_in : (count : ℕ) → List ℕ → (rest : List ℕ) → Result (List Bool × List ℕ) DeckFault
 bits_in count bytes rest =
     held (bytes_eq bytes (packed (unpacked count bytes))) (unpacked count bytes, rest)
 
@@ -119,7 +119,7 @@ unfoldable pub initial : Field Initial
 initial = shaped (λ p. record { offset = p.0; value = p.1 }) (λ i. (i.offset, i.value)) (u4 ⊗ constant)
 
 -- a template: the number of its description, and its initial values with a count of four bytes
-unfoldable pub template : Field Template
+unfoldable pub template : Field DeckTemplate
 template = shaped (λ p. record { description = p.0; initial = p.1 }) (λ t. (t.description, t.initial))
     (u2 ⊗ list_of u4 initial)
 
@@ -132,7 +132,7 @@ abbrev pub parameter_number : Field ℕ
 parameter_number = from_to 0 64 u1
 
 -- the descriptions of parameters and of the result
-unfoldable pub signature : Field Signature
+unfoldable pub signature : Field DeckSignature
 signature = shaped (λ p. record { parameters = p.0; result = p.1 }) (λ s. (s.parameters, s.result))
     (list_of parameter_count u2 ⊗ optional)
 
@@ -163,7 +163,7 @@ abbrev pub block_kind : Field ℕ
 block_kind = from_to 0 2 u1
 
 -- a block of its parts
-abbrev pub block_of : ℕ × (Option ℕ × (ℕ × (List ℕ × (ℕ × (ℕ × ℕ))))) → Block
+abbrev pub block_of : ℕ × (Option ℕ × (ℕ × (List ℕ × (ℕ × (ℕ × ℕ))))) → DeckBlock
 block_of p = record {
   kind = p.0;
   parent = p.1.0;
@@ -175,12 +175,12 @@ block_of p = record {
 }
 
 -- its parts: kind, parent, parameters, AUTOMATIC variables, temporaries, first instruction, statement
-abbrev pub block_parts : Block → ℕ × (Option ℕ × (ℕ × (List ℕ × (ℕ × (ℕ × ℕ)))))
+abbrev pub block_parts : DeckBlock → ℕ × (Option ℕ × (ℕ × (List ℕ × (ℕ × (ℕ × ℕ)))))
 block_parts b =
     (b.kind, (b.parent, (b.parameters, (b.variables, (b.temporaries, (b.entry, b.statement))))))
 
 -- a block
-unfoldable pub block : Field Block
+unfoldable pub block : Field DeckBlock
 block = shaped block_of block_parts
     (block_kind ⊗ optional ⊗ parameter_number ⊗ list u2 ⊗ u2 ⊗ u2 ⊗ u4)
 
@@ -191,7 +191,7 @@ behind (x ∷ xs) [] = None
 behind (x ∷ xs) (b ∷ bytes) = if nat_eq x b then behind xs bytes else None
 
 -- what is read behind them, or a fault where they do not stand
-abbrev pub past : {X : Type 0} → Fault → Reader X → Option (List ℕ) → Result (X × List ℕ) Fault
+abbrev pub past : {X : Type 0} → DeckFault → Reader X → Option (List ℕ) → Result (X × List ℕ) DeckFault
 past fault read None = Err fault
 past fault read (Some bytes) = read bytes
 
@@ -204,7 +204,7 @@ after_magic magic f = record {
 }
 
 -- what is read behind the version, if that is 1
-abbrev pub if_first : {X : Type 0} → Reader X → ℕ × List ℕ → Result (X × List ℕ) Fault
+abbrev pub if_first : {X : Type 0} → Reader X → ℕ × List ℕ → Result (X × List ℕ) DeckFault
 if_first read version = if nat_eq version.0 1 then read version.1 else Err BadVersion
 
 -- a version, and what is read behind it
@@ -222,10 +222,11 @@ after_version f = record {
 -- the tables of a deck and its instructions, in the order of their bytes
 abbrev pub Tables : Type 0
 Tables =
-    List Description × (List Template × (List Constant × (List Global × (List Block × List Instruction))))
+    List Description × (List DeckTemplate × (List Constant × (List Global × (List DeckBlock
+    × List DeckInstruction))))
 
 -- a deck of its parts
-abbrev pub deck_of : Name × (Bool × (Signature × Tables)) → Deck
+abbrev pub deck_of : Name × (Bool × (DeckSignature × Tables)) → Deck
 deck_of p = record {
   name = p.0;
   is_main = p.1.0;
@@ -243,7 +244,7 @@ abbrev pub tables_of : Deck → Tables
 tables_of d = (d.descriptions, (d.templates, (d.values, (d.globals, (d.blocks, d.instructions)))))
 
 -- its parts, in the order of their bytes
-abbrev pub deck_parts : Deck → Name × (Bool × (Signature × Tables))
+abbrev pub deck_parts : Deck → Name × (Bool × (DeckSignature × Tables))
 deck_parts d = (d.name, (d.is_main, (d.signature, tables_of d)))
 
 -- the field of the tables and instructions

@@ -5,11 +5,11 @@ use Rattle.pli_deck.specs.Decks as plain
 use Rattle.pli_deck.specs.declared.deck.Constant.{Constant}
 use Rattle.pli_deck.specs.declared.deck.Constant.TheVariants as constants
 use Rattle.pli_deck.specs.declared.deck.Initial.{Initial}
-use Rattle.pli_deck.specs.declared.deck.Template.{Template}
-use Rattle.pli_deck.specs.declared.deck.Signature.{Signature}
+use Rattle.pli_deck.specs.declared.deck.DeckTemplate.{DeckTemplate}
+use Rattle.pli_deck.specs.declared.deck.DeckSignature.{DeckSignature}
 use Rattle.pli_deck.specs.declared.deck.Global.{Global}
 use Rattle.pli_deck.specs.declared.deck.Global.TheVariants as globals
-use Rattle.pli_deck.specs.declared.deck.Block.{Block}
+use Rattle.pli_deck.specs.declared.deck.DeckBlock.{DeckBlock}
 use Rattle.pli_deck.specs.declared.deck.Deck.{Deck}
 
 -- a constant or an initial value
@@ -25,11 +25,11 @@ abbrev pub initial_view : Initial → plain.Initial
 initial_view i = record { offset = i.offset; value = constant_view i.value }
 
 -- a template
-abbrev pub template_view : Template → plain.Template
+abbrev pub template_view : DeckTemplate → plain.DeckTemplate
 template_view t = record { description = t.description; initial = map initial_view t.initial.items }
 
 -- what an external procedure takes and gives
-abbrev pub signature_view : Signature → plain.Signature
+abbrev pub signature_view : DeckSignature → plain.DeckSignature
 signature_view s = record { parameters = s.parameters.items; result = s.result }
 
 -- a global
@@ -41,7 +41,7 @@ global_view (globals.ExternalControlled n t) = plain.ExternalControlled n t
 global_view (globals.ExternalEntry n s) = plain.ExternalEntry n (signature_view s)
 
 -- a block
-abbrev pub block_view : Block → plain.Block
+abbrev pub block_view : DeckBlock → plain.DeckBlock
 block_view b = record {
   kind = b.kind;
   parent = b.parent;

@@ -2,7 +2,7 @@
 use Rattle.std.specs.Prelude.{ℕ, Bool, ℤ, List, Option}
 use Rattle.pli_base.specs.Name.{Name}
 use Rattle.pli_map.specs.Description.{Description}
-use Rattle.pli_deck.specs.declared.instruction.Instruction.{Instruction}
+use Rattle.pli_deck.specs.declared.instruction.DeckInstruction.{DeckInstruction}
 
 -- constants and initial values
 pub data Constant : Type 0 where
@@ -18,12 +18,12 @@ pub record Initial : Type 0 where
   pub value : Constant
 
 -- what a variable is made from: the number of its description, and its initial values
-pub record Template : Type 0 where
+pub record DeckTemplate : Type 0 where
   pub description : ℕ
   pub initial : List Initial
 
 -- the descriptions of parameters and of the result
-pub record Signature : Type 0 where
+pub record DeckSignature : Type 0 where
   pub parameters : List ℕ
   pub result : Option ℕ
 
@@ -33,10 +33,10 @@ pub data Global : Type 0 where
   Controlled : (template : ℕ) → Global
   ExternalStatic : Name → (template : ℕ) → Global
   ExternalControlled : Name → (template : ℕ) → Global
-  ExternalEntry : Name → Signature → Global
+  ExternalEntry : Name → DeckSignature → Global
 
 -- a block; its kind is 0 for a procedure, 1 for a BEGIN block and 2 for an ON-unit
-pub record Block : Type 0 where
+pub record DeckBlock : Type 0 where
   pub kind : ℕ
   pub parent : Option ℕ
   pub parameters : ℕ
@@ -50,10 +50,10 @@ pub record Block : Type 0 where
 pub record Deck : Type 0 where
   pub name : Name
   pub is_main : Bool
-  pub signature : Signature
+  pub signature : DeckSignature
   pub descriptions : List Description
-  pub templates : List Template
+  pub templates : List DeckTemplate
   pub values : List Constant
   pub globals : List Global
-  pub blocks : List Block
-  pub instructions : List Instruction
+  pub blocks : List DeckBlock
+  pub instructions : List DeckInstruction

@@ -8,12 +8,12 @@ use Rattle.std.specs.Prelude.{if◌then◌else◌}
 use Rattle.std.specs.Int.{w32, cast_unsigned, cast_signed, is_in_range}
 use Rattle.std.specs.List.{flat_map, list_all}
 use Rattle.byteorder.specs.Endian.{big_bytes, big_number}
-use Rattle.pli_deck.specs.declared.fault.Fault.{Fault}
-use Rattle.pli_deck.specs.declared.fault.Fault.TheVariants.{Truncated, OutOfRange}
+use Rattle.pli_deck.specs.declared.fault.DeckFault.{DeckFault}
+use Rattle.pli_deck.specs.declared.fault.DeckFault.TheVariants.{Truncated, OutOfRange}
 
 -- what is read from the front: a value and the bytes behind it, or the first fault
 abbrev pub Reader : Type 0 → Type 0
-Reader X = List ℕ → Result (X × List ℕ) Fault
+Reader X = List ℕ → Result (X × List ℕ) DeckFault
 
 -- how values stand in bytes: those that spell a value, whether it has a spelling, and how one is read
 pub record Field (X : Type 0) : Type 0 where
@@ -60,7 +60,7 @@ number count = record {
 }
 
 -- what was read, if it is good
-abbrev pub held : {X : Type 0} → Bool → X → Result X Fault
+abbrev pub held : {X : Type 0} → Bool → X → Result X DeckFault
 held good x = if good then Ok x else Err OutOfRange
 
 -- a field whose values pass a test

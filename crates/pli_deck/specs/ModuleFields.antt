@@ -8,8 +8,8 @@ use Rattle.std.specs.declared.cmp.Ordering.{Ordering}
 use Rattle.std.specs.declared.cmp.Ordering.TheVariants.{Less}
 use Rattle.std.specs.Ordering.{nat_cmp}
 use Rattle.pli_base.specs.Name.{Name}
-use Rattle.pli_deck.specs.declared.fault.Fault.{Fault}
-use Rattle.pli_deck.specs.declared.fault.Fault.TheVariants.{Truncated}
+use Rattle.pli_deck.specs.declared.fault.DeckFault.{DeckFault}
+use Rattle.pli_deck.specs.declared.fault.DeckFault.TheVariants.{Truncated}
 use Rattle.pli_base.specs.Results.{◌>>=◌}
 use Rattle.pli_deck.specs.Fields.{Field, Reader, many, checked, followed, ◌⊗◌, shaped, list_of}
 use Rattle.pli_deck.specs.Fields.{u1, u2, u4, from_to}
@@ -35,7 +35,7 @@ pub record Member : Type 0 where
   pub links : List ℕ
 
 -- units, the number of the main one, and externals
-pub record Module : Type 0 where
+pub record DeckModule : Type 0 where
   pub main : ℕ
   pub externals : List External
   pub units : List Member
@@ -92,12 +92,12 @@ chain f = record {
 -- ---- units
 
 -- there is no fault
-abbrev pub is_none : Option Fault → Bool
+abbrev pub is_none : Option DeckFault → Bool
 is_none None = true
 is_none (Some f) = false
 
 -- what is read of a deck, with what stands behind it
-abbrev pub and_rest : List ℕ → Result Deck Fault → Result (Deck × List ℕ) Fault
+abbrev pub and_rest : List ℕ → Result Deck DeckFault → Result (Deck × List ℕ) DeckFault
 and_rest rest read = read >>= λ d. Ok (d, rest)
 
 -- a deck of so many bytes, read whole where it stands
@@ -153,18 +153,18 @@ exactly count f = record {
 }
 
 -- a module of its parts
-abbrev pub module_of : (ℕ × (ℕ × List External)) × List Member → Module
+abbrev pub module_of : (ℕ × (ℕ × List External)) × List Member → DeckModule
 module_of p = record { main = p.0.1.0; externals = p.0.1.1; units = p.1 }
 
 -- its parts, in the order of their bytes
-abbrev pub module_parts : Module → (ℕ × (ℕ × List External)) × List Member
+abbrev pub module_parts : DeckModule → (ℕ × (ℕ × List External)) × List Member
 module_parts m = ((length m.units, (m.main, m.externals)), m.units)
 
 -- how many units there are, from 1 to 999, the main unit, externals, and the units
-abbrev pub module_contents : Field Module
+abbrev pub module_contents : Field DeckModule
 module_contents = shaped module_of module_parts
     (followed (from_to 1 999 u2 ⊗ u2 ⊗ chain external_behind) (λ h. exactly h.0 member))
 
 -- PLIM, the version, and the contents
-unfoldable pub module_field : Field Module
+unfoldable pub module_field : Field DeckModule
 module_field = after_magic (80 ∷ 76 ∷ 73 ∷ 77 ∷ []) (after_version module_contents)

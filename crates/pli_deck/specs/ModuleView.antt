@@ -6,7 +6,7 @@ use Rattle.pli_deck.specs.declared.module.ExternalKind.{ExternalKind}
 use Rattle.pli_deck.specs.declared.module.ExternalKind.TheVariants as kinds
 use Rattle.pli_deck.specs.declared.module.External.{External}
 use Rattle.pli_deck.specs.declared.module.Member.{Member}
-use Rattle.pli_deck.specs.declared.module.Module.{Module}
+use Rattle.pli_deck.specs.declared.module.DeckModule.{DeckModule}
 
 -- the number of a kind of externals
 abbrev pub kind_number : ExternalKind → ℕ
@@ -22,7 +22,7 @@ abbrev pub member_view : Member → plain.Member
 member_view m = record { name = m.name; deck = deck_view m.deck; links = m.links.items }
 
 -- a module
-abbrev pub module_view : Module → plain.Module
+abbrev pub module_view : DeckModule → plain.DeckModule
 module_view m = record {
   main = m.main;
   externals = map external_view m.externals.items;

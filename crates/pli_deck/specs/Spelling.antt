@@ -1,6 +1,6 @@
 -- Which bytes spell a deck, and what reading them gives (own).
 use Rattle.std.specs.Prelude.{◌≡◌, ℕ, List, None, Result, Ok, true}
-use Rattle.pli_deck.specs.declared.fault.Fault.{Fault}
+use Rattle.pli_deck.specs.declared.fault.DeckFault.{DeckFault}
 use Rattle.pli_deck.specs.Fields.{AreBytes}
 use Rattle.pli_deck.specs.Decks.{Deck}
 use Rattle.pli_deck.specs.DeckFields.{deck}
@@ -22,7 +22,7 @@ pub record SpellsDeck (bytes : List ℕ) (d : Deck) : Type 0 where
   pub spelled : bytes ≡ deck_bytes d
 
 -- the deck that bytes spell, or the first fault
-unfoldable pub deck_read : List ℕ → Result Deck Fault
+unfoldable pub deck_read : List ℕ → Result Deck DeckFault
 deck_read bytes = whole_read fault_of deck bytes
 
 -- a deck that is read is spelled by what it is read from

@@ -1,5 +1,5 @@
 //! Decks: the code of a unit with its tables.
-use crate::instruction::Instruction;
+use crate::instruction::DeckInstruction;
 use pli_base::Name;
 use pli_map::Description;
 use pli_value::bit::Bits;
@@ -25,14 +25,14 @@ pub struct Initial {
 
 /// What a variable is made from: the number of its description, and its initial values in the order of the text.
 #[derive(Drop)]
-pub struct Template {
+pub struct DeckTemplate {
     pub description: u16,
     pub initial: Vec<Initial>,
 }
 
 /// The descriptions of at most 64 parameters, and that of the result.
 #[derive(Drop)]
-pub struct Signature {
+pub struct DeckSignature {
     pub parameters: Vec<u16>,
     pub result: Option<u16>,
 }
@@ -42,14 +42,23 @@ pub struct Signature {
 pub enum Global {
     Static(u16),
     Controlled(u16),
-    ExternalStatic { name: Name, template: u16 },
-    ExternalControlled { name: Name, template: u16 },
-    ExternalEntry { name: Name, signature: Signature },
+    ExternalStatic {
+        name: Name,
+        template: u16,
+    },
+    ExternalControlled {
+        name: Name,
+        template: u16,
+    },
+    ExternalEntry {
+        name: Name,
+        signature: DeckSignature,
+    },
 }
 
 /// A block of a unit.
 #[derive(Drop)]
-pub struct Block {
+pub struct DeckBlock {
     /// 0 for a procedure, 1 for a BEGIN block, 2 for an ON-unit.
     pub kind: u8,
     pub parent: Option<u16>,
@@ -69,11 +78,11 @@ pub struct Block {
 pub struct Deck {
     pub name: Name,
     pub is_main: bool,
-    pub signature: Signature,
+    pub signature: DeckSignature,
     pub descriptions: Vec<Description>,
-    pub templates: Vec<Template>,
+    pub templates: Vec<DeckTemplate>,
     pub values: Vec<Constant>,
     pub globals: Vec<Global>,
-    pub blocks: Vec<Block>,
-    pub instructions: Vec<Instruction>,
+    pub blocks: Vec<DeckBlock>,
+    pub instructions: Vec<DeckInstruction>,
 }

@@ -39,7 +39,7 @@ impl PutsOne for Dimensions {
 }
 
 /// Puts the dimensions of an array.
-#[tactic(auto, using(crate::proofs::Puts::unmapped))]
+#[tactic(auto, using(crate::proofs::PutLemmas::unmapped))]
 fn put_dimensions(out: &mut Vec<u8>, dimensions: &[Bounds]) -> Result<(), AllocError>
     ensures { OnOk result (out.new.items ≡ out.old.items ++ description_fields.dimensions.bytes_of dimensions.now) }
 {

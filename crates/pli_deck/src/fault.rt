@@ -2,7 +2,7 @@
 /// What is wrong with the bytes of a deck or of a module (own). The first four numbers and the fifth are met in reading
 /// from the front; then the others are looked for in the order of their numbers.
 #[derive(Clone, Copy, Debug, PartialEq, Eq)]
-pub enum Fault {
+pub enum DeckFault {
     /// 1: the bytes do not begin as a deck or a module does.
     BadMagic,
     /// 2: another version.

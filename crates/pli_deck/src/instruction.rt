@@ -4,7 +4,7 @@
 /// instruction in the deck, counted from 0; blocks, globals, descriptions, templates and values are numbers of entries
 /// in its tables.
 #[derive(Clone, Copy)]
-pub enum Instruction {
+pub enum DeckInstruction {
     Step {
         statement: u32,
     },

@@ -13,14 +13,14 @@ mod putting;
 mod write;
 mod writing;
 
-pub use deck::{Block, Constant, Deck, Global, Initial, Signature, Template};
+pub use deck::{Constant, Deck, DeckBlock, DeckSignature, DeckTemplate, Global, Initial};
 pub use describing::LEVELS;
-pub use fault::Fault;
-pub use instruction::Instruction;
+pub use fault::DeckFault;
+pub use instruction::DeckInstruction;
 pub use laws::{
     decks_both_ways, descriptions_both_ways, instructions_both_ways, modules_both_ways,
     worked_decks, worked_modules,
 };
-pub use module::{External, ExternalKind, Member, Module};
+pub use module::{DeckModule, External, ExternalKind, Member};
 pub use modules::write_module;
 pub use write::write_deck;

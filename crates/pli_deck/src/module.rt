@@ -29,7 +29,7 @@ pub struct Member {
 
 /// Units, 1 to 999, the number of the main one, and the externals in the order of their names.
 #[derive(Drop)]
-pub struct Module {
+pub struct DeckModule {
     pub main: u16,
     pub externals: Vec<External>,
     pub units: Vec<Member>,

@@ -6,7 +6,7 @@ ghost use Rattle.pli_deck.specs.ModuleFields as module_fields;
 ghost use Rattle.pli_deck.specs.ModuleSpelling.{module_bytes, module_fault, SpellsModule};
 ghost use Rattle.pli_deck.specs.ModuleView.{kind_number, external_view, member_view, module_view};
 
-use crate::module::{External, ExternalKind, Member, Module};
+use crate::module::{DeckModule, External, ExternalKind, Member};
 use crate::putting::put_numbers;
 use crate::write::write_deck;
 use crate::writing::{
@@ -72,8 +72,8 @@ impl PutsOne for Members {
 }
 
 /// Puts a module: PLIM, the version, how many units there are, the main one, externals, and the units.
-#[tactic(auto, unfolding(crate::specs::ModuleFields::module_field), using(crate::proofs::ModulePuts::behind_bytes, crate::proofs::Puts::mapped_length))]
-fn put_module(alloc: Global, out: &mut Vec<u8>, program: &Module) -> Result<(), AllocError>
+#[tactic(auto, unfolding(crate::specs::ModuleFields::module_field), using(crate::proofs::ModulePuts::behind_bytes, crate::proofs::PutLemmas::mapped_length))]
+fn put_module(alloc: Global, out: &mut Vec<u8>, program: &DeckModule) -> Result<(), AllocError>
     ensures { OnOk result (out.new.items ≡ out.old.items ++ module_bytes (module_view program.now)) }
 {
     put_bytes(out, b"PLIM")?;
@@ -85,7 +85,7 @@ fn put_module(alloc: Global, out: &mut Vec<u8>, program: &Module) -> Result<(), 
 }
 
 /// The bytes of a module, which are its one spelling where it has one. An error comes where memory runs out.
-pub fn write_module(alloc: Global, program: &Module) -> Result<Vec<u8>, AllocError>
+pub fn write_module(alloc: Global, program: &DeckModule) -> Result<Vec<u8>, AllocError>
     ensures bytes { IfOk result (λ v. v.items ≡ module_bytes (module_view program.now)) }
     ensures spelled { let m = module_view program.now in
         module_fields.module_field.fits m ≡ true → module_fault m ≡ None → IfOk result (λ v. SpellsModule v.items m) }

@@ -7,7 +7,7 @@ ghost use Rattle.pli_deck.specs.Decks as plain;
 ghost use Rattle.pli_deck.specs.DeckFields as deck_fields;
 ghost use Rattle.pli_deck.specs.DeckView.{constant_view, initial_view, template_view, signature_view, global_view, block_view};
 
-use crate::deck::{Block, Constant, Global, Initial, Signature, Template};
+use crate::deck::{Constant, DeckBlock, DeckSignature, DeckTemplate, Global, Initial};
 use crate::writing::{
     PutsOne, put_all, put_bits, put_byte, put_characters, put_large_count, put_list, put_name,
     put_optional, put_short, put_signed, put_small_count, put_with_short, put_word,
@@ -32,7 +32,7 @@ impl PutsOne for Numbers {
 }
 
 /// Puts a list of numbers.
-#[tactic(auto, using(crate::proofs::Puts::unmapped))]
+#[tactic(auto, using(crate::proofs::PutLemmas::unmapped))]
 pub fn put_numbers(out: &mut Vec<u8>, numbers: &[u16]) -> Result<(), AllocError>
     ensures { OnOk result (out.new.items ≡ out.old.items ++ (big_bytes 2 (length numbers.now) ++ flat_map u2.bytes_of numbers.now)) }
 {
@@ -40,7 +40,7 @@ pub fn put_numbers(out: &mut Vec<u8>, numbers: &[u16]) -> Result<(), AllocError>
 }
 
 /// Puts the parameters' descriptions, with a count of one byte.
-#[tactic(auto, using(crate::proofs::Puts::unmapped))]
+#[tactic(auto, using(crate::proofs::PutLemmas::unmapped))]
 fn put_parameters(out: &mut Vec<u8>, parameters: &[u16]) -> Result<(), AllocError>
     ensures { OnOk result (out.new.items ≡ out.old.items ++ (big_bytes 1 (length parameters.now) ++ flat_map u2.bytes_of parameters.now)) }
 {
@@ -50,7 +50,7 @@ fn put_parameters(out: &mut Vec<u8>, parameters: &[u16]) -> Result<(), AllocErro
 
 /// Puts a signature.
 #[tactic(auto, unfolding(crate::specs::DeckFields::signature))]
-pub fn put_signature(out: &mut Vec<u8>, signature: &Signature) -> Result<(), AllocError>
+pub fn put_signature(out: &mut Vec<u8>, signature: &DeckSignature) -> Result<(), AllocError>
     ensures { OnOk result (out.new.items ≡ out.old.items ++ deck_fields.signature.bytes_of (signature_view signature.now)) }
 {
     put_parameters(out, signature.parameters.as_slice())?;
@@ -120,16 +120,16 @@ impl PutsOne for Initials {
 pub struct Templates;
 
 impl PutsOne for Templates {
-    type Value = Template;
+    type Value = DeckTemplate;
 
-    ghost Said = { plain.Template };
+    ghost Said = { plain.DeckTemplate };
 
     ghost say = { template_view };
 
     ghost bytes_of = { deck_fields.template.bytes_of };
 
     #[tactic(auto, unfolding(crate::specs::DeckFields::template))]
-    fn put(&self, out: &mut Vec<u8>, value: &Template) -> Result<(), AllocError> {
+    fn put(&self, out: &mut Vec<u8>, value: &DeckTemplate) -> Result<(), AllocError> {
         put_short(out, value.description)?;
         put_large_count(out, value.initial.len())?;
         put_all(out, &Initials, value.initial.as_slice())
@@ -176,16 +176,16 @@ impl PutsOne for Globals {
 pub struct Blocks;
 
 impl PutsOne for Blocks {
-    type Value = Block;
+    type Value = DeckBlock;
 
-    ghost Said = { plain.Block };
+    ghost Said = { plain.DeckBlock };
 
     ghost say = { block_view };
 
     ghost bytes_of = { deck_fields.block.bytes_of };
 
     #[tactic(auto, unfolding(crate::specs::DeckFields::block))]
-    fn put(&self, out: &mut Vec<u8>, value: &Block) -> Result<(), AllocError> {
+    fn put(&self, out: &mut Vec<u8>, value: &DeckBlock) -> Result<(), AllocError> {
         put_byte(out, value.kind)?;
         put_optional(out, value.parent)?;
         put_byte(out, value.parameters)?;

@@ -12,7 +12,7 @@ use crate::writing::{put_byte, put_bytes, put_flag, put_list, put_name};
 use std::alloc::{AllocError, Global};
 
 /// Puts the tables of a deck.
-#[tactic(auto, unfolding(crate::specs::DeckFields::tables), using(crate::proofs::Puts::mapped_length, crate::proofs::Puts::unmapped))]
+#[tactic(auto, unfolding(crate::specs::DeckFields::tables), using(crate::proofs::PutLemmas::mapped_length, crate::proofs::PutLemmas::unmapped))]
 fn put_tables(out: &mut Vec<u8>, deck: &Deck) -> Result<(), AllocError>
     ensures { OnOk result (out.new.items ≡ out.old.items ++ deck_fields.tables.bytes_of (deck_fields.tables_of (deck_view deck.now))) }
 {

@@ -5,7 +5,7 @@ use Rattle.std.proofs.lemmas.List.{map-append, length-append, length-map}
 use Rattle.pli_map.specs.Description.{Description, FixedBinary, Character, Varying, Bit, Pointer, Offset, Area, Array, Structure, Members, NoMembers, MemberThen}
 use Rattle.pli_map.specs.Scalars.{scalars_in, scalars_among}
 use Rattle.pli_map.specs.Sizes.{count_of, alignment_of, size_of, stride_of}
-use Rattle.pli_map.proofs.Multiples.{IsAlignment}
+use Rattle.pli_map.proofs.MultipleLemmas.{IsAlignment}
 use Rattle.pli_map.proofs.PlaceLaws.{four_alignments}
 use Rattle.pli_deck_code.specs.ScalarOffsets.{word, repeated, offsets_from, offsets_among}
 

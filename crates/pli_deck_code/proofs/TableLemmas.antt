@@ -15,7 +15,7 @@ use Rattle.pli_unit_code.specs.views.CodeView.{global_view, signature_view}
 use Rattle.pli_deck_code.specs.CodeDecks.{short}
 use Rattle.pli_deck_code.specs.CodeModules.{external_of, number_of, links_of}
 use Rattle.pli_deck_code.specs.answers.Tables.{name_of}
-use Rattle.pli_deck_code.specs.declared.externals.Declaration.{Declaration}
+use Rattle.pli_deck_code.specs.declared.externals.ExternalDeclaration.{ExternalDeclaration}
 
 -- an external variable before those that have their numbers
 pub number_more : (at later : ℕ) (externals : List External) (e : External) (name : Name) (entries : List (Name × ℕ)) (found : Option ℕ) → at + 1 ≡ later
@@ -60,9 +60,9 @@ names_seen : (es : List External) → map (λ (e : plain.External). e.name) (map
 names_seen [] = refl
 names_seen (e ∷ es) = ap (λ l. e.name ∷ l) (names_seen es)
 
-names_declared : (ds : List (Name × Declaration)) → map (λ (e : plain.External). e.name) (map external_of ds) ≡ keys_of ds
+names_declared : (ds : List (Name × ExternalDeclaration)) → map (λ (e : plain.External). e.name) (map external_of ds) ≡ keys_of ds
 names_declared [] = refl
 names_declared (d ∷ ds) = ap (λ l. d.0 ∷ l) (names_declared ds)
 
-pub names_are : (es : List External) (ds : List (Name × Declaration)) → map external_view es ≡ map external_of ds → map name_of es ≡ keys_of ds
+pub names_are : (es : List External) (ds : List (Name × ExternalDeclaration)) → map external_view es ≡ map external_of ds → map name_of es ≡ keys_of ds
 names_are es ds h = sym (names_seen es) ∙ ap (map (λ (e : plain.External). e.name)) h ∙ names_declared ds

@@ -4,8 +4,8 @@ use Rattle.std.specs.Prelude.{List, [], map, slice_get, get_or, if◌then◌else
 use Rattle.pli_code.specs.declared.ending.RunError.{RunError}
 use Rattle.pli_code.specs.declared.ending.RunError.TheVariants as errors
 use Rattle.pli_deck.specs.Decks as deck
-use Rattle.pli_deck.specs.declared.instruction.Instruction as deck_instruction
-use Rattle.pli_deck.specs.declared.instruction.Instruction.TheVariants as op
+use Rattle.pli_deck.specs.declared.instruction.DeckInstruction as deck_instruction
+use Rattle.pli_deck.specs.declared.instruction.DeckInstruction.TheVariants as op
 use Rattle.pli_machine_step.specs.Program.{BlockKind, Procedure, BeginBlock, OnUnit}
 use Rattle.pli_map.specs.Description.{Description}
 use Rattle.pli_operation.specs.declared.operation.Relation.{Relation}
@@ -57,7 +57,7 @@ relation_number relations.Greater = 4
 relation_number relations.AtLeast = 5
 
 -- an instruction, with its numbers cut to their fields
-abbrev pub instruction_of : Instruction → deck_instruction.Instruction
+abbrev pub instruction_of : Instruction → deck_instruction.DeckInstruction
 instruction_of (coded.Step s) = op.Step s
 instruction_of (coded.Line s) = op.Line s
 instruction_of (coded.Jump target) = op.Jump target
@@ -123,14 +123,14 @@ offsets_in None = []
 offsets_in (Some d) = offsets_of d
 
 -- a template, its initial values on the bytes of their scalars
-abbrev pub template_of : List Description → code.CodedTemplate → deck.Template
+abbrev pub template_of : List Description → code.CodedTemplate → deck.DeckTemplate
 template_of descriptions t = record {
   description = t.description;
   initial = map (initial_of (offsets_in (slice_get descriptions t.description))) t.initial;
 }
 
 -- what an external procedure takes and gives
-abbrev pub signature_of : code.CodedSignature → deck.Signature
+abbrev pub signature_of : code.CodedSignature → deck.DeckSignature
 signature_of s = record { parameters = s.parameters; result = s.result }
 
 -- a global
@@ -146,7 +146,7 @@ kind_number BeginBlock = 1
 kind_number OnUnit = 2
 
 -- a block, with its numbers cut to their fields
-abbrev pub block_of : code.CodedBlock → deck.Block
+abbrev pub block_of : code.CodedBlock → deck.DeckBlock
 block_of b = record {
   kind = kind_number b.kind;
   parent = option_map short b.parent;

@@ -7,47 +7,48 @@ use Rattle.std.specs.Map.{keys_of, lookup}
 use Rattle.std.specs.Ordering.{nat_cmp}
 use Rattle.pli_base.specs.Name.{Name}
 use Rattle.pli_base.specs.Words.{same_name}
-use Rattle.pli_deck.specs.ModuleFields.{External, Member, Module}
+use Rattle.pli_deck.specs.ModuleFields.{External, Member, DeckModule}
 use Rattle.pli_unit_code.specs.CodeTables.{CodedGlobal, OwnVariable, ExternalVariable, EntryPoint}
 use Rattle.pli_unit_code.specs.Modules as linked
 use Rattle.pli_unit_code.specs.Modules.{LinkedUnit}
 use Rattle.pli_deck_code.specs.CodeDecks.{short, deck_of}
-use Rattle.pli_deck_code.specs.declared.externals.Declaration.{Declaration}
+use Rattle.pli_deck_code.specs.declared.externals.ExternalDeclaration.{ExternalDeclaration}
 
 -- where an external variable is declared
-abbrev pub declaration : (unit global : ℕ) → Declaration
+abbrev pub declaration : (unit global : ℕ) → ExternalDeclaration
 declaration unit global = record { unit = short unit; global = short global }
 
 -- the external variables that a unit declares, from this global on
-abbrev pub declared_in : (unit global : ℕ) → List CodedGlobal → List (Name × Declaration)
+abbrev pub declared_in : (unit global : ℕ) → List CodedGlobal → List (Name × ExternalDeclaration)
 declared_in unit global [] = []
 declared_in unit global (ExternalVariable name t ∷ gs) =
     (name, declaration unit global) ∷ declared_in unit (global + 1) gs
 declared_in unit global (other ∷ gs) = declared_in unit (global + 1) gs
 
 -- those that all units declare, from this unit on
-abbrev pub all_declared : (unit : ℕ) → List LinkedUnit → List (Name × Declaration)
+abbrev pub all_declared : (unit : ℕ) → List LinkedUnit → List (Name × ExternalDeclaration)
 all_declared unit [] = []
 all_declared unit (u ∷ us) = declared_in unit 0 u.code.globals ++ all_declared (unit + 1) us
 
 -- declarations in the order of their names, with one more, unless there is one of its name
-abbrev pub with_declaration : List (Name × Declaration) → Name × Declaration → List (Name × Declaration)
+abbrev pub with_declaration : List (Name × ExternalDeclaration) → Name × ExternalDeclaration
+    → List (Name × ExternalDeclaration)
 with_declaration before d =
     if is_some (lookup (is_at (slice_cmp nat_cmp d.0)) before) then before
     else insert_entry (slice_cmp nat_cmp) before d.0 d.1
 
 -- of those of one name the first, in the order of the names
-abbrev pub firsts : (before : List (Name × Declaration)) → List (Name × Declaration)
-    → List (Name × Declaration)
+abbrev pub firsts : (before : List (Name × ExternalDeclaration)) → List (Name × ExternalDeclaration)
+    → List (Name × ExternalDeclaration)
 firsts before [] = before
 firsts before (d ∷ ds) = firsts (with_declaration before d) ds
 
 -- the first declarations of the external variables of a module, in the order of their names
-abbrev pub declarations : List LinkedUnit → List (Name × Declaration)
+abbrev pub declarations : List LinkedUnit → List (Name × ExternalDeclaration)
 declarations us = firsts [] (all_declared 0 us)
 
 -- a STATIC variable with its first declaration
-abbrev pub external_of : Name × Declaration → External
+abbrev pub external_of : Name × ExternalDeclaration → External
 external_of d = record { name = d.0; kind = 2; unit = d.1.unit; global = d.1.global }
 
 -- the number of a name among these, which have numbers from this one on
@@ -80,7 +81,7 @@ members_of main names number (u ∷ us) =
     member names (nat_eq number main) u ∷ members_of main names (number + 1) us
 
 -- the module of decks
-abbrev pub module_of : linked.Module → Module
+abbrev pub module_of : linked.Module → DeckModule
 module_of m = record {
   main = m.main;
   externals = map external_of (declarations m.units);

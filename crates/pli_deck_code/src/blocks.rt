@@ -9,17 +9,20 @@ use crate::descriptions::copied_descriptions;
 use crate::instructions::instructions_of;
 use crate::numbers::{byte, short};
 use crate::templates::templates_of;
-use pli_deck::{Block, Deck, Global, Signature};
+use pli_deck::{Deck, DeckBlock, DeckSignature, Global};
 use pli_unit_code as code;
 use pli_unit_code::{BlockKind, CodedGlobal, CodedSignature, LinkedUnit};
 use std::alloc;
 use std::alloc::AllocError;
 
 /// A signature.
-fn signature_of(alloc: alloc::Global, signature: &CodedSignature) -> Result<Signature, AllocError>
+fn signature_of(
+    alloc: alloc::Global,
+    signature: &CodedSignature,
+) -> Result<DeckSignature, AllocError>
     ensures { IfOk result (λ made. view.signature_view made ≡ signature_of (signature_view signature.now)) }
 {
-    Ok(Signature {
+    Ok(DeckSignature {
         parameters: Vec::from_slice(alloc, &signature.parameters)?,
         result: signature.result,
     })
@@ -65,10 +68,10 @@ fn kind_number(kind: BlockKind) -> u8
 }
 
 /// A block with its numbers in their fields.
-fn block_of(alloc: alloc::Global, block: &code::Block) -> Result<Block, AllocError>
+fn block_of(alloc: alloc::Global, block: &code::Block) -> Result<DeckBlock, AllocError>
     ensures { IfOk result (λ made. view.block_view made ≡ block_of (block_view block.now)) }
 {
-    Ok(Block {
+    Ok(DeckBlock {
         kind: kind_number(block.kind),
         parent: match block.parent {
             None => None,
@@ -83,7 +86,7 @@ fn block_of(alloc: alloc::Global, block: &code::Block) -> Result<Block, AllocErr
 }
 
 /// Blocks with their numbers in their fields.
-fn blocks_of(alloc: alloc::Global, blocks: &[code::Block]) -> Result<Vec<Block>, AllocError>
+fn blocks_of(alloc: alloc::Global, blocks: &[code::Block]) -> Result<Vec<DeckBlock>, AllocError>
     ensures { IfOk result (λ made. map view.block_view made.items ≡ map block_of (map block_view blocks.now)) }
 {
     let mut made = Vec::with_capacity(alloc, blocks.len())?;

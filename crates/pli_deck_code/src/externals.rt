@@ -15,16 +15,16 @@ use std::collections::BTreeMap;
 
 /// Where an external variable is declared: a unit, and a global of it.
 #[derive(Clone, Copy)]
-pub struct Declaration {
+pub struct ExternalDeclaration {
     pub unit: u16,
     pub global: u16,
 }
 
 /// Notes a declaration for its name, unless one before has the name.
 fn note_declaration(
-    declarations: &mut BTreeMap<Name, Declaration>,
+    declarations: &mut BTreeMap<Name, ExternalDeclaration>,
     name: Name,
-    declaration: Declaration,
+    declaration: ExternalDeclaration,
 ) -> Result<(), AllocError>
     ensures { OnOk result (declarations.new.entries ≡ spec.with_declaration declarations.old.entries (name, declaration)) }
 {
@@ -37,7 +37,7 @@ fn note_declaration(
 
 /// Notes the external variables that a unit declares.
 fn note_unit(
-    declarations: &mut BTreeMap<Name, Declaration>,
+    declarations: &mut BTreeMap<Name, ExternalDeclaration>,
     unit: usize,
     globals: &[CodedGlobal],
 ) -> Result<(), AllocError>
@@ -46,7 +46,7 @@ fn note_unit(
 {
     for (number, global) in globals.iter().enumerate() {
         if let CodedGlobal::ExternalVariable { name, .. } = global {
-            let declaration = Declaration {
+            let declaration = ExternalDeclaration {
                 unit: short(unit as u64),
                 global: short(number as u64),
             };
@@ -60,7 +60,7 @@ fn note_unit(
 fn declarations_of(
     alloc: Global,
     units: &[LinkedUnit],
-) -> Result<BTreeMap<Name, Declaration>, AllocError>
+) -> Result<BTreeMap<Name, ExternalDeclaration>, AllocError>
     ensures { IfOk result (λ found. found.entries ≡ spec.declarations (map unit_view units.now)) }
 {
     let mut found = BTreeMap::new(alloc);
@@ -73,7 +73,7 @@ fn declarations_of(
 /// External variables with their declarations, in the order of their names.
 fn externals_in(
     alloc: Global,
-    declarations: &BTreeMap<Name, Declaration>,
+    declarations: &BTreeMap<Name, ExternalDeclaration>,
 ) -> Result<Vec<External>, AllocError>
     ensures { IfOk result (λ made. map external_view made.items ≡ map spec.external_of declarations.now.entries) }
 {

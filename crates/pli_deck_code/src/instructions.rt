@@ -4,7 +4,7 @@ ghost use Rattle.pli_deck_code.specs.CodeDecks.{error_number, relation_number, i
 
 use crate::numbers::{byte, short};
 use pli_code::RunError;
-use pli_deck as deck;
+use pli_deck::DeckInstruction;
 use pli_operation::Relation;
 use pli_unit_code::Instruction;
 use std::alloc::{AllocError, Global};
@@ -45,50 +45,50 @@ fn relation_number(relation: Relation) -> u8
 }
 
 /// An instruction with its numbers in their fields.
-fn instruction_of(instruction: Instruction) -> deck::Instruction
+fn instruction_of(instruction: Instruction) -> DeckInstruction
     ensures { result ≡ instruction_of instruction }
 {
     match instruction {
-        Instruction::Step { statement } => deck::Instruction::Step { statement },
-        Instruction::Line { statement } => deck::Instruction::Line { statement },
-        Instruction::Jump { target } => deck::Instruction::Jump { target },
-        Instruction::JumpUnless { target } => deck::Instruction::JumpUnless { target },
-        Instruction::Goto { outward, target } => deck::Instruction::Goto {
+        Instruction::Step { statement } => DeckInstruction::Step { statement },
+        Instruction::Line { statement } => DeckInstruction::Line { statement },
+        Instruction::Jump { target } => DeckInstruction::Jump { target },
+        Instruction::JumpUnless { target } => DeckInstruction::JumpUnless { target },
+        Instruction::Goto { outward, target } => DeckInstruction::Goto {
             outward: byte(outward),
             target,
         },
-        Instruction::Call { block, arguments } => deck::Instruction::Call {
+        Instruction::Call { block, arguments } => DeckInstruction::Call {
             block: short(u64::from(block)),
             arguments: byte(u32::from(arguments)),
         },
-        Instruction::CallExternal { global, arguments } => deck::Instruction::CallExternal {
+        Instruction::CallExternal { global, arguments } => DeckInstruction::CallExternal {
             global: short(u64::from(global)),
             arguments: byte(u32::from(arguments)),
         },
-        Instruction::Begin { block } => deck::Instruction::Begin {
+        Instruction::Begin { block } => DeckInstruction::Begin {
             block: short(u64::from(block)),
         },
-        Instruction::Return { outward } => deck::Instruction::Return {
+        Instruction::Return { outward } => DeckInstruction::Return {
             outward: byte(outward),
         },
-        Instruction::ReturnValue { outward } => deck::Instruction::ReturnValue {
+        Instruction::ReturnValue { outward } => DeckInstruction::ReturnValue {
             outward: byte(outward),
         },
-        Instruction::Raise(error) => deck::Instruction::Raise {
+        Instruction::Raise(error) => DeckInstruction::Raise {
             error: error_number(error),
         },
-        Instruction::Stop => deck::Instruction::Stop,
-        Instruction::Local { outward, slot } => deck::Instruction::Local {
+        Instruction::Stop => DeckInstruction::Stop,
+        Instruction::Local { outward, slot } => DeckInstruction::Local {
             outward: byte(outward),
             slot: short(u64::from(slot)),
         },
-        Instruction::Global { number } => deck::Instruction::Global {
+        Instruction::Global { number } => DeckInstruction::Global {
             global: short(u64::from(number)),
         },
         Instruction::Field {
             offset,
             description,
-        } => deck::Instruction::Field {
+        } => DeckInstruction::Field {
             offset,
             description,
         },
@@ -96,47 +96,47 @@ fn instruction_of(instruction: Instruction) -> deck::Instruction
             low,
             high,
             multiplier,
-        } => deck::Instruction::Subscript {
+        } => DeckInstruction::Subscript {
             low,
             high,
             multiplier,
         },
-        Instruction::Constant { value } => deck::Instruction::Constant { value },
-        Instruction::Load => deck::Instruction::Load,
-        Instruction::Store => deck::Instruction::Store,
-        Instruction::Copy => deck::Instruction::Copy,
-        Instruction::MakeDummy { template } => deck::Instruction::MakeDummy { template },
-        Instruction::Fit { description } => deck::Instruction::Fit { description },
-        Instruction::ToCharacters { width } => deck::Instruction::ToCharacters { width },
-        Instruction::FromBits => deck::Instruction::FromBits,
-        Instruction::Negate => deck::Instruction::Negate,
-        Instruction::Absolute => deck::Instruction::Absolute,
-        Instruction::Sign => deck::Instruction::Sign,
-        Instruction::Not => deck::Instruction::Not,
-        Instruction::LengthOf => deck::Instruction::LengthOf,
-        Instruction::Add => deck::Instruction::Add,
-        Instruction::Subtract => deck::Instruction::Subtract,
-        Instruction::Multiply => deck::Instruction::Multiply,
-        Instruction::Modulo => deck::Instruction::Modulo,
-        Instruction::Greatest => deck::Instruction::Greatest,
-        Instruction::Least => deck::Instruction::Least,
-        Instruction::Divide { precision } => deck::Instruction::Divide { precision },
-        Instruction::Compare(relation) => deck::Instruction::Compare {
+        Instruction::Constant { value } => DeckInstruction::Constant { value },
+        Instruction::Load => DeckInstruction::Load,
+        Instruction::Store => DeckInstruction::Store,
+        Instruction::Copy => DeckInstruction::Copy,
+        Instruction::MakeDummy { template } => DeckInstruction::MakeDummy { template },
+        Instruction::Fit { description } => DeckInstruction::Fit { description },
+        Instruction::ToCharacters { width } => DeckInstruction::ToCharacters { width },
+        Instruction::FromBits => DeckInstruction::FromBits,
+        Instruction::Negate => DeckInstruction::Negate,
+        Instruction::Absolute => DeckInstruction::Absolute,
+        Instruction::Sign => DeckInstruction::Sign,
+        Instruction::Not => DeckInstruction::Not,
+        Instruction::LengthOf => DeckInstruction::LengthOf,
+        Instruction::Add => DeckInstruction::Add,
+        Instruction::Subtract => DeckInstruction::Subtract,
+        Instruction::Multiply => DeckInstruction::Multiply,
+        Instruction::Modulo => DeckInstruction::Modulo,
+        Instruction::Greatest => DeckInstruction::Greatest,
+        Instruction::Least => DeckInstruction::Least,
+        Instruction::Divide { precision } => DeckInstruction::Divide { precision },
+        Instruction::Compare(relation) => DeckInstruction::Compare {
             relation: relation_number(relation),
         },
-        Instruction::Concatenate => deck::Instruction::Concatenate,
-        Instruction::And => deck::Instruction::And,
-        Instruction::Or => deck::Instruction::Or,
-        Instruction::Index => deck::Instruction::Index,
-        Instruction::Rest => deck::Instruction::Rest,
-        Instruction::Substring => deck::Instruction::Substring,
-        Instruction::Within => deck::Instruction::IsWithin,
-        Instruction::Put => deck::Instruction::Put,
-        Instruction::Skip => deck::Instruction::Skip,
-        Instruction::SetTemporary { number } => deck::Instruction::SetTemporary {
+        Instruction::Concatenate => DeckInstruction::Concatenate,
+        Instruction::And => DeckInstruction::And,
+        Instruction::Or => DeckInstruction::Or,
+        Instruction::Index => DeckInstruction::Index,
+        Instruction::Rest => DeckInstruction::Rest,
+        Instruction::Substring => DeckInstruction::Substring,
+        Instruction::Within => DeckInstruction::IsWithin,
+        Instruction::Put => DeckInstruction::Put,
+        Instruction::Skip => DeckInstruction::Skip,
+        Instruction::SetTemporary { number } => DeckInstruction::SetTemporary {
             number: short(number),
         },
-        Instruction::TakeTemporary { number } => deck::Instruction::TakeTemporary {
+        Instruction::TakeTemporary { number } => DeckInstruction::TakeTemporary {
             number: short(number),
         },
     }
@@ -146,7 +146,7 @@ fn instruction_of(instruction: Instruction) -> deck::Instruction
 pub fn instructions_of(
     alloc: Global,
     code: &[Instruction],
-) -> Result<Vec<deck::Instruction>, AllocError>
+) -> Result<Vec<DeckInstruction>, AllocError>
     ensures { IfOk result (λ made. made.items ≡ map instruction_of code.now) }
 {
     let mut made = Vec::with_capacity(alloc, code.len())?;

@@ -12,7 +12,7 @@ use crate::externals::{externals_of, numbers_of};
 use crate::links::links_of;
 use indexmap::IndexMap;
 use pli_base::Name;
-use pli_deck::{Member, Module, write_module};
+use pli_deck::{DeckModule, Member, write_module};
 use pli_unit_code as code;
 use pli_unit_code::LinkedUnit;
 use std::alloc::{AllocError, Global};
@@ -54,13 +54,13 @@ fn members_of(
 
 /// The module of linked units as its bytes have it. Takes time in proportion to the code and to the variables that
 /// have initial values. An error comes where memory runs out.
-pub fn module_of(alloc: Global, linked: &code::Module) -> Result<Module, AllocError>
+pub fn module_of(alloc: Global, linked: &code::Module) -> Result<DeckModule, AllocError>
     ensures { IfOk result (λ made. module_view made ≡ module_of (view.module_view linked.now)) }
 {
     let externals = externals_of(alloc, &linked.units)?;
     let numbers = numbers_of(alloc, &externals)?;
     let units = members_of(alloc, &numbers, linked.main, &linked.units)?;
-    Ok(Module {
+    Ok(DeckModule {
         main: linked.main,
         externals,
         units,

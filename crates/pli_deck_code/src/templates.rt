@@ -9,7 +9,7 @@ ghost use Rattle.pli_deck_code.specs.CodeDecks.{initial_of, offsets_in, template
 use crate::constants::constant_of;
 use crate::descriptions::description_at;
 use crate::offsets::offsets_of;
-use pli_deck::{Initial, Template};
+use pli_deck::{DeckTemplate, Initial};
 use pli_map::Description;
 use pli_type_tree::InitialScalar;
 use pli_unit_code::CodedTemplate;
@@ -85,10 +85,10 @@ fn template_of(
     alloc: Global,
     descriptions: &[Description],
     template: &CodedTemplate,
-) -> Result<Template, AllocError>
+) -> Result<DeckTemplate, AllocError>
     ensures { IfOk result (λ made. template_view made ≡ template_of (map description_view descriptions.now) (coded_template_view template.now)) }
 {
-    Ok(Template {
+    Ok(DeckTemplate {
         description: template.description,
         initial: initials_in(alloc, descriptions, template)?,
     })
@@ -99,7 +99,7 @@ pub fn templates_of(
     alloc: Global,
     descriptions: &[Description],
     templates: &[CodedTemplate],
-) -> Result<Vec<Template>, AllocError>
+) -> Result<Vec<DeckTemplate>, AllocError>
     ensures { IfOk result (λ made. map template_view made.items
         ≡ map (template_of (map description_view descriptions.now)) (map coded_template_view templates.now)) }
 {

@@ -1,6 +1,6 @@
-pub mod Counting
+pub mod CountLemmas
 pub mod FoundPlaces
-pub mod Nameless
+pub mod NamelessLemmas
 pub mod PlacesFound
 pub mod PlacesMade
 pub mod PlacesViews

@@ -4,7 +4,7 @@ use Rattle.std.specs.Int.{next_multiple_of}
 use Rattle.pli_map.specs.Description as tree
 use Rattle.pli_map.specs.Sizes.{alignment_of, size_of, stride_of, count_of, end_behind}
 use Rattle.pli_map.proofs.Members.{later}
-use Rattle.pli_map.proofs.Multiples.{IsAlignment}
+use Rattle.pli_map.proofs.MultipleLemmas.{IsAlignment}
 use Rattle.pli_map.proofs.PlaceLaws.{four_alignments}
 use Rattle.pli_map.specs.declared.description.Bounds.{Bounds}
 use Rattle.pli_deck_faults.specs.Places.{Places, PlacesThen, places_of, places_among, list_of_places}

@@ -8,7 +8,7 @@ use Rattle.pli_map.specs.Description.{Description, Members}
 use Rattle.pli_map.specs.Sizes.{alignment_of, size_of, stride_of}
 use Rattle.pli_map.specs.views.DescriptionView.{description_view}
 use Rattle.pli_deck_faults.specs.declared.places.Places as program
-use Rattle.pli_deck_faults.specs.declared.places.Placed as placed_program
+use Rattle.pli_deck_faults.specs.declared.places.DescriptionExtent as placed_program
 use Rattle.pli_deck_faults.specs.declared.places.Places.TheOpen.{Places-F}
 use Rattle.pli_deck_faults.specs.declared.places.Places.TheFolds.{fold-Places}
 
@@ -72,19 +72,19 @@ abbrev pub places_view : program.Places → Places
 places_view = fold-Places Places places_level
 
 -- the size of a description, with its places
-pub record Placed : Type 0 where
+pub record DescriptionExtent : Type 0 where
   pub bytes : ℕ
   pub places : Places
 
 -- none of a description of more than 1,000,000 bytes
-abbrev pub placed_of : Description → Option Placed
+abbrev pub placed_of : Description → Option DescriptionExtent
 placed_of d =
     if nat_le (size_of d) 1000000 then Some (record { bytes = size_of d; places = places_of d }) else None
 
 -- the same with the size
-abbrev pub placed_view : placed_program.Placed → Placed
+abbrev pub placed_view : placed_program.DescriptionExtent → DescriptionExtent
 placed_view p = record { bytes = p.bytes; places = places_view p.places }
 
 -- the same of descriptions that may be too large
-abbrev pub all_placed : List (Option placed_program.Placed) → List (Option Placed)
+abbrev pub all_placed : List (Option placed_program.DescriptionExtent) → List (Option DescriptionExtent)
 all_placed ps = map (option_map placed_view) ps

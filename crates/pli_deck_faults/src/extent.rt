@@ -7,7 +7,7 @@ ghost use Rattle.pli_deck.specs.ModuleView.{external_view, member_view, module_v
 ghost use Rattle.pli_deck_faults.specs.CutSizes.{cut_sizes, unit_sizes};
 ghost use Rattle.pli_deck_faults.specs.Remains.{Remains};
 
-use pli_deck::{Deck, External, Global as DeckGlobal, Member, Module};
+use pli_deck::{Deck, DeckModule, External, Global as DeckGlobal, Member};
 use pli_map::{Description, far_size};
 use std::alloc::{AllocError, Global};
 
@@ -171,7 +171,7 @@ fn behind_externals(
 }
 
 /// Whether a module keeps the limits. An error comes where memory runs out.
-pub fn module_within(alloc: Global, program: &Module) -> Result<bool, AllocError>
+pub fn module_within(alloc: Global, program: &DeckModule) -> Result<bool, AllocError>
     ensures { IfOk result (λ good. good ≡ spelling.module_within_limits (module_view program.now)) }
 {
     let units = program.units.as_slice();

@@ -9,8 +9,8 @@ ghost use Rattle.pli_deck.specs.DeckView.{constant_view, initial_view, template_
 ghost use Rattle.pli_deck_faults.specs.Places.{places_of, placed_of, places_view, placed_view, all_placed};
 ghost use Rattle.pli_deck_faults.specs.Counted.{counted_of, keep_limits};
 
-use crate::places::{Placed, Places, placed_scalars, scalar_at};
-use pli_deck::{Constant, Deck, Initial, Template};
+use crate::places::{DescriptionExtent, Places, placed_scalars, scalar_at};
+use pli_deck::{Constant, Deck, DeckTemplate, Initial};
 use pli_map::Description;
 use std::alloc::{AllocError, Global};
 
@@ -71,7 +71,7 @@ fn all_fit(places: &Places, values: &[Initial]) -> bool
 
 /// The bytes that count of a template, by what stands where in its description: all where it has initial values, and
 /// else none; `None` where it does not keep the limits.
-fn counted(placed: &Option<Placed>, initial: &[Initial]) -> Option<u32>
+fn counted(placed: &Option<DescriptionExtent>, initial: &[Initial]) -> Option<u32>
     ensures { (d : tree.Description) → option_map placed_view placed.now ≡ placed_of d →
         result ≡ counted_of (Some d) (map initial_view initial.now) }
 {
@@ -89,7 +89,7 @@ fn counted(placed: &Option<Placed>, initial: &[Initial]) -> Option<u32>
 }
 
 /// The bytes that count of a template; none of one whose description there is not.
-fn bytes_of(placed: &[Option<Placed>], template: &Template) -> Option<u32>
+fn bytes_of(placed: &[Option<DescriptionExtent>], template: &DeckTemplate) -> Option<u32>
     ensures { (ds : List tree.Description) → all_placed placed.now ≡ map placed_of ds → let t = template_view template.now in
         result ≡ counted_of (slice_get ds t.description) t.initial }
 {
@@ -101,7 +101,7 @@ fn bytes_of(placed: &[Option<Placed>], template: &Template) -> Option<u32>
 }
 
 /// Whether all templates keep the limits, and those that have initial values take no more bytes than there may be.
-fn templates_fit(placed: &[Option<Placed>], templates: &[Template]) -> bool
+fn templates_fit(placed: &[Option<DescriptionExtent>], templates: &[DeckTemplate]) -> bool
     ensures { (ds : List tree.Description) → all_placed placed.now ≡ map placed_of ds →
         result ≡ keep_limits ds (map template_view templates.now) 16777216 }
 {
@@ -122,7 +122,7 @@ fn templates_fit(placed: &[Option<Placed>], templates: &[Template]) -> bool
 fn places_of_all(
     alloc: Global,
     descriptions: &[Description],
-) -> Result<Vec<Option<Placed>>, AllocError>
+) -> Result<Vec<Option<DescriptionExtent>>, AllocError>
     ensures { IfOk result (λ found. all_placed found.items ≡ map placed_of (map description_view descriptions.now)) }
 {
     let mut found = Vec::new(alloc);

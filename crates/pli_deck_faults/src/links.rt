@@ -6,7 +6,7 @@ ghost use Rattle.pli_deck.specs.ModuleFields as module_fields;
 ghost use Rattle.pli_deck.specs.ModuleSpelling as spelling;
 ghost use Rattle.pli_deck.specs.ModuleView.{kind_number, external_view, member_view, module_view};
 
-use pli_deck::{External, ExternalKind, Global, Member, Module};
+use pli_deck::{DeckModule, External, ExternalKind, Global, Member};
 
 /// Whether a global is of a kind of externals.
 fn has_kind(kind: ExternalKind, global: &Global) -> bool
@@ -57,7 +57,7 @@ fn variable_stands(externals: &[External], global: &Global, link: u16) -> bool
 
 /// Whether what an external global stands for is there: a unit for an entry, and an external of its kind for a
 /// variable.
-fn link_stands(program: &Module, global: &Global, link: u16) -> bool
+fn link_stands(program: &DeckModule, global: &Global, link: u16) -> bool
     ensures { result ≡ spelling.is_good_link (module_view program.now) (global_view global.now) link }
 {
     match global {
@@ -77,7 +77,7 @@ pub fn is_external(global: &Global) -> bool
 }
 
 /// Whether what the external globals of a unit stand for is there.
-fn globals_linked(program: &Module, globals: &[Global], links: &[u16]) -> bool
+fn globals_linked(program: &DeckModule, globals: &[Global], links: &[u16]) -> bool
     ensures { result ≡ spelling.are_good_links (module_view program.now) (filter module_fields.is_external (map global_view globals.now)) links.now }
 {
     let mut at: usize = 0;
@@ -96,7 +96,7 @@ fn globals_linked(program: &Module, globals: &[Global], links: &[u16]) -> bool
 }
 
 /// Whether what the external globals of units stand for is there.
-fn units_linked(program: &Module, units: &[Member]) -> bool
+fn units_linked(program: &DeckModule, units: &[Member]) -> bool
     ensures { result ≡ list_all (λ u. spelling.are_good_links (module_view program.now) (filter module_fields.is_external u.deck.globals) u.links) (map member_view units.now) }
 {
     for unit in units {
@@ -108,7 +108,7 @@ fn units_linked(program: &Module, units: &[Member]) -> bool
 }
 
 /// Whether the main unit, the first declarations of externals, and what external globals stand for are there.
-pub fn links_stand(program: &Module) -> bool
+pub fn links_stand(program: &DeckModule) -> bool
     ensures { result ≡ spelling.links_stand (module_view program.now) }
 {
     usize::from(program.main) < program.units.len()

@@ -32,7 +32,7 @@ pub enum Places {
 
 /// What a description takes, in bytes, and where its scalars stand.
 #[derive(Drop)]
-pub struct Placed {
+pub struct DescriptionExtent {
     pub bytes: u32,
     pub places: Places,
 }
@@ -112,14 +112,14 @@ fn places_among(alloc: Global, members: &[Description]) -> Result<Places, AllocE
 pub fn placed_scalars(
     alloc: Global,
     description: &Description,
-) -> Result<Option<Placed>, AllocError>
+) -> Result<Option<DescriptionExtent>, AllocError>
     ensures { IfOk result (λ p. option_map placed_view p ≡ placed_of (description_view description.now)) }
 {
     let Some(layout) = measure(description) else {
         return Ok(None);
     };
     let places = places_of(alloc, description)?;
-    Ok(Some(Placed {
+    Ok(Some(DescriptionExtent {
         bytes: layout.bytes,
         places,
     }))

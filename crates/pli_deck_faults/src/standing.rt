@@ -5,10 +5,10 @@ ghost use Rattle.pli_deck.specs.DeckFaults as faults;
 ghost use Rattle.pli_deck.specs.DeckFaults.{OfDescription, OfTemplate, OfValue, OfGlobal, OfBlock, OfInstruction};
 ghost use Rattle.pli_deck.specs.DeckView.{deck_view, signature_view, template_view, global_view, block_view};
 
-use pli_deck::{Block, Deck, Global, Instruction, Signature, Template};
+use pli_deck::{Deck, DeckBlock, DeckInstruction, DeckSignature, DeckTemplate, Global};
 
 /// Whether a description of this number is there.
-#[tactic(auto, using(crate::proofs::Counting::mapped_length))]
+#[tactic(auto, using(crate::proofs::CountLemmas::mapped_length))]
 fn has_description(deck: &Deck, number: u16) -> bool
     ensures { result ≡ faults.is_there (deck_view deck.now) (OfDescription number) }
 {
@@ -16,7 +16,7 @@ fn has_description(deck: &Deck, number: u16) -> bool
 }
 
 /// Whether a template of this number is there.
-#[tactic(auto, using(crate::proofs::Counting::mapped_length))]
+#[tactic(auto, using(crate::proofs::CountLemmas::mapped_length))]
 fn has_template(deck: &Deck, number: u16) -> bool
     ensures { result ≡ faults.is_there (deck_view deck.now) (OfTemplate number) }
 {
@@ -24,7 +24,7 @@ fn has_template(deck: &Deck, number: u16) -> bool
 }
 
 /// Whether a value of this number is there.
-#[tactic(auto, using(crate::proofs::Counting::mapped_length))]
+#[tactic(auto, using(crate::proofs::CountLemmas::mapped_length))]
 fn has_value(deck: &Deck, number: u16) -> bool
     ensures { result ≡ faults.is_there (deck_view deck.now) (OfValue number) }
 {
@@ -32,7 +32,7 @@ fn has_value(deck: &Deck, number: u16) -> bool
 }
 
 /// Whether a global of this number is there.
-#[tactic(auto, using(crate::proofs::Counting::mapped_length))]
+#[tactic(auto, using(crate::proofs::CountLemmas::mapped_length))]
 fn has_global(deck: &Deck, number: u16) -> bool
     ensures { result ≡ faults.is_there (deck_view deck.now) (OfGlobal number) }
 {
@@ -40,7 +40,7 @@ fn has_global(deck: &Deck, number: u16) -> bool
 }
 
 /// Whether a block of this number is there.
-#[tactic(auto, using(crate::proofs::Counting::mapped_length))]
+#[tactic(auto, using(crate::proofs::CountLemmas::mapped_length))]
 fn has_block(deck: &Deck, number: u16) -> bool
     ensures { result ≡ faults.is_there (deck_view deck.now) (OfBlock number) }
 {
@@ -55,7 +55,7 @@ fn has_instruction(deck: &Deck, number: u16) -> bool
 }
 
 /// Whether a result's description is there, if there is a result.
-#[tactic(auto, using(crate::proofs::Counting::alone))]
+#[tactic(auto, using(crate::proofs::CountLemmas::alone))]
 fn result_stands(deck: &Deck, description: Option<u16>) -> bool
     ensures { result ≡ list_all (faults.is_there (deck_view deck.now)) (faults.named_by_result description) }
 {
@@ -78,23 +78,23 @@ fn descriptions_stand(deck: &Deck, numbers: &[u16]) -> bool
 }
 
 /// Whether the descriptions of a signature are there.
-#[tactic(auto, using(crate::proofs::Counting::mapped_passes, crate::proofs::Counting::both_pass))]
-fn signature_stands(deck: &Deck, signature: &Signature) -> bool
+#[tactic(auto, using(crate::proofs::CountLemmas::mapped_passes, crate::proofs::CountLemmas::both_pass))]
+fn signature_stands(deck: &Deck, signature: &DeckSignature) -> bool
     ensures { result ≡ list_all (faults.is_there (deck_view deck.now)) (faults.named_by_signature (signature_view signature.now)) }
 {
     descriptions_stand(deck, &signature.parameters) && result_stands(deck, signature.result)
 }
 
 /// Whether the description of a template is there.
-#[tactic(auto, using(crate::proofs::Counting::alone))]
-fn template_stands(deck: &Deck, template: &Template) -> bool
+#[tactic(auto, using(crate::proofs::CountLemmas::alone))]
+fn template_stands(deck: &Deck, template: &DeckTemplate) -> bool
     ensures { result ≡ list_all (faults.is_there (deck_view deck.now)) (faults.named_by_template (template_view template.now)) }
 {
     has_description(deck, template.description)
 }
 
 /// Whether the descriptions of templates are there.
-fn templates_stand(deck: &Deck, templates: &[Template]) -> bool
+fn templates_stand(deck: &Deck, templates: &[DeckTemplate]) -> bool
     ensures { result ≡ list_all (λ t. list_all (faults.is_there (deck_view deck.now)) (faults.named_by_template t)) (map template_view templates.now) }
 {
     for template in templates {
@@ -106,7 +106,7 @@ fn templates_stand(deck: &Deck, templates: &[Template]) -> bool
 }
 
 /// Whether what a global names is there.
-#[tactic(auto, using(crate::proofs::Counting::alone))]
+#[tactic(auto, using(crate::proofs::CountLemmas::alone))]
 fn global_stands(deck: &Deck, global: &Global) -> bool
     ensures { result ≡ list_all (faults.is_there (deck_view deck.now)) (faults.named_by_global (global_view global.now)) }
 {
@@ -132,7 +132,7 @@ fn globals_stand(deck: &Deck, globals: &[Global]) -> bool
 }
 
 /// Whether a block's parent is there, if it has one.
-#[tactic(auto, using(crate::proofs::Counting::alone))]
+#[tactic(auto, using(crate::proofs::CountLemmas::alone))]
 fn parent_stands(deck: &Deck, parent: Option<u16>) -> bool
     ensures { result ≡ list_all (faults.is_there (deck_view deck.now)) (faults.named_by_parent parent) }
 {
@@ -155,7 +155,7 @@ fn variables_stand(deck: &Deck, variables: &[u16]) -> bool
 }
 
 /// Whether a first instruction of this number is there.
-#[tactic(auto, using(crate::proofs::Counting::alone))]
+#[tactic(auto, using(crate::proofs::CountLemmas::alone))]
 fn entry_stands(deck: &Deck, entry: u16) -> bool
     ensures { result ≡ list_all (faults.is_there (deck_view deck.now)) (OfInstruction entry ∷ []) }
 {
@@ -163,7 +163,7 @@ fn entry_stands(deck: &Deck, entry: u16) -> bool
 }
 
 /// Whether a block's templates and its first instruction are there.
-#[tactic(auto, using(crate::proofs::Counting::mapped_passes, crate::proofs::Counting::both_pass))]
+#[tactic(auto, using(crate::proofs::CountLemmas::mapped_passes, crate::proofs::CountLemmas::both_pass))]
 fn frame_stands(deck: &Deck, variables: &[u16], entry: u16) -> bool
     ensures { result ≡ list_all (faults.is_there (deck_view deck.now)) (map OfTemplate variables.now ++ OfInstruction entry ∷ []) }
 {
@@ -171,15 +171,15 @@ fn frame_stands(deck: &Deck, variables: &[u16], entry: u16) -> bool
 }
 
 /// Whether what a block names is there.
-#[tactic(auto, using(crate::proofs::Counting::both_pass))]
-fn block_stands(deck: &Deck, block: &Block) -> bool
+#[tactic(auto, using(crate::proofs::CountLemmas::both_pass))]
+fn block_stands(deck: &Deck, block: &DeckBlock) -> bool
     ensures { result ≡ list_all (faults.is_there (deck_view deck.now)) (faults.named_by_block (block_view block.now)) }
 {
     parent_stands(deck, block.parent) && frame_stands(deck, &block.variables, block.entry)
 }
 
 /// Whether what blocks name is there.
-fn blocks_stand(deck: &Deck, blocks: &[Block]) -> bool
+fn blocks_stand(deck: &Deck, blocks: &[DeckBlock]) -> bool
     ensures { result ≡ list_all (λ b. list_all (faults.is_there (deck_view deck.now)) (faults.named_by_block b)) (map block_view blocks.now) }
 {
     for block in blocks {
@@ -191,33 +191,33 @@ fn blocks_stand(deck: &Deck, blocks: &[Block]) -> bool
 }
 
 /// Whether what an instruction names is there.
-#[tactic(auto, using(crate::proofs::Counting::alone))]
-fn instruction_stands(deck: &Deck, instruction: &Instruction) -> bool
+#[tactic(auto, using(crate::proofs::CountLemmas::alone))]
+fn instruction_stands(deck: &Deck, instruction: &DeckInstruction) -> bool
     ensures { result ≡ list_all (faults.is_there (deck_view deck.now)) (faults.named_by_instruction instruction.now) }
 {
     match *instruction {
-        Instruction::Call { block, .. } => has_block(deck, block),
-        Instruction::CallExternal { global, .. } => has_global(deck, global),
-        Instruction::Begin { block } => has_block(deck, block),
-        Instruction::Global { global } => has_global(deck, global),
-        Instruction::Based { description } => has_description(deck, description),
-        Instruction::Field { description, .. } => has_description(deck, description),
-        Instruction::Constant { value } => has_value(deck, value),
-        Instruction::MakeDummy { template } => has_template(deck, template),
-        Instruction::Fit { description } => has_description(deck, description),
-        Instruction::AllocateControlled { global } => has_global(deck, global),
-        Instruction::FreeControlled { global } => has_global(deck, global),
-        Instruction::CountGenerations { global } => has_global(deck, global),
-        Instruction::AllocateBased { template } => has_template(deck, template),
-        Instruction::AllocateInArea { template, .. } => has_template(deck, template),
-        Instruction::FreeBased { description } => has_description(deck, description),
-        Instruction::On { block, .. } => has_block(deck, block),
+        DeckInstruction::Call { block, .. } => has_block(deck, block),
+        DeckInstruction::CallExternal { global, .. } => has_global(deck, global),
+        DeckInstruction::Begin { block } => has_block(deck, block),
+        DeckInstruction::Global { global } => has_global(deck, global),
+        DeckInstruction::Based { description } => has_description(deck, description),
+        DeckInstruction::Field { description, .. } => has_description(deck, description),
+        DeckInstruction::Constant { value } => has_value(deck, value),
+        DeckInstruction::MakeDummy { template } => has_template(deck, template),
+        DeckInstruction::Fit { description } => has_description(deck, description),
+        DeckInstruction::AllocateControlled { global } => has_global(deck, global),
+        DeckInstruction::FreeControlled { global } => has_global(deck, global),
+        DeckInstruction::CountGenerations { global } => has_global(deck, global),
+        DeckInstruction::AllocateBased { template } => has_template(deck, template),
+        DeckInstruction::AllocateInArea { template, .. } => has_template(deck, template),
+        DeckInstruction::FreeBased { description } => has_description(deck, description),
+        DeckInstruction::On { block, .. } => has_block(deck, block),
         _ => true,
     }
 }
 
 /// Whether what instructions name is there.
-fn instructions_stand(deck: &Deck, instructions: &[Instruction]) -> bool
+fn instructions_stand(deck: &Deck, instructions: &[DeckInstruction]) -> bool
     ensures { result ≡ list_all (λ i. list_all (faults.is_there (deck_view deck.now)) (faults.named_by_instruction i)) instructions.now }
 {
     for instruction in instructions {
@@ -229,7 +229,7 @@ fn instructions_stand(deck: &Deck, instructions: &[Instruction]) -> bool
 }
 
 /// Whether what templates and globals name is there.
-#[tactic(auto, using(crate::proofs::Counting::both_pass, crate::proofs::Counting::each_passes))]
+#[tactic(auto, using(crate::proofs::CountLemmas::both_pass, crate::proofs::CountLemmas::each_passes))]
 fn variables_known(deck: &Deck) -> bool
     ensures { let d = deck_view deck.now in
         result ≡ list_all (faults.is_there d) (flat_map faults.named_by_template d.templates ++ flat_map faults.named_by_global d.globals) }
@@ -238,7 +238,7 @@ fn variables_known(deck: &Deck) -> bool
 }
 
 /// Whether what the variables of a deck name is there, and a first block.
-#[tactic(auto, using(crate::proofs::Counting::alone, crate::proofs::Counting::both_pass))]
+#[tactic(auto, using(crate::proofs::CountLemmas::alone, crate::proofs::CountLemmas::both_pass))]
 fn tables_stand(deck: &Deck) -> bool
     ensures { result ≡ list_all (faults.is_there (deck_view deck.now)) (faults.named_by_variables (deck_view deck.now)) }
 {
@@ -246,7 +246,7 @@ fn tables_stand(deck: &Deck) -> bool
 }
 
 /// Whether what the code of a deck names is there.
-#[tactic(auto, using(crate::proofs::Counting::both_pass, crate::proofs::Counting::each_passes))]
+#[tactic(auto, using(crate::proofs::CountLemmas::both_pass, crate::proofs::CountLemmas::each_passes))]
 fn code_stands(deck: &Deck) -> bool
     ensures { result ≡ list_all (faults.is_there (deck_view deck.now)) (faults.named_by_code (deck_view deck.now)) }
 {
@@ -254,7 +254,7 @@ fn code_stands(deck: &Deck) -> bool
 }
 
 /// Whether all that a deck names is there, save by jumps.
-#[tactic(auto, using(crate::proofs::Counting::three_pass))]
+#[tactic(auto, using(crate::proofs::CountLemmas::three_pass))]
 pub fn all_stand(deck: &Deck) -> bool
     ensures { result ≡ list_all (faults.is_there (deck_view deck.now)) (faults.named_by (deck_view deck.now)) }
 {
@@ -262,21 +262,21 @@ pub fn all_stand(deck: &Deck) -> bool
 }
 
 /// Whether an instruction jumps to one of so many, if it jumps.
-#[tactic(auto, using(crate::proofs::Counting::alone))]
-fn jump_stands(count: usize, instruction: &Instruction) -> bool
+#[tactic(auto, using(crate::proofs::CountLemmas::alone))]
+fn jump_stands(count: usize, instruction: &DeckInstruction) -> bool
     ensures { result ≡ list_all (λ i. nat_lt i count) (faults.targets_of instruction.now) }
 {
     match *instruction {
-        Instruction::Jump { target } => usize::from(target) < count,
-        Instruction::JumpUnless { target } => usize::from(target) < count,
-        Instruction::Goto { target, .. } => usize::from(target) < count,
-        Instruction::AllocateInArea { target, .. } => usize::from(target) < count,
+        DeckInstruction::Jump { target } => usize::from(target) < count,
+        DeckInstruction::JumpUnless { target } => usize::from(target) < count,
+        DeckInstruction::Goto { target, .. } => usize::from(target) < count,
+        DeckInstruction::AllocateInArea { target, .. } => usize::from(target) < count,
         _ => true,
     }
 }
 
 /// Whether instructions jump to one of so many, where they jump.
-fn jumps_within(count: usize, instructions: &[Instruction]) -> bool
+fn jumps_within(count: usize, instructions: &[DeckInstruction]) -> bool
     ensures { result ≡ list_all (λ i. list_all (λ target. nat_lt target count) (faults.targets_of i)) instructions.now }
 {
     for instruction in instructions {
@@ -288,7 +288,7 @@ fn jumps_within(count: usize, instructions: &[Instruction]) -> bool
 }
 
 /// Whether all jumps lead to an instruction of the deck.
-#[tactic(auto, using(crate::proofs::Counting::each_passes))]
+#[tactic(auto, using(crate::proofs::CountLemmas::each_passes))]
 pub fn jumps_stand(deck: &Deck) -> bool
     ensures { result ≡ faults.jumps_within (deck_view deck.now) }
 {

@@ -15,7 +15,7 @@ use Rattle.pli_deck_laws.specs.Limits.{parameter_limit, word_limit, IfThere}
 use Rattle.pli_deck_laws.specs.WellFormed.{IsHead, HasBlock, HasSlot, IsExpression, IsStatement, IsForm, AreStatements}
 use Rattle.pli_deck_laws.proofs.CodeGrows.{end_is_some}
 use Rattle.pli_deck_laws.proofs.KeptTemporaries.{few_temporaries}
-use Rattle.pli_deck_laws.proofs.Allowed.{AllAllowed, joined, value_allowed, place_allowed, called_allowed, skip_allowed, items_allowed, start_allowed, tests_allowed, back_allowed}
+use Rattle.pli_deck_laws.proofs.AllowedLemmas.{AllAllowed, joined, value_allowed, place_allowed, called_allowed, skip_allowed, items_allowed, start_allowed, tests_allowed, back_allowed}
 
 -- blocks of a list with numbers below a limit
 abbrev pub AreBelow : (blocks : ℕ) → List BlockTree → Type 0

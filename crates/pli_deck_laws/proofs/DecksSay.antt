@@ -14,7 +14,7 @@ use Rattle.pli_type_tree.specs.TypedTree.{Global, TypedUnit}
 use Rattle.pli_unit_code.specs.CodeTables.{CodedTemplate, CodedBlock, Code}
 use Rattle.pli_gen_emit.specs.TreeTranslation.{BlockTree, behind, block_code, blocks_code, blocks_of, places_of, statement_place, with_target, instructions_of}
 use Rattle.pli_gen_emit.proofs.JumpLemmas.{behind_is}
-use Rattle.pli_gen_tree.specs.Encoding.{Tables, tables_for, descriptions_named, templates_named, values_named, description_number, template_code, global_code, instruction_code, coded_blocks, code_of}
+use Rattle.pli_gen_tree.specs.Encoding.{NumberedTables, tables_for, descriptions_named, templates_named, values_named, description_number, template_code, global_code, instruction_code, coded_blocks, code_of}
 use Rattle.pli_gen_tree.specs.Limits.{has_many_members, bytes_of, initial_bytes_of, is_too_long}
 use Rattle.pli_gen_tree.specs.WellNumbered.{IsWellNumbered}
 use Rattle.pli_gen_tree.proofs.SimpleCode.{all_both, behind_both}
@@ -29,7 +29,7 @@ use Rattle.pli_deck.specs.Descriptions.{description}
 use Rattle.pli_deck.specs.Instructions.{instruction}
 use Rattle.pli_deck.specs.DeckFields.{name, flag, constant, template, signature, global, block, contents}
 use Rattle.pli_deck.specs.DeckFields as field
-use Rattle.pli_deck.specs.declared.fault.Fault.TheVariants.{BadJump, BadNumber, OverLimit}
+use Rattle.pli_deck.specs.declared.fault.DeckFault.TheVariants.{BadJump, BadNumber, OverLimit}
 use Rattle.pli_deck.specs.DeckFaults.{Naming, OfDescription, OfTemplate, OfValue, OfGlobal, OfBlock, OfInstruction, named_by_signature, named_by_template, named_by_global, named_by_block, named_by_instruction, named_by_variables, named_by_code, named_by}
 use Rattle.pli_deck.specs.DeckFaults.{is_there, targets_of, jumps_within, is_good_template, within_limits}
 use Rattle.pli_deck.specs.DeckFaults as fault
@@ -40,7 +40,7 @@ use Rattle.pli_deck_laws.specs.KeptNumbers.{IsNear, KeepsBlock, KeepsTemplate, K
 use Rattle.pli_deck_laws.specs.Limits.{level_limit, IsDescription, IsConstant, IsTemplate}
 use Rattle.pli_deck_laws.specs.UnitTypes.{IsName, HasBytes, BeginsWithBytes, IsTypedCode}
 use Rattle.pli_deck_laws.specs.WellFormed.{slots_of, IsHead, HasBlock, HasSlot, IsWellFormed}
-use Rattle.pli_deck_laws.proofs.Allowed.{Allowed}
+use Rattle.pli_deck_laws.proofs.AllowedLemmas.{Allowed}
 use Rattle.pli_deck_laws.proofs.AllowedCode.{GoodBlock, blocks_allowed}
 use Rattle.pli_deck_laws.proofs.CodeGrows.{block_is_some}
 use Rattle.pli_gen_tree.proofs.CodeEnds.{grows}
@@ -66,7 +66,7 @@ module _ (globals blocks last : ℕ) (places : List (ℕ × ℕ)) (within : (lab
   all_final : (is : List op.Instruction) → AllByRecursion (Allowed globals blocks last) is → AllByRecursion Final (map (with_target places) is)
   all_final is h = all_mapped (with_target places) (Allowed globals blocks last) Final final is h
 
-module _ (tables : Tables) (globals blocks last : ℕ) (few_descriptions : length tables.descriptions ≤ 65535) (few_templates : length tables.templates ≤ 65535) (few_values : length tables.values ≤ 65535)
+module _ (tables : NumberedTables) (globals blocks last : ℕ) (few_descriptions : length tables.descriptions ≤ 65535) (few_templates : length tables.templates ≤ 65535) (few_values : length tables.values ≤ 65535)
     (few_globals : globals ≤ 65535) (few_blocks : blocks ≤ 65535) (few_instructions : last ≤ 65535) where
   all_instructions : (is : List op.Instruction) → AllByRecursion (λ i. Allowed globals blocks last i × (leads i ≤ last)) is → AllByRecursion (StandsDescription tables) (flat_map descriptions_named is)
       → AllByRecursion (StandsTemplate tables) (flat_map templates_named is) → AllByRecursion (StandsValue tables) (flat_map values_named is)
@@ -110,10 +110,10 @@ bytes_said : (ds : List Description) (n : ℕ) (is : List InitialScalar)
 bytes_said ds n [] = no_bytes (slice_get ds n)
 bytes_said ds n (i ∷ is) = some_bytes (slice_get ds n) (initial_of (offsets_in (slice_get ds n)) i) (map (initial_of (offsets_in (slice_get ds n))) is)
 
-abbrev bytes_in_deck : List Description → deck.Template → ℕ
+abbrev bytes_in_deck : List Description → deck.DeckTemplate → ℕ
 bytes_in_deck ds t = fault.initial_bytes (slice_get ds t.description) t.initial
 
-bytes_summed : (tables : Tables) (ts : List Template)
+bytes_summed : (tables : NumberedTables) (ts : List Template)
     → sum_by (bytes_in_deck tables.descriptions) (map (template_of tables.descriptions) (map (template_code tables) ts)) ≡ sum_by (initial_bytes_of tables.descriptions) (map (template_code tables) ts)
 bytes_summed tables ts =
     let ds = tables.descriptions in
@@ -137,7 +137,7 @@ listed : {X : Type 0} (f : Field X) (xs : List X) → length xs ≤ 65535 → Al
 listed f xs few all = fits_list u2 f xs (fits_short (length xs) few) (each_holds f.fits (λ x. f.fits x ≡ true) (λ x e. e) xs all)
 
 -- a deck whose parts fit, name what is there, and are within limits
-record GoodDeck (tables : Tables) (globals blocks last : ℕ) (d : Deck) : Type 0 where
+record GoodDeck (tables : NumberedTables) (globals blocks last : ℕ) (d : Deck) : Type 0 where
   descriptions : length d.descriptions ≡ length tables.descriptions
   templates : length d.templates ≡ length tables.templates
   values : length d.values ≡ length tables.values
@@ -165,10 +165,10 @@ record GoodDeck (tables : Tables) (globals blocks last : ℕ) (d : Deck) : Type 
   blocks_named : AllByRecursion (λ x. AllByRecursion (Named tables globals blocks last) (named_by_block x)) d.blocks
   instructions_named : AllByRecursion (λ x. AllByRecursion (Named tables globals blocks last) (named_by_instruction x)) d.instructions
   jumps : AllByRecursion (λ x. AllByRecursion (λ n. n ≤ last) (targets_of x)) d.instructions
-  templates_good : AllByRecursion (λ (t : deck.Template). is_good_template (slice_get d.descriptions t.description) t.initial ≡ true) d.templates
+  templates_good : AllByRecursion (λ (t : deck.DeckTemplate). is_good_template (slice_get d.descriptions t.description) t.initial ≡ true) d.templates
   bytes : sum_by (bytes_in_deck d.descriptions) d.templates ≤ 16777216
 
-module _ (tables : Tables) (globals blocks last : ℕ) (d : Deck) (g : GoodDeck tables globals blocks last d) where
+module _ (tables : NumberedTables) (globals blocks last : ℕ) (d : Deck) (g : GoodDeck tables globals blocks last d) where
   few_there : (n m : ℕ) → n ≡ m → m ≤ 65535 → n ≤ 65535
   few_there n m e h = omega (arith, e, h)
 
@@ -216,7 +216,7 @@ module _ (tables : Tables) (globals blocks last : ℕ) (d : Deck) (g : GoodDeck 
   all_within : within_limits d ≡ true
   all_within =
       both_hold (list_all (λ t. is_good_template (slice_get d.descriptions t.description) t.initial) d.templates) (nat_le (sum_by (bytes_in_deck d.descriptions) d.templates) 16777216)
-      (each_holds (λ (t : deck.Template). is_good_template (slice_get d.descriptions t.description) t.initial) (λ (t : deck.Template). is_good_template (slice_get d.descriptions t.description) t.initial ≡ true)
+      (each_holds (λ (t : deck.DeckTemplate). is_good_template (slice_get d.descriptions t.description) t.initial) (λ (t : deck.DeckTemplate). is_good_template (slice_get d.descriptions t.description) t.initial ≡ true)
       (λ t h. h) d.templates g.templates_good)
       (le-leb (sum_by (bytes_in_deck d.descriptions) d.templates) 16777216 g.bytes)
 
@@ -278,7 +278,7 @@ module _ (t : TypedUnit) (is_main : Bool) (well : IsWellNumbered t) (formed : Is
   abbrev all_code : List op.Instruction
   all_code = instructions_of bs
 
-  abbrev tables : Tables
+  abbrev tables : NumberedTables
   tables = tables_for t bs all_code
 
   abbrev G : ℕ
@@ -425,7 +425,7 @@ module _ (t : TypedUnit) (is_main : Bool) (well : IsWellNumbered t) (formed : Is
           blocks_named = all_mapped block_of GoodB (λ x. AllByRecursion N (named_by_block x)) (λ x g. g.names) (coded_blocks tables bs 0) inside;
           instructions_named = all_twice I instruction_of GoodI (λ x. AllByRecursion N (named_by_instruction x)) (λ x g. g.names) all_code instrs;
           jumps = all_twice I instruction_of GoodI (λ x. AllByRecursion (λ n. n ≤ last) (targets_of x)) (λ x g. g.jumps) all_code instrs;
-          templates_good = all_twice T S GoodT (λ (x : deck.Template). is_good_template (slice_get tables.descriptions x.description) x.initial ≡ true) (λ x g. g.is) tables.templates made;
+          templates_good = all_twice T S GoodT (λ (x : deck.DeckTemplate). is_good_template (slice_get tables.descriptions x.description) x.initial ≡ true) (λ x g. g.is) tables.templates made;
           bytes = omega (arith, sums, bytes);
         }
 

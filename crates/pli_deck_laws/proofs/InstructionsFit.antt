@@ -11,7 +11,7 @@ use Rattle.pli_type_tree.specs.Templates.{Template}
 use Rattle.pli_value.specs.Value.{Value}
 use Rattle.pli_unit_code.specs.declared.instruction.Instruction.{Instruction}
 use Rattle.pli_type_keys.specs.Same.{same_value}
-use Rattle.pli_gen_tree.specs.Encoding.{Tables, number_in, dummy, fitted_by, descriptions_named, templates_named, values_named, relation_code, description_number, template_number, operation_code, instruction_code}
+use Rattle.pli_gen_tree.specs.Encoding.{NumberedTables, number_in, dummy, fitted_by, descriptions_named, templates_named, values_named, relation_code, description_number, template_number, operation_code, instruction_code}
 use Rattle.pli_deck.specs.Fields.{u1, u2, u4, ◌⊗◌}
 use Rattle.pli_deck.specs.Descriptions.{bound}
 use Rattle.pli_deck.specs.Instructions.{error, relation, instruction}
@@ -19,7 +19,7 @@ use Rattle.pli_deck.specs.DeckFaults.{Naming, OfDescription, OfTemplate, OfValue
 use Rattle.pli_deck_code.specs.CodeDecks.{byte, short, error_number, relation_number, instruction_of}
 use Rattle.pli_deck_laws.specs.Limits.{link_limit, IsOperation}
 use Rattle.pli_deck_laws.specs.KeptNumbers.{IsByte, IsShort, KeepsInstruction}
-use Rattle.pli_deck_laws.proofs.Allowed.{Allowed}
+use Rattle.pli_deck_laws.proofs.AllowedLemmas.{Allowed}
 use Rattle.pli_deck_laws.proofs.FieldsFit.{fits_byte, fits_short, fits_word, fits_pair, fits_bound, fits_precision}
 
 error_fits : (e : RunError) → error.fits (error_number e) ≡ true
@@ -51,7 +51,7 @@ abbrev pub leads : op.Instruction → ℕ
 leads (op.Goto outward target) = target
 leads i = 0
 
-module _ (tables : Tables) (globals blocks last : ℕ) where
+module _ (tables : NumberedTables) (globals blocks last : ℕ) where
   -- what is named is there
   abbrev pub Named : Naming → Type 0
   Named (OfDescription n) = n < length tables.descriptions

@@ -1,4 +1,4 @@
-pub mod Allowed
+pub mod AllowedLemmas
 pub mod AllowedCode
 pub mod CodeGrows
 pub mod DecksSay

@@ -14,7 +14,7 @@ use Rattle.pli_unit_code.specs.CodeTables as code
 use Rattle.pli_unit_code.specs.CodeTables.{there}
 use Rattle.pli_value.specs.Value.{Value, Number, Characters, Bits}
 use Rattle.pli_gen_emit.specs.TreeTranslation.{BlockTree, behind, block_code, blocks_code}
-use Rattle.pli_gen_tree.specs.Encoding.{Tables, signature_descriptions, global_descriptions, global_templates, block_templates, description_number, template_number, template_code, signature_code, global_code, coded_block, coded_blocks}
+use Rattle.pli_gen_tree.specs.Encoding.{NumberedTables, signature_descriptions, global_descriptions, global_templates, block_templates, description_number, template_number, template_code, signature_code, global_code, coded_block, coded_blocks}
 use Rattle.pli_gen_tree.specs.laws.ListLaws.{all_front, all_back}
 use Rattle.pli_gen_tree.proofs.SimpleCode.{all_both}
 use Rattle.pli_deck.specs.Decks as deck
@@ -70,13 +70,13 @@ good_initial d made i h bytes =
       keeps = (f.plain ∙ ap Some (sym f.said), is_near i.value h.1);
     }
 
-module _ (tables : Tables) (globals blocks last : ℕ) (few_descriptions : length tables.descriptions ≤ 65535) (few_templates : length tables.templates ≤ 65535) where
+module _ (tables : NumberedTables) (globals blocks last : ℕ) (few_descriptions : length tables.descriptions ≤ 65535) (few_templates : length tables.templates ≤ 65535) where
   abbrev IsNamed : Naming → Type 0
   IsNamed n = Named tables globals blocks last n
 
   -- ---- templates
 
-  abbrev said : Template → deck.Template
+  abbrev said : Template → deck.DeckTemplate
   said t = template_of tables.descriptions (template_code tables t)
 
   pub record GoodTemplate (t : Template) : Type 0 where

@@ -15,7 +15,7 @@ use Rattle.pli_unit_code.specs.CodeTables.{there}
 use Rattle.pli_value.specs.Value.{Value}
 use Rattle.pli_gen_emit.specs.TreeTranslation.{BlockTree, behind, block_code}
 use Rattle.pli_gen_tree.specs.Encoding.{number_in, fitted_by, descriptions_named, templates_named, values_named, signature_descriptions, global_descriptions, global_templates, block_templates}
-use Rattle.pli_gen_tree.specs.Encoding.{Tables, tables_for, description_number, template_number, coded_blocks}
+use Rattle.pli_gen_tree.specs.Encoding.{NumberedTables, tables_for, description_number, template_number, coded_blocks}
 use Rattle.pli_gen_tree.specs.Limits.{has_many_slots}
 use Rattle.pli_type_keys.specs.Same.{same_value, same_template}
 use Rattle.pli_type_keys.specs.laws.KeyLaws.{value_decides, template_decides}
@@ -26,7 +26,7 @@ use Rattle.pli_gen_tree.proofs.UnitLemmas.{put_all}
 use Rattle.pli_gen_tree.proofs.LimitLemmas.{few}
 use Rattle.pli_deck_laws.specs.Limits.{IfThere, IsDescription, IsConstant, IsTemplate, IsOperation, IsSignature, IsGlobal}
 use Rattle.pli_deck_laws.specs.WellFormed.{slots_of, IsHead}
-use Rattle.pli_deck_laws.proofs.Allowed.{Allowed}
+use Rattle.pli_deck_laws.proofs.AllowedLemmas.{Allowed}
 use Rattle.pli_deck_laws.proofs.FieldsFit.{neither}
 use Rattle.pli_deck_laws.proofs.UnitBlocks.{all_as}
 
@@ -113,7 +113,7 @@ module _ (globals blocks last : ℕ) where
 
 -- ---- numbers
 
-module _ (tables : Tables) where
+module _ (tables : NumberedTables) where
   abbrev pub StandsDescription : Description → Type 0
   StandsDescription d = slice_get tables.descriptions (description_number tables d) ≡ Some d
 
@@ -133,7 +133,7 @@ module _ (tables : Tables) where
   value_within v h = slice_get_within tables.values (number_in same_value tables.values v) v h
 
 -- all that a unit names stands at its number
-pub record AllStand (u : TypedUnit) (bs : List BlockTree) (code : List op.Instruction) (tables : Tables) : Type 0 where
+pub record AllStand (u : TypedUnit) (bs : List BlockTree) (code : List op.Instruction) (tables : NumberedTables) : Type 0 where
   pub signature : AllByRecursion (StandsDescription tables) (signature_descriptions u.signature)
   pub described_globals : AllByRecursion (StandsDescription tables) (flat_map global_descriptions u.globals)
   pub made_globals : AllByRecursion (StandsTemplate tables) (flat_map global_templates u.globals)
@@ -181,7 +181,7 @@ pub none_of : {X : Type 0} (f : X → Bool) (xs : List X) → list_any f xs ≡ 
 none_of f [] h = tt
 none_of f (x ∷ xs) h = let n = neither (f x) (list_any f xs) h in (n.0, none_of f xs n.1)
 
-module _ (tables : Tables) where
+module _ (tables : NumberedTables) where
   pub few_slots : (bs : List BlockTree) (p : ℕ) → list_any has_many_slots (coded_blocks tables bs p) ≡ false → AllByRecursion (λ b. slots_of b ≤ 65535) bs
   few_slots [] p h = tt
   few_slots (b ∷ bs) p h =

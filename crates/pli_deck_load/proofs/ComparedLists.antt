@@ -5,7 +5,7 @@ use Rattle.std.proofs.lemmas.Option.{slice_get-get_or, slice_get-map, same_Some}
 use Rattle.std.specs.List.{slice_get}
 use Rattle.pli_deck.specs.ModuleView.{external_view, member_view, module_view}
 use Rattle.pli_deck.specs.declared.module.Member.{Member}
-use Rattle.pli_deck.specs.declared.module.Module.{Module}
+use Rattle.pli_deck.specs.declared.module.DeckModule.{DeckModule}
 use Rattle.pli_deck_load.specs.answers.Linkings.{Compares, mark_of, linking_of}
 
 -- lists of different lengths
@@ -45,7 +45,7 @@ one_by_one : (ms : List Member) → map (λ (m : Member). mark_of (member_view m
 one_by_one [] = refl
 one_by_one (m ∷ ms) = ap (λ xs. mark_of (member_view m) ∷ xs) (one_by_one ms)
 
-pub linked_alike : (l r : Module) (b : Bool) → map external_view l.externals.items ≡ map external_view r.externals.items
+pub linked_alike : (l r : DeckModule) (b : Bool) → map external_view l.externals.items ≡ map external_view r.externals.items
     → Compares (map (λ (m : Member). mark_of (member_view m)) l.units.items) (map (λ (m : Member). mark_of (member_view m)) r.units.items) b
     → Compares (linking_of (module_view l)) (linking_of (module_view r)) b
 linked_alike l r b externals marks =

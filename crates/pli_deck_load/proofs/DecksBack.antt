@@ -212,7 +212,7 @@ template_back ds fits t h good =
     ap (option_map with) (initials_back (offsets_in o) rise t.initial all)
 
 pub templates_back : (ds : List Description) → list_all description.fits ds ≡ true → (ts : List code.CodedTemplate) → list_all (template_fits ds) ts ≡ true
-    → list_all (λ (t : deck.Template). is_good_template (slice_get ds t.description) t.initial) (map (template_of ds) ts) ≡ true
+    → list_all (λ (t : deck.DeckTemplate). is_good_template (slice_get ds t.description) t.initial) (map (template_of ds) ts) ≡ true
     → all_of (template_from ds) (map (template_of ds) ts) ≡ Some ts
 templates_back ds fits [] h good = refl
 templates_back ds fits (t ∷ ts) h good =

@@ -10,8 +10,8 @@ use Rattle.pli_deck.specs.Decks as deck
 use Rattle.pli_deck.specs.DeckFields.{constant, initial, template, block, block_kind, optional, parameter_number, is_number_if}
 use Rattle.pli_deck.specs.Fields.{u1, u2, u4, list}
 use Rattle.pli_deck.specs.Instructions.{instruction}
-use Rattle.pli_deck.specs.declared.instruction.Instruction as deck_instruction
-use Rattle.pli_deck.specs.declared.instruction.Instruction.TheVariants as op
+use Rattle.pli_deck.specs.declared.instruction.DeckInstruction as deck_instruction
+use Rattle.pli_deck.specs.declared.instruction.DeckInstruction.TheVariants as op
 use Rattle.pli_deck_code.specs.CodeDecks.{byte, short, error_number, relation_number, kind_number, instruction_of, constant_of, initial_of, offsets_in, template_of, global_of, block_of}
 use Rattle.pli_map.specs.Description.{Description}
 use Rattle.pli_type_tree.specs.Templates.{InitialScalar}
@@ -110,10 +110,10 @@ kind_forth (suc (suc (suc n))) = tt
 
 -- ---- instructions
 
-abbrev pub IsInstruction : deck_instruction.Instruction → Instruction → Type 0
+abbrev pub IsInstruction : deck_instruction.DeckInstruction → Instruction → Type 0
 IsInstruction i c = (instruction_of c ≡ i) × (instruction_fits c ≡ true)
 
-pub instruction_forth : (i : deck_instruction.Instruction) → instruction.fits i ≡ true → OfMade (IsInstruction i) (instruction_from i)
+pub instruction_forth : (i : deck_instruction.DeckInstruction) → instruction.fits i ≡ true → OfMade (IsInstruction i) (instruction_from i)
 unfolding instruction
 instruction_forth (op.Step s) h = (refl, refl)
 instruction_forth (op.Line s) h = (refl, refl)
@@ -219,7 +219,7 @@ parent_kept (Some b) h =
     let e : short b ≡ b = omega (arith, lt) in
     (ap Some e, le-leb b 65535 (omega (arith, lt)))
 
-pub block_forth : (b : deck.Block) → block.fits b ≡ true → OfMade (λ c. (block_of c ≡ b) × (block_fits c ≡ true)) (block_from b)
+pub block_forth : (b : deck.DeckBlock) → block.fits b ≡ true → OfMade (λ c. (block_of c ≡ b) × (block_fits c ≡ true)) (block_from b)
 unfolding block optional
 block_forth b h =
     let kind = and_parts (block_kind.fits b.kind) _ h in
@@ -230,7 +230,7 @@ block_forth b h =
     let p = parent_kept b.parent parent.0 in
     let n = byte_kept b.parameters (and_parts (u1.fits b.parameters) (is_in_range 0 64 b.parameters) parameters.0).0 in
     let t = short_kept b.temporaries temporaries.0 in
-    let made : ℕ → Option ℕ → ℕ → ℕ → deck.Block = λ k o m s.
+    let made : ℕ → Option ℕ → ℕ → ℕ → deck.DeckBlock = λ k o m s.
     record { kind = k; parent = o; parameters = m; variables = b.variables; temporaries = s; entry = b.entry; statement = b.statement } in
     mapped (λ k. kind_number k ≡ b.kind) (λ c. (block_of c ≡ b) × (block_fits c ≡ true)) _ (kind_from b.kind)
     (λ k is. (
@@ -288,14 +288,14 @@ initials_forth offsets (i ∷ is) h =
     let kept = AreKept (initial_of offsets) (initial_fits (length offsets)) (i ∷ is) in
     guarded kept (rises 0 offsets) (all_of (initial_from offsets) (i ∷ is)) (all_forth (initial_from offsets) (initial_of offsets) initial.fits (initial_fits (length offsets)) (initial_forth offsets) (i ∷ is) h)
 
-pub template_forth : (ds : List Description) (t : deck.Template) → template.fits t ≡ true → OfMade (λ c. (template_of ds c ≡ t) × (template_fits ds c ≡ true)) (template_from ds t)
+pub template_forth : (ds : List Description) (t : deck.DeckTemplate) → template.fits t ≡ true → OfMade (λ c. (template_of ds c ≡ t) × (template_fits ds c ≡ true)) (template_from ds t)
 unfolding template
 template_forth ds t h =
     let o = slice_get ds t.description in
     let offsets = offsets_in o in
     let listed = and_parts (u2.fits t.description) _ h in
     let all = (and_parts (u4.fits (length t.initial)) (list_all initial.fits t.initial) listed.1).1 in
-    let made : List deck.Initial → deck.Template = λ is. record { description = t.description; initial = is } in
+    let made : List deck.Initial → deck.DeckTemplate = λ is. record { description = t.description; initial = is } in
     mapped (AreKept (initial_of offsets) (initial_fits (length offsets)) t.initial) (λ c. (template_of ds c ≡ t) × (template_fits ds c ≡ true)) _ (initials_from offsets t.initial)
     (λ is kept. (ap made kept.0, ap (λ n. list_all (initial_fits n) is) (counted o) ∙ kept.1))
     (initials_forth offsets t.initial all)

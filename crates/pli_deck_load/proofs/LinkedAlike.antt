@@ -3,7 +3,7 @@ use Rattle.std.proofs.Common.{◌≡◌, ℕ, ◌+◌, nat_eq, List, [], ◌∷�
 use Rattle.std.specs.Map.{keys_of}
 use Rattle.pli_base.specs.Name.{Name}
 use Rattle.pli_deck_code.specs.CodeModules.{all_declared, declared_in, external_of, firsts, links_of, members_of, module_of}
-use Rattle.pli_deck_code.specs.declared.externals.Declaration.{Declaration}
+use Rattle.pli_deck_code.specs.declared.externals.ExternalDeclaration.{ExternalDeclaration}
 use Rattle.pli_unit_code.specs.CodeTables.{CodedGlobal}
 use Rattle.pli_unit_code.specs.Modules.{LinkedUnit}
 use Rattle.pli_unit_code.specs.declared.code.Module.{Module}
@@ -14,7 +14,7 @@ abbrev Links : Type 0
 Links = List CodedGlobal × List ℕ
 
 -- what globals declare, from this unit on
-abbrev declared_by : (unit : ℕ) → List Links → List (Name × Declaration)
+abbrev declared_by : (unit : ℕ) → List Links → List (Name × ExternalDeclaration)
 declared_by unit [] = []
 declared_by unit (l ∷ ls) = declared_in unit 0 l.0 ++ declared_by (unit + 1) ls
 
@@ -40,7 +40,7 @@ linking_by main ls =
 linked_so : (m : Module) → linking_of (module_of (module_view m)) ≡ linking_by m.main (map linked_by (map unit_view m.units.items))
 linked_so m =
     let us = map unit_view m.units.items in
-    ap (λ (ds : List (Name × Declaration)). (map external_of (firsts [] ds), map mark_of (members_of m.main (keys_of (firsts [] ds)) 0 us))) (as_declared 0 us)
+    ap (λ (ds : List (Name × ExternalDeclaration)). (map external_of (firsts [] ds), map mark_of (members_of m.main (keys_of (firsts [] ds)) 0 us))) (as_declared 0 us)
     ∙ ap (λ (ms : List Mark). (map external_of (firsts [] (declared_by 0 (map linked_by us))), ms)) (as_marked m.main (keys_of (firsts [] (declared_by 0 (map linked_by us)))) 0 us)
 
 pub linked_alike : (m n : Module) → m.main ≡ n.main → map linked_by (map unit_view m.units.items) ≡ map linked_by (map unit_view n.units.items)

@@ -15,8 +15,8 @@ use Rattle.pli_deck.specs.Instructions.{instruction}
 use Rattle.pli_deck.specs.ModuleFields as modules
 use Rattle.pli_deck.specs.ModuleFields.{Member, is_none, sized_deck, module_field, module_contents}
 use Rattle.pli_deck.specs.Spelling.{deck_bytes}
-use Rattle.pli_deck.specs.declared.fault.Fault.{Fault}
-use Rattle.pli_deck.specs.declared.fault.Fault.TheVariants.{BadJump, BadNumber, OverLimit}
+use Rattle.pli_deck.specs.declared.fault.DeckFault.{DeckFault}
+use Rattle.pli_deck.specs.declared.fault.DeckFault.TheVariants.{BadJump, BadNumber, OverLimit}
 use Rattle.pli_deck.proofs.ModuleLaws.{one_module}
 use Rattle.pli_deck_code.specs.CodeDecks.{constant_of, global_of, block_of, instruction_of, deck_of}
 use Rattle.pli_deck_code.specs.CodeModules.{links_of, member, members_of, module_of}
@@ -32,7 +32,7 @@ use Rattle.pli_deck_load.proofs.DecksBack.{made_more, all_back, templates_back, 
 
 -- ---- what a deck without a fault has
 
-none_is : (o : Option Fault) → is_none o ≡ true → o ≡ None
+none_is : (o : Option DeckFault) → is_none o ≡ true → o ≡ None
 none_is None h = refl
 none_is (Some f) h = absurd cc
 
@@ -46,7 +46,7 @@ third true true true h = refl
 keeps_limits : (d : Deck) → fault_of d ≡ None → within_limits d ≡ true
 keeps_limits d h = third (jumps_within d) (list_all (is_there d) (named_by d)) (within_limits d) h
 
-good_templates : (d : Deck) → fault_of d ≡ None → list_all (λ (t : deck.Template). is_good_template (slice_get d.descriptions t.description) t.initial) d.templates ≡ true
+good_templates : (d : Deck) → fault_of d ≡ None → list_all (λ (t : deck.DeckTemplate). is_good_template (slice_get d.descriptions t.description) t.initial) d.templates ≡ true
 good_templates d h = (and_parts _ _ (keeps_limits d h)).0
 
 -- its tables fit, where it does
@@ -146,7 +146,7 @@ units_back main names number (u ∷ us) fits spelled =
 
 -- ---- modules
 
-pub members_fit : (m : modules.Module) → module_field.fits m ≡ true → list_all modules.member.fits m.units ≡ true
+pub members_fit : (m : modules.DeckModule) → module_field.fits m ≡ true → list_all modules.member.fits m.units ≡ true
 unfolding module_field
 members_fit m h =
     let inside = and_parts _ (nat_eq (length m.units) (length m.units) && list_all modules.member.fits m.units) h in

@@ -174,14 +174,14 @@ units_forth main names (m ∷ ms) h =
     whole n g None e = tt
     whole n g (Some u) e = unit_forth n u g e
 
-pub record IsModule (d : modules.Module) (m : linked.Module) : Type 0 where
+pub record IsModule (d : modules.DeckModule) (m : linked.Module) : Type 0 where
   pub same : module_of m ≡ d
   pub fits : module_fits m ≡ true
 
-pub module_forth : (d : modules.Module) (m : linked.Module) → module_field.fits d ≡ true → module_from d ≡ Some m → linking_of (module_of m) ≡ linking_of d → IsModule d m
+pub module_forth : (d : modules.DeckModule) (m : linked.Module) → module_field.fits d ≡ true → module_from d ≡ Some m → linking_of (module_of m) ≡ linking_of d → IsModule d m
 module_forth d m h e same =
     let p = made_of _ (all_of unit_from d.units) m e in
-    let made : List External → List Member → modules.Module = λ es us. record { main = d.main; externals = es; units = us } in
+    let made : List External → List Member → modules.DeckModule = λ es us. record { main = d.main; externals = es; units = us } in
     let l : linked.Module = record { units = p.0; main = d.main } in
     let names = keys_of (declarations p.0) in
     let are = of_some (AreUnits d.main names d.units) (all_of unit_from d.units) p.0 (units_forth d.main names d.units (members_fit d h)) p.1 in

@@ -5,8 +5,8 @@ use Rattle.std.specs.Option.{option_and_then}
 use Rattle.pli_code.specs.declared.ending.RunError.{RunError}
 use Rattle.pli_code.specs.declared.ending.RunError.TheVariants as errors
 use Rattle.pli_deck.specs.Decks as deck
-use Rattle.pli_deck.specs.declared.instruction.Instruction as deck_instruction
-use Rattle.pli_deck.specs.declared.instruction.Instruction.TheVariants as op
+use Rattle.pli_deck.specs.declared.instruction.DeckInstruction as deck_instruction
+use Rattle.pli_deck.specs.declared.instruction.DeckInstruction.TheVariants as op
 use Rattle.pli_deck_code.specs.CodeDecks.{offsets_in}
 use Rattle.pli_machine_step.specs.Program.{BlockKind, Procedure, BeginBlock, OnUnit}
 use Rattle.pli_map.specs.Description.{Description}
@@ -44,7 +44,7 @@ abbrev pub kind_from : ℕ → Option BlockKind
 kind_from n = slice_get (Procedure ∷ BeginBlock ∷ OnUnit ∷ []) n
 
 -- an instruction; none of one of storage or of conditions
-abbrev pub instruction_from : deck_instruction.Instruction → Option Instruction
+abbrev pub instruction_from : deck_instruction.DeckInstruction → Option Instruction
 instruction_from (op.Step s) = Some (coded.Step s)
 instruction_from (op.Line s) = Some (coded.Line s)
 instruction_from (op.Jump target) = Some (coded.Jump target)
@@ -115,13 +115,13 @@ initials_from offsets (i ∷ is) =
     if rises 0 offsets then all_of (initial_from offsets) (i ∷ is) else None
 
 -- a template, if its initial values stand on scalars
-abbrev pub template_from : List Description → deck.Template → Option code.CodedTemplate
+abbrev pub template_from : List Description → deck.DeckTemplate → Option code.CodedTemplate
 template_from descriptions t =
     option_map (λ initial. record { description = t.description; initial = initial })
     (initials_from (offsets_in (slice_get descriptions t.description)) t.initial)
 
 -- what an external procedure takes and gives
-abbrev pub signature_from : deck.Signature → code.CodedSignature
+abbrev pub signature_from : deck.DeckSignature → code.CodedSignature
 signature_from s = record { parameters = s.parameters; result = s.result }
 
 -- a global; none of a controlled variable
@@ -132,7 +132,7 @@ global_from (deck.ExternalEntry name s) = Some (code.EntryPoint name (signature_
 global_from other = None
 
 -- a block, if it has a kind
-abbrev pub block_from : deck.Block → Option code.CodedBlock
+abbrev pub block_from : deck.DeckBlock → Option code.CodedBlock
 block_from b =
     option_map (λ kind. record {
       kind = kind;

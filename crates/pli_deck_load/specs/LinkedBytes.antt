@@ -2,7 +2,7 @@
 use Rattle.std.specs.Prelude.{◌≡◌, ℕ, true, List, Result, Ok, Err}
 use Rattle.pli_deck.specs.ModuleFields as deck
 use Rattle.pli_deck.specs.ModuleSpelling.{SpellsModule}
-use Rattle.pli_deck.specs.declared.fault.Fault.{Fault}
+use Rattle.pli_deck.specs.declared.fault.DeckFault.{DeckFault}
 use Rattle.pli_deck_code.specs.CodeModules.{module_of}
 use Rattle.pli_unit_code.specs.Modules as linked
 use Rattle.pli_unit_code.specs.declared.code.Module.{Module}
@@ -27,16 +27,16 @@ Loads (Ok loaded) m = module_view loaded ≡ m
 Loads (Err e) m = IsMemory e
 
 -- bytes are read
-abbrev pub IsRead : Result deck.Module Fault → Type 0
-IsRead read = (m : deck.Module) × (read ≡ Ok m)
+abbrev pub IsRead : Result deck.DeckModule DeckFault → Type 0
+IsRead read = (m : deck.DeckModule) × (read ≡ Ok m)
 
 -- a fault is that which reading gives; bytes that are no linked module are read
-abbrev pub Refuses : LoadError → Result deck.Module Fault → Type 0
+abbrev pub Refuses : LoadError → Result deck.DeckModule DeckFault → Type 0
 Refuses errors.Memory read = Unit {0}
 Refuses (errors.Fault f) read = read ≡ Err f
 Refuses errors.NotYet read = IsRead read
 
 -- bytes that are loaded are read, and those that are not are refused so
-abbrev pub FaultsAre : Result Module LoadError → Result deck.Module Fault → Type 0
+abbrev pub FaultsAre : Result Module LoadError → Result deck.DeckModule DeckFault → Type 0
 FaultsAre (Ok loaded) read = IsRead read
 FaultsAre (Err e) read = Refuses e read

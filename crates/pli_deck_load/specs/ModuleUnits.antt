@@ -4,7 +4,7 @@ use Rattle.std.specs.Prelude.{if◌then◌else◌}
 use Rattle.std.specs.Option.{option_and_then}
 use Rattle.pli_deck.specs.Decks as deck
 use Rattle.pli_deck.specs.Decks.{Deck}
-use Rattle.pli_deck.specs.ModuleFields.{Member, Module, is_external}
+use Rattle.pli_deck.specs.ModuleFields.{Member, DeckModule, is_external}
 use Rattle.pli_unit_code.specs.CodeTables.{Code}
 use Rattle.pli_unit_code.specs.Modules as linked
 use Rattle.pli_unit_code.specs.Modules.{LinkedUnit}
@@ -57,5 +57,5 @@ unit_from m =
     }) (code_from m.deck)
 
 -- the linked module of a module of decks
-abbrev pub module_from : Module → Option linked.Module
+abbrev pub module_from : DeckModule → Option linked.Module
 module_from m = option_map (λ units. record { units = units; main = m.main }) (all_of unit_from m.units)

@@ -9,7 +9,7 @@ ghost use Rattle.pli_deck_load.specs.answers.Answers.{Makes};
 
 use crate::error::LoadError;
 use crate::lists::{MakesOne, all_of};
-use pli_deck as deck;
+use pli_deck::DeckBlock;
 use pli_unit_code::{Block, BlockKind};
 use std::alloc::Global;
 
@@ -29,11 +29,11 @@ fn kind_from(number: u8) -> Option<BlockKind>
 struct Blocks;
 
 impl MakesOne for Blocks {
-    type Source = deck::Block;
+    type Source = DeckBlock;
 
     type Made = Block;
 
-    ghost Said = { deck.Block };
+    ghost Said = { deck.DeckBlock };
 
     ghost say = { view.block_view };
 
@@ -43,7 +43,7 @@ impl MakesOne for Blocks {
 
     ghost one = { λ _. block_from };
 
-    fn make(&self, alloc: Global, source: &deck::Block) -> Result<Block, LoadError> {
+    fn make(&self, alloc: Global, source: &DeckBlock) -> Result<Block, LoadError> {
         let Some(kind) = kind_from(source.kind) else {
             return Err(LoadError::NotYet);
         };
@@ -63,7 +63,7 @@ impl MakesOne for Blocks {
 }
 
 /// Blocks.
-pub fn blocks_from(alloc: Global, blocks: &[deck::Block]) -> Result<Vec<Block>, LoadError>
+pub fn blocks_from(alloc: Global, blocks: &[DeckBlock]) -> Result<Vec<Block>, LoadError>
     ensures { Makes (λ v. map block_view v.items) result (all_of block_from (map view.block_view blocks.now)) }
 {
     all_of(alloc, &Blocks, blocks)

@@ -3,7 +3,7 @@ ghost use Rattle.std.specs.Prelude.{◌≡◌};
 ghost use Rattle.pli_deck_load.specs.answers.Answers.{load_error};
 ghost use Rattle.pli_deck_load.specs.declared.error.LoadError.TheVariants.{Memory};
 
-use pli_deck::Fault;
+use pli_deck::DeckFault;
 use pli_deck_read::ReadError;
 use std::alloc::{AllocError, AllocFailed};
 
@@ -11,7 +11,7 @@ use std::alloc::{AllocError, AllocFailed};
 #[derive(Debug, Drop)]
 pub enum LoadError {
     Memory,
-    Fault(Fault),
+    Fault(DeckFault),
     /// The bytes are a module that the machine does not run yet: one with null pointers or offsets, controlled
     /// variables, or instructions of storage or of conditions; or one that is linked otherwise than by names.
     NotYet,

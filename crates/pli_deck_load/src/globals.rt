@@ -9,7 +9,7 @@ ghost use Rattle.pli_deck_load.specs.answers.Answers.{Makes};
 
 use crate::error::LoadError;
 use crate::lists::{MakesOne, all_of};
-use pli_deck::{Global, Signature};
+use pli_deck::{DeckSignature, Global};
 use pli_unit_code::{CodedGlobal, CodedSignature};
 use std::alloc;
 use std::alloc::AllocError;
@@ -17,7 +17,7 @@ use std::alloc::AllocError;
 /// A signature.
 pub fn signature_from(
     alloc: alloc::Global,
-    signature: &Signature,
+    signature: &DeckSignature,
 ) -> Result<CodedSignature, AllocError>
     ensures { IfOk result (λ made. signature_view made ≡ signature_from (view.signature_view signature.now)) }
 {

@@ -6,7 +6,7 @@ ghost use Rattle.pli_deck_load.specs.answers.Answers.{Makes};
 use crate::error::LoadError;
 use crate::lists::{MakesOne, all_of};
 use pli_code::RunError;
-use pli_deck as deck;
+use pli_deck::DeckInstruction;
 use pli_operation::Relation;
 use pli_unit_code::Instruction;
 use std::alloc::Global;
@@ -49,47 +49,47 @@ fn relation_from(number: u8) -> Option<Relation>
 }
 
 /// An instruction, if it is none of storage or of conditions.
-fn instruction_from(instruction: deck::Instruction) -> Option<Instruction>
+fn instruction_from(instruction: DeckInstruction) -> Option<Instruction>
     ensures { result ≡ instruction_from instruction }
 {
     match instruction {
-        deck::Instruction::Step { statement } => Some(Instruction::Step { statement }),
-        deck::Instruction::Line { statement } => Some(Instruction::Line { statement }),
-        deck::Instruction::Jump { target } => Some(Instruction::Jump { target }),
-        deck::Instruction::JumpUnless { target } => Some(Instruction::JumpUnless { target }),
-        deck::Instruction::Goto { outward, target } => Some(Instruction::Goto {
+        DeckInstruction::Step { statement } => Some(Instruction::Step { statement }),
+        DeckInstruction::Line { statement } => Some(Instruction::Line { statement }),
+        DeckInstruction::Jump { target } => Some(Instruction::Jump { target }),
+        DeckInstruction::JumpUnless { target } => Some(Instruction::JumpUnless { target }),
+        DeckInstruction::Goto { outward, target } => Some(Instruction::Goto {
             outward: u32::from(outward),
             target,
         }),
-        deck::Instruction::Call { block, arguments } => Some(Instruction::Call {
+        DeckInstruction::Call { block, arguments } => Some(Instruction::Call {
             block: u32::from(block),
             arguments: u16::from(arguments),
         }),
-        deck::Instruction::CallExternal { global, arguments } => Some(Instruction::CallExternal {
+        DeckInstruction::CallExternal { global, arguments } => Some(Instruction::CallExternal {
             global: u32::from(global),
             arguments: u16::from(arguments),
         }),
-        deck::Instruction::Begin { block } => Some(Instruction::Begin {
+        DeckInstruction::Begin { block } => Some(Instruction::Begin {
             block: u32::from(block),
         }),
-        deck::Instruction::Return { outward } => Some(Instruction::Return {
+        DeckInstruction::Return { outward } => Some(Instruction::Return {
             outward: u32::from(outward),
         }),
-        deck::Instruction::ReturnValue { outward } => Some(Instruction::ReturnValue {
+        DeckInstruction::ReturnValue { outward } => Some(Instruction::ReturnValue {
             outward: u32::from(outward),
         }),
-        deck::Instruction::Local { outward, slot } => Some(Instruction::Local {
+        DeckInstruction::Local { outward, slot } => Some(Instruction::Local {
             outward: u32::from(outward),
             slot: u32::from(slot),
         }),
-        deck::Instruction::Field {
+        DeckInstruction::Field {
             offset,
             description,
         } => Some(Instruction::Field {
             offset,
             description,
         }),
-        deck::Instruction::Subscript {
+        DeckInstruction::Subscript {
             low,
             high,
             multiplier,
@@ -98,53 +98,53 @@ fn instruction_from(instruction: deck::Instruction) -> Option<Instruction>
             high,
             multiplier,
         }),
-        deck::Instruction::Constant { value } => Some(Instruction::Constant { value }),
-        deck::Instruction::MakeDummy { template } => Some(Instruction::MakeDummy { template }),
-        deck::Instruction::Fit { description } => Some(Instruction::Fit { description }),
-        deck::Instruction::ToCharacters { width } => Some(Instruction::ToCharacters { width }),
-        deck::Instruction::Divide { precision } => Some(Instruction::Divide { precision }),
-        deck::Instruction::SetTemporary { number } => Some(Instruction::SetTemporary {
+        DeckInstruction::Constant { value } => Some(Instruction::Constant { value }),
+        DeckInstruction::MakeDummy { template } => Some(Instruction::MakeDummy { template }),
+        DeckInstruction::Fit { description } => Some(Instruction::Fit { description }),
+        DeckInstruction::ToCharacters { width } => Some(Instruction::ToCharacters { width }),
+        DeckInstruction::Divide { precision } => Some(Instruction::Divide { precision }),
+        DeckInstruction::SetTemporary { number } => Some(Instruction::SetTemporary {
             number: u64::from(number),
         }),
-        deck::Instruction::TakeTemporary { number } => Some(Instruction::TakeTemporary {
+        DeckInstruction::TakeTemporary { number } => Some(Instruction::TakeTemporary {
             number: u64::from(number),
         }),
-        deck::Instruction::Global { global } => Some(Instruction::Global {
+        DeckInstruction::Global { global } => Some(Instruction::Global {
             number: u32::from(global),
         }),
-        deck::Instruction::Raise { error } => match error_from(error) {
+        DeckInstruction::Raise { error } => match error_from(error) {
             None => None,
             Some(error) => Some(Instruction::Raise(error)),
         },
-        deck::Instruction::Compare { relation } => match relation_from(relation) {
+        DeckInstruction::Compare { relation } => match relation_from(relation) {
             None => None,
             Some(relation) => Some(Instruction::Compare(relation)),
         },
-        deck::Instruction::IsWithin => Some(Instruction::Within),
-        deck::Instruction::Stop => Some(Instruction::Stop),
-        deck::Instruction::Load => Some(Instruction::Load),
-        deck::Instruction::Store => Some(Instruction::Store),
-        deck::Instruction::Copy => Some(Instruction::Copy),
-        deck::Instruction::FromBits => Some(Instruction::FromBits),
-        deck::Instruction::Negate => Some(Instruction::Negate),
-        deck::Instruction::Absolute => Some(Instruction::Absolute),
-        deck::Instruction::Sign => Some(Instruction::Sign),
-        deck::Instruction::Not => Some(Instruction::Not),
-        deck::Instruction::LengthOf => Some(Instruction::LengthOf),
-        deck::Instruction::Add => Some(Instruction::Add),
-        deck::Instruction::Subtract => Some(Instruction::Subtract),
-        deck::Instruction::Multiply => Some(Instruction::Multiply),
-        deck::Instruction::Modulo => Some(Instruction::Modulo),
-        deck::Instruction::Greatest => Some(Instruction::Greatest),
-        deck::Instruction::Least => Some(Instruction::Least),
-        deck::Instruction::Concatenate => Some(Instruction::Concatenate),
-        deck::Instruction::And => Some(Instruction::And),
-        deck::Instruction::Or => Some(Instruction::Or),
-        deck::Instruction::Index => Some(Instruction::Index),
-        deck::Instruction::Rest => Some(Instruction::Rest),
-        deck::Instruction::Substring => Some(Instruction::Substring),
-        deck::Instruction::Put => Some(Instruction::Put),
-        deck::Instruction::Skip => Some(Instruction::Skip),
+        DeckInstruction::IsWithin => Some(Instruction::Within),
+        DeckInstruction::Stop => Some(Instruction::Stop),
+        DeckInstruction::Load => Some(Instruction::Load),
+        DeckInstruction::Store => Some(Instruction::Store),
+        DeckInstruction::Copy => Some(Instruction::Copy),
+        DeckInstruction::FromBits => Some(Instruction::FromBits),
+        DeckInstruction::Negate => Some(Instruction::Negate),
+        DeckInstruction::Absolute => Some(Instruction::Absolute),
+        DeckInstruction::Sign => Some(Instruction::Sign),
+        DeckInstruction::Not => Some(Instruction::Not),
+        DeckInstruction::LengthOf => Some(Instruction::LengthOf),
+        DeckInstruction::Add => Some(Instruction::Add),
+        DeckInstruction::Subtract => Some(Instruction::Subtract),
+        DeckInstruction::Multiply => Some(Instruction::Multiply),
+        DeckInstruction::Modulo => Some(Instruction::Modulo),
+        DeckInstruction::Greatest => Some(Instruction::Greatest),
+        DeckInstruction::Least => Some(Instruction::Least),
+        DeckInstruction::Concatenate => Some(Instruction::Concatenate),
+        DeckInstruction::And => Some(Instruction::And),
+        DeckInstruction::Or => Some(Instruction::Or),
+        DeckInstruction::Index => Some(Instruction::Index),
+        DeckInstruction::Rest => Some(Instruction::Rest),
+        DeckInstruction::Substring => Some(Instruction::Substring),
+        DeckInstruction::Put => Some(Instruction::Put),
+        DeckInstruction::Skip => Some(Instruction::Skip),
         _ => None,
     }
 }
@@ -153,14 +153,14 @@ fn instruction_from(instruction: deck::Instruction) -> Option<Instruction>
 struct Instructions;
 
 impl MakesOne for Instructions {
-    ghost use Rattle.pli_deck.specs.declared.instruction.Instruction as deck;
+    ghost use Rattle.pli_deck.specs.declared.instruction.DeckInstruction as deck;
     ghost use Rattle.pli_unit_code.specs.declared.instruction.Instruction as code;
 
-    type Source = deck::Instruction;
+    type Source = DeckInstruction;
 
     type Made = Instruction;
 
-    ghost Said = { deck.Instruction };
+    ghost Said = { deck.DeckInstruction };
 
     ghost say = { λ i. i };
 
@@ -170,7 +170,7 @@ impl MakesOne for Instructions {
 
     ghost one = { λ _. instruction_from };
 
-    fn make(&self, _alloc: Global, source: &deck::Instruction) -> Result<Instruction, LoadError> {
+    fn make(&self, _alloc: Global, source: &DeckInstruction) -> Result<Instruction, LoadError> {
         match instruction_from(*source) {
             None => Err(LoadError::NotYet),
             Some(instruction) => Ok(instruction),
@@ -181,7 +181,7 @@ impl MakesOne for Instructions {
 /// Instructions.
 pub fn instructions_from(
     alloc: Global,
-    instructions: &[deck::Instruction],
+    instructions: &[DeckInstruction],
 ) -> Result<Vec<Instruction>, LoadError>
     ensures { Makes (λ v. v.items) result (all_of instruction_from instructions.now) }
 {

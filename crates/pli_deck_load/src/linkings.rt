@@ -3,7 +3,7 @@ ghost use Rattle.std.specs.Prelude.{◌≡◌, map};
 ghost use Rattle.pli_deck.specs.ModuleView.{external_view, member_view, module_view};
 ghost use Rattle.pli_deck_load.specs.answers.Linkings.{Compares, mark_of, linking_of};
 
-use pli_deck::{External, Member, Module};
+use pli_deck::{DeckModule, External, Member};
 
 /// Whether externals are the same.
 fn same_external(left: &External, right: &External) -> bool
@@ -53,7 +53,7 @@ fn same_marks(left: &[Member], right: &[Member]) -> bool
 }
 
 /// Whether modules are linked in the same way.
-pub fn same_linking(left: &Module, right: &Module) -> bool
+pub fn same_linking(left: &DeckModule, right: &DeckModule) -> bool
     ensures { Compares (linking_of (module_view left.now)) (linking_of (module_view right.now)) result }
 {
     same_externals(&left.externals, &right.externals) && same_marks(&left.units, &right.units)

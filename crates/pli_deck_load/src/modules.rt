@@ -14,14 +14,14 @@ use crate::bare::bare_module;
 use crate::error::LoadError;
 use crate::linkings::same_linking;
 use crate::units::units_from;
-use pli_deck as deck;
+use pli_deck::DeckModule;
 use pli_deck_code::module_of;
 use pli_deck_read::read_module;
 use pli_unit_code::Module;
 use std::alloc::{AllocError, Global};
 
 /// The linked module of a module's decks.
-fn module_from(alloc: Global, program: &deck::Module) -> Result<Module, LoadError>
+fn module_from(alloc: Global, program: &DeckModule) -> Result<Module, LoadError>
     ensures { Makes module_view result (module_from (deck_view.module_view program.now)) }
 {
     let units = units_from(alloc, &program.units)?;
@@ -32,7 +32,7 @@ fn module_from(alloc: Global, program: &deck::Module) -> Result<Module, LoadErro
 }
 
 /// Whether a linked module's decks are linked as these are.
-fn is_linked_so(alloc: Global, linked: &Module, program: &deck::Module) -> Result<bool, AllocError>
+fn is_linked_so(alloc: Global, linked: &Module, program: &DeckModule) -> Result<bool, AllocError>
     ensures { IfOk result (Compares (linking_of (module_of (module_view linked.now))) (linking_of (deck_view.module_view program.now))) }
 {
     let bare = bare_module(alloc, linked)?;

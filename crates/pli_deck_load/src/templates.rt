@@ -15,7 +15,7 @@ use crate::error::LoadError;
 use crate::initials::{found_initials, listed_initials};
 use crate::lists::{MakesOne, all_of};
 use crate::numbers::are_few;
-use pli_deck::{Initial, Template};
+use pli_deck::{DeckTemplate, Initial};
 use pli_deck_code::{description_at, offsets_of};
 use pli_map::Description;
 use pli_type_tree::InitialScalar;
@@ -26,7 +26,7 @@ use std::alloc::Global;
 fn initials_from(
     alloc: Global,
     descriptions: &[Description],
-    template: &Template,
+    template: &DeckTemplate,
 ) -> Result<Vec<InitialScalar>, LoadError>
     ensures { let t = template_view template.now in Makes (λ v. map view.initial_view v.items) result
         (initials_from (offsets_in (slice_get (map description_view descriptions.now) t.description)) t.initial) }
@@ -65,11 +65,11 @@ struct Templates<'a> {
 }
 
 impl<'a> MakesOne for Templates<'a> {
-    type Source = Template;
+    type Source = DeckTemplate;
 
     type Made = CodedTemplate;
 
-    ghost Said = { deck.Template };
+    ghost Said = { deck.DeckTemplate };
 
     ghost say = { template_view };
 
@@ -79,7 +79,7 @@ impl<'a> MakesOne for Templates<'a> {
 
     ghost one = { λ m. template_from (map description_view m.descriptions.now) };
 
-    fn make(&self, alloc: Global, source: &Template) -> Result<CodedTemplate, LoadError> {
+    fn make(&self, alloc: Global, source: &DeckTemplate) -> Result<CodedTemplate, LoadError> {
         let initial = initials_from(alloc, self.descriptions, source)?;
         Ok(CodedTemplate {
             description: source.description,
@@ -92,7 +92,7 @@ impl<'a> MakesOne for Templates<'a> {
 pub fn templates_from(
     alloc: Global,
     descriptions: &[Description],
-    templates: &[Template],
+    templates: &[DeckTemplate],
 ) -> Result<Vec<CodedTemplate>, LoadError>
     ensures { Makes (λ v. map coded_template_view v.items) result
         (all_of (template_from (map description_view descriptions.now)) (map template_view templates.now)) }

@@ -2,8 +2,8 @@
 use Rattle.std.proofs.Common.{◌≡◌, ℕ, zero, suc, ◌-◌, ◌<◌, List, [], get_or, Result, Ok, Err, ◌⊎◌, inl, inr, sym, ap, ◌∙◌, arith}
 use Rattle.std.proofs.lemmas.List.{get_or_past}
 use Rattle.pli_map.specs.Description.{Description}
-use Rattle.pli_deck.specs.declared.fault.Fault.{Fault}
-use Rattle.pli_deck.specs.declared.fault.Fault.TheVariants.{OutOfRange}
+use Rattle.pli_deck.specs.declared.fault.DeckFault.{DeckFault}
+use Rattle.pli_deck.specs.declared.fault.DeckFault.TheVariants.{OutOfRange}
 use Rattle.pli_base.specs.declared.failure.Failure.{Failure}
 use Rattle.pli_base.specs.declared.failure.Failure.TheVariants as errors
 use Rattle.pli_base.specs.Results.{◌>>=◌}
@@ -11,11 +11,11 @@ use Rattle.pli_deck.specs.Fields.{Field, Reader, byte_at, unknown}
 use Rattle.pli_deck.specs.Descriptions.{description_readers, described, description_within}
 use Rattle.pli_base.specs.answers.FailureAnswers.{Fails}
 
-abbrev by_tag : List (Reader Description) → ℕ × List ℕ → Result (Description × List ℕ) Fault
+abbrev by_tag : List (Reader Description) → ℕ × List ℕ → Result (Description × List ℕ) DeckFault
 by_tag readers t = get_or readers t.0 unknown t.1
 
 -- no tag
-pub without_tag : (levels : ℕ) (bytes : List ℕ) (e : Failure Fault) → Fails e (byte_at bytes) → Fails e ((description_within levels).read bytes)
+pub without_tag : (levels : ℕ) (bytes : List ℕ) (e : Failure DeckFault) → Fails e (byte_at bytes) → Fails e ((description_within levels).read bytes)
 unfolding description_within
 without_tag zero bytes errors.OutOfMemory h = tt
 without_tag (suc n) bytes errors.OutOfMemory h = tt

@@ -2,9 +2,9 @@ pub mod BitsReading
 pub mod CountReading
 pub mod DeckGiven
 pub mod DescriptionReading
-pub mod Headings
-pub mod Loops
-pub mod LoopsBehind
+pub mod HeadingLemmas
+pub mod LoopLemmas
+pub mod LoopBehindLemmas
 pub mod ModuleGiven
 pub mod OperandReading
 pub mod WholeReading

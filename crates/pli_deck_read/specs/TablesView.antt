@@ -3,10 +3,10 @@ use Rattle.std.specs.Prelude.{map}
 use Rattle.pli_map.specs.views.DescriptionView.{description_view}
 use Rattle.pli_deck.specs.DeckFields as fields
 use Rattle.pli_deck.specs.DeckView.{template_view, constant_view, global_view, block_view}
-use Rattle.pli_deck_read.specs.declared.whole.Tables.{Tables}
+use Rattle.pli_deck_read.specs.declared.whole.DeckTables.{DeckTables}
 
 -- the tables of a deck, and its instructions
-abbrev pub tables_view : Tables → fields.Tables
+abbrev pub tables_view : DeckTables → fields.Tables
 tables_view t = (
   map description_view t.descriptions.items,
   (

@@ -11,7 +11,7 @@ use crate::error::ReadError;
 use crate::reading::{
     ReadsOne, byte_of, many_of, short_of, short_within, signed_within, text_of, word_of,
 };
-use pli_deck::{Constant, Fault, Initial, Template};
+use pli_deck::{Constant, DeckFault, DeckTemplate, Initial};
 use pli_value::bit::Bits;
 use std::alloc::Global;
 
@@ -22,14 +22,14 @@ fn bits_of(alloc: Global, count: usize, bytes: &[u8]) -> Result<(Bits, &[u8]), R
 {
     let needed = (count + 7) / 8;
     if bytes.len() < needed {
-        return Err(ReadError::Fault(Fault::Truncated));
+        return Err(ReadError::Fault(DeckFault::Truncated));
     }
     let (front, rest) = bytes.split_at(needed);
     let bits = Bits::unpack(alloc, front, count)?;
     if are_same(front, bits.bytes()) {
         Ok((bits, rest))
     } else {
-        Err(ReadError::Fault(Fault::OutOfRange))
+        Err(ReadError::Fault(DeckFault::OutOfRange))
     }
 }
 
@@ -76,7 +76,7 @@ pub fn constant_of(alloc: Global, bytes: &[u8]) -> Result<(Constant, &[u8]), Rea
         3 => bit_string_of(alloc, rest),
         4 => Ok((Constant::NullPointer, rest)),
         5 => Ok((Constant::NullOffset, rest)),
-        _ => Err(ReadError::Fault(Fault::OutOfRange)),
+        _ => Err(ReadError::Fault(DeckFault::OutOfRange)),
     }
 }
 
@@ -129,20 +129,24 @@ fn initials_of(alloc: Global, bytes: &[u8]) -> Result<(Vec<Initial>, &[u8]), Rea
 pub struct Templates;
 
 impl ReadsOne for Templates {
-    type Value = Template;
+    type Value = DeckTemplate;
 
-    ghost Said = { plain.Template };
+    ghost Said = { plain.DeckTemplate };
 
     ghost say = { template_view };
 
     ghost field = { deck_fields.template };
 
     #[tactic(auto, unfolding(pli_deck::specs::DeckFields::template))]
-    fn read<'a>(&self, alloc: Global, bytes: &'a [u8]) -> Result<(Template, &'a [u8]), ReadError> {
+    fn read<'a>(
+        &self,
+        alloc: Global,
+        bytes: &'a [u8],
+    ) -> Result<(DeckTemplate, &'a [u8]), ReadError> {
         let (description, rest) = short_of(bytes)?;
         let (initial, rest) = initials_of(alloc, rest)?;
         Ok((
-            Template {
+            DeckTemplate {
                 description,
                 initial,
             },

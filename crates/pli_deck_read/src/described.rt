@@ -12,7 +12,7 @@ use crate::reading::{
     ReadsOne, byte_of, byte_within, count_within, many_of, short_of, short_within, signed_within,
     word_of,
 };
-use pli_deck::{Fault, LEVELS};
+use pli_deck::{DeckFault, LEVELS};
 use pli_map::{Bounds, Description};
 use std::alloc::Global;
 
@@ -47,7 +47,7 @@ impl ReadsOne for Dimensions {
         if low <= high {
             Ok((Bounds { low, high }, rest))
         } else {
-            Err(ReadError::Fault(Fault::OutOfRange))
+            Err(ReadError::Fault(DeckFault::OutOfRange))
         }
     }
 }
@@ -69,7 +69,7 @@ fn area_size_of(bytes: &[u8]) -> Result<(u32, &[u8]), ReadError>
     if 1 <= size && size <= AREA_LIMIT && size % 8 == 0 {
         Ok((size, rest))
     } else {
-        Err(ReadError::Fault(Fault::OutOfRange))
+        Err(ReadError::Fault(DeckFault::OutOfRange))
     }
 }
 
@@ -103,7 +103,7 @@ fn scalar_of(tag: u8, bytes: &[u8]) -> Result<(Description, &[u8]), ReadError>
             let (size, rest) = area_size_of(bytes)?;
             Ok((Description::Area(size), rest))
         }
-        _ => Err(ReadError::Fault(Fault::OutOfRange)),
+        _ => Err(ReadError::Fault(DeckFault::OutOfRange)),
     }
 }
 
@@ -118,13 +118,13 @@ fn description_at<'a>(
 {
     let (tag, rest) = byte_of(bytes)?;
     if levels == 0 {
-        return Err(ReadError::Fault(Fault::OutOfRange));
+        return Err(ReadError::Fault(DeckFault::OutOfRange));
     }
     match tag {
         1..=7 => scalar_of(tag, rest),
         8 => array_at(alloc, levels - 1, rest),
         9 => structure_at(alloc, levels - 1, rest),
-        _ => Err(ReadError::Fault(Fault::OutOfRange)),
+        _ => Err(ReadError::Fault(DeckFault::OutOfRange)),
     }
 }
 

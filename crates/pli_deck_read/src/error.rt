@@ -1,7 +1,7 @@
 //! Why nothing was read from bytes.
 
 use pli_base::Failure;
-use pli_deck::Fault;
+use pli_deck::DeckFault;
 
 /// Why nothing was read.
-pub type ReadError = Failure<Fault>;
+pub type ReadError = Failure<DeckFault>;

@@ -8,17 +8,17 @@ ghost use Rattle.pli_base.specs.answers.FailureAnswers.{Gives};
 
 use crate::error::ReadError;
 use crate::modules::module_at;
-use pli_deck::{Fault, Module};
+use pli_deck::{DeckFault, DeckModule};
 use pli_deck_faults::module_fault;
 use std::alloc::Global;
 
 /// A module, if no bytes stand behind it and it has no fault.
 #[tactic(auto, using(crate::proofs::WholeReading::more_left, crate::proofs::WholeReading::none_left))]
-fn whole(alloc: Global, program: Module, rest: &[u8]) -> Result<Module, ReadError>
+fn whole(alloc: Global, program: DeckModule, rest: &[u8]) -> Result<DeckModule, ReadError>
     ensures { Gives module_view result (whole module_fault (module_view program) rest.now) }
 {
     if !rest.is_empty() {
-        return Err(ReadError::Fault(Fault::Trailing));
+        return Err(ReadError::Fault(DeckFault::Trailing));
     }
     match module_fault(alloc, &program)? {
         None => Ok(program),
@@ -28,7 +28,7 @@ fn whole(alloc: Global, program: Module, rest: &[u8]) -> Result<Module, ReadErro
 
 /// The module that bytes are, or the first fault.
 #[tactic(auto, unfolding(pli_deck::specs::ModuleSpelling::module_read))]
-fn read(alloc: Global, bytes: &[u8]) -> Result<Module, ReadError>
+fn read(alloc: Global, bytes: &[u8]) -> Result<DeckModule, ReadError>
     ensures exact { Gives module_view result (module_read bytes.now) }
     ensures bytes { (place : ℕ) → slice_index bytes.now place < 256 }
 {
@@ -40,11 +40,11 @@ fn read(alloc: Global, bytes: &[u8]) -> Result<Module, ReadError>
 
 /// The module that bytes spell; each deck is read whole where it stands. An error is the first fault, or that memory
 /// ran out. Takes memory in proportion to the bytes, and no call is deeper than the 512 levels of descriptions.
-pub fn read_module(alloc: Global, bytes: &[u8]) -> Result<Module, ReadError>
+pub fn read_module(alloc: Global, bytes: &[u8]) -> Result<DeckModule, ReadError>
     // What is read is spelled so.
     ensures read { IfOk result (λ m. SpellsModule bytes.now (module_view m)) }
     // What is spelled so is read, unless memory runs out.
-    ensures spelled { (m : plain.Module) → SpellsModule bytes.now m → Gives module_view result (Ok m) }
+    ensures spelled { (m : plain.DeckModule) → SpellsModule bytes.now m → Gives module_view result (Ok m) }
     // Which fault it is.
     ensures exact { Gives module_view result (module_read bytes.now) }
 {

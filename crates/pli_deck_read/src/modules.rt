@@ -18,7 +18,7 @@ use crate::reading::{
 use crate::tables::numbers_of;
 use crate::whole::behind;
 use pli_base::Name;
-use pli_deck::{Deck, External, ExternalKind, Fault, Global as DeckGlobal, Member, Module};
+use pli_deck::{Deck, DeckFault, DeckModule, External, ExternalKind, Global as DeckGlobal, Member};
 use pli_deck_faults::is_external;
 use std::alloc::Global;
 use std::cmp::Ordering;
@@ -37,7 +37,7 @@ fn kind_of(bytes: &[u8]) -> Result<(ExternalKind, &[u8]), ReadError>
 }
 
 /// Whether a name stands behind that of the last external so far, if there is one.
-#[tactic(auto, using(crate::proofs::LoopsBehind::none_before, crate::proofs::LoopsBehind::last_before))]
+#[tactic(auto, using(crate::proofs::LoopBehindLemmas::none_before, crate::proofs::LoopBehindLemmas::last_before))]
 fn comes_after(earlier: &[External], name: &Name) -> bool
     ensures { result ≡ module_fields.comes_after (last_of (map external_view earlier.now)) name.now }
 {
@@ -55,10 +55,10 @@ fn external_of<'a>(earlier: &[External], bytes: &'a [u8]) -> Result<(External, &
 {
     let (text, rest) = name_text_of(bytes)?;
     let Some(name) = upper_name(text) else {
-        return Err(ReadError::Fault(Fault::OutOfRange));
+        return Err(ReadError::Fault(DeckFault::OutOfRange));
     };
     if !comes_after(earlier, &name) {
-        return Err(ReadError::Fault(Fault::OutOfRange));
+        return Err(ReadError::Fault(DeckFault::OutOfRange));
     }
     let (kind, rest) = kind_of(rest)?;
     let (unit, rest) = short_of(rest)?;
@@ -112,7 +112,7 @@ fn sized_deck_of(alloc: Global, bytes: &[u8]) -> Result<(Deck, &[u8]), ReadError
     let (count, rest) = word_of(bytes)?;
     let count = count as usize;
     if rest.len() < count {
-        return Err(ReadError::Fault(Fault::Truncated));
+        return Err(ReadError::Fault(DeckFault::Truncated));
     }
     let (front, rest) = rest.split_at(count);
     let deck = read(alloc, front)?;
@@ -142,7 +142,7 @@ fn links_of<'a>(
 {
     let (count, rest) = short_of(bytes)?;
     if usize::from(count) != externals_in(&deck.globals) {
-        return Err(ReadError::Fault(Fault::OutOfRange));
+        return Err(ReadError::Fault(DeckFault::OutOfRange));
     }
     numbers_of(alloc, u32::from(count), rest)
 }
@@ -163,7 +163,7 @@ impl ReadsOne for Members {
     fn read<'a>(&self, alloc: Global, bytes: &'a [u8]) -> Result<(Member, &'a [u8]), ReadError> {
         let (text, rest) = name_text_of(bytes)?;
         let Some(name) = upper_name(text) else {
-            return Err(ReadError::Fault(Fault::OutOfRange));
+            return Err(ReadError::Fault(DeckFault::OutOfRange));
         };
         let (deck, rest) = sized_deck_of(alloc, rest)?;
         let (links, rest) = links_of(alloc, &deck, rest)?;
@@ -172,7 +172,7 @@ impl ReadsOne for Members {
 }
 
 /// What a module has behind its version.
-fn contents_of(alloc: Global, bytes: &[u8]) -> Result<(Module, &[u8]), ReadError>
+fn contents_of(alloc: Global, bytes: &[u8]) -> Result<(DeckModule, &[u8]), ReadError>
     ensures { Gives (λ x. (module_view x.0, x.1.now)) result (module_fields.module_contents.read bytes.now) }
 {
     let (count, rest) = short_within(bytes, 1, 999)?;
@@ -180,7 +180,7 @@ fn contents_of(alloc: Global, bytes: &[u8]) -> Result<(Module, &[u8]), ReadError
     let (externals, rest) = externals_of(alloc, rest)?;
     let (units, rest) = many_of(alloc, &Members, u32::from(count), rest)?;
     Ok((
-        Module {
+        DeckModule {
             main,
             externals,
             units,
@@ -190,24 +190,24 @@ fn contents_of(alloc: Global, bytes: &[u8]) -> Result<(Module, &[u8]), ReadError
 }
 
 /// The version, which is 1, and what a module has behind it.
-fn versioned_of(alloc: Global, bytes: &[u8]) -> Result<(Module, &[u8]), ReadError>
+fn versioned_of(alloc: Global, bytes: &[u8]) -> Result<(DeckModule, &[u8]), ReadError>
     ensures { Gives (λ x. (module_view x.0, x.1.now)) result (deck_fields.versioned module_fields.module_contents.read bytes.now) }
 {
     let (version, rest) = byte_of(bytes)?;
     if version == 1 {
         contents_of(alloc, rest)
     } else {
-        Err(ReadError::Fault(Fault::BadVersion))
+        Err(ReadError::Fault(DeckFault::BadVersion))
     }
 }
 
 /// A module.
 #[tactic(auto, unfolding(pli_deck::specs::ModuleFields::module_field))]
-pub fn module_at(alloc: Global, bytes: &[u8]) -> Result<(Module, &[u8]), ReadError>
+pub fn module_at(alloc: Global, bytes: &[u8]) -> Result<(DeckModule, &[u8]), ReadError>
     ensures { Gives (λ x. (module_view x.0, x.1.now)) result (module_fields.module_field.read bytes.now) }
 {
     match behind(bytes, b"PLIM") {
         Some(rest) => versioned_of(alloc, rest),
-        None => Err(ReadError::Fault(Fault::BadMagic)),
+        None => Err(ReadError::Fault(DeckFault::BadMagic)),
     }
 }

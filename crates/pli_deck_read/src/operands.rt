@@ -6,7 +6,7 @@ ghost use Rattle.pli_base.specs.answers.FailureAnswers.{Gives};
 
 use crate::error::ReadError;
 use crate::reading::{byte_of, byte_within, short_of, signed_within, word_of};
-use pli_deck::{Fault, Instruction};
+use pli_deck::{DeckFault, DeckInstruction};
 
 /// The bytes from which operands are read. The first error is kept, and what is read behind it says nothing: so whether
 /// all went well is asked once, behind the last operand.
@@ -87,10 +87,10 @@ impl<'a> Operands<'a> {
     }
 
     /// No instruction has the code: that is an error, and any instruction stands for it.
-    pub fn unknown(&mut self) -> Instruction
+    pub fn unknown(&mut self) -> DeckInstruction
         ensures { Reads unknown (operands_view self.old) result (operands_view self.new) }
     {
-        self.failed(ReadError::Fault(Fault::OutOfRange));
-        Instruction::Stop
+        self.failed(ReadError::Fault(DeckFault::OutOfRange));
+        DeckInstruction::Stop
     }
 }

@@ -9,7 +9,7 @@ ghost use Rattle.pli_base.specs.answers.FailureAnswers.{Gives};
 
 use crate::error::ReadError;
 use crate::whole::deck_at;
-use pli_deck::{Deck, Fault};
+use pli_deck::{Deck, DeckFault};
 use pli_deck_faults::deck_fault;
 use std::alloc::Global;
 
@@ -19,7 +19,7 @@ fn whole(alloc: Global, deck: Deck, rest: &[u8]) -> Result<Deck, ReadError>
     ensures { Gives deck_view result (whole fault_of (deck_view deck) rest.now) }
 {
     if !rest.is_empty() {
-        return Err(ReadError::Fault(Fault::Trailing));
+        return Err(ReadError::Fault(DeckFault::Trailing));
     }
     match deck_fault(alloc, &deck)? {
         None => Ok(deck),

@@ -8,7 +8,7 @@ ghost use Rattle.pli_base.specs.answers.FailureAnswers.{Gives};
 use crate::error::ReadError;
 use byteorder::{BigEndian, ByteOrder};
 use pli_base::Name;
-use pli_deck::Fault;
+use pli_deck::DeckFault;
 use std::alloc::Global;
 
 /// One byte.
@@ -17,7 +17,7 @@ pub fn byte_of(bytes: &[u8]) -> Result<(u8, &[u8]), ReadError>
     ensures { Gives (λ x. (x.0, x.1.now)) result (byte_at bytes.now) }
 {
     match bytes {
-        [] => Err(ReadError::Fault(Fault::Truncated)),
+        [] => Err(ReadError::Fault(DeckFault::Truncated)),
         [first, rest @ ..] => Ok((*first, rest)),
     }
 }
@@ -28,7 +28,7 @@ pub fn short_of(bytes: &[u8]) -> Result<(u16, &[u8]), ReadError>
     ensures { Gives (λ x. (x.0, x.1.now)) result (number_at 2 bytes.now) }
 {
     if bytes.len() < 2 {
-        return Err(ReadError::Fault(Fault::Truncated));
+        return Err(ReadError::Fault(DeckFault::Truncated));
     }
     Ok((BigEndian::read_u16(bytes), &bytes[2..]))
 }
@@ -39,7 +39,7 @@ pub fn word_of(bytes: &[u8]) -> Result<(u32, &[u8]), ReadError>
     ensures { Gives (λ x. (x.0, x.1.now)) result (number_at 4 bytes.now) }
 {
     if bytes.len() < 4 {
-        return Err(ReadError::Fault(Fault::Truncated));
+        return Err(ReadError::Fault(DeckFault::Truncated));
     }
     Ok((BigEndian::read_u32(bytes), &bytes[4..]))
 }
@@ -52,7 +52,7 @@ pub fn byte_within(bytes: &[u8], low: u8, high: u8) -> Result<(u8, &[u8]), ReadE
     if low <= number && number <= high {
         Ok((number, rest))
     } else {
-        Err(ReadError::Fault(Fault::OutOfRange))
+        Err(ReadError::Fault(DeckFault::OutOfRange))
     }
 }
 
@@ -71,7 +71,7 @@ pub fn short_within(bytes: &[u8], low: u16, high: u16) -> Result<(u16, &[u8]), R
     if low <= number && number <= high {
         Ok((number, rest))
     } else {
-        Err(ReadError::Fault(Fault::OutOfRange))
+        Err(ReadError::Fault(DeckFault::OutOfRange))
     }
 }
 
@@ -85,7 +85,7 @@ pub fn signed_within(bytes: &[u8], bound: u32) -> Result<(i32, &[u8]), ReadError
     if number.unsigned_abs() <= bound {
         Ok((number, rest))
     } else {
-        Err(ReadError::Fault(Fault::OutOfRange))
+        Err(ReadError::Fault(DeckFault::OutOfRange))
     }
 }
 
@@ -112,7 +112,7 @@ pub fn text_of(bytes: &[u8], count: usize) -> Result<(&[u8], &[u8]), ReadError>
     ensures { Gives (λ x. (x.0.now, x.1.now)) result (many byte_at count bytes.now) }
 {
     if bytes.len() < count {
-        return Err(ReadError::Fault(Fault::Truncated));
+        return Err(ReadError::Fault(DeckFault::Truncated));
     }
     Ok(bytes.split_at(count))
 }

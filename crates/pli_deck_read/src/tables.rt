@@ -13,7 +13,7 @@ use crate::reading::{
     ReadsOne, byte_of, byte_within, count_within, list_at, many_of, name_text_of, optional_of,
     short_of, upper_name, word_of,
 };
-use pli_deck::{Block, Fault, Global as DeckGlobal, Instruction, Signature};
+use pli_deck::{DeckBlock, DeckFault, DeckInstruction, DeckSignature, Global as DeckGlobal};
 use std::alloc::Global;
 
 /// Reads a number of two bytes.
@@ -42,14 +42,14 @@ pub fn numbers_of(alloc: Global, count: u32, bytes: &[u8]) -> Result<(Vec<u16>, 
 
 /// The parameters and the result of a procedure.
 #[tactic(auto, unfolding(pli_deck::specs::DeckFields::signature))]
-pub fn signature_of(alloc: Global, bytes: &[u8]) -> Result<(Signature, &[u8]), ReadError>
+pub fn signature_of(alloc: Global, bytes: &[u8]) -> Result<(DeckSignature, &[u8]), ReadError>
     ensures { Gives (λ x. (signature_view x.0, x.1.now)) result (deck_fields.signature.read bytes.now) }
 {
     let (count, rest) = count_within(bytes, 0, 64)?;
     let (parameters, rest) = numbers_of(alloc, u32::from(count), rest)?;
     let (returned, rest) = optional_of(rest)?;
     Ok((
-        Signature {
+        DeckSignature {
             parameters,
             result: returned,
         },
@@ -71,7 +71,7 @@ fn entry_of(alloc: Global, bytes: &[u8]) -> Result<(DeckGlobal, &[u8]), ReadErro
 {
     let (text, rest) = name_text_of(bytes)?;
     let Some(name) = upper_name(text) else {
-        return Err(ReadError::Fault(Fault::OutOfRange));
+        return Err(ReadError::Fault(DeckFault::OutOfRange));
     };
     let (signature, rest) = signature_of(alloc, rest)?;
     Ok((DeckGlobal::ExternalEntry { name, signature }, rest))
@@ -85,7 +85,7 @@ fn external_of(bytes: &[u8], is_controlled: bool) -> Result<(DeckGlobal, &[u8]),
 {
     let (text, rest) = name_text_of(bytes)?;
     let Some(name) = upper_name(text) else {
-        return Err(ReadError::Fault(Fault::OutOfRange));
+        return Err(ReadError::Fault(DeckFault::OutOfRange));
     };
     let (template, rest) = short_of(rest)?;
     if is_controlled {
@@ -126,7 +126,7 @@ impl ReadsOne for Globals {
             2 => external_of(rest, false),
             3 => external_of(rest, true),
             4 => entry_of(alloc, rest),
-            _ => Err(ReadError::Fault(Fault::OutOfRange)),
+            _ => Err(ReadError::Fault(DeckFault::OutOfRange)),
         }
     }
 }
@@ -135,16 +135,16 @@ impl ReadsOne for Globals {
 pub struct Blocks;
 
 impl ReadsOne for Blocks {
-    type Value = Block;
+    type Value = DeckBlock;
 
-    ghost Said = { plain.Block };
+    ghost Said = { plain.DeckBlock };
 
     ghost say = { block_view };
 
     ghost field = { deck_fields.block };
 
     #[tactic(auto, unfolding(pli_deck::specs::DeckFields::block))]
-    fn read<'a>(&self, alloc: Global, bytes: &'a [u8]) -> Result<(Block, &'a [u8]), ReadError> {
+    fn read<'a>(&self, alloc: Global, bytes: &'a [u8]) -> Result<(DeckBlock, &'a [u8]), ReadError> {
         let (kind, rest) = byte_within(bytes, 0, 2)?;
         let (parent, rest) = optional_of(rest)?;
         let (parameters, rest) = byte_within(rest, 0, 64)?;
@@ -153,7 +153,7 @@ impl ReadsOne for Blocks {
         let (entry, rest) = short_of(rest)?;
         let (statement, rest) = word_of(rest)?;
         Ok((
-            Block {
+            DeckBlock {
                 kind,
                 parent,
                 parameters,
@@ -171,11 +171,11 @@ impl ReadsOne for Blocks {
 struct Instructions;
 
 impl ReadsOne for Instructions {
-    ghost use Rattle.pli_deck.specs.declared.instruction.Instruction.{Instruction};
+    ghost use Rattle.pli_deck.specs.declared.instruction.DeckInstruction.{DeckInstruction};
 
-    type Value = Instruction;
+    type Value = DeckInstruction;
 
-    ghost Said = { Instruction };
+    ghost Said = { DeckInstruction };
 
     ghost say = { λ i. i };
 
@@ -186,14 +186,17 @@ impl ReadsOne for Instructions {
         &self,
         _alloc: Global,
         bytes: &'a [u8],
-    ) -> Result<(Instruction, &'a [u8]), ReadError> {
+    ) -> Result<(DeckInstruction, &'a [u8]), ReadError> {
         let (code, rest) = byte_of(bytes)?;
         operation_of(code, rest)
     }
 }
 
 /// A list of instructions.
-pub fn instructions_of(alloc: Global, bytes: &[u8]) -> Result<(Vec<Instruction>, &[u8]), ReadError>
+pub fn instructions_of(
+    alloc: Global,
+    bytes: &[u8],
+) -> Result<(Vec<DeckInstruction>, &[u8]), ReadError>
     ensures { Gives (λ x. (x.0.items, x.1.now)) result ((list instruction).read bytes.now) }
 {
     list_at(alloc, &Instructions, bytes)

@@ -11,24 +11,26 @@ use crate::described::descriptions_of;
 use crate::error::ReadError;
 use crate::reading::{byte_of, flag_of, list_at, name_text_of, upper_name};
 use crate::tables::{Blocks, Globals, instructions_of, signature_of};
-use pli_deck::{Block, Constant, Deck, Fault, Global as DeckGlobal, Instruction, Template};
+use pli_deck::{
+    Constant, Deck, DeckBlock, DeckFault, DeckInstruction, DeckTemplate, Global as DeckGlobal,
+};
 use pli_map::Description;
 use std::alloc::Global;
 
 /// The tables of a deck in the order of its bytes.
 #[derive(Drop)]
-pub struct Tables {
+pub struct DeckTables {
     pub descriptions: Vec<Description>,
-    pub templates: Vec<Template>,
+    pub templates: Vec<DeckTemplate>,
     pub values: Vec<Constant>,
     pub globals: Vec<DeckGlobal>,
-    pub blocks: Vec<Block>,
-    pub instructions: Vec<Instruction>,
+    pub blocks: Vec<DeckBlock>,
+    pub instructions: Vec<DeckInstruction>,
 }
 
 /// The tables of a deck, each with its count.
 #[tactic(auto, unfolding(pli_deck::specs::DeckFields::tables))]
-fn tables_of(alloc: Global, bytes: &[u8]) -> Result<(Tables, &[u8]), ReadError>
+fn tables_of(alloc: Global, bytes: &[u8]) -> Result<(DeckTables, &[u8]), ReadError>
     ensures { Gives (λ x. (tables_view x.0, x.1.now)) result (deck_fields.tables.read bytes.now) }
 {
     let (descriptions, rest) = descriptions_of(alloc, bytes)?;
@@ -38,7 +40,7 @@ fn tables_of(alloc: Global, bytes: &[u8]) -> Result<(Tables, &[u8]), ReadError>
     let (blocks, rest) = list_at(alloc, &Blocks, rest)?;
     let (instructions, rest) = instructions_of(alloc, rest)?;
     Ok((
-        Tables {
+        DeckTables {
             descriptions,
             templates,
             values,
@@ -51,7 +53,7 @@ fn tables_of(alloc: Global, bytes: &[u8]) -> Result<(Tables, &[u8]), ReadError>
 }
 
 /// The bytes behind those that stand in front of all decks, if they do.
-#[tactic(auto, using(crate::proofs::Headings::too_few, crate::proofs::Headings::behind_front))]
+#[tactic(auto, using(crate::proofs::HeadingLemmas::too_few, crate::proofs::HeadingLemmas::behind_front))]
 pub fn behind<'a>(bytes: &'a [u8], front: &[u8]) -> Option<&'a [u8]>
     ensures { deck_fields.behind front.now bytes.now ≡ option_map (λ rest. rest.now) result }
 {
@@ -73,7 +75,7 @@ fn contents_of(alloc: Global, bytes: &[u8]) -> Result<(Deck, &[u8]), ReadError>
 {
     let (text, rest) = name_text_of(bytes)?;
     let Some(name) = upper_name(text) else {
-        return Err(ReadError::Fault(Fault::OutOfRange));
+        return Err(ReadError::Fault(DeckFault::OutOfRange));
     };
     let (is_main, rest) = flag_of(rest)?;
     let (signature, rest) = signature_of(alloc, rest)?;
@@ -102,7 +104,7 @@ fn versioned_of(alloc: Global, bytes: &[u8]) -> Result<(Deck, &[u8]), ReadError>
     if version == 1 {
         contents_of(alloc, rest)
     } else {
-        Err(ReadError::Fault(Fault::BadVersion))
+        Err(ReadError::Fault(DeckFault::BadVersion))
     }
 }
 
@@ -113,6 +115,6 @@ pub fn deck_at(alloc: Global, bytes: &[u8]) -> Result<(Deck, &[u8]), ReadError>
 {
     match behind(bytes, b"PLID") {
         Some(rest) => versioned_of(alloc, rest),
-        None => Err(ReadError::Fault(Fault::BadMagic)),
+        None => Err(ReadError::Fault(DeckFault::BadMagic)),
     }
 }

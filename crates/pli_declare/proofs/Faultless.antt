@@ -9,7 +9,7 @@ use Rattle.pli_base.specs.declared.code.Code.TheVariants.{BadLevel}
 use Rattle.pli_base.specs.declared.token.Fault.{Fault}
 use Rattle.pli_base.specs.Declarations.{DescribedAttribute}
 use Rattle.pli_base.specs.Statements.{Heading}
-use Rattle.pli_declare_outline.specs.Outlines.{Mark, Declared, Labelled, Entered, Used, Jumped, Placed, Outline}
+use Rattle.pli_declare_outline.specs.Outlines.{Mark, Declared, Labelled, Entered, Used, Jumped, PlacedMark, Outline}
 use Rattle.pli_declare_constructs.specs.Regions.{block_of}
 use Rattle.pli_declare_tables.specs.Tables.{Entity, AsItem, AsLabel, AsProcedure, Entry, no_entry, entries_of, entries_in, inner_marks, heading_entries, unit_entries}
 use Rattle.pli_declare_attributes.specs.Faults.{result_fault, first_of, lesser}
@@ -39,7 +39,7 @@ codes_none o block number (e ∷ es) h k low high =
       | inr here ↦ (let same : k ≡ number = omega (arith, here, low) in ap (item_code o block) same ∙ no_code e.identifier.at (item_code o block number) parts.0)
     ]
 
-module _ (o : Outline) (before : List Placed) (p : Placed) where
+module _ (o : Outline) (before : List PlacedMark) (p : PlacedMark) where
   abbrev here : ℕ
   here = block_of o.regions p.region
 
@@ -66,7 +66,7 @@ module _ (o : Outline) (before : List Placed) (p : Placed) where
           absurd (omega (arith, low, high, counted_elsewhere o before p b other))
 
 -- the names of all marks
-walked_none : (o : Outline) (b : ℕ) (before ps : List Placed) → faults_after o before ps ≡ [] → (k : ℕ) → declared_by o b before ≤ k → k < declared_by o b (before ++ ps) → item_code o b k ≡ None
+walked_none : (o : Outline) (b : ℕ) (before ps : List PlacedMark) → faults_after o before ps ≡ [] → (k : ℕ) → declared_by o b before ≤ k → k < declared_by o b (before ++ ps) → item_code o b k ≡ None
 walked_none o b before [] h k low high = absurd (omega (arith, low, high, ap (declared_by o b) (append-nil before)))
 walked_none o b before (p ∷ ps) h k low high =
     let parts = both_empty (mark_faults o (declared_by o (block_of o.regions p.region) before) p) (faults_after o (before ++ p ∷ []) ps) h in
@@ -101,7 +101,7 @@ entity_good o b n entries code is_too_large (AsProcedure heading region) h =
     let are_good = returned_are (list_all (described_is_good o b)) heading in
     heading_sound are_good heading (no_lesser (heading_code are_good heading) None (no_lesser code (lesser (heading_code are_good heading) None) h).1).0
 
-inner_none : (o : Outline) (ms : List Placed) → outline_faults o ms ≡ [] → faults_after o [] (inner_marks ms) ≡ []
+inner_none : (o : Outline) (ms : List PlacedMark) → outline_faults o ms ≡ [] → faults_after o [] (inner_marks ms) ≡ []
 inner_none o [] h = refl
 inner_none o (p ∷ ps) h = (both_empty (unit_faults o p) (faults_after o [] ps) h).1
 
@@ -122,7 +122,7 @@ heading_good (Used names) h n lt = absurd (omega (arith, lt))
 heading_good (Jumped label) h n lt = absurd (omega (arith, lt))
 
 -- the unit's own name
-pub unit_good : (o : Outline) (ms : List Placed) → outline_faults o ms ≡ [] → AreGood (unit_entries ms) []
+pub unit_good : (o : Outline) (ms : List PlacedMark) → outline_faults o ms ≡ [] → AreGood (unit_entries ms) []
 unit_good o [] h n lt = absurd (omega (arith, lt))
 unit_good o (p ∷ ps) h n lt =
     heading_good p.mark (both_empty (heading_faults p.mark) (parameter_faults o p.mark) (both_empty (unit_faults o p) (faults_after o [] ps) h).0).0 n lt

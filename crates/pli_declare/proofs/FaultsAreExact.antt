@@ -9,7 +9,7 @@ use Rattle.pli_base.specs.Name.{Name}
 use Rattle.pli_base.specs.declared.code.Code.{Code}
 use Rattle.pli_base.specs.declared.syntax.Identifier.{Identifier}
 use Rattle.pli_base.specs.declared.token.Fault.{Fault}
-use Rattle.pli_declare_outline.specs.Outlines.{Region, Mark, Declared, Labelled, Entered, Used, Jumped, Placed, Outline, outline_of}
+use Rattle.pli_declare_outline.specs.Outlines.{Region, Mark, Declared, Labelled, Entered, Used, Jumped, PlacedMark, Outline, outline_of}
 use Rattle.pli_declare_constructs.specs.Regions.{block_of}
 use Rattle.pli_declare_tables.specs.Tables.{Entry, no_entry, entries_of, entries_after, entries_in, inner_marks}
 use Rattle.pli_declare.specs.Resolution.{at_token, item_code, codes_from, parameter_code, parameter_codes, parameter_faults, used_faults, mark_faults, declared_by, faults_after, heading_faults, unit_faults, outline_faults, resolution_faults}
@@ -35,13 +35,13 @@ token_from at (Some code) f p q =
 
 -- what a block declares stands where it stood
 
-entries_keep : (regions : List Region) (b : ℕ) (es : List Entry) (ps : List Placed) (n : ℕ) → n < length es → get_or (entries_after regions b es ps) n no_entry ≡ get_or es n no_entry
+entries_keep : (regions : List Region) (b : ℕ) (es : List Entry) (ps : List PlacedMark) (n : ℕ) → n < length es → get_or (entries_after regions b es ps) n no_entry ≡ get_or es n no_entry
 entries_keep regions b es [] n lt = refl
 entries_keep regions b es (p ∷ ps) n lt =
     let new = if block_of regions p.region == b then entries_of (length es) p.region p.mark else [] in
     entries_keep regions b (es ++ new) ps n (omega (arith, lt, length-append es new)) ∙ get_or_append_left es new no_entry n lt
 
-module _ (o : Outline) (before : List Placed) (p : Placed) (rest : List Placed) (all : inner_marks o.marks ≡ before ++ p ∷ rest) where
+module _ (o : Outline) (before : List PlacedMark) (p : PlacedMark) (rest : List PlacedMark) (all : inner_marks o.marks ≡ before ++ p ∷ rest) where
   abbrev its_block : ℕ
   its_block = block_of o.regions p.region
 
@@ -175,11 +175,11 @@ module _ (o : Outline) (f : Fault) where
   abbrev Inner : Type 0
   Inner = AtName o f ⊎ AtParameter o f ⊎ AtUse o f
 
-  inner_in : (ms : List Placed) (p : Placed) → Contains (inner_marks ms) p → Contains ms p
+  inner_in : (ms : List PlacedMark) (p : PlacedMark) → Contains (inner_marks ms) p → Contains ms p
   inner_in [] p h = absurd (omega (arith, h.1))
   inner_in (q ∷ qs) p h = Contains-append_right (q ∷ []) qs p h
 
-  mark_to : (before : List Placed) (p : Placed) (rest : List Placed) → inner_marks o.marks ≡ before ++ p ∷ rest
+  mark_to : (before : List PlacedMark) (p : PlacedMark) (rest : List PlacedMark) → inner_marks o.marks ≡ before ++ p ∷ rest
       → Contains (mark_faults o (declared_by o (block_of o.regions p.region) before) p) f → Inner
   mark_to before p rest all h =
       let block = block_of o.regions p.region in
@@ -203,14 +203,14 @@ module _ (o : Outline) (f : Fault) where
         | inr used ↦ inr (inr (record { placed = p; stands = in_inner; has = used_to p.region p.mark used }))
       ]
 
-  walk_to : (before ps : List Placed) → inner_marks o.marks ≡ before ++ ps → Contains (faults_after o before ps) f → Inner
+  walk_to : (before ps : List PlacedMark) → inner_marks o.marks ≡ before ++ ps → Contains (faults_after o before ps) f → Inner
   walk_to before [] all h = absurd (omega (arith, h.1))
   walk_to before (p ∷ ps) all h = elim (Contains-append_cases (mark_faults o (declared_by o (block_of o.regions p.region) before) p) (faults_after o (before ++ p ∷ []) ps) f h) [
     | inl now ↦ mark_to before p ps all now
     | inr later ↦ walk_to (before ++ p ∷ []) ps (all ∙ sym (append_assoc before (p ∷ []) ps)) later
   ]
 
-  module _ (before : List Placed) (p : Placed) (rest : List Placed) (all : inner_marks o.marks ≡ before ++ p ∷ rest) where
+  module _ (before : List PlacedMark) (p : PlacedMark) (rest : List PlacedMark) (all : inner_marks o.marks ≡ before ++ p ∷ rest) where
     abbrev block : ℕ
     block = block_of o.regions p.region
 
@@ -245,7 +245,7 @@ module _ (o : Outline) (f : Fault) where
             absurd (omega (arith, low, high, counted_elsewhere o before p b other))
 
   name_from : (b n : ℕ) → (get_or (entries_in o b) n no_entry).identifier.at ≡ f.at → item_code o b n ≡ Some f.code
-      → (before ps : List Placed) → inner_marks o.marks ≡ before ++ ps → declared_by o b before ≤ n → n < declared_by o b (before ++ ps) → Contains (faults_after o before ps) f
+      → (before ps : List PlacedMark) → inner_marks o.marks ≡ before ++ ps → declared_by o b before ≤ n → n < declared_by o b (before ++ ps) → Contains (faults_after o before ps) f
   name_from b n a c before [] all low high = absurd (omega (arith, low, high, ap (declared_by o b) (append-nil before)))
   name_from b n a c before (p ∷ ps) all low high =
       let now = mark_faults o (declared_by o (block_of o.regions p.region) before) p in
@@ -257,7 +257,7 @@ module _ (o : Outline) (f : Fault) where
       ]
 
   -- a fault that a mark has whatever the number of its first name
-  part_at : (before ps : List Placed) (p : Placed) (i : ℕ) → i < length ps → get_or ps i p ≡ p → ((number : ℕ) → Contains (mark_faults o number p) f) → Contains (faults_after o before ps) f
+  part_at : (before ps : List PlacedMark) (p : PlacedMark) (i : ℕ) → i < length ps → get_or ps i p ≡ p → ((number : ℕ) → Contains (mark_faults o number p) f) → Contains (faults_after o before ps) f
   part_at before [] p i lt is h = absurd (omega arith)
   part_at before (q ∷ qs) p zero lt is h =
       let number = declared_by o (block_of o.regions q.region) before in
@@ -266,19 +266,19 @@ module _ (o : Outline) (f : Fault) where
       let number = declared_by o (block_of o.regions q.region) before in
       Contains-append_right (mark_faults o number q) (faults_after o (before ++ q ∷ []) qs) f (part_at (before ++ q ∷ []) qs p i (omega arith) is h)
 
-  has_parameter : (p : Placed) (n : ℕ) → HasParameter o p.mark n f → (number : ℕ) → Contains (mark_faults o number p) f
+  has_parameter : (p : PlacedMark) (n : ℕ) → HasParameter o p.mark n f → (number : ℕ) → Contains (mark_faults o number p) f
   has_parameter p n h number =
       let names = codes_from o (block_of o.regions p.region) number (entries_of number p.region p.mark) in
       Contains-append_left (names ++ parameter_faults o p.mark) (used_faults o p.region p.mark) f (Contains-append_right names (parameter_faults o p.mark) f (parameter_from p.mark n h))
 
-  has_use : (p : Placed) → HasUse o p.region p.mark f → (number : ℕ) → Contains (mark_faults o number p) f
+  has_use : (p : PlacedMark) → HasUse o p.region p.mark f → (number : ℕ) → Contains (mark_faults o number p) f
   has_use p h number =
       let names = codes_from o (block_of o.regions p.region) number (entries_of number p.region p.mark) in
       Contains-append_right (names ++ parameter_faults o p.mark) (used_faults o p.region p.mark) f (used_from p.region p.mark h)
 
   -- all marks
 
-  to : (ms : List Placed) → o.marks ≡ ms → Contains (outline_faults o ms) f → AtUnit ms f ⊎ Inner
+  to : (ms : List PlacedMark) → o.marks ≡ ms → Contains (outline_faults o ms) f → AtUnit ms f ⊎ Inner
   to [] all h = absurd (omega (arith, h.1))
   to (p ∷ ps) all h =
       let in_marks : Contains o.marks p = subst (λ ms. Contains ms p) (sym all) (0, omega arith, refl) in
@@ -290,19 +290,19 @@ module _ (o : Outline) (f : Fault) where
         | inr inner ↦ inr (walk_to [] ps (ap inner_marks all) inner)
       ]
 
-  parameter_there : (ms : List Placed) (p : Placed) (i n : ℕ) → i < length ms → get_or ms i p ≡ p → HasParameter o p.mark n f → Contains (outline_faults o ms) f
+  parameter_there : (ms : List PlacedMark) (p : PlacedMark) (i n : ℕ) → i < length ms → get_or ms i p ≡ p → HasParameter o p.mark n f → Contains (outline_faults o ms) f
   parameter_there [] p i n lt is h = absurd (omega arith)
   parameter_there (q ∷ qs) p zero n lt is h =
       Contains-append_left (unit_faults o q) (faults_after o [] qs) f
       (Contains-append_right (heading_faults q.mark) (parameter_faults o q.mark) f (parameter_from q.mark n (subst (λ r. HasParameter o r.mark n f) (sym is) h)))
   parameter_there (q ∷ qs) p (suc i) n lt is h = Contains-append_right (unit_faults o q) (faults_after o [] qs) f (part_at [] qs p i (omega arith) is (has_parameter p n h))
 
-  unit_there : (ms : List Placed) → AtUnit ms f → Contains (outline_faults o ms) f
+  unit_there : (ms : List PlacedMark) → AtUnit ms f → Contains (outline_faults o ms) f
   unit_there [] h = absurd h
   unit_there (p ∷ ps) h =
       Contains-append_left (unit_faults o p) (faults_after o [] ps) f (Contains-append_left (heading_faults p.mark) (parameter_faults o p.mark) f (heading_from p.mark h))
 
-  inner_there : (ms : List Placed) → Contains (faults_after o [] (inner_marks ms)) f → Contains (outline_faults o ms) f
+  inner_there : (ms : List PlacedMark) → Contains (faults_after o [] (inner_marks ms)) f → Contains (outline_faults o ms) f
   inner_there [] h = absurd (omega (arith, h.1))
   inner_there (p ∷ ps) h = Contains-append_right (unit_faults o p) (faults_after o [] ps) f h
 

@@ -1,10 +1,10 @@
 -- What names mean, where they are found.
 use Rattle.std.proofs.Common.{◌≡◌, ℕ, zero, suc, get_or, Bool, false, Option, List, [], ◌∷◌, refl, ap, ◌∙◌}
 use Rattle.pli_base.specs.Name.{Name}
-use Rattle.pli_declare_outline.specs.Outlines.{Outline, Mark, Declared, Labelled, Entered, Used, Jumped, Placed}
+use Rattle.pli_declare_outline.specs.Outlines.{Outline, Mark, Declared, Labelled, Entered, Used, Jumped, PlacedMark}
 use Rattle.pli_declare_tables.specs.Tables.{Entry, no_entry, heading_entries, unit_entries, scope_of}
 use Rattle.pli_declare_scopes.specs.Scopes.{meant}
-use Rattle.pli_declare_scopes.specs.declared.found.Meant.TheVariants.{Ambiguous as Several, NotDeclared as Nothing}
+use Rattle.pli_declare_scopes.specs.declared.found.ReferenceMeaning.TheVariants.{Ambiguous as Several, NotDeclared as Nothing}
 use Rattle.pli_declare_variables.specs.Places.{is_variable, is_locator, is_area}
 use Rattle.pli_declare.specs.Resolution.{names_fit, is_good}
 use Rattle.pli_declare.specs.answers.Answers.{entries_at, IsFound}
@@ -28,12 +28,12 @@ only (Labelled label) n = refl
 only (Used names) n = refl
 only (Jumped label) n = refl
 
-pub unit_is_no_variable : (ms : List Placed) (n : ℕ) → is_variable (get_or (unit_entries ms) n no_entry).entity ≡ false
+pub unit_is_no_variable : (ms : List PlacedMark) (n : ℕ) → is_variable (get_or (unit_entries ms) n no_entry).entity ≡ false
 unit_is_no_variable [] n = refl
 unit_is_no_variable (p ∷ ps) n = only p.mark n
 
-pub unit_is_no_locator : (ms : List Placed) (n : ℕ) → is_locator (unit_entries ms) n ≡ false
+pub unit_is_no_locator : (ms : List PlacedMark) (n : ℕ) → is_locator (unit_entries ms) n ≡ false
 unit_is_no_locator ms n = rw (unit_is_no_variable ms n) refl
 
-pub unit_is_no_area : (ms : List Placed) (n : ℕ) → is_area (unit_entries ms) n ≡ false
+pub unit_is_no_area : (ms : List PlacedMark) (n : ℕ) → is_area (unit_entries ms) n ≡ false
 unit_is_no_area ms n = rw (unit_is_no_variable ms n) refl

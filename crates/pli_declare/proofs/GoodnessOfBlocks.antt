@@ -3,7 +3,7 @@ use Rattle.std.proofs.Common.{◌≡◌, ℕ, ◌+◌, ◌<◌, ◌==◌, Bool, 
 use Rattle.std.specs.List.{list_all}
 use Rattle.std.proofs.lemmas.Bool.{eq-eqb}
 use Rattle.std.proofs.lemmas.List.{map-append, append-nil}
-use Rattle.pli_declare_outline.specs.Outlines.{Mark, Declared, Labelled, Entered, Used, Jumped, Placed, Outline}
+use Rattle.pli_declare_outline.specs.Outlines.{Mark, Declared, Labelled, Entered, Used, Jumped, PlacedMark, Outline}
 use Rattle.pli_declare_constructs.specs.Regions.{block_of}
 use Rattle.pli_declare_tables.specs.Tables.{Entry, entries_of, entries_after, numbers_from}
 use Rattle.pli_declare.specs.Resolution.{attribute_is_good}
@@ -25,10 +25,10 @@ module _ (o : Outline) (b : ℕ) where
   good_mark base here (Jumped label) = refl
 
 -- for each name that marks declare in a block
-abbrev pub so_far : Outline → List Placed → ℕ → List Bool
+abbrev pub so_far : Outline → List PlacedMark → ℕ → List Bool
 so_far o marks b = map (λ e. entity_is_good o b e.entity) (entries_after o.regions b [] marks)
 
-good_more : (o : Outline) (marks : List Placed) (p : Placed) (b : ℕ) → so_far o (marks ++ p ∷ []) b
+good_more : (o : Outline) (marks : List PlacedMark) (p : PlacedMark) (b : ℕ) → so_far o (marks ++ p ∷ []) b
     ≡ so_far o marks b ++ (if block_of o.regions p.region == b then mark_goodness o b p.mark else [])
 good_more o marks p b =
     ap (map g) (entries_both o.regions b [] marks (p ∷ []))
@@ -46,7 +46,7 @@ good_more o marks p b =
     by false = refl
 
 -- one more mark is passed
-pub mark_passed : (o : Outline) (count : ℕ) (marks : List Placed) (p : Placed) (lists next : List (List Bool)) (block : ℕ) → block ≡ block_of o.regions p.region → block < count
+pub mark_passed : (o : Outline) (count : ℕ) (marks : List PlacedMark) (p : PlacedMark) (lists next : List (List Bool)) (block : ℕ) → block ≡ block_of o.regions p.region → block < count
     → next ≡ set lists block (get_or lists block [] ++ mark_goodness o block p.mark)
     → lists ≡ map (so_far o marks) (numbers_from 0 count) → next ≡ map (so_far o (marks ++ p ∷ [])) (numbers_from 0 count)
 mark_passed o count marks p lists next block is within changed before =

@@ -7,9 +7,9 @@ use Rattle.pli_base.specs.Name.{Name}
 use Rattle.pli_declare_scopes.specs.declared.block.Declared.{Declared}
 use Rattle.pli_declare_scopes.specs.declared.found.Found.{Found}
 use Rattle.pli_declare_scopes.specs.declared.found.Found.TheVariants.{Nothing, One, Several}
-use Rattle.pli_declare_scopes.specs.declared.found.Meant.TheVariants.{NotDeclared}
+use Rattle.pli_declare_scopes.specs.declared.found.ReferenceMeaning.TheVariants.{NotDeclared}
 use Rattle.pli_declare_scopes.specs.declared.repeat.Verdict.{Verdict}
-use Rattle.pli_declare_scopes.specs.Scopes.{Block, Scope, declares_first, fits, fits_fully, with_number, found_below, preferred, found_in, meant_there, meant_from, meant}
+use Rattle.pli_declare_scopes.specs.Scopes.{BlockItems, Scope, declares_first, fits, fits_fully, with_number, found_below, preferred, found_in, meant_there, meant_from, meant}
 use Rattle.pli_declare_outline.specs.Outlines.{Region, Outline}
 use Rattle.pli_declare_constructs.specs.Regions.{first_of, innermost, blocks_round, blocks_from}
 use Rattle.pli_declare_tables.specs.Tables.{Entry, with_verdicts, entries_in, verdicts_in, block_in, unit_entries, unit_block, numbers_from, table_in, scope_of, tables_of}
@@ -56,7 +56,7 @@ preferred_below count Nothing partly f p = p
 preferred_below count (One n) partly f p = f
 preferred_below count Several partly f p = f
 
-pub found_is_below : (block : Block) (names : List Name) → IsBelow (length block) (found_in block names)
+pub found_is_below : (block : BlockItems) (names : List Name) → IsBelow (length block) (found_in block names)
 found_is_below block names =
     preferred_below (length block) (found_below (fits_fully block names) (length block) Nothing) (found_below (fits block names) (length block) Nothing)
     (below (fits_fully block names) (length block) (length block) Nothing (omega arith) tt)
@@ -129,11 +129,11 @@ module _ (o : Outline) (region : ℕ) (names : List Name) where
   }
   found_by here at w entries place within Several lt e = sym e
 
-  decided : (out : ℕ) (block : Block) (outer : Scope) (b : Bool) → declares_first block names ≡ b → b ≡ true
+  decided : (out : ℕ) (block : BlockItems) (outer : Scope) (b : Bool) → declares_first block names ≡ b → b ≡ true
       → meant_there out (found_in block names) ≡ meant_from out (block ∷ outer) names
   decided out block outer b e h = ap (λ c. if c then meant_there out (found_in block names) else meant_from (out + 1) outer names) (sym (e ∙ h))
 
-  passed : (out : ℕ) (block : Block) (outer : Scope) (b : Bool) → declares_first block names ≡ b → b ≡ false
+  passed : (out : ℕ) (block : BlockItems) (outer : Scope) (b : Bool) → declares_first block names ≡ b → b ≡ false
       → meant_from (out + 1) outer names ≡ meant_from out (block ∷ outer) names
   passed out block outer b e h = ap (λ c. if c then meant_there out (found_in block names) else meant_from (out + 1) outer names) (sym (e ∙ h))
 
@@ -209,12 +209,12 @@ module _ (o : Outline) (region : ℕ) (names : List Name) where
     found_nowhere b f h = sym w.meant ∙ sym (passed w.out (unit_block o) [] b f h)
 
 -- what a block answers that was read
-pub asked : (block read : Block) (names : List Name) (answer : Option Found) → read ≡ block → answer ≡ (if declares_first read names then Some (found_in read names) else None)
+pub asked : (block read : BlockItems) (names : List Name) (answer : Option Found) → read ≡ block → answer ≡ (if declares_first read names then Some (found_in read names) else None)
     → answer ≡ (if declares_first block names then Some (found_in block names) else None)
 asked block read names answer is e = e ∙ ap (λ b. if declares_first b names then Some (found_in b names) else None) is
 
 -- it answers where it declares the first of the names, and then what is found
-pub some_asked : (block : Block) (names : List Name) (answer : Option Found) (found : Found)
+pub some_asked : (block : BlockItems) (names : List Name) (answer : Option Found) (found : Found)
     → answer ≡ (if declares_first block names then Some (found_in block names) else None) → answer ≡ Some found
     → (declares_first block names ≡ true) × (found ≡ found_in block names)
 some_asked block names answer found e is = by (declares_first block names) refl (sym e ∙ is)
@@ -224,7 +224,7 @@ some_asked block names answer found e is = by (declares_first block names) refl 
     by true d h = (d, cc)
     by false d h = cc
 
-pub none_asked : (block : Block) (names : List Name) (answer : Option Found)
+pub none_asked : (block : BlockItems) (names : List Name) (answer : Option Found)
     → answer ≡ (if declares_first block names then Some (found_in block names) else None) → answer ≡ None → declares_first block names ≡ false
 none_asked block names answer e is = by (declares_first block names) refl (sym e ∙ is)
   where

@@ -9,13 +9,13 @@ use Rattle.pli_base.specs.declared.token.Fault.{Fault}
 use Rattle.pli_base.specs.Declarations as tree
 use Rattle.pli_base.specs.views.DeclarationView.{item_view}
 use Rattle.pli_base.specs.declared.declaration.Item.{Item}
-use Rattle.pli_declare_outline.specs.Outlines.{Region, Mark, Declared, Labelled, Entered, Used, Jumped, Placed, Outline}
+use Rattle.pli_declare_outline.specs.Outlines.{Region, Mark, Declared, Labelled, Entered, Used, Jumped, PlacedMark, Outline}
 use Rattle.pli_declare_outline.specs.views.OutlineView.{placed_view, marks_view}
-use Rattle.pli_declare_outline.specs.declared.region.Placed as written
+use Rattle.pli_declare_outline.specs.declared.region.PlacedMark as written
 use Rattle.pli_declare_constructs.specs.Regions.{block_of}
 use Rattle.pli_declare_scopes.specs.Levels.{standings_of, standings_after, level_of}
 use Rattle.pli_declare_scopes.specs.declared.level.Numbered.{Numbered}
-use Rattle.pli_declare_scopes.specs.declared.level.Standing.{Standing}
+use Rattle.pli_declare_scopes.specs.declared.level.ItemStanding.{ItemStanding}
 use Rattle.pli_declare_tables.specs.Tables.{Entry, named, item_entry, item_entries, declared_entries, entries_of, entries_after, entries_in, inner_marks, numbers_from}
 use Rattle.pli_declare.specs.Resolution.{at_token, item_code, codes_from, parameter_faults, used_faults, declared_by, faults_after}
 use Rattle.pli_declare.specs.answers.Walks.{of_blocks, block_codes, declared_names, name_faults}
@@ -61,11 +61,11 @@ length_standings before number [] = refl
 length_standings before number (l ∷ ls) = ap suc (length_standings (before ++ record { number = number; level = l } ∷ []) (number + 1) ls)
 
 -- what is made of each entry that items declare is what is made of each of their names
-module _ {A : Type 0} (of_entry : Entry → A) (of_name : Identifier → tree.Item → A) (alike : (base : ℕ) (i : Identifier) (item : tree.Item) (s : Standing) → of_entry (item_entry base (i, item) s) ≡ of_name i item) where
+module _ {A : Type 0} (of_entry : Entry → A) (of_name : Identifier → tree.Item → A) (alike : (base : ℕ) (i : Identifier) (item : tree.Item) (s : ItemStanding) → of_entry (item_entry base (i, item) s) ≡ of_name i item) where
   abbrev of_pair : Identifier × tree.Item → A
   of_pair x = of_name x.0 x.1
 
-  of_entries : (base : ℕ) (xs : List (Identifier × tree.Item)) (ss : List Standing) → length ss ≡ length xs → map of_entry (item_entries base xs ss) ≡ map of_pair xs
+  of_entries : (base : ℕ) (xs : List (Identifier × tree.Item)) (ss : List ItemStanding) → length ss ≡ length xs → map of_entry (item_entries base xs ss) ≡ map of_pair xs
   of_entries base [] ss h = refl
   of_entries base (x ∷ xs) [] h = absurd (omega (arith, h))
   of_entries base (x ∷ xs) (s ∷ ss) h = ap (λ e. e ∷ map of_entry (item_entries base xs ss)) (alike base x.0 x.1 s) ∙ ap (λ es. of_pair x ∷ es) (of_entries base xs ss (omega (arith, h)))
@@ -117,18 +117,18 @@ codes_told o block number (e ∷ es) within =
 
 -- how many names a block has declared
 
-pub entries_both : (regions : List Region) (block : ℕ) (es : List Entry) (xs ys : List Placed) → entries_after regions block es (xs ++ ys) ≡ entries_after regions block (entries_after regions block es xs) ys
+pub entries_both : (regions : List Region) (block : ℕ) (es : List Entry) (xs ys : List PlacedMark) → entries_after regions block es (xs ++ ys) ≡ entries_after regions block (entries_after regions block es xs) ys
 entries_both regions block es [] ys = refl
 entries_both regions block es (p ∷ ps) ys =
     entries_both regions block (es ++ (if block_of regions p.region == block then entries_of (length es) p.region p.mark else [])) ps ys
 
-pub entries_grow : (regions : List Region) (block : ℕ) (es : List Entry) (ps : List Placed) → length es ≤ length (entries_after regions block es ps)
+pub entries_grow : (regions : List Region) (block : ℕ) (es : List Entry) (ps : List PlacedMark) → length es ≤ length (entries_after regions block es ps)
 entries_grow regions block es [] = omega arith
 entries_grow regions block es (p ∷ ps) =
     let new = if block_of regions p.region == block then entries_of (length es) p.region p.mark else [] in
     omega (arith, entries_grow regions block (es ++ new) ps, length-append es new)
 
-module _ (o : Outline) (before : List Placed) (p : Placed) where
+module _ (o : Outline) (before : List PlacedMark) (p : PlacedMark) where
   abbrev here : ℕ
   here = block_of o.regions p.region
 
@@ -148,7 +148,7 @@ module _ (o : Outline) (before : List Placed) (p : Placed) where
       ∙ length-append (so_many here) (entries_of (length (so_many here)) p.region p.mark)
       ∙ ap (λ n. length (so_many here) + n) (how_many_declared (length (so_many here)) p.region p.mark)
 
-  module _ (rest : List Placed) (all : inner_marks o.marks ≡ before ++ p ∷ rest) where
+  module _ (rest : List PlacedMark) (all : inner_marks o.marks ≡ before ++ p ∷ rest) where
     pub room : declared_by o here before + length (declared_names p.mark) ≤ length (entries_in o here)
     room =
         let whole : entries_in o here ≡ entries_after o.regions here (entries_after o.regions here [] (before ++ p ∷ [])) rest =
@@ -177,7 +177,7 @@ module _ (o : Outline) (before : List Placed) (p : Placed) where
         regroup v w x y z = simp append_assoc
 
 -- the numbers of names, with one more mark
-pub next_told : (o : Outline) (before : List Placed) (p : Placed) (old new : List ℕ) (number : ℕ) → old ≡ of_blocks o (λ b. declared_by o b before)
+pub next_told : (o : Outline) (before : List PlacedMark) (p : PlacedMark) (old new : List ℕ) (number : ℕ) → old ≡ of_blocks o (λ b. declared_by o b before)
     → number ≡ declared_by o (block_of o.regions p.region) before + length (declared_names p.mark) → new ≡ set old (block_of o.regions p.region) number
     → new ≡ of_blocks o (λ b. declared_by o b (before ++ p ∷ []))
 next_told o before p old new number so_far e f =
@@ -210,16 +210,16 @@ module _ (o : Outline) (codes : List (Vec (Option Code) Global)) (region block :
       ap items read ∙ sym (get_or-map items codes block x x.items codes_within) ∙ at_block o (block_codes o) (map items codes) region block x.items e all
 
 -- marks that are left
-pub left_marks : (marks : List written.Placed) (n : ℕ) (x : written.Placed) → n < length marks → x ≡ get_or marks n x → marks_view (drop n marks) ≡ placed_view x ∷ marks_view (drop (n + 1) marks)
-left_marks marks n x lt read = ap marks_view (drop_more marks n x lt ∙ ap (λ (y : written.Placed). y ∷ drop (n + 1) marks) (sym read))
+pub left_marks : (marks : List written.PlacedMark) (n : ℕ) (x : written.PlacedMark) → n < length marks → x ≡ get_or marks n x → marks_view (drop n marks) ≡ placed_view x ∷ marks_view (drop (n + 1) marks)
+left_marks marks n x lt read = ap marks_view (drop_more marks n x lt ∙ ap (λ (y : written.PlacedMark). y ∷ drop (n + 1) marks) (sym read))
 
-halves : (marks : List written.Placed) (n : ℕ) → marks ≡ take n marks ++ drop n marks
+halves : (marks : List written.PlacedMark) (n : ℕ) → marks ≡ take n marks ++ drop n marks
 halves [] zero = refl
 halves [] (suc n) = refl
 halves (x ∷ xs) zero = refl
 halves (x ∷ xs) (suc n) = ap (λ ys. x ∷ ys) (halves xs n)
 
-pub all_marks : (marks : List written.Placed) (n : ℕ) (x : written.Placed) → n < length marks → x ≡ get_or marks n x
+pub all_marks : (marks : List written.PlacedMark) (n : ℕ) (x : written.PlacedMark) → n < length marks → x ≡ get_or marks n x
     → marks_view marks ≡ marks_view (take n marks) ++ placed_view x ∷ marks_view (drop (n + 1) marks)
 all_marks marks n x lt read =
     ap marks_view (halves marks n) ∙ map-append placed_view (take n marks) (drop n marks) ∙ ap (λ ms. marks_view (take n marks) ++ ms) (left_marks marks n x lt read)

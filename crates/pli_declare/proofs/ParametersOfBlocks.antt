@@ -7,32 +7,32 @@ use Rattle.std.proofs.lemmas.List.{take_more, map-append, map-set, get_or-map, s
 use Rattle.std.proofs.lemmas.Grind.{flat_map-append}
 use Rattle.pli_base.specs.Name.{Name}
 use Rattle.pli_base.specs.Statements.{Heading}
-use Rattle.pli_declare_outline.specs.Outlines.{Entered, Placed}
+use Rattle.pli_declare_outline.specs.Outlines.{Entered, PlacedMark}
 use Rattle.pli_declare_outline.specs.views.OutlineView.{placed_view, marks_view}
-use Rattle.pli_declare_outline.specs.declared.region.Placed as written
+use Rattle.pli_declare_outline.specs.declared.region.PlacedMark as written
 use Rattle.pli_declare_tables.specs.Tables.{numbers_from}
 use Rattle.pli_declare.specs.Resolution.{headed}
 use Rattle.pli_declare.proofs.NumberLists.{number_at, length_of_numbers, same_of_numbers, set_of_numbers}
 
-abbrev pub gathered : List Placed → ℕ → List Name
+abbrev pub gathered : List PlacedMark → ℕ → List Name
 gathered marks b = flat_map (λ p. headed b p.mark) marks
 
 -- one more mark is passed
-pub marks_more : (marks : List written.Placed) (n : ℕ) (x : written.Placed) → n < length marks → x ≡ get_or marks n x
+pub marks_more : (marks : List written.PlacedMark) (n : ℕ) (x : written.PlacedMark) → n < length marks → x ≡ get_or marks n x
     → marks_view (take (n + 1) marks) ≡ marks_view (take n marks) ++ placed_view x ∷ []
 marks_more marks n x lt read =
     ap marks_view (take_more marks n x lt) ∙ map-append placed_view (take n marks) (get_or marks n x ∷ [])
-    ∙ ap (λ (y : written.Placed). marks_view (take n marks) ++ placed_view y ∷ []) (sym read)
+    ∙ ap (λ (y : written.PlacedMark). marks_view (take n marks) ++ placed_view y ∷ []) (sym read)
 
 -- the same of a walk over them
-pub marks_reached : (marks xs : List written.Placed) (n : ℕ) (x : written.Placed) → xs ≡ marks → n < length xs
+pub marks_reached : (marks xs : List written.PlacedMark) (n : ℕ) (x : written.PlacedMark) → xs ≡ marks → n < length xs
     → x ≡ get_or xs n x → marks_view (take (n + 1) marks) ≡ marks_view (take n marks) ++ placed_view x ∷ []
 marks_reached marks xs n x same lt read =
     marks_more marks n x (omega (arith, lt, ap length same)) (read ∙ ap (λ ms. get_or ms n x) same)
 
-pub gathered_more : (marks : List Placed) (p : Placed) (b : ℕ) → gathered (marks ++ p ∷ []) b ≡ gathered marks b ++ headed b p.mark
+pub gathered_more : (marks : List PlacedMark) (p : PlacedMark) (b : ℕ) → gathered (marks ++ p ∷ []) b ≡ gathered marks b ++ headed b p.mark
 gathered_more marks p b =
-    flat_map-append (λ (q : Placed). headed b q.mark) marks (p ∷ []) ∙ ap (λ ns. gathered marks b ++ ns) (append-nil (headed b p.mark))
+    flat_map-append (λ (q : PlacedMark). headed b q.mark) marks (p ∷ []) ∙ ap (λ ns. gathered marks b ++ ns) (append-nil (headed b p.mark))
 
 pub not_equal : (a b : ℕ) → a ≢ b → (a == b) ≡ false
 not_equal a b h = by (a == b) refl
@@ -48,7 +48,7 @@ pub headed_here : (heading : Heading) (region : ℕ) → headed region (Entered 
 headed_here heading region = ap (λ t. if t then map (λ i. i.name) heading.parameters else []) (eq-eqb region region refl)
 
 -- a mark that heads none of the blocks
-pub none_gathered : (count : ℕ) (marks : List Placed) (p : Placed) (lists : List (List Name)) → ((b : ℕ) → b < count → headed b p.mark ≡ [])
+pub none_gathered : (count : ℕ) (marks : List PlacedMark) (p : PlacedMark) (lists : List (List Name)) → ((b : ℕ) → b < count → headed b p.mark ≡ [])
     → lists ≡ map (gathered marks) (numbers_from 0 count) → lists ≡ map (gathered (marks ++ p ∷ [])) (numbers_from 0 count)
 none_gathered count marks p lists none so_far =
     so_far
@@ -56,11 +56,11 @@ none_gathered count marks p lists none so_far =
     (λ b low high. sym (gathered_more marks p b ∙ ap (λ ns. gathered marks b ++ ns) (none b (omega arith)) ∙ append-nil (gathered marks b)))
 
 -- a procedure
-pub some_gathered : (count : ℕ) (marks : List Placed) (at : ℕ) (heading : Heading) (region : ℕ) (lists next : List (List Name)) (before : List Name) → region < length lists
+pub some_gathered : (count : ℕ) (marks : List PlacedMark) (at : ℕ) (heading : Heading) (region : ℕ) (lists next : List (List Name)) (before : List Name) → region < length lists
     → before ≡ get_or lists region before → next ≡ set lists region (before ++ map (λ i. i.name) heading.parameters)
     → lists ≡ map (gathered marks) (numbers_from 0 count) → next ≡ map (gathered (marks ++ record { region = at; mark = Entered heading region } ∷ [])) (numbers_from 0 count)
 some_gathered count marks at heading region lists next before lt read changed so_far =
-    let p : Placed = record { region = at; mark = Entered heading region } in
+    let p : PlacedMark = record { region = at; mark = Entered heading region } in
     let within : region < count = omega (arith, ap length so_far, length_of_numbers (gathered marks) 0 count) in
     let there : before ≡ gathered marks region =
     read ∙ ap (λ ls. get_or ls region before) so_far ∙ number_at (gathered marks) 0 count region before within ∙ ap (gathered marks) (zero-add region) in
@@ -78,7 +78,7 @@ get_or_same (x ∷ xs) zero h = refl
 get_or_same (x ∷ xs) (suc n) h = get_or_same xs n (omega arith)
 
 -- a procedure, at whatever region
-pub entered_gathered : (count : ℕ) (marks : List Placed) (at : ℕ) (heading : Heading) (region : ℕ) (lists next : List (List Name))
+pub entered_gathered : (count : ℕ) (marks : List PlacedMark) (at : ℕ) (heading : Heading) (region : ℕ) (lists next : List (List Name))
     → next ≡ set lists region (get_or lists region [] ++ map (λ i. i.name) heading.parameters)
     → lists ≡ map (gathered marks) (numbers_from 0 count) → next ≡ map (gathered (marks ++ record { region = at; mark = Entered heading region } ∷ [])) (numbers_from 0 count)
 entered_gathered count marks at heading region lists next changed so_far = by (ltb region (length lists)) refl

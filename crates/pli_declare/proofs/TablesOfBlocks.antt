@@ -1,9 +1,9 @@
 -- The table of a block.
 use Rattle.std.proofs.Common.{◌≡◌, ◌≢◌, ℕ, ◌+◌, ◌<◌, ◌≤◌, ◌==◌, Option, Some, None, IfSome, List, [], ◌∷◌, ◌++◌, map, length, get_or, if◌then◌else◌, refl, sym, ap, ◌∙◌, zero-add, arith}
 use Rattle.std.proofs.lemmas.List.{length-map, get_or-map, append-nil}
-use Rattle.pli_declare_outline.specs.Outlines.{Region, Placed, Outline}
+use Rattle.pli_declare_outline.specs.Outlines.{Region, PlacedMark, Outline}
 use Rattle.pli_declare_constructs.specs.Regions.{innermost, first_or_unit, block_of}
-use Rattle.pli_declare_constructs.proofs.Blocks.{finds}
+use Rattle.pli_declare_constructs.proofs.BlocksAround.{finds}
 use Rattle.pli_declare_tables.specs.Tables.{Entry, entries_of, entries_after, entries_in, inner_marks, table_in, all_tables}
 use Rattle.pli_declare_tables.specs.views.TableView.{table_view}
 use Rattle.pli_declare_tables.specs.declared.table.Table.{Table}
@@ -29,7 +29,7 @@ unit_or_less (Some b) count h = omega (arith, h)
 pub block_within : (regions : List Region) (n : ℕ) → block_of regions n ≤ length regions
 block_within regions n = unit_or_less (innermost regions n) (length regions) (finds regions n).within
 
-none_after : (regions : List Region) (block : ℕ) → length regions < block → (entries : List Entry) (marks : List Placed) → entries_after regions block entries marks ≡ entries
+none_after : (regions : List Region) (block : ℕ) → length regions < block → (entries : List Entry) (marks : List PlacedMark) → entries_after regions block entries marks ≡ entries
 none_after regions block far entries [] = refl
 none_after regions block far entries (p ∷ ps) =
     let other : block_of regions p.region ≢ block = λ e. omega (arith, far, e, block_within regions p.region) in

@@ -16,12 +16,13 @@ use Rattle.pli_base.specs.Declarations.{SimpleAttribute, Offset, Based, Describe
 use Rattle.pli_base.specs.Declarations.{ParameterDescription, Attribute, Simple, Entry, Returns}
 use Rattle.pli_base.specs.Statements as options
 use Rattle.pli_base.specs.Statements.{Heading, ProcedureOption, ExternalProcedure}
-use Rattle.pli_declare_outline.specs.Outlines.{Mark, Entered, Used, Jumped, Placed, Outline, outline_of}
+use Rattle.pli_declare_outline.specs.Outlines.{Mark, Entered, Used, Jumped, PlacedMark, Outline, outline_of}
 use Rattle.pli_declare_attributes.specs.Faults.{first_of, lesser, result_fault}
 use Rattle.pli_declare_scopes.specs.Scopes.{meant}
-use Rattle.pli_declare_scopes.specs.declared.found.Meant.{Meant}
-use Rattle.pli_declare_scopes.specs.declared.found.Meant.TheVariants.{Item as Means, Ambiguous as Several}
-use Rattle.pli_declare_scopes.specs.declared.found.Meant.TheVariants.{NotDeclared as Nothing}
+use Rattle.pli_declare_scopes.specs.declared.found.ReferenceMeaning.{ReferenceMeaning}
+use Rattle.pli_declare_scopes.specs.declared.found.ReferenceMeaning.TheVariants.{Item as Means}
+use Rattle.pli_declare_scopes.specs.declared.found.ReferenceMeaning.TheVariants.{Ambiguous as Several}
+use Rattle.pli_declare_scopes.specs.declared.found.ReferenceMeaning.TheVariants.{NotDeclared as Nothing}
 use Rattle.pli_declare_scopes.specs.declared.repeat.Verdict.{Verdict}
 use Rattle.pli_declare_scopes.specs.declared.repeat.Verdict.TheVariants.{Counts, Twice, Beneath}
 use Rattle.pli_declare_tables.specs.Tables as tables
@@ -50,7 +51,7 @@ is_function (i ∷ []) = is_built_in i.name
 is_function others = false
 
 -- the code of a reference: A1 where it means nothing, save a built-in function; A10 where it is ambiguous
-abbrev pub reference_code : List Identifier → Meant → Option Code
+abbrev pub reference_code : List Identifier → ReferenceMeaning → Option Code
 reference_code names (Means number block) = None
 reference_code names Several = Some Ambiguous
 reference_code names Nothing = if is_function names then None else Some NotDeclared
@@ -67,7 +68,7 @@ target_code o here (AsItem item is_bad) = Some BadGoto
 target_code o here (AsProcedure heading region) = Some BadGoto
 
 -- the code of a GOTO's label
-abbrev pub jump_code : Outline → (here : ℕ) → Meant → Option Code
+abbrev pub jump_code : Outline → (here : ℕ) → ReferenceMeaning → Option Code
 jump_code o here (Means number block) = target_code o here (entry_at o here block number).entity
 jump_code o here Several = Some Ambiguous
 jump_code o here Nothing = Some NotDeclared
@@ -75,7 +76,8 @@ jump_code o here Nothing = Some NotDeclared
 -- names of locators and areas in declarations, looked up from a block
 
 -- what names mean is an item that fits
-abbrev pub names_fit : Outline → (block : ℕ) → (List tables.Entry → ℕ → Bool) → List Name → Meant → Bool
+abbrev pub names_fit : Outline → (block : ℕ) → (List tables.Entry → ℕ → Bool) → List Name
+    → ReferenceMeaning → Bool
 names_fit o block fits names (Means number out) = fits (get_or (tables_of o block) out []) number
 names_fit o block fits names Several = false
 names_fit o block fits names Nothing = false
@@ -222,17 +224,17 @@ used_faults o here (Jumped label) =
 used_faults o here mark = []
 
 -- the faults of a mark, of which the first name that it declares has this number in its block
-abbrev pub mark_faults : Outline → (number : ℕ) → Placed → List Fault
+abbrev pub mark_faults : Outline → (number : ℕ) → PlacedMark → List Fault
 mark_faults o number p =
     codes_from o (block_of o.regions p.region) number (entries_of number p.region p.mark)
     ++ parameter_faults o p.mark ++ used_faults o p.region p.mark
 
 -- how many names a block declares in some marks
-abbrev pub declared_by : Outline → (block : ℕ) → List Placed → ℕ
+abbrev pub declared_by : Outline → (block : ℕ) → List PlacedMark → ℕ
 declared_by o block marks = length (tables.entries_after o.regions block [] marks)
 
 -- the faults of marks, one after another, behind others
-abbrev pub faults_after : Outline → (before : List Placed) → List Placed → List Fault
+abbrev pub faults_after : Outline → (before : List PlacedMark) → List PlacedMark → List Fault
 faults_after o before [] = []
 faults_after o before (p ∷ ps) =
     mark_faults o (declared_by o (block_of o.regions p.region) before) p
@@ -250,11 +252,11 @@ heading_faults (Entered heading region) =
 heading_faults mark = []
 
 -- the faults of the unit's name and of its parameters
-abbrev pub unit_faults : Outline → Placed → List Fault
+abbrev pub unit_faults : Outline → PlacedMark → List Fault
 unit_faults o p = heading_faults p.mark ++ parameter_faults o p.mark
 
 -- the faults of all marks, the unit's own first
-abbrev pub outline_faults : Outline → List Placed → List Fault
+abbrev pub outline_faults : Outline → List PlacedMark → List Fault
 outline_faults o [] = []
 outline_faults o (p ∷ ps) = unit_faults o p ++ faults_after o [] ps
 

@@ -5,13 +5,15 @@ use Rattle.pli_base.specs.Name.{Name}
 use Rattle.pli_base.specs.Declarations.{Item, SimpleAttribute}
 use Rattle.pli_base.specs.Statements.{ExternalProcedure}
 use Rattle.pli_base.specs.declared.syntax.Identifier.{Identifier}
-use Rattle.pli_declare_outline.specs.Outlines.{Region, Mark, Declared, Entered, Used, Jumped, Placed, Outline}
+use Rattle.pli_declare_outline.specs.Outlines.{Region, Mark, Declared, Entered, Used, Jumped, PlacedMark}
+use Rattle.pli_declare_outline.specs.Outlines.{Outline}
 use Rattle.pli_declare_outline.specs.Outlines.{outline_of}
 use Rattle.pli_declare_constructs.specs.Regions.{blocks_round}
 use Rattle.pli_declare_scopes.specs.Scopes.{meant}
-use Rattle.pli_declare_scopes.specs.declared.found.Meant.{Meant}
-use Rattle.pli_declare_scopes.specs.declared.found.Meant.TheVariants.{Item as Means, Ambiguous as Several}
-use Rattle.pli_declare_scopes.specs.declared.found.Meant.TheVariants.{NotDeclared as Nothing}
+use Rattle.pli_declare_scopes.specs.declared.found.ReferenceMeaning.{ReferenceMeaning}
+use Rattle.pli_declare_scopes.specs.declared.found.ReferenceMeaning.TheVariants.{Item as Means}
+use Rattle.pli_declare_scopes.specs.declared.found.ReferenceMeaning.TheVariants.{Ambiguous as Several}
+use Rattle.pli_declare_scopes.specs.declared.found.ReferenceMeaning.TheVariants.{NotDeclared as Nothing}
 use Rattle.pli_declare_tables.specs.Tables.{entries_in, unit_entries, inner_marks, numbers_from, scope_of}
 use Rattle.pli_declare_variables.specs.AttributeNames.{plain_of, simple_of, area_in, locator_in}
 use Rattle.pli_declare_variables.specs.Declarations.{Declaration, declared_in, returned_by}
@@ -21,7 +23,7 @@ use Rattle.pli_declare.specs.declared.block.Target.{Target}
 use Rattle.pli_declare.specs.declared.block.Target.TheVariants.{Name as AName, Function as AFunction}
 
 -- what a block declares, and the names of its parameters, if it is a procedure
-pub record Block : Type 0 where
+pub record BlockDeclarations : Type 0 where
   pub parameters : List Name
   pub declarations : List Declaration
 
@@ -31,13 +33,13 @@ pub record Block : Type 0 where
 pub record Resolved : Type 0 where
   pub regions : List Region
   pub outermost : List Declaration
-  pub blocks : List Block
+  pub blocks : List BlockDeclarations
   pub uses : List Use
   pub areas : List Use
   pub locators : List Use
 
 -- what a block declares
-abbrev pub block_at : Outline → ℕ → Block
+abbrev pub block_at : Outline → ℕ → BlockDeclarations
 block_at o block =
     record {
       parameters = parameters_of o block;
@@ -51,7 +53,7 @@ abbrev pub use_of : (at : ℕ) → (block : Option ℕ) → (number : ℕ) → U
 use_of at block number = record { at = at; target = AName block number }
 
 -- what is meant where a name that is not declared is used as this; names that are ambiguous are a fault
-abbrev pub used_as : Outline → (here at : ℕ) → (otherwise : List Use) → Meant → List Use
+abbrev pub used_as : Outline → (here at : ℕ) → (otherwise : List Use) → ReferenceMeaning → List Use
 used_as o here at otherwise (Means number out) =
     use_of at (slice_get (blocks_round o.regions here) out) number ∷ []
 used_as o here at otherwise Several = []
@@ -94,7 +96,7 @@ locators_at o here (Declared items) = flat_map (item_names o here locator_in) it
 locators_at o here mark = []
 
 -- of all marks behind the first
-abbrev pub of_marks : (ℕ → Mark → List Use) → List Placed → List Use
+abbrev pub of_marks : (ℕ → Mark → List Use) → List PlacedMark → List Use
 of_marks uses ps = flat_map (λ p. uses p.region p.mark) ps
 
 -- the resolved unit of an outline

@@ -15,7 +15,7 @@ use crate::scopes::Scopes;
 use pli_base::Name;
 use pli_base::declaration::Item;
 use pli_base::syntax::Identifier;
-use pli_declare_outline::{Mark, Placed};
+use pli_declare_outline::{Mark, PlacedMark};
 use pli_declare_variables::{area_of, locator_of, options_of, returned_area};
 use std::alloc::{AllocError, Global};
 
@@ -87,7 +87,7 @@ fn add_names(
 pub(crate) fn named_meanings(
     alloc: Global,
     scopes: &Scopes,
-    marks: &[Placed],
+    marks: &[PlacedMark],
 ) -> Result<NamedMeanings, AllocError>
     ensures areas { IfOk result (λ named. AreMeanings named.areas (of_marks (areas_at (outline_view scopes.now.outline.now)) (marks_view marks.now))) }
     ensures locators { IfOk result (λ named. AreMeanings named.locators (of_marks (locators_at (outline_view scopes.now.outline.now)) (marks_view marks.now))) }

@@ -25,7 +25,7 @@ pub struct Use {
 
 /// What a block declares.
 #[derive(Drop)]
-pub struct Block<'a> {
+pub struct BlockDeclarations<'a> {
     /// The names of its parameters, if it is a procedure.
     pub parameters: Vec<Name>,
     pub declarations: Vec<Declaration<'a>>,
@@ -45,12 +45,12 @@ pub(crate) fn copied_declarations<'a>(
     Ok(copied)
 }
 
-impl<'a> Block<'a> {
+impl<'a> BlockDeclarations<'a> {
     /// A block that says the same.
-    pub fn copy(&self, alloc: Global) -> Result<Block<'a>, AllocError>
+    pub fn copy(&self, alloc: Global) -> Result<BlockDeclarations<'a>, AllocError>
         ensures { IfOk result (λ copied. block_view copied ≡ block_view self.now) }
     {
-        Ok(Block {
+        Ok(BlockDeclarations {
             parameters: Vec::from_slice(alloc, &self.parameters)?,
             declarations: copied_declarations(alloc, &self.declarations)?,
         })
@@ -60,8 +60,8 @@ impl<'a> Block<'a> {
 /// Blocks that say the same.
 pub(crate) fn copied_blocks<'a>(
     alloc: Global,
-    blocks: &[Block<'a>],
-) -> Result<Vec<Block<'a>>, AllocError>
+    blocks: &[BlockDeclarations<'a>],
+) -> Result<Vec<BlockDeclarations<'a>>, AllocError>
     ensures { IfOk result (λ copied. map block_view copied.items ≡ map block_view blocks.now) }
 {
     let mut copied = Vec::new(alloc);

@@ -24,7 +24,7 @@ mod told;
 mod unit;
 mod uses;
 
-pub use block::{Block, Target};
+pub use block::{BlockDeclarations, Target};
 pub use laws::{faults_are_least_codes, resolved_examples, worked_examples};
 pub use resolved::Resolved;
 pub use resolving::{ResolveError, resolve};

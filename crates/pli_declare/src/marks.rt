@@ -18,7 +18,7 @@ use pli_base::declaration::Item;
 use pli_base::syntax::Identifier;
 use pli_base::{Code, Fault};
 use pli_declare_constructs::Nesting;
-use pli_declare_outline::{Mark, Outline, Placed};
+use pli_declare_outline::{Mark, Outline, PlacedMark};
 use std::alloc::{AllocError, Global};
 
 /// The faults of names that have these numbers in a block of these codes, from the first on. Gives the number behind them.
@@ -98,7 +98,7 @@ fn tell_reference(
 fn tell_used(
     alloc: Global,
     scopes: &Scopes,
-    placed: &Placed,
+    placed: &PlacedMark,
     faults: &mut Vec<Fault>,
 ) -> Result<(), AllocError>
     ensures { OnOk result (let o = outline_view scopes.now.outline.now in let mark = mark_view placed.now.mark in
@@ -141,7 +141,7 @@ pub(crate) fn tell_marks(
     alloc: Global,
     scopes: &Scopes,
     codes: &[Vec<Option<Code>>],
-    marks: &[Placed],
+    marks: &[PlacedMark],
     faults: &mut Vec<Fault>,
 ) -> Result<(), AllocError>
     requires codes { AreCodes (map (λ list. list.items) codes.now) (outline_view scopes.now.outline.now) }

@@ -7,7 +7,7 @@ ghost use Rattle.pli_declare_variables.specs.views.DeclarationView.{declaration_
 ghost use Rattle.pli_declare.specs.Resolved.{resolved_of, meaning_at};
 ghost use Rattle.pli_declare.specs.views.BlockView.{block_view};
 
-use crate::block::{Block, Target, copied_blocks, copied_declarations};
+use crate::block::{BlockDeclarations, Target, copied_blocks, copied_declarations};
 use indexmap::IndexMap;
 use pli_base::statement::Procedure;
 use pli_declare_outline::Region;
@@ -31,7 +31,7 @@ pub struct Resolved<'a> {
     pub(crate) unit: &'a Procedure,
     pub(crate) regions: Vec<Region>,
     pub(crate) outermost: Vec<Declaration<'a>>,
-    pub(crate) blocks: Vec<Block<'a>>,
+    pub(crate) blocks: Vec<BlockDeclarations<'a>>,
     pub(crate) meanings: IndexMap<u32, Target>,
     pub(crate) named: NamedMeanings,
 }
@@ -94,7 +94,7 @@ impl<'a> Resolved<'a> {
     }
 
     /// For each region what it declares; that of a group or an ON-unit is empty.
-    pub fn blocks(&self) -> &[Block<'a>]
+    pub fn blocks(&self) -> &[BlockDeclarations<'a>]
         ensures { map block_view result.now ≡ (resolved_of (unit_view self.now)).blocks }
     {
         &self.blocks

@@ -14,7 +14,7 @@ ghost use Rattle.pli_declare.specs.views.ResolvedView.{IsResolved};
 ghost use Rattle.pli_declare.specs.answers.Walks.{AreParameters};
 
 use crate::attributes::named_meanings;
-use crate::block::Block;
+use crate::block::BlockDeclarations;
 use crate::parameters::parameters;
 use crate::resolved::Resolved;
 use crate::scopes::Scopes;
@@ -24,7 +24,7 @@ use pli_base::statement::Procedure;
 use pli_base::{Failure, Fault, Name};
 use pli_declare_constructs::Nesting;
 use pli_declare_found::searched_tables;
-use pli_declare_outline::{Outline, Placed};
+use pli_declare_outline::{Outline, PlacedMark};
 use pli_declare_tables::{Tables, owners_stand_before};
 use pli_declare_variables::{Declaration, declare};
 use std::alloc::{AllocError, Global};
@@ -39,7 +39,7 @@ fn declared_block<'a>(
     tables: &Tables<'a>,
     parameters: &[Vec<Name>],
     block: usize,
-) -> Result<Block<'a>, AllocError>
+) -> Result<BlockDeclarations<'a>, AllocError>
     requires tabled { AreOf tables.now (outline_view outline.now) }
     requires faultless { outline_faults (outline_view outline.now) (outline_view outline.now).marks ≡ [] }
     requires parameters { AreParameters (map (λ list. list.items) parameters.now) (outline_view outline.now) }
@@ -49,7 +49,7 @@ fn declared_block<'a>(
     owners_stand_before();
     let names = &parameters[block];
     let declarations = declare(alloc, &tables.blocks[block].entries, names)?;
-    Ok(Block {
+    Ok(BlockDeclarations {
         parameters: Vec::from_slice(alloc, names)?,
         declarations,
     })
@@ -60,7 +60,7 @@ fn blocks<'a>(
     alloc: Global,
     outline: &Outline<'a>,
     tables: &Tables<'a>,
-) -> Result<Vec<Block<'a>>, AllocError>
+) -> Result<Vec<BlockDeclarations<'a>>, AllocError>
     requires tabled { AreOf tables.now (outline_view outline.now) }
     requires faultless { outline_faults (outline_view outline.now) (outline_view outline.now).marks ≡ [] }
     ensures { IfOk result (λ blocks. map block_view blocks.items
@@ -75,7 +75,7 @@ fn blocks<'a>(
 }
 
 /// The marks of an outline but the first.
-fn marks_behind<'a, 'b>(outline: &'a Outline<'b>) -> &'a [Placed<'b>]
+fn marks_behind<'a, 'b>(outline: &'a Outline<'b>) -> &'a [PlacedMark<'b>]
     ensures { marks_view result.now ≡ inner_marks (outline_view outline.now).marks }
 {
     let Some((_first, marks)) = outline.marks.split_first() else {

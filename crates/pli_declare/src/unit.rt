@@ -12,7 +12,7 @@ use crate::parameters::{judged_blocks, parameters, tell_parameters};
 use crate::scopes::Scopes;
 use crate::told::tell;
 use pli_base::{Code, Fault};
-use pli_declare_outline::{Mark, Outline, Placed};
+use pli_declare_outline::{Mark, Outline, PlacedMark};
 use pli_declare_tables::Tables;
 use std::alloc::{AllocError, Global};
 
@@ -46,7 +46,7 @@ fn tell_unit(
     alloc: Global,
     outline: &Outline,
     tables: &Tables,
-    first: &Placed,
+    first: &PlacedMark,
     faults: &mut Vec<Fault>,
 ) -> Result<(), AllocError>
     requires { AreOf tables.now (outline_view outline.now) }

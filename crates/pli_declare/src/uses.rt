@@ -16,7 +16,7 @@ use crate::scopes::Scopes;
 use indexmap::IndexMap;
 use pli_base::Name;
 use pli_base::syntax::Identifier;
-use pli_declare_outline::{Mark, Placed};
+use pli_declare_outline::{Mark, PlacedMark};
 use pli_declare_variables::is_built_in;
 use std::alloc::{AllocError, Global};
 
@@ -103,7 +103,7 @@ fn add_reference(
 fn add_mark(
     alloc: Global,
     scopes: &Scopes,
-    placed: &Placed,
+    placed: &PlacedMark,
     uses: &mut Vec<Use>,
 ) -> Result<(), AllocError>
     ensures { OnOk result (uses.new.items ≡ uses.old.items ++ uses_at (outline_view scopes.now.outline.now) placed.now.region (mark_view placed.now.mark)) }
@@ -123,7 +123,7 @@ fn add_mark(
 pub(crate) fn use_meanings(
     alloc: Global,
     scopes: &Scopes,
-    marks: &[Placed],
+    marks: &[PlacedMark],
 ) -> Result<IndexMap<u32, Target>, AllocError>
     ensures { IfOk result (λ meanings. AreMeanings meanings (of_marks (uses_at (outline_view scopes.now.outline.now)) (marks_view marks.now))) }
 {

@@ -1,8 +1,8 @@
-pub mod Bits
-pub mod Counts
-pub mod Cuts
+pub mod BitLemmas
+pub mod CountLemmas
+pub mod CutLemmas
 pub mod LeastFaults
-pub mod Limits
+pub mod LimitLemmas
 pub mod LimitsOfItems
-pub mod Shapes
+pub mod ShapeLemmas
 pub mod WorkedExamples

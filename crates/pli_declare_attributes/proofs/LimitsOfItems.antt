@@ -3,7 +3,7 @@ use Rattle.std.proofs.Common.{◌≡◌, ℕ, ◌==◌, ◌&&◌, ◌||◌, Bool
 use Rattle.std.proofs.lemmas.Bool.Decides.{nat_tests}
 use Rattle.pli_base.specs.declared.code.Code.{Code}
 use Rattle.pli_base.specs.declared.code.Code.TheVariants.{AttributesConflict, AttributesMissing, BadPrecision, BadLength, BadBounds}
-use Rattle.pli_base.specs.declared.declaration.Bounds.{Bounds}
+use Rattle.pli_base.specs.declared.declaration.WrittenBounds.{WrittenBounds}
 use Rattle.pli_map.specs.Description.{Description}
 use Rattle.pli_declare_attributes.specs.Sets.{has, entry, built_in, outermost, set_of, each_once}
 use Rattle.pli_declare_attributes.specs.Agreement.{set_agrees, agrees_as_entry, agrees_as_built_in, agrees_as_variable, is_missing, is_plain}
@@ -12,9 +12,9 @@ use Rattle.pli_declare_attributes.specs.Extents.{is_array, are_bad_bounds}
 use Rattle.pli_declare_attributes.specs.Faults.{first_of, shape_fault, description_fault, own_fault, attributes_fault, item_fault, entry_fault, parameters_in, parameter_place, result_place}
 use Rattle.pli_declare_attributes.specs.Completed.{Variable, OfVariable, OfEntry, OfBuiltIn, variable_of, completed_of}
 use Rattle.pli_declare_attributes.specs.laws.Laws.{IsScalar, ResultsAreScalars, ParametersAreOfScalars, VariablesAreOfScalars}
-use Rattle.pli_declare_attributes.specs.declared.place.Place.{Place}
-use Rattle.pli_declare_attributes.proofs.Limits.{variable_whole, scalar_whole}
-use Rattle.pli_declare_attributes.proofs.Shapes.{shape_sound, or_none, parts_none}
+use Rattle.pli_declare_attributes.specs.declared.place.ItemPlace.{ItemPlace}
+use Rattle.pli_declare_attributes.proofs.LimitLemmas.{variable_whole, scalar_whole}
+use Rattle.pli_declare_attributes.proofs.ShapeLemmas.{shape_sound, or_none, parts_none}
 
 first_pair : (a b c d e : Bool) (t u v w x : Code) → first_of ((not a, t) ∷ (b, u) ∷ (c, v) ∷ (d, w) ∷ (e, x) ∷ []) ≡ None → (a ≡ true) × (b ≡ false)
 first_pair false b c d e t u v w x h = cc
@@ -26,7 +26,7 @@ second_true true b h = h
 second_true false b h = cc
 
 -- attributes without a fault of their shape agree, and none is missing
-shape_agrees : (p : Place) (dimensions : List Bounds) (once : Bool) (s : ℕ) (n : Option ℕ) → shape_fault p dimensions once s n ≡ None
+shape_agrees : (p : ItemPlace) (dimensions : List WrittenBounds) (once : Bool) (s : ℕ) (n : Option ℕ) → shape_fault p dimensions once s n ≡ None
     → (set_agrees p (is_array dimensions) s ≡ true) × (is_missing p s ≡ false)
 unfolding shape_fault
 shape_agrees p dimensions once s n h =
@@ -36,7 +36,7 @@ shape_agrees p dimensions once s n h =
     (second_true once (set_agrees p (is_array dimensions) s) two.0, two.1)
 
 -- a variable without a fault of its shape
-variable_scalar : (p : Place) (dimensions : List Bounds) (once : Bool) (s : ℕ) (n : Option ℕ) → p.has_members ≡ false
+variable_scalar : (p : ItemPlace) (dimensions : List WrittenBounds) (once : Bool) (s : ℕ) (n : Option ℕ) → p.has_members ≡ false
     → (set_agrees p (is_array dimensions) s ≡ true → agrees_as_variable p s ≡ true) → shape_fault p dimensions once s n ≡ None → IsScalar (scalar_of s n)
 variable_scalar p dimensions once s n alone agrees h =
     let two = shape_agrees p dimensions once s n h in
@@ -82,7 +82,7 @@ not_it_at s true e h = let same : s ≡ 32768 = grind (arith, nat_tests, e) in a
 not_it_at s false e h = refl
 
 -- without ENTRY and BUILTIN, a set that agrees is a variable's
-only_variable : (p : Place) (array : Bool) (s : ℕ) → has s entry ≡ false → has s built_in ≡ false → set_agrees p array s ≡ true → agrees_as_variable p s ≡ true
+only_variable : (p : ItemPlace) (array : Bool) (s : ℕ) → has s entry ≡ false → has s built_in ≡ false → set_agrees p array s ≡ true → agrees_as_variable p s ≡ true
 unfolding set_agrees
 only_variable p array s no_entry no_built_in agrees =
     third (agrees_as_entry p array s) (agrees_as_built_in p array s) (agrees_as_variable p s) agrees

@@ -7,7 +7,7 @@ use Rattle.pli_declare_attributes.specs.Sets.{automatic, static, based, controll
 use Rattle.pli_declare_attributes.specs.Sets.{initial, built_in, entry, returns, data_attributes}
 use Rattle.pli_declare_attributes.specs.Sets.{storage_attributes, scope_attributes, has, none_of, within}
 use Rattle.pli_declare_attributes.specs.Sets.{is_one_of, each_once, set_of}
-use Rattle.pli_declare_attributes.specs.declared.place.Place.{Place}
+use Rattle.pli_declare_attributes.specs.declared.place.ItemPlace.{ItemPlace}
 use Rattle.pli_declare_attributes.specs.declared.place.Position.{Position}
 use Rattle.pli_declare_attributes.specs.declared.place.Position.TheVariants.{AtLevelOne, Member, Parameter}
 use Rattle.pli_declare_attributes.specs.declared.place.Position.TheVariants.{Result}
@@ -49,21 +49,21 @@ data_types =
     ∷ []
 
 -- a variable of level 1 that is neither an array nor a structure
-abbrev pub is_plain : Place → (is_array : Bool) → Bool
+abbrev pub is_plain : ItemPlace → (is_array : Bool) → Bool
 is_plain p is_array = is_at_level_one p.position && not p.has_members && not is_array
 
 -- ENTRY with RETURNS and EXTERNAL only
-abbrev pub agrees_as_entry : Place → (is_array : Bool) → ℕ → Bool
+abbrev pub agrees_as_entry : ItemPlace → (is_array : Bool) → ℕ → Bool
 agrees_as_entry p is_array s = is_plain p is_array && has s entry && within s (entry + returns + external)
 
 -- BUILTIN alone, on the name of a built-in function
-abbrev pub agrees_as_built_in : Place → (is_array : Bool) → ℕ → Bool
+abbrev pub agrees_as_built_in : ItemPlace → (is_array : Bool) → ℕ → Bool
 agrees_as_built_in p is_array s = is_plain p is_array && p.built_in_name && s == built_in
 
 -- one data type, at most one storage class and one scope, EXTERNAL without AUTOMATIC and BASED, RETURNS
 -- without ENTRY beside no data attribute and no members, what may stand at its place, and no data attribute
 -- beside members
-abbrev pub agrees_as_variable : Place → ℕ → Bool
+abbrev pub agrees_as_variable : ItemPlace → ℕ → Bool
 agrees_as_variable p s =
     none_of s (entry + built_in)
     && is_one_of (bit_and s data_attributes) data_types
@@ -75,17 +75,17 @@ agrees_as_variable p s =
     && (not p.has_members || may_have_members p.position && none_of s data_attributes)
 
 -- the set is that of an entry, of a built-in function or of a variable
-unfoldable pub set_agrees : Place → (is_array : Bool) → ℕ → Bool
+unfoldable pub set_agrees : ItemPlace → (is_array : Bool) → ℕ → Bool
 set_agrees p is_array s =
     agrees_as_entry p is_array s || agrees_as_built_in p is_array s || agrees_as_variable p s
 
 -- attributes agree where each stands once and their set is one of those
-abbrev pub attributes_agree : Place → (is_array : Bool) → List tree.DescribedAttribute → Bool
+abbrev pub attributes_agree : ItemPlace → (is_array : Bool) → List tree.DescribedAttribute → Bool
 attributes_agree p is_array attributes = each_once 0 attributes && set_agrees p is_array (set_of attributes)
 
 -- an attribute is missing: RETURNS stands without ENTRY; or no data attribute or only one of FIXED and BINARY
 -- stands where there are neither members nor ENTRY nor BUILTIN
-unfoldable pub is_missing : Place → ℕ → Bool
+unfoldable pub is_missing : ItemPlace → ℕ → Bool
 is_missing p s =
     has s returns && none_of s entry
     || not p.has_members && none_of s (entry + built_in)

@@ -10,23 +10,24 @@ use Rattle.pli_declare_attributes.specs.Types.{number_of, scalar_of}
 use Rattle.pli_declare_attributes.specs.Extents.{all_bounds}
 use Rattle.pli_declare_attributes.specs.Initials.{values_in}
 use Rattle.pli_declare_attributes.specs.Faults.{parameters_in, returned_in, parameter_of, described_scalar}
-use Rattle.pli_declare_attributes.specs.declared.place.Place.{Place}
+use Rattle.pli_declare_attributes.specs.declared.place.ItemPlace.{ItemPlace}
 use Rattle.pli_declare_attributes.specs.declared.place.Position.{Position}
 use Rattle.pli_declare_attributes.specs.declared.place.Position.TheVariants.{AtLevelOne, Member, Parameter}
 use Rattle.pli_declare_attributes.specs.declared.place.Position.TheVariants.{Result}
-use Rattle.pli_declare_attributes.specs.declared.completed.Storage.{Storage}
-use Rattle.pli_declare_attributes.specs.declared.completed.Storage.TheVariants.{Automatic, Static, Based}
-use Rattle.pli_declare_attributes.specs.declared.completed.Storage.TheVariants.{Controlled}
-use Rattle.pli_declare_attributes.specs.declared.completed.Scope.{Scope}
-use Rattle.pli_declare_attributes.specs.declared.completed.Scope.TheVariants.{Internal, External}
+use Rattle.pli_declare_attributes.specs.declared.completed.DeclaredStorage.{DeclaredStorage}
+use Rattle.pli_declare_attributes.specs.declared.completed.DeclaredStorage.TheVariants.{Automatic, Static}
+use Rattle.pli_declare_attributes.specs.declared.completed.DeclaredStorage.TheVariants.{Based}
+use Rattle.pli_declare_attributes.specs.declared.completed.DeclaredStorage.TheVariants.{Controlled}
+use Rattle.pli_declare_attributes.specs.declared.completed.ScopeAttribute.{ScopeAttribute}
+use Rattle.pli_declare_attributes.specs.declared.completed.ScopeAttribute.TheVariants.{Internal, External}
 
 -- a variable, or a member of one: its type unless it has members, its own dimensions, its storage, its scope
 -- and its first values
 pub record Variable : Type 0 where
   pub description : Option Description
   pub bounds : List Bounds
-  pub storage : Option Storage
-  pub scope : Scope
+  pub storage : Option DeclaredStorage
+  pub scope : ScopeAttribute
   pub initial : List InitialValue
 
 -- what a name is, when its attributes are completed
@@ -36,24 +37,24 @@ pub data Completed : Type 0 where
   OfBuiltIn : Completed
 
 -- AUTOMATIC by default; EXTERNAL implies STATIC unless CONTROLLED stands
-abbrev pub storage_of : ℕ → Storage
+abbrev pub storage_of : ℕ → DeclaredStorage
 storage_of s =
     if has s controlled then Controlled else if has s based then Based else if has s static then Static
     else if has s external then Static else Automatic
 
 -- a member has the storage of the whole, a parameter that of its argument
-abbrev pub storage_at : Position → ℕ → Option Storage
+abbrev pub storage_at : Position → ℕ → Option DeclaredStorage
 storage_at AtLevelOne s = Some (storage_of s)
 storage_at Member s = None
 storage_at Parameter s = None
 storage_at Result s = None
 
 -- INTERNAL by default
-abbrev pub scope_of : ℕ → Scope
+abbrev pub scope_of : ℕ → ScopeAttribute
 scope_of s = if has s external then External else Internal
 
 -- an item as a variable
-unfoldable pub variable_of : Place → tree.Item → Variable
+unfoldable pub variable_of : ItemPlace → tree.Item → Variable
 variable_of p i =
     let attributes = map outermost i.attributes in
     record {
@@ -66,7 +67,7 @@ variable_of p i =
     }
 
 -- what an item is
-unfoldable pub completed_of : Place → tree.Item → Completed
+unfoldable pub completed_of : ItemPlace → tree.Item → Completed
 completed_of p i =
     let s = set_of (map outermost i.attributes) in
     if has s entry

@@ -13,7 +13,7 @@ use Rattle.pli_base.specs.declared.code.Code.TheVariants.{BadLength, BadBounds, 
 use Rattle.pli_base.specs.declared.code.Code.TheVariants.{AreaNotAllowedHere, TooManyParameters}
 use Rattle.pli_base.specs.declared.code.Code.TheVariants.{GenerationTooLarge}
 use Rattle.pli_base.specs.Declarations as tree
-use Rattle.pli_base.specs.declared.declaration.Bounds.{Bounds}
+use Rattle.pli_base.specs.declared.declaration.WrittenBounds.{WrittenBounds}
 use Rattle.pli_map.specs.Description as described
 use Rattle.pli_map.specs.declared.description.Bounds as whole
 use Rattle.pli_map.specs.Sizes.{size_of}
@@ -22,7 +22,7 @@ use Rattle.pli_declare_attributes.specs.Agreement.{is_member, set_agrees, is_mis
 use Rattle.pli_declare_attributes.specs.Types.{number_of, is_bad_precision, is_bad_length, scalar_of}
 use Rattle.pli_declare_attributes.specs.Extents.{are_bad_bounds, all_bounds, is_array}
 use Rattle.pli_declare_attributes.specs.Initials.{values_in, is_bad_initial}
-use Rattle.pli_declare_attributes.specs.declared.place.Place.{Place}
+use Rattle.pli_declare_attributes.specs.declared.place.ItemPlace.{ItemPlace}
 use Rattle.pli_declare_attributes.specs.declared.place.Position.TheVariants.{Parameter, Result}
 
 -- the first of these faults that holds
@@ -43,12 +43,12 @@ lesser (Some c) None = Some c
 lesser (Some c) (Some d) = Some (first_in_order (nat_cmp (code_place c) (code_place d)) c d)
 
 -- an AREA is no member, stands in no array and is not BASED
-unfoldable pub is_bad_area : Place → List Bounds → ℕ → Bool
+unfoldable pub is_bad_area : ItemPlace → List WrittenBounds → ℕ → Bool
 is_bad_area p dimensions s =
     has s area && (is_member p.position || is_array dimensions || p.in_array || has s based)
 
 -- faults of attributes that stand once each, or do not, of this set and with this precision, length or size
-unfoldable pub shape_fault : Place → List Bounds → Bool → ℕ → Option ℕ → Option Code
+unfoldable pub shape_fault : ItemPlace → List WrittenBounds → Bool → ℕ → Option ℕ → Option Code
 shape_fault p dimensions once s n =
     first_of (
     (not (once && set_agrees p (is_array dimensions) s), AttributesConflict)
@@ -58,17 +58,17 @@ shape_fault p dimensions once s n =
     ∷ (are_bad_bounds dimensions, BadBounds) ∷ [])
 
 -- faults of an AREA
-abbrev pub area_fault : Place → List Bounds → ℕ → Option Code
+abbrev pub area_fault : ItemPlace → List WrittenBounds → ℕ → Option Code
 area_fault p dimensions s = first_of ((is_bad_area p dimensions s, AreaNotAllowedHere) ∷ [])
 
 -- the fault of the description of a parameter or of a result, at its place
-unfoldable pub description_fault : Place → List Bounds → List tree.DescribedAttribute → Option Code
+unfoldable pub description_fault : ItemPlace → List WrittenBounds → List tree.DescribedAttribute → Option Code
 description_fault p dimensions attributes =
     option_or (shape_fault p dimensions (each_once 0 attributes) (set_of attributes) (number_of attributes))
     (area_fault p dimensions (set_of attributes))
 
 -- the fault of an item's own attributes
-unfoldable pub own_fault : Place → tree.Item → Option Code
+unfoldable pub own_fault : ItemPlace → tree.Item → Option Code
 own_fault p i =
     let attributes = map outermost i.attributes in
     option_or (shape_fault p i.dimensions (each_once 0 attributes) (set_of attributes) (number_of attributes))
@@ -81,7 +81,7 @@ own_fault p i =
     (area_fault p i.dimensions (set_of attributes)))
 
 -- where what ENTRY describes of a parameter stands
-abbrev pub parameter_place : Place
+abbrev pub parameter_place : ItemPlace
 parameter_place =
     record {
       position = Parameter;
@@ -92,7 +92,7 @@ parameter_place =
     }
 
 -- where what RETURNS describes stands: a result is a scalar
-abbrev pub result_place : Place
+abbrev pub result_place : ItemPlace
 result_place =
     record {
       position = Result;
@@ -157,11 +157,11 @@ entry_fault ds =
 
 -- the least fault of the attributes, of those in the descriptions of an ENTRY's parameters and of those in
 -- RETURNS
-unfoldable pub attributes_fault : Place → tree.Item → Option Code
+unfoldable pub attributes_fault : ItemPlace → tree.Item → Option Code
 attributes_fault p i =
     lesser (own_fault p i)
     (lesser (parameters_fault (parameters_in i.attributes)) (returned_fault (returned_in i.attributes)))
 
 -- the least fault of an item
-unfoldable pub item_fault : Place → tree.Item → Option Code
+unfoldable pub item_fault : ItemPlace → tree.Item → Option Code
 item_fault p i = option_or (attributes_fault p i) (entry_fault (parameters_in i.attributes))

@@ -3,7 +3,7 @@ use Rattle.std.specs.Prelude.{ℕ, Bool, true, false, not, ◌+◌, ◌*◌, ◌
 use Rattle.std.specs.Prelude.{Some, None, option_map, List, [], ◌∷◌, if◌then◌else◌}
 use Rattle.std.specs.List.{list_all}
 use Rattle.pli_base.specs.Declarations as tree
-use Rattle.pli_base.specs.declared.declaration.Bounds.{Bounds}
+use Rattle.pli_base.specs.declared.declaration.WrittenBounds.{WrittenBounds}
 use Rattle.pli_base.specs.declared.declaration.InitialValue.{InitialValue}
 use Rattle.pli_base.specs.declared.declaration.InitialValue.TheVariants as initial
 use Rattle.pli_map.specs.Description as map
@@ -12,7 +12,7 @@ use Rattle.pli_declare_attributes.specs.Sets.{area, has}
 use Rattle.pli_declare_attributes.specs.Sets as sets
 use Rattle.pli_declare_attributes.specs.Types.{scalar_of}
 use Rattle.pli_declare_attributes.specs.Extents.{all_bounds, are_bad_bounds}
-use Rattle.pli_declare_attributes.specs.declared.place.Place.{Place}
+use Rattle.pli_declare_attributes.specs.declared.place.ItemPlace.{ItemPlace}
 
 -- the values of an item's INITIAL
 abbrev pub values_in : List tree.Attribute → List InitialValue
@@ -53,17 +53,17 @@ is_more_than None given = false
 is_more_than (Some elements) given = nat_lt elements given
 
 -- how many elements there are: those that the levels above make, each with its own dimensions
-abbrev pub elements_of : Place → List Bounds → Option ℕ
+abbrev pub elements_of : ItemPlace → List WrittenBounds → Option ℕ
 elements_of p dimensions = option_map (λ above. above * count_of (all_bounds dimensions)) p.elements_above
 
 -- how many elements levels above and these dimensions make together, where none of them has bad bounds
-abbrev pub elements_inside : Option ℕ → List Bounds → Option ℕ
+abbrev pub elements_inside : Option ℕ → List WrittenBounds → Option ℕ
 elements_inside above dimensions =
     if are_bad_bounds dimensions then None
     else option_map (λ count. count * count_of (all_bounds dimensions)) above
 
 -- INITIAL with members or with AREA, with a value that does not fit, or with too many
-unfoldable pub is_bad_initial : Place → List Bounds → ℕ → Option ℕ → List InitialValue → Bool
+unfoldable pub is_bad_initial : ItemPlace → List WrittenBounds → ℕ → Option ℕ → List InitialValue → Bool
 is_bad_initial p dimensions s n values =
     has s sets.initial
     && (p.has_members || has s area || not (list_all (fits (scalar_of s n)) values)

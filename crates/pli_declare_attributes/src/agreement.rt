@@ -4,7 +4,7 @@ ghost use Rattle.std.specs.Int.RustNames.{bit_and};
 ghost use Rattle.pli_declare_attributes.specs.Sets.{fixed, binary, automatic, static, based, controlled, internal, external, is_one_of, data_attributes, storage_attributes, scope_attributes};
 ghost use Rattle.pli_declare_attributes.specs.Agreement.{is_at_level_one, may_have_members, excluded_at, data_types, is_plain, agrees_as_entry, agrees_as_built_in, agrees_as_variable, set_agrees, is_missing};
 
-use crate::place::{Place, Position};
+use crate::place::{ItemPlace, Position};
 use crate::set::AttributeSet;
 use bitflags::Flags;
 
@@ -88,7 +88,7 @@ fn takes_members(position: Position) -> bool
 }
 
 /// Whether a name of level 1 is neither an array nor a structure.
-fn plain(place: Place, array: bool) -> bool
+fn plain(place: ItemPlace, array: bool) -> bool
     ensures { result ≡ is_plain place array }
 {
     let at_level_one = matches!(place.position, Position::AtLevelOne);
@@ -96,7 +96,7 @@ fn plain(place: Place, array: bool) -> bool
 }
 
 /// ENTRY with RETURNS and EXTERNAL only.
-fn entry_agrees(place: Place, array: bool, set: AttributeSet) -> bool
+fn entry_agrees(place: ItemPlace, array: bool, set: AttributeSet) -> bool
     ensures { result ≡ agrees_as_entry place array set.0 }
 {
     let allowed = AttributeSet::ENTRY
@@ -106,14 +106,14 @@ fn entry_agrees(place: Place, array: bool, set: AttributeSet) -> bool
 }
 
 /// BUILTIN alone, on the name of a built-in function.
-fn built_in_agrees(place: Place, array: bool, set: AttributeSet) -> bool
+fn built_in_agrees(place: ItemPlace, array: bool, set: AttributeSet) -> bool
     ensures { result ≡ agrees_as_built_in place array set.0 }
 {
     plain(place, array) && place.built_in_name && set == AttributeSet::BUILTIN
 }
 
 /// What makes a variable, a member, a parameter or a result.
-fn variable_agrees(place: Place, set: AttributeSet) -> bool
+fn variable_agrees(place: ItemPlace, set: AttributeSet) -> bool
     ensures { result ≡ agrees_as_variable place set.0 }
 {
     let other = AttributeSet::ENTRY.and(AttributeSet::BUILTIN);
@@ -131,7 +131,7 @@ fn variable_agrees(place: Place, set: AttributeSet) -> bool
 
 /// Whether attributes that stand once each agree.
 #[tactic(auto, unfolding(crate::specs::Agreement::set_agrees))]
-pub(crate) fn agree(place: Place, array: bool, set: AttributeSet) -> bool
+pub(crate) fn agree(place: ItemPlace, array: bool, set: AttributeSet) -> bool
     ensures { result ≡ set_agrees place array set.0 }
 {
     entry_agrees(place, array, set)
@@ -155,7 +155,7 @@ fn lacks_data(set: AttributeSet) -> bool
 
 /// Whether an attribute is missing.
 #[tactic(auto, unfolding(crate::specs::Agreement::is_missing))]
-pub(crate) fn missing(place: Place, set: AttributeSet) -> bool
+pub(crate) fn missing(place: ItemPlace, set: AttributeSet) -> bool
     ensures { result ≡ is_missing place set.0 }
 {
     let other = AttributeSet::ENTRY.and(AttributeSet::BUILTIN);

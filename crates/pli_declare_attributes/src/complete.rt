@@ -9,18 +9,18 @@ ghost use Rattle.pli_declare_attributes.specs.Faults as spec;
 ghost use Rattle.pli_declare_attributes.specs.Completed.{storage_at, storage_of, scope_of, variable_of, completed_of};
 ghost use Rattle.pli_declare_attributes.specs.views.CompletedView.{variable_view, completed_view, IsCompleted, IsResult};
 
-use crate::completed::{Completed, Scope, Storage, Variable};
+use crate::completed::{Completed, DeclaredStorage, ScopeAttribute, Variable};
 use crate::extents::all_described;
 use crate::facts::ItemFacts;
 use crate::faults::{item_fault, result_fault};
 use crate::initials::values_of;
 use crate::parts::{parameters_of, returned_of};
-use crate::place::{Place, Position};
+use crate::place::{ItemPlace, Position};
 use crate::set::AttributeSet;
 use crate::summary::Summary;
 use crate::types::scalar;
-use pli_base::{Code, Failure};
 use pli_base::declaration::{Attribute, DescribedAttribute, ParameterDescription};
+use pli_base::{Code, Failure};
 use pli_map::{Bounds, Description, size};
 use std::alloc::{AllocError, Global};
 
@@ -28,22 +28,22 @@ use std::alloc::{AllocError, Global};
 pub type AttributeError = Failure<Code>;
 
 /// The storage class: AUTOMATIC by default; EXTERNAL implies STATIC unless CONTROLLED stands.
-fn storage(set: AttributeSet) -> Storage
+fn storage(set: AttributeSet) -> DeclaredStorage
     ensures { result ≡ storage_of set.0 }
 {
     if set.has(AttributeSet::CONTROLLED) {
-        Storage::Controlled
+        DeclaredStorage::Controlled
     } else if set.has(AttributeSet::BASED) {
-        Storage::Based
+        DeclaredStorage::Based
     } else if set.has(AttributeSet::STATIC) || set.has(AttributeSet::EXTERNAL) {
-        Storage::Static
+        DeclaredStorage::Static
     } else {
-        Storage::Automatic
+        DeclaredStorage::Automatic
     }
 }
 
 /// The storage class at level 1; none of members and of parameters.
-fn storage_there(position: Position, set: AttributeSet) -> Option<Storage>
+fn storage_there(position: Position, set: AttributeSet) -> Option<DeclaredStorage>
     ensures { result ≡ storage_at position set.0 }
 {
     match position {
@@ -53,13 +53,13 @@ fn storage_there(position: Position, set: AttributeSet) -> Option<Storage>
 }
 
 /// The scope, INTERNAL by default.
-fn scope(set: AttributeSet) -> Scope
+fn scope(set: AttributeSet) -> ScopeAttribute
     ensures { result ≡ scope_of set.0 }
 {
     if set.has(AttributeSet::EXTERNAL) {
-        Scope::External
+        ScopeAttribute::External
     } else {
-        Scope::Internal
+        ScopeAttribute::Internal
     }
 }
 
@@ -150,7 +150,7 @@ pub fn completed_result(attributes: &[DescribedAttribute]) -> Result<Description
 #[tactic(auto, unfolding(crate::specs::Completed::variable_of))]
 fn variable<'a>(
     alloc: Global,
-    place: Place,
+    place: ItemPlace,
     facts: &ItemFacts<'a>,
 ) -> Result<Variable<'a>, AllocError>
     requires { own_fault place (item_view facts.now.item.now) ≡ None }
@@ -177,7 +177,7 @@ fn variable<'a>(
 /// faults of the names and the level that stand in it (own). Memory is taken only where the attributes have no fault.
 pub fn completed_item<'a>(
     alloc: Global,
-    place: Place,
+    place: ItemPlace,
     facts: &ItemFacts<'a>,
 ) -> Result<Completed<'a>, AttributeError>
     ensures { IsCompleted result place (item_view facts.now.item.now) }

@@ -9,7 +9,7 @@ use std::alloc::{AllocError, Global};
 
 /// Where the generations of a variable come from.
 #[derive(Clone, Copy, PartialEq, Eq)]
-pub enum Storage {
+pub enum DeclaredStorage {
     Automatic,
     Static,
     Based,
@@ -18,7 +18,7 @@ pub enum Storage {
 
 /// Whether a name means the same in every unit.
 #[derive(Clone, Copy, PartialEq, Eq)]
-pub enum Scope {
+pub enum ScopeAttribute {
     Internal,
     External,
 }
@@ -31,8 +31,8 @@ pub struct Variable<'a> {
     /// Its own dimensions, none where it is no array.
     pub bounds: Vec<Bounds>,
     /// `None` of members and of parameters, which have their storage from elsewhere.
-    pub storage: Option<Storage>,
-    pub scope: Scope,
+    pub storage: Option<DeclaredStorage>,
+    pub scope: ScopeAttribute,
     /// The values in INITIAL as the tree has them, once for all names of the item; none without it.
     pub initial: &'a [InitialValue],
 }

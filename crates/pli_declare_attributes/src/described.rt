@@ -11,7 +11,7 @@ use crate::complete::bounded;
 use crate::extents::all_described;
 use crate::summary::Summary;
 use crate::types::scalar;
-use pli_base::declaration::{Attribute, Bounds};
+use pli_base::declaration::{Attribute, WrittenBounds};
 use pli_map::Description;
 use std::alloc::{AllocError, Global};
 
@@ -25,10 +25,10 @@ pub fn scalar_description(attributes: &[Attribute]) -> Description
 }
 
 /// An array of these dimensions, which are good, and of this element; or the element itself where there are none.
-#[tactic(auto, using(crate::proofs::Shapes::bounds_good))]
+#[tactic(auto, using(crate::proofs::ShapeLemmas::bounds_good))]
 pub fn array_description(
     alloc: Global,
-    dimensions: &[Bounds],
+    dimensions: &[WrittenBounds],
     element: Description,
 ) -> Result<Description, AllocError>
     requires { are_bad_bounds dimensions.now ≡ false }

@@ -3,7 +3,7 @@ ghost use Rattle.std.specs.Prelude.{◌≡◌, ◌≤ℤ◌, negsuc, pos, IsTrue
 ghost use Rattle.std.specs.List.{list_all};
 ghost use Rattle.pli_declare_attributes.specs.Extents.{low_of, bounds_of, are_good, are_bad_bounds, all_bounds};
 
-use pli_base::declaration::Bounds;
+use pli_base::declaration::WrittenBounds;
 use std::alloc::{AllocError, Global};
 
 /// How many dimensions an item may have of its own (own).
@@ -13,7 +13,7 @@ const DIMENSION_LIMIT: usize = 8;
 const BOUND_LIMIT: i64 = 32_767;
 
 /// The lower bound of a dimension, 1 by default (X3.74).
-fn low(bounds: Bounds) -> i64
+fn low(bounds: WrittenBounds) -> i64
     ensures { result ≡ low_of bounds.low }
 {
     match bounds.low {
@@ -23,7 +23,7 @@ fn low(bounds: Bounds) -> i64
 }
 
 /// Whether each bound is from -32,767 to 32,767, and the lower one not above the other.
-fn good(bounds: Bounds) -> bool
+fn good(bounds: WrittenBounds) -> bool
     ensures { result ≡ are_good bounds }
 {
     let low = low(bounds);
@@ -33,14 +33,14 @@ fn good(bounds: Bounds) -> bool
 
 /// Whether there are more than 8 dimensions, or one with bad bounds.
 #[tactic(auto, unfolding(crate::specs::Extents::are_bad_bounds))]
-pub(crate) fn bad_bounds(dimensions: &[Bounds]) -> bool
+pub(crate) fn bad_bounds(dimensions: &[WrittenBounds]) -> bool
     ensures { result ≡ are_bad_bounds dimensions.now }
 {
     dimensions.len() > DIMENSION_LIMIT || !all_good(dimensions)
 }
 
 /// Whether each dimension has good bounds.
-fn all_good(dimensions: &[Bounds]) -> bool
+fn all_good(dimensions: &[WrittenBounds]) -> bool
     ensures { result ≡ list_all are_good dimensions.now }
 {
     for bounds in dimensions {
@@ -52,7 +52,7 @@ fn all_good(dimensions: &[Bounds]) -> bool
 }
 
 /// Bounds that are good, as those of a description.
-pub(crate) fn described(bounds: Bounds) -> pli_map::Bounds
+pub(crate) fn described(bounds: WrittenBounds) -> pli_map::Bounds
     requires { IsTrue (are_good bounds) }
     ensures { result ≡ bounds_of bounds }
 {
@@ -65,7 +65,7 @@ pub(crate) fn described(bounds: Bounds) -> pli_map::Bounds
 /// Bounds that are good, as those of a description.
 pub(crate) fn all_described(
     alloc: Global,
-    dimensions: &[Bounds],
+    dimensions: &[WrittenBounds],
 ) -> Result<Vec<pli_map::Bounds>, AllocError>
     requires { list_all are_good dimensions.now ≡ true }
     ensures { IfOk result (λ bounds. bounds.items ≡ all_bounds dimensions.now) }

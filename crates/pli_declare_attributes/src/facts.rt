@@ -73,7 +73,7 @@ fn held_fault(attributes: &[Attribute]) -> Option<Code>
 }
 
 /// The fault of the number and of the sizes of parameters, where their descriptions have none.
-#[tactic(auto, using(crate::proofs::Shapes::too_many_parameters, crate::proofs::Shapes::too_large_parameter, crate::proofs::Shapes::good_parameters))]
+#[tactic(auto, using(crate::proofs::ShapeLemmas::too_many_parameters, crate::proofs::ShapeLemmas::too_large_parameter, crate::proofs::ShapeLemmas::good_parameters))]
 fn sizes_fault(
     alloc: Global,
     descriptions: &[ParameterDescription],

@@ -6,17 +6,17 @@ ghost use Rattle.pli_declare_attributes.specs.Extents.{are_bad_bounds};
 ghost use Rattle.pli_declare_attributes.specs.Initials.{is_bad_initial, values_in};
 ghost use Rattle.pli_declare_attributes.specs.Faults as spec;
 ghost use Rattle.pli_declare_attributes.specs.answers.Cuts.{cut_place};
-ghost use Rattle.pli_declare_attributes.specs.declared.place.Place.{Place as SpecPlace};
+ghost use Rattle.pli_declare_attributes.specs.declared.place.ItemPlace.{ItemPlace as SpecPlace};
 
 use crate::agreement::{agree, missing};
 use crate::extents::bad_bounds;
 use crate::facts::ItemFacts;
 use crate::initials::too_many;
-use crate::place::{Place, Position};
+use crate::place::{ItemPlace, Position};
 use crate::set::AttributeSet;
 use crate::summary::Summary;
 use crate::types::{bad_length, bad_precision};
-use pli_base::declaration::{Bounds, DescribedAttribute, ParameterDescription};
+use pli_base::declaration::{DescribedAttribute, ParameterDescription, WrittenBounds};
 use pli_base::{Code, code_order};
 use std::cmp::Ordering;
 
@@ -37,7 +37,7 @@ pub fn lesser(first: Option<Code>, second: Option<Code>) -> Option<Code>
 
 /// The first fault of agreement, of what is missing, of numbers and of bounds: A3 to A7.
 #[tactic(auto, unfolding(crate::specs::Faults::shape_fault))]
-fn shape_fault(place: Place, dimensions: &[Bounds], summary: Summary) -> Option<Code>
+fn shape_fault(place: ItemPlace, dimensions: &[WrittenBounds], summary: Summary) -> Option<Code>
     ensures { result ≡ spec.shape_fault place dimensions.now summary.once summary.set.0 summary.number }
 {
     let array = !dimensions.is_empty();
@@ -58,7 +58,7 @@ fn shape_fault(place: Place, dimensions: &[Bounds], summary: Summary) -> Option<
 
 /// Whether an AREA is a member, in an array or BASED.
 #[tactic(auto, unfolding(crate::specs::Faults::is_bad_area))]
-fn bad_area(place: Place, dimensions: &[Bounds], set: AttributeSet) -> bool
+fn bad_area(place: ItemPlace, dimensions: &[WrittenBounds], set: AttributeSet) -> bool
     ensures { result ≡ spec.is_bad_area place dimensions.now set.0 }
 {
     let is_member = matches!(place.position, Position::Member);
@@ -67,7 +67,7 @@ fn bad_area(place: Place, dimensions: &[Bounds], set: AttributeSet) -> bool
 }
 
 /// The fault of an AREA: A13.
-fn area_fault(place: Place, dimensions: &[Bounds], set: AttributeSet) -> Option<Code>
+fn area_fault(place: ItemPlace, dimensions: &[WrittenBounds], set: AttributeSet) -> Option<Code>
     ensures { result ≡ spec.area_fault place dimensions.now set.0 }
 {
     if bad_area(place, dimensions, set) {
@@ -80,8 +80,8 @@ fn area_fault(place: Place, dimensions: &[Bounds], set: AttributeSet) -> Option<
 /// The fault of the description of a parameter or of a result.
 #[tactic(auto, unfolding(crate::specs::Faults::description_fault))]
 fn description_fault(
-    place: Place,
-    dimensions: &[Bounds],
+    place: ItemPlace,
+    dimensions: &[WrittenBounds],
     attributes: &[DescribedAttribute],
 ) -> Option<Code>
     ensures { result ≡ spec.description_fault place dimensions.now (map described_view attributes.now) }
@@ -94,8 +94,8 @@ fn description_fault(
 }
 
 /// Whether INITIAL stands beside members or AREA, has a value that does not fit, or too many.
-#[tactic(auto, using(crate::proofs::Shapes::bounds_good), unfolding(crate::specs::Initials::is_bad_initial))]
-fn bad_initial(place: Place, facts: &ItemFacts) -> bool
+#[tactic(auto, using(crate::proofs::ShapeLemmas::bounds_good), unfolding(crate::specs::Initials::is_bad_initial))]
+fn bad_initial(place: ItemPlace, facts: &ItemFacts) -> bool
     requires precision { is_bad_precision facts.now.summary.set.0 facts.now.summary.number ≡ false }
     requires length { is_bad_length facts.now.summary.set.0 facts.now.summary.number ≡ false }
     requires bounds { are_bad_bounds facts.now.item.now.dimensions.items ≡ false }
@@ -111,7 +111,7 @@ fn bad_initial(place: Place, facts: &ItemFacts) -> bool
 }
 
 /// What stands around the description of a parameter in ENTRY: nothing.
-const PARAMETER: Place = Place {
+const PARAMETER: ItemPlace = ItemPlace {
     position: Position::Parameter,
     has_members: false,
     in_array: false,
@@ -120,7 +120,7 @@ const PARAMETER: Place = Place {
 };
 
 /// What stands around the description in RETURNS: nothing.
-const RESULT: Place = Place {
+const RESULT: ItemPlace = ItemPlace {
     position: Position::Result,
     has_members: false,
     in_array: false,
@@ -158,8 +158,8 @@ pub(crate) fn parameters_fault(descriptions: &[ParameterDescription]) -> Option<
 }
 
 /// The fault of an item's attributes, apart from what ENTRY and RETURNS hold.
-#[tactic(auto, using(crate::proofs::Shapes::shape_sound), unfolding(crate::specs::Faults::own_fault))]
-fn own_fault(place: Place, facts: &ItemFacts) -> Option<Code>
+#[tactic(auto, using(crate::proofs::ShapeLemmas::shape_sound), unfolding(crate::specs::Faults::own_fault))]
+fn own_fault(place: ItemPlace, facts: &ItemFacts) -> Option<Code>
     ensures { result ≡ spec.own_fault place (item_view facts.now.item.now) }
 {
     let dimensions = facts.item.dimensions.as_slice();
@@ -175,7 +175,7 @@ fn own_fault(place: Place, facts: &ItemFacts) -> Option<Code>
 
 /// The least fault of an item's attributes, with those that ENTRY and RETURNS hold.
 #[tactic(auto, unfolding(crate::specs::Faults::attributes_fault))]
-fn attributes_fault(place: Place, facts: &ItemFacts) -> Option<Code>
+fn attributes_fault(place: ItemPlace, facts: &ItemFacts) -> Option<Code>
     ensures { result ≡ spec.attributes_fault place (item_view facts.now.item.now) }
 {
     lesser(own_fault(place, facts), facts.held)
@@ -183,7 +183,7 @@ fn attributes_fault(place: Place, facts: &ItemFacts) -> Option<Code>
 
 /// The least of A3 to A7, A9 and A13 to A15 that holds of an item at a place, apart from faults of the names and the level that
 /// stand in it (own). That the number of elements above is cut at a limit changes nothing.
-pub fn item_fault(place: Place, facts: &ItemFacts) -> Option<Code>
+pub fn item_fault(place: ItemPlace, facts: &ItemFacts) -> Option<Code>
     ensures here { result ≡ spec.item_fault place (item_view facts.now.item.now) }
     ensures whole { (p : SpecPlace) → place ≡ cut_place p → result ≡ spec.item_fault p (item_view facts.now.item.now) }
 {

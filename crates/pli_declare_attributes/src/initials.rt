@@ -9,8 +9,8 @@ ghost use Rattle.pli_declare_attributes.specs.answers.Cuts.{cut};
 ghost use Rattle.pli_declare_attributes.specs.Initials.{values_in, fits, elements_given, all_given, is_more_than, elements_of, elements_inside};
 
 use crate::extents::{bad_bounds, described};
-use crate::place::Place;
-use pli_base::declaration::{Attribute, Bounds, InitialValue, SimpleAttribute};
+use crate::place::ItemPlace;
+use pli_base::declaration::{Attribute, InitialValue, SimpleAttribute, WrittenBounds};
 use pli_map::Description;
 
 /// A number of elements that is over the number of all values, however many there are.
@@ -91,7 +91,7 @@ pub(crate) fn given(values: &[InitialValue]) -> u128
 }
 
 /// How many elements there are; a number over the limit stands for every greater one.
-pub(crate) fn elements(above: u128, dimensions: &[Bounds]) -> u128
+pub(crate) fn elements(above: u128, dimensions: &[WrittenBounds]) -> u128
     requires { list_all are_good dimensions.now ≡ true }
     ensures { result ≡ min (above * count_of (all_bounds dimensions.now)) 79228162514264337593543950336 }
 {
@@ -103,7 +103,7 @@ pub(crate) fn elements(above: u128, dimensions: &[Bounds]) -> u128
 }
 
 /// Whether values are for more elements than there are, where the number of elements is known.
-pub(crate) fn too_many(place: Place, dimensions: &[Bounds], given: u128) -> bool
+pub(crate) fn too_many(place: ItemPlace, dimensions: &[WrittenBounds], given: u128) -> bool
     requires bounds { list_all are_good dimensions.now ≡ true }
     requires few { given ≤ 79228162514264337593543950336 }
     ensures { result ≡ is_more_than (elements_of place dimensions.now) given }
@@ -116,8 +116,8 @@ pub(crate) fn too_many(place: Place, dimensions: &[Bounds], given: u128) -> bool
 
 /// How many elements the levels above and these dimensions make together, up to 2 to the 96th; `None` where one of them has bad
 /// bounds. What the levels above make may be cut there too, which changes nothing.
-#[tactic(auto, using(crate::proofs::Shapes::bounds_good))]
-pub fn elements_within(above: Option<u128>, dimensions: &[Bounds]) -> Option<u128>
+#[tactic(auto, using(crate::proofs::ShapeLemmas::bounds_good))]
+pub fn elements_within(above: Option<u128>, dimensions: &[WrittenBounds]) -> Option<u128>
     ensures { result ≡ cut (elements_inside above dimensions.now) }
 {
     if bad_bounds(dimensions) {

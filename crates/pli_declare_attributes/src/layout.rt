@@ -12,7 +12,7 @@ ghost use Rattle.pli_declare_attributes.specs.Types.{number_or, scalar_of};
 use crate::initials::elements;
 use crate::set::AttributeSet;
 use crate::summary::Summary;
-use pli_base::declaration::{Attribute, Bounds};
+use pli_base::declaration::{Attribute, WrittenBounds};
 use pli_map::{Layout, fixed_binary_size};
 
 /// A number in parentheses, or else the default.
@@ -56,8 +56,8 @@ pub fn scalar_layout(attributes: &[Attribute]) -> Option<Layout>
 }
 
 /// What an array takes of these dimensions, which are good, and of elements of this layout; or `None` where it is over the limit.
-#[tactic(auto, using(crate::proofs::Shapes::bounds_good, crate::proofs::Counts::enough))]
-pub fn array_layout(element: Layout, dimensions: &[Bounds]) -> Option<Layout>
+#[tactic(auto, using(crate::proofs::ShapeLemmas::bounds_good, crate::proofs::CountLemmas::enough))]
+pub fn array_layout(element: Layout, dimensions: &[WrittenBounds]) -> Option<Layout>
     requires { are_bad_bounds dimensions.now ≡ false }
     ensures { IsLayout result (count_of (all_bounds dimensions.now) * next_multiple_of element.bytes element.alignment) element.alignment }
 {

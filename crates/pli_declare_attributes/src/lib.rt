@@ -19,7 +19,7 @@ mod summary;
 mod types;
 
 pub use complete::{AttributeError, completed_item, completed_result};
-pub use completed::{Completed, Scope, Storage, Variable, copied_description};
+pub use completed::{Completed, DeclaredStorage, ScopeAttribute, Variable, copied_description};
 pub use described::{array_description, scalar_description};
 pub use facts::ItemFacts;
 pub use faults::{item_fault, lesser, result_fault};
@@ -27,4 +27,4 @@ pub use initials::elements_within;
 pub use laws::{sets_are_of_what_stands, types_are_within_limits, worked_examples};
 pub use layout::{array_layout, scalar_layout};
 pub use named::Named;
-pub use place::{Place, Position};
+pub use place::{ItemPlace, Position};

@@ -15,7 +15,7 @@ pub enum Position {
 
 /// What has to be known about a name to judge its attributes.
 #[derive(Clone, Copy)]
-pub struct Place {
+pub struct ItemPlace {
     pub position: Position,
     /// Whether items of a greater level number belong to it.
     pub has_members: bool,

@@ -1,4 +1,4 @@
-pub mod Rounds
-pub mod Blocks
+pub mod RegionsAround
+pub mod BlocksAround
 pub mod ReachStepLemmas
 pub mod ReachLemmas

@@ -8,8 +8,8 @@ use Rattle.pli_declare_outline.specs.declared.region.RegionKind.TheVariants as k
 use Rattle.pli_declare_constructs.specs.Regions.{round_of, rounds_after, outside, is_block, kind_at, innermost, block_of, first_or_unit}
 use Rattle.pli_declare_constructs.specs.Reach.{is_group, is_unit, encloses, in_front_of, is_unit_of, unit_between, reaches}
 use Rattle.pli_declare_constructs.specs.answers.ReachSteps.{left_unit, reaches_through}
-use Rattle.pli_declare_constructs.proofs.Rounds.{before, round_step, round_past}
-use Rattle.pli_declare_constructs.proofs.Blocks.{finds, next, innermost_step}
+use Rattle.pli_declare_constructs.proofs.RegionsAround.{before, round_step, round_past}
+use Rattle.pli_declare_constructs.proofs.BlocksAround.{finds, next, innermost_step}
 
 -- what stands round a region: nothing more, or what stands round the outer one
 data Outwards (rs : List Region) (n : ℕ) : Type 0 where

@@ -5,7 +5,7 @@ use Rattle.pli_declare_constructs.specs.Regions.{round_of, rounds_after, outside
 use Rattle.pli_declare_constructs.specs.Reach.{is_group}
 use Rattle.pli_declare_constructs.specs.answers.ReachSteps.{left_unit, reaches_through}
 use Rattle.std.proofs.lemmas.Bool.{eq-eqb, eqb-true, lt-ltb, le-ltb}
-use Rattle.pli_declare_constructs.proofs.Rounds.{before, round_step, round_past}
+use Rattle.pli_declare_constructs.proofs.RegionsAround.{before, round_step, round_past}
 
 -- beyond the last region nothing is reached
 pub reach_past : (rs : List Region) (left : Bool) (here label : ℕ) → length rs ≤ here → reaches_through rs left (round_of rs here) label ≡ false

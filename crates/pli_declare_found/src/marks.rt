@@ -6,7 +6,7 @@ use crate::references::remember;
 use pli_base::Name;
 use pli_base::syntax::Identifier;
 use pli_declare_constructs::Nesting;
-use pli_declare_outline::{Mark, Placed};
+use pli_declare_outline::{Mark, PlacedMark};
 use pli_declare_tables::Table;
 use std::alloc::{AllocError, Global};
 
@@ -23,7 +23,7 @@ fn remember_mark(
     alloc: Global,
     nesting: &Nesting,
     tables: &mut Vec<Table>,
-    placed: &Placed,
+    placed: &PlacedMark,
 ) -> Result<(), AllocError>
     ensures { tables.new.items ≡ tables.old.items }
 {
@@ -47,7 +47,7 @@ pub(crate) fn remember_marks(
     alloc: Global,
     nesting: &Nesting,
     tables: &mut Vec<Table>,
-    marks: &[Placed],
+    marks: &[PlacedMark],
 ) -> Result<(), AllocError>
     ensures { tables.new.items ≡ tables.old.items }
 {

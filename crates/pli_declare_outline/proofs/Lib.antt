@@ -1,2 +1,2 @@
-pub mod Marks
-pub mod Walking
+pub mod MarkLemmas
+pub mod WalkLemmas

@@ -31,14 +31,14 @@ pub data Mark : Type 0 where
   Jumped : (label : Identifier) → Mark
 
 -- a mark, and the region that it stands in
-pub record Placed : Type 0 where
+pub record PlacedMark : Type 0 where
   pub region : ℕ
   pub mark : Mark
 
 -- the outline of a unit
 pub record Outline : Type 0 where
   pub regions : List Region
-  pub marks : List Placed
+  pub marks : List PlacedMark
 
 -- marks of one region: those of expressions and references
 
@@ -127,7 +127,7 @@ label_marks None other = []
 label_marks (Some l) other = Labelled l ∷ []
 
 -- marks in a region
-abbrev pub placed : (here : ℕ) → List Mark → List Placed
+abbrev pub placed : (here : ℕ) → List Mark → List PlacedMark
 placed here marks = map (λ m. record { region = here; mark = m }) marks
 
 -- how many regions begin in a statement
@@ -192,12 +192,12 @@ abbrev mutual
 -- the marks of a statement of the region here; the first region that begins in it has the number next. The
 -- control of a DO group stands outside the group
 abbrev mutual
-  pub statement_marks : (here next : ℕ) → Statement → List Placed
+  pub statement_marks : (here next : ℕ) → Statement → List PlacedMark
   statement_marks here next (Numbered number label at body) =
       placed here (label_marks label body) ++ body_marks here next body
 
   -- the marks of a statement behind its label
-  pub body_marks : (here next : ℕ) → Body → List Placed
+  pub body_marks : (here next : ℕ) → Body → List PlacedMark
   body_marks here next (body.Procedure heading statements end) =
       placed here (Entered heading next ∷ []) ++ statements_marks next (next + 1) statements
   body_marks here next (body.Begin statements end) = statements_marks next (next + 1) statements
@@ -210,13 +210,13 @@ abbrev mutual
   body_marks here next other = placed here (head_marks other)
 
   -- the marks of each statement of a list
-  pub statements_marks : (here next : ℕ) → Statements → List Placed
+  pub statements_marks : (here next : ℕ) → Statements → List PlacedMark
   statements_marks here next Ended = []
   statements_marks here next (Before first more) =
       statement_marks here next first ++ statements_marks here (next + regions_in first) more
 
   -- the marks of an ELSE
-  pub alternative_marks : (here next : ℕ) → Alternative → List Placed
+  pub alternative_marks : (here next : ℕ) → Alternative → List PlacedMark
   alternative_marks here next NoElse = []
   alternative_marks here next (Else statement) = statement_marks here next statement
 

@@ -5,11 +5,11 @@ use Rattle.pli_declare_outline.specs.Outlines as plain
 use Rattle.pli_declare_outline.specs.Outlines.{optional_marks, control_marks, expression_marks, head_marks}
 use Rattle.pli_declare_outline.specs.views.OutlineView.{regions_view, marks_view}
 use Rattle.pli_declare_outline.specs.declared.region.Region.{Region}
-use Rattle.pli_declare_outline.specs.declared.region.Placed.{Placed}
+use Rattle.pli_declare_outline.specs.declared.region.PlacedMark.{PlacedMark}
 
 -- behind these regions and marks stand those, of which there are so many regions more
-pub record Walked (before after : List Region) (before' after' : List Placed)
-    (rs : List plain.Region) (ms : List plain.Placed) (many : ℕ) : Type 0 where
+pub record Walked (before after : List Region) (before' after' : List PlacedMark)
+    (rs : List plain.Region) (ms : List plain.PlacedMark) (many : ℕ) : Type 0 where
   pub regions : regions_view after ≡ regions_view before ++ rs
   pub marks : marks_view after' ≡ marks_view before' ++ ms
   pub count : length after ≡ length before + many

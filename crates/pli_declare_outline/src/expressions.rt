@@ -4,7 +4,7 @@ ghost use Rattle.pli_base.specs.views.SyntaxView.{expression_view, reference_vie
 ghost use Rattle.pli_declare_outline.specs.Outlines.{placed, member_names, reference_marks, joined_marks, argument_marks, list_marks, expression_marks};
 ghost use Rattle.pli_declare_outline.specs.views.OutlineView.{mark_view, marks_view};
 
-use crate::region::{Mark, Placed};
+use crate::region::{Mark, PlacedMark};
 use pli_base::syntax::{Expression, Identifier, JoinedPart, Joining, Part, Reference};
 use std::alloc::{AllocError, Global};
 
@@ -28,10 +28,14 @@ fn names_of(
 }
 
 /// Puts a mark of a region at the end.
-pub fn mark<'a>(here: usize, mark: Mark<'a>, marks: &mut Vec<Placed<'a>>) -> Result<(), AllocError>
+pub fn mark<'a>(
+    here: usize,
+    mark: Mark<'a>,
+    marks: &mut Vec<PlacedMark<'a>>,
+) -> Result<(), AllocError>
     ensures { OnOk result (marks_view marks.new.items ≡ marks_view marks.old.items ++ placed here (mark_view mark.entry ∷ [])) }
 {
-    marks.push(Placed { region: here, mark })?;
+    marks.push(PlacedMark { region: here, mark })?;
     Ok(())
 }
 
@@ -41,7 +45,7 @@ pub fn mark_reference(
     alloc: Global,
     here: usize,
     reference: &Reference,
-    marks: &mut Vec<Placed<'_>>,
+    marks: &mut Vec<PlacedMark<'_>>,
 ) -> Result<(), AllocError>
     ensures { OnOk result (marks_view marks.new.items
         ≡ marks_view marks.old.items ++ placed here (reference_marks (reference_view reference.now))) }
@@ -58,7 +62,7 @@ fn mark_joined(
     alloc: Global,
     here: usize,
     joined: &[JoinedPart],
-    marks: &mut Vec<Placed<'_>>,
+    marks: &mut Vec<PlacedMark<'_>>,
 ) -> Result<(), AllocError>
     ensures { OnOk result (marks_view marks.new.items
         ≡ marks_view marks.old.items ++ placed here (joined_marks (joined_view joined.now))) }
@@ -80,7 +84,7 @@ fn mark_arguments(
     alloc: Global,
     here: usize,
     part: &Part,
-    marks: &mut Vec<Placed<'_>>,
+    marks: &mut Vec<PlacedMark<'_>>,
 ) -> Result<(), AllocError>
     ensures { OnOk result (marks_view marks.new.items
         ≡ marks_view marks.old.items ++ placed here (argument_marks (arguments_view part.now.arguments))) }
@@ -97,7 +101,7 @@ pub fn mark_expressions(
     alloc: Global,
     here: usize,
     list: &[Expression],
-    marks: &mut Vec<Placed<'_>>,
+    marks: &mut Vec<PlacedMark<'_>>,
 ) -> Result<(), AllocError>
     ensures { OnOk result (marks_view marks.new.items
         ≡ marks_view marks.old.items ++ placed here (list_marks (expressions_view list.now))) }
@@ -114,7 +118,7 @@ pub fn mark_expression(
     alloc: Global,
     here: usize,
     expression: &Expression,
-    marks: &mut Vec<Placed<'_>>,
+    marks: &mut Vec<PlacedMark<'_>>,
 ) -> Result<(), AllocError>
     ensures { OnOk result (marks_view marks.new.items
         ≡ marks_view marks.old.items ++ placed here (expression_marks (expression_view expression.now))) }

@@ -8,5 +8,5 @@ mod statements;
 mod walk;
 
 pub use laws::worked_examples;
-pub use region::{Mark, Outline, Placed, Region, RegionKind};
+pub use region::{Mark, Outline, PlacedMark, Region, RegionKind};
 pub use walk::outline;

@@ -42,7 +42,7 @@ pub enum Mark<'a> {
 
 /// A mark, and the number of the region that it stands in.
 #[derive(Drop)]
-pub struct Placed<'a> {
+pub struct PlacedMark<'a> {
     pub region: usize,
     pub mark: Mark<'a>,
 }
@@ -51,5 +51,5 @@ pub struct Placed<'a> {
 #[derive(Drop)]
 pub struct Outline<'a> {
     pub regions: Vec<Region>,
-    pub marks: Vec<Placed<'a>>,
+    pub marks: Vec<PlacedMark<'a>>,
 }

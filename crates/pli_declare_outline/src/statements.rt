@@ -9,7 +9,7 @@ ghost use Rattle.pli_declare_outline.specs.Walks.{own_marks};
 ghost use Rattle.pli_declare_outline.specs.views.OutlineView.{regions_view, marks_view, outline_view};
 
 use crate::expressions::{mark, mark_expression, mark_expressions, mark_reference};
-use crate::region::{Mark, Outline, Placed, Region, RegionKind};
+use crate::region::{Mark, Outline, PlacedMark, Region, RegionKind};
 use pli_base::statement::{Allocation, Body, Control, Procedure, Range, Statement};
 use pli_base::syntax::{Expression, Reference};
 use std::alloc::{AllocError, Global};
@@ -19,7 +19,7 @@ fn mark_optional(
     alloc: Global,
     here: usize,
     expression: &Option<Expression>,
-    marks: &mut Vec<Placed<'_>>,
+    marks: &mut Vec<PlacedMark<'_>>,
 ) -> Result<(), AllocError>
     ensures { OnOk result (marks_view marks.new.items
         ≡ marks_view marks.old.items ++ placed here (optional_marks expression_marks (option_map expression_view expression.now))) }
@@ -35,7 +35,7 @@ fn mark_range(
     alloc: Global,
     here: usize,
     range: &Range,
-    marks: &mut Vec<Placed<'_>>,
+    marks: &mut Vec<PlacedMark<'_>>,
 ) -> Result<(), AllocError>
     ensures { OnOk result (marks_view marks.new.items
         ≡ marks_view marks.old.items ++ placed here (range_marks (range_view range.now))) }
@@ -58,7 +58,7 @@ fn mark_control(
     alloc: Global,
     here: usize,
     control: &Control,
-    marks: &mut Vec<Placed<'_>>,
+    marks: &mut Vec<PlacedMark<'_>>,
 ) -> Result<(), AllocError>
     ensures { OnOk result (marks_view marks.new.items
         ≡ marks_view marks.old.items ++ placed here (control_marks (control_view control.now))) }
@@ -87,7 +87,7 @@ fn mark_specification(
     alloc: Global,
     here: usize,
     control: &Option<Control>,
-    marks: &mut Vec<Placed<'_>>,
+    marks: &mut Vec<PlacedMark<'_>>,
 ) -> Result<(), AllocError>
     ensures { OnOk result (marks_view marks.new.items
         ≡ marks_view marks.old.items ++ placed here (optional_marks control_marks (option_map control_view control.now))) }
@@ -104,7 +104,7 @@ fn mark_both(
     here: usize,
     area: &Option<Reference>,
     target: &Option<Reference>,
-    marks: &mut Vec<Placed<'_>>,
+    marks: &mut Vec<PlacedMark<'_>>,
 ) -> Result<(), AllocError>
     ensures { OnOk result (marks_view marks.new.items
         ≡ marks_view marks.old.items ++ placed here (both_marks (option_map reference_view area.now) (option_map reference_view target.now))) }
@@ -129,7 +129,7 @@ fn mark_allocation(
     alloc: Global,
     here: usize,
     allocation: &Allocation,
-    marks: &mut Vec<Placed<'_>>,
+    marks: &mut Vec<PlacedMark<'_>>,
 ) -> Result<(), AllocError>
     ensures { OnOk result (marks_view marks.new.items
         ≡ marks_view marks.old.items ++ placed here (allocation_marks (allocation_view allocation.now))) }
@@ -145,7 +145,7 @@ fn mark_allocations(
     alloc: Global,
     here: usize,
     allocations: &[Allocation],
-    marks: &mut Vec<Placed<'_>>,
+    marks: &mut Vec<PlacedMark<'_>>,
 ) -> Result<(), AllocError>
     ensures { OnOk result (marks_view marks.new.items
         ≡ marks_view marks.old.items ++ placed here (flat_map allocation_marks (map allocation_view allocations.now))) }
@@ -161,7 +161,7 @@ fn mark_references(
     alloc: Global,
     here: usize,
     references: &[Reference],
-    marks: &mut Vec<Placed<'_>>,
+    marks: &mut Vec<PlacedMark<'_>>,
 ) -> Result<(), AllocError>
     ensures { OnOk result (marks_view marks.new.items
         ≡ marks_view marks.old.items ++ placed here (flat_map reference_marks (map reference_view references.now))) }
@@ -178,7 +178,7 @@ pub fn mark_head<'a>(
     here: usize,
     body: &'a Body,
     region: usize,
-    marks: &mut Vec<Placed<'a>>,
+    marks: &mut Vec<PlacedMark<'a>>,
 ) -> Result<(), AllocError>
     ensures { OnOk result (marks_view marks.new.items ≡ marks_view marks.old.items ++ placed here (own_marks region (body_view body.now))) }
 {
@@ -221,7 +221,7 @@ fn mark_items(
     alloc: Global,
     here: usize,
     items: &[Expression],
-    marks: &mut Vec<Placed<'_>>,
+    marks: &mut Vec<PlacedMark<'_>>,
 ) -> Result<(), AllocError>
     ensures { OnOk result (marks_view marks.new.items
         ≡ marks_view marks.old.items ++ placed here (flat_map expression_marks (map expression_view items.now))) }
@@ -236,7 +236,7 @@ fn mark_items(
 pub fn mark_label<'a>(
     here: usize,
     statement: &'a Statement,
-    marks: &mut Vec<Placed<'a>>,
+    marks: &mut Vec<PlacedMark<'a>>,
 ) -> Result<(), AllocError>
     ensures { OnOk result (marks_view marks.new.items
         ≡ marks_view marks.old.items ++ placed here (label_marks statement.now.label (body_view statement.now.body))) }

@@ -6,7 +6,7 @@ ghost use Rattle.pli_declare_outline.specs.Walks.{Walked};
 ghost use Rattle.pli_declare_outline.specs.views.OutlineView.{region_view, outline_view};
 
 use crate::expressions::mark;
-use crate::region::{Mark, Outline, Placed, Region, RegionKind};
+use crate::region::{Mark, Outline, PlacedMark, Region, RegionKind};
 use crate::statements::{mark_head, mark_label};
 use pli_base::statement::{Body, Procedure, Statement};
 use std::alloc::{AllocError, Global};
@@ -18,7 +18,7 @@ fn walk_statement<'a>(
     here: usize,
     statement: &'a Statement,
     regions: &mut Vec<Region>,
-    marks: &mut Vec<Placed<'a>>,
+    marks: &mut Vec<PlacedMark<'a>>,
 ) -> Result<(), AllocError>
     ensures { OnOk result (Walked regions.old.items regions.new.items marks.old.items marks.new.items
         (statement_regions here (length regions.old.items) (statement_view statement.now))
@@ -36,7 +36,7 @@ fn walk_statements<'a>(
     here: usize,
     statements: &'a [Statement],
     regions: &mut Vec<Region>,
-    marks: &mut Vec<Placed<'a>>,
+    marks: &mut Vec<PlacedMark<'a>>,
 ) -> Result<(), AllocError>
     ensures { OnOk result (Walked regions.old.items regions.new.items marks.old.items marks.new.items
         (statements_regions here (length regions.old.items) (statements_view statements.now))
@@ -56,7 +56,7 @@ fn walk_region<'a>(
     region: Region,
     statements: &'a [Statement],
     regions: &mut Vec<Region>,
-    marks: &mut Vec<Placed<'a>>,
+    marks: &mut Vec<PlacedMark<'a>>,
 ) -> Result<(), AllocError>
     ensures { OnOk result (Walked regions.old.items regions.new.items marks.old.items marks.new.items
         (region_view region ∷ statements_regions (length regions.old.items) (length regions.old.items + 1) (statements_view statements.now))
@@ -75,7 +75,7 @@ fn walk_unit<'a>(
     region: Region,
     statement: &'a Statement,
     regions: &mut Vec<Region>,
-    marks: &mut Vec<Placed<'a>>,
+    marks: &mut Vec<PlacedMark<'a>>,
 ) -> Result<(), AllocError>
     ensures { OnOk result (Walked regions.old.items regions.new.items marks.old.items marks.new.items
         (region_view region ∷ statement_regions (length regions.old.items) (length regions.old.items + 1) (statement_view statement.now))
@@ -94,7 +94,7 @@ fn walk_body<'a>(
     here: usize,
     body: &'a Body,
     regions: &mut Vec<Region>,
-    marks: &mut Vec<Placed<'a>>,
+    marks: &mut Vec<PlacedMark<'a>>,
 ) -> Result<(), AllocError>
     ensures { OnOk result (Walked regions.old.items regions.new.items marks.old.items marks.new.items
         (body_regions here (length regions.old.items) (body_view body.now))

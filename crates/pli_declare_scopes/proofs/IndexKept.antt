@@ -8,7 +8,7 @@ use Rattle.indexmap.specs.IndexMap.{IndexMap, get}
 use Rattle.pli_base.specs.Name.{Name}
 use Rattle.pli_base.specs.Words.{same_name}
 use Rattle.pli_declare_scopes.specs.declared.block.Declared.{Declared}
-use Rattle.pli_declare_scopes.specs.Scopes.{Block, no_item, item_at, is_named, any_below}
+use Rattle.pli_declare_scopes.specs.Scopes.{BlockItems, no_item, item_at, is_named, any_below}
 use Rattle.pli_declare_scopes.specs.answers.Indexes.{last_below, OwnersBefore, IsIndexed}
 
 last_below_same : (test other : ℕ → Bool) (k : ℕ) → ((j : ℕ) → j < k → test j ≡ other j) → last_below test k ≡ last_below other k
@@ -27,8 +27,8 @@ last_is_any test (suc k) = by (test k) (last_is_any test k)
     by false e = e
 
 -- the items before another stay as they are
-module _ (items : Block) (i : Declared) where
-  abbrev more : Block
+module _ (items : BlockItems) (i : Declared) where
+  abbrev more : BlockItems
   more = items ++ i ∷ []
 
   pub item_front : (k : ℕ) → k < length items → item_at more k ≡ item_at items k
@@ -66,7 +66,7 @@ below_or_last n k lt = by (nat_lt n k) refl
     by false e = inr (grind (arith, nat_tests))
 
 -- one more item belongs to one before it too
-pub owners_added : (items : Block) (i : Declared) → OwnersBefore items → IfSome i.owner (λ o. o < length items) → OwnersBefore (items ++ i ∷ [])
+pub owners_added : (items : BlockItems) (i : Declared) → OwnersBefore items → IfSome i.owner (λ o. o < length items) → OwnersBefore (items ++ i ∷ [])
 owners_added items i owners owned n lt = elim (below_or_last n (length items) (omega (arith, lt, length-append items (i ∷ [])))) [
   | inl front ↦ subst (λ (j : Declared). IfSome j.owner (λ o. o < n)) (sym (item_front items i n front)) (owners n front)
   | inr last ↦ subst (λ (k : ℕ). IfSome (item_at (items ++ i ∷ []) k).owner (λ o. o < k)) (sym last)
@@ -74,7 +74,7 @@ owners_added items i owners owned n lt = elim (below_or_last n (length items) (o
 ]
 
 -- one more item with its links
-module _ {S : Type 0} (items : Block) (earlier : List (Option ℕ)) (latest later : IndexMap Name ℕ S) (kept : IsIndexed items earlier latest)
+module _ {S : Type 0} (items : BlockItems) (earlier : List (Option ℕ)) (latest later : IndexMap Name ℕ S) (kept : IsIndexed items earlier latest)
     (i : Declared) (before : Option ℕ)
     (owned : IfSome i.owner (λ o. o < length items))
     (link : i.counts ≡ true → before ≡ get same_name latest i.name)
@@ -95,7 +95,7 @@ module _ {S : Type 0} (items : Block) (earlier : List (Option ℕ)) (latest late
   pub owners_more : OwnersBefore (items ++ i ∷ [])
   owners_more = owners_added items i kept.owners owned
 
-  pub indexed_more : (all : Block) (links : List (Option ℕ)) → all ≡ items ++ i ∷ [] → links ≡ earlier ++ before ∷ [] → IsIndexed all links later
+  pub indexed_more : (all : BlockItems) (links : List (Option ℕ)) → all ≡ items ++ i ∷ [] → links ≡ earlier ++ before ∷ [] → IsIndexed all links later
   indexed_more all links p q =
       let made : IsIndexed (items ++ i ∷ []) (earlier ++ before ∷ []) later = record {
         last = λ name. found name ∙ ap (λ r. if i.counts && same_name i.name name then Some (length items) else r) (kept.last name) ∙ sym (last_more items i name);

@@ -6,11 +6,11 @@ use Rattle.pli_base.specs.Name.{Name}
 use Rattle.pli_base.specs.Words.{same_name}
 use Rattle.pli_declare_scopes.specs.declared.block.Declared.{Declared}
 use Rattle.pli_declare_scopes.specs.declared.leap.Leap.{Leap}
-use Rattle.pli_declare_scopes.specs.Scopes.{Block, is_named}
+use Rattle.pli_declare_scopes.specs.Scopes.{BlockItems, is_named}
 use Rattle.pli_declare_scopes.specs.answers.Indexes.{last_below}
 use Rattle.pli_declare_scopes.specs.answers.Leaps.{rank, no_leap, leap_at, AreLeaps, IsLastUpTo}
 use Rattle.pli_declare_scopes.proofs.IndexKept.{item_last, named_front, both_true, below_or_last}
-use Rattle.pli_declare_scopes.proofs.Candidates.{last_within, last_passes}
+use Rattle.pli_declare_scopes.proofs.CandidateLemmas.{last_within, last_passes}
 
 -- a number that passes is no greater than the last that does
 pub passes_last : (test : ℕ → Bool) (k n : ℕ) → n < k → test n ≡ true → n < rank (last_below test k)
@@ -23,13 +23,13 @@ passes_last test (suc k) n lt h = by (passes_last test k n) (test k) refl (below
     by rest false e (inr same) = let bad : true ≡ false = sym h ∙ ap test same ∙ e in cc
 
 -- the leap of one item more
-module _ (items : Block) (leaps : List Leap) (kept : AreLeaps items leaps) (i : Declared) (leap : Leap) (before : Option ℕ)
+module _ (items : BlockItems) (leaps : List Leap) (kept : AreLeaps items leaps) (i : Declared) (leap : Leap) (before : Option ℕ)
     (link : i.counts ≡ true → (name : Name) → same_name i.name name ≡ true → before ≡ last_below (is_named items name) (length items))
     (within : IfSome before (λ b. b < length items))
     (none : before ≡ None → leap.to ≡ length items)
     (some : (name : Name) (b : ℕ) → before ≡ Some b → is_named items name b ≡ true → is_named items name leap.to ≡ true)
     (back : IfSome before (λ b. leap.to ≤ b)) where
-  abbrev more : Block
+  abbrev more : BlockItems
   more = items ++ i ∷ []
 
   no_further : leap.to ≤ length items
@@ -77,12 +77,12 @@ module _ (items : Block) (leaps : List Leap) (kept : AreLeaps items leaps) (i : 
   }
 
 -- a search back for the last item of a name up to a bound: it is no greater than the next that is looked at
-pub record Seeking (items : Block) (name : Name) (bound : ℕ) (next : Option ℕ) : Type 0 where
+pub record Seeking (items : BlockItems) (name : Name) (bound : ℕ) (next : Option ℕ) : Type 0 where
   pub within : IfSome next (λ n. n < length items)
   pub named : IfSome next (λ n. is_named items name n ≡ true)
   pub last : (n : ℕ) → n < length items → n ≤ bound → is_named items name n ≡ true → n < rank next
 
-module _ (items : Block) (name : Name) (bound : ℕ) where
+module _ (items : BlockItems) (name : Name) (bound : ℕ) where
   pub seeking_first : (next : Option ℕ) → next ≡ last_below (is_named items name) (length items) → Seeking items name bound next
   seeking_first next e = rw e (record {
     within = last_within (is_named items name) (length items);

@@ -3,7 +3,7 @@ use Rattle.std.proofs.Common.{◌≡◌, ℕ, ◌+◌, ◌-◌, ◌<◌, ◌≤�
 use Rattle.std.proofs.lemmas.Bool.Decides.{nat_tests}
 use Rattle.std.proofs.lemmas.List.{take_more, at_drop_more}
 use Rattle.std.proofs.Math.Seq.{take-length}
-use Rattle.pli_declare_scopes.specs.declared.level.Standing.{Standing}
+use Rattle.pli_declare_scopes.specs.declared.level.ItemStanding.{ItemStanding}
 use Rattle.pli_declare_scopes.specs.declared.level.Numbered.{Numbered}
 use Rattle.pli_declare_scopes.specs.Levels.{level_of, nearest_after, nearest, standing, standings_after}
 
@@ -55,7 +55,7 @@ module _ (before after : List Numbered) (n level : ℕ) (kept : (m : ℕ) → m 
       by false e = kept m (search (rules, nat_tests))
 
   -- one more item stands
-  pub standings_more : (done whole : List Standing) (levels : List (Option ℕ)) → n < length levels → level ≡ level_of (get_or levels n None)
+  pub standings_more : (done whole : List ItemStanding) (levels : List (Option ℕ)) → n < length levels → level ≡ level_of (get_or levels n None)
       → done ++ standings_after before n (map level_of (drop n levels)) ≡ whole
       → (done ++ standing level (nearest level before) ∷ []) ++ standings_after (after ++ record { number = n; level = level } ∷ []) (n + 1) (map level_of (drop (n + 1) levels)) ≡ whole
   standings_more done whole levels lt is all =

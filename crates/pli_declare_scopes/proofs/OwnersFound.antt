@@ -5,7 +5,7 @@ use Rattle.std.proofs.lemmas.Bool.Decides.{nat_tests}
 use Rattle.std.proofs.lemmas.List.{get_or-map, length-map, get_or-take, length-take-le}
 use Rattle.std.specs.Option.{is_none}
 use Rattle.pli_declare_scopes.specs.declared.level.Numbered.{Numbered}
-use Rattle.pli_declare_scopes.specs.declared.level.Standing.{Standing}
+use Rattle.pli_declare_scopes.specs.declared.level.ItemStanding.{ItemStanding}
 use Rattle.pli_declare_scopes.specs.Levels.{level_of, nearest_after, nearest, owner_of, is_bad, standing, standings_after}
 use Rattle.pli_declare_scopes.specs.laws.LevelLaws.{level_at, stands_at, Belongs, IsLeast, HasNoOwner, IsBadLevel, AllStand, OwnersAreNearest, OwnersAreMissed, BadLevelsAreFound, LevelOneHasNoOwner, LevelsFall}
 
@@ -14,7 +14,7 @@ abbrev pub numbered : ℕ → List ℕ → List Numbered
 numbered n [] = []
 numbered n (l ∷ ls) = record { number = n; level = l } ∷ numbered (n + 1) ls
 
-stands_behind : (ls : List ℕ) (before : List Numbered) (n i : ℕ) (d : Standing) → i < length ls
+stands_behind : (ls : List ℕ) (before : List Numbered) (n i : ℕ) (d : ItemStanding) → i < length ls
     → get_or (standings_after before n ls) i d ≡ standing (get_or ls i 0) (nearest (get_or ls i 0) (before ++ numbered n (take i ls)))
 stands_behind [] before n i d lt = absurd (omega arith)
 stands_behind (l ∷ ls) before n zero d lt = ap (λ is. standing l (nearest l is)) (sym (append-nil before))

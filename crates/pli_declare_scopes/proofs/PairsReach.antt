@@ -6,13 +6,13 @@ use Rattle.std.proofs.lemmas.List.{reverse-append, get_or-take, length-take-le}
 use Rattle.pli_base.specs.Name.{Name}
 use Rattle.pli_base.specs.laws.NameLaws.{pointwise-refl}
 use Rattle.pli_base.specs.Words.{same_name}
-use Rattle.pli_declare_scopes.specs.Scopes.{Block, item_at, is_named, chain_over, is_part}
+use Rattle.pli_declare_scopes.specs.Scopes.{BlockItems, item_at, is_named, chain_over, is_part}
 use Rattle.pli_declare_scopes.specs.answers.Indexes.{OwnersBefore}
 use Rattle.pli_declare_scopes.specs.answers.Leaps.{IsLastUpTo}
 use Rattle.pli_declare_scopes.specs.answers.Reaches.{IsWithin, last_of, AreReaching}
 use Rattle.pli_declare_scopes.specs.laws.ScopeLaws.{IsPart}
-use Rattle.pli_declare_scopes.proofs.MeantMeans.{part_to}
-use Rattle.pli_declare_scopes.proofs.Chains.{chain_is}
+use Rattle.pli_declare_scopes.proofs.ReferencesMeanOne.{part_to}
+use Rattle.pli_declare_scopes.proofs.ChainLemmas.{chain_is}
 use Rattle.pli_declare_scopes.proofs.ReachesKept.{climbs_through, within_both, counts_up, IsAmong, part_among, turned_among, above_named}
 
 -- some of some names are some of these
@@ -57,7 +57,7 @@ turned_pair (n ∷ ns) (suc k) lt =
     subst (IsPart (get_or ns (suc k) [] ∷ get_or ns k [] ∷ [])) (sym (reverse-append (n ∷ []) ns))
     (part_front (get_or ns (suc k) [] ∷ get_or ns k [] ∷ []) (reverse ns) (n ∷ []) (turned_pair ns k (omega (arith, lt))))
 
-module _ (items : Block) (owners : OwnersBefore items) where
+module _ (items : BlockItems) (owners : OwnersBefore items) where
   -- two names above an item are those of two that it is within, the second within the first
   pair_named : (y x : Name) (m n : ℕ) → n < m → n < length items → IsPart (y ∷ x ∷ []) (chain_over items (item_at items n).owner)
       → (below : ℕ) × (above : ℕ) × (IsWithin items below n) × (IsWithin items above below) × (below < n) × (above < below)

@@ -18,16 +18,16 @@ use Rattle.pli_declare_scopes.specs.declared.block.Declared.{Declared}
 use Rattle.pli_declare_scopes.specs.declared.path.Step.{Step}
 use Rattle.pli_declare_scopes.specs.declared.found.Found.{Found}
 use Rattle.pli_declare_scopes.specs.declared.found.Found.TheVariants.{Nothing}
-use Rattle.pli_declare_scopes.specs.Scopes.{Block, item_at, chain_above, chains_after, chain_at, chain_over, is_chain, fits_fully, with_number, found_below}
+use Rattle.pli_declare_scopes.specs.Scopes.{BlockItems, item_at, chain_above, chains_after, chain_at, chain_over, is_chain, fits_fully, with_number, found_below}
 use Rattle.pli_declare_scopes.specs.answers.Indexes.{OwnersBefore}
 use Rattle.pli_declare_scopes.specs.answers.Paths.{no_step, step_at, Spells, ends_at, ArePaths}
 use Rattle.pli_base.specs.laws.NameLaws.{pointwise-refl}
-use Rattle.pli_declare_scopes.proofs.Repeated.{same_owners}
-use Rattle.pli_declare_scopes.proofs.Judged.{owner_refl}
-use Rattle.pli_declare_scopes.proofs.Chains.{backwards, chain_is, chains_kept}
-use Rattle.pli_declare_scopes.proofs.Candidates.{found_more, found_same, none_found}
+use Rattle.pli_declare_scopes.proofs.RepeatsLemmas.{same_owners}
+use Rattle.pli_declare_scopes.proofs.CountedItems.{owner_refl}
+use Rattle.pli_declare_scopes.proofs.ChainLemmas.{backwards, chain_is, chains_kept}
+use Rattle.pli_declare_scopes.proofs.CandidateLemmas.{found_more, found_same, none_found}
 use Rattle.pli_declare_scopes.proofs.IndexKept.{item_front, item_last, both_true, below_or_last}
-use Rattle.pli_declare_scopes.proofs.MeantMeans.{whole_to, whole_from}
+use Rattle.pli_declare_scopes.proofs.ReferencesMeanOne.{whole_to, whole_from}
 
 -- a path goes on spelling its chain where there are more paths
 pub spells_more : (steps more : List Step) (at : Option ℕ) (chain : List Name) → Spells steps at chain → Spells (steps ++ more) at chain
@@ -131,17 +131,17 @@ module _ (steps : List Step) (once : (p q : ℕ) → p < length steps → q < le
       (spelled_once (step_at steps p).above (step_at steps q).above ns g.2 h.2)))
 
 -- more chains stand behind those of the items before
-chains_both : (is js : Block) (chains : List (List Name)) → chains_after chains (is ++ js) ≡ chains_after (chains_after chains is) js
+chains_both : (is js : BlockItems) (chains : List (List Name)) → chains_after chains (is ++ js) ≡ chains_after (chains_after chains is) js
 chains_both [] js chains = refl
 chains_both (i ∷ is) js chains = chains_both is js (chains ++ (i.name ∷ chain_above chains i.owner) ∷ [])
 
-chains_count : (is : Block) (chains : List (List Name)) → length (chains_after chains is) ≡ length chains + length is
+chains_count : (is : BlockItems) (chains : List (List Name)) → length (chains_after chains is) ≡ length chains + length is
 chains_count [] chains = let e : length chains ≡ length chains + 0 = omega arith in e
 chains_count (i ∷ is) chains =
     let c : List Name = i.name ∷ chain_above chains i.owner in
     chains_count is (chains ++ c ∷ []) ∙ (let e : length (chains ++ c ∷ []) + length is ≡ length chains + length (i ∷ is) = omega (arith, length-append chains (c ∷ [])) in e)
 
-module _ (items : Block) (i : Declared) where
+module _ (items : BlockItems) (i : Declared) where
   pub chain_front : (n : ℕ) → n < length items → chain_at (items ++ i ∷ []) n ≡ chain_at items n
   chain_front n lt =
       ap (λ cs. get_or cs n []) (chains_both items (i ∷ []) [])
@@ -162,7 +162,7 @@ path_within steps p [] h = absurd h
 path_within steps p (n ∷ ns) h = h.0
 
 -- one more path, which no item has
-pub path_made : (items : Block) (steps : List Step) (paths : List ℕ) (ended : List Found) (step : Step) → ((p : ℕ) → p < length steps → step_at steps p ≡ step → ⊥)
+pub path_made : (items : BlockItems) (steps : List Step) (paths : List ℕ) (ended : List Found) (step : Step) → ((p : ℕ) → p < length steps → step_at steps p ≡ step → ⊥)
     → ArePaths items steps paths ended → ArePaths items (steps ++ step ∷ []) paths (ended ++ Nothing ∷ [])
 path_made items steps paths ended step is_new kept = record {
   spelled = λ n lt. spells_more steps (step ∷ []) (Some (get_or paths n 0)) (chain_at items n) (kept.spelled n lt);
@@ -215,7 +215,7 @@ path_made items steps paths ended step is_new kept = record {
         by b e = past ∙ kept.ends p
 
 -- an item more has a path
-pub path_more : (items : Block) (steps : List Step) (paths : List ℕ) (ended : List Found) (i : Declared) (p : ℕ) → OwnersBefore (items ++ i ∷ [])
+pub path_more : (items : BlockItems) (steps : List Step) (paths : List ℕ) (ended : List Found) (i : Declared) (p : ℕ) → OwnersBefore (items ++ i ∷ [])
     → IfSome i.owner (λ o. o < length items) → p < length steps → step_at steps p ≡ record { name = i.name; above = option_map (λ o. get_or paths o 0) i.owner }
     → ArePaths items steps paths ended
     → ArePaths (items ++ i ∷ []) steps (paths ++ p ∷ []) (if i.counts then set ended p (with_number (length items) (get_or ended p Nothing)) else ended)
@@ -286,7 +286,7 @@ and_false : (b : Bool) → (b && false) ≡ false
 and_false true = refl
 and_false false = refl
 
-module _ (items : Block) (owners : OwnersBefore items) (steps : List Step) (paths : List ℕ) (ended : List Found) (kept : ArePaths items steps paths ended) (names : List Name) where
+module _ (items : BlockItems) (owners : OwnersBefore items) (steps : List Step) (paths : List ℕ) (ended : List Found) (kept : ArePaths items steps paths ended) (names : List Name) where
   -- the items of a path are those that its names qualify fully
   pub full_found : (p : ℕ) → Spells steps (Some p) (reverse names) → get_or ended p Nothing ≡ found_below (fits_fully items names) (length items) Nothing
   full_found p h = kept.ends p ∙ found_same (ends_at items paths p) (fits_fully items names) (length items) Nothing

@@ -11,24 +11,24 @@ use Rattle.std.specs.Cmp.Lexicographic.{same_text}
 use Rattle.pli_base.specs.laws.NameLaws.{pointwise-refl}
 use Rattle.pli_base.specs.Words.{same_name}
 use Rattle.pli_declare_scopes.specs.declared.block.Declared.{Declared}
-use Rattle.pli_declare_scopes.specs.Scopes.{Block, item_at, is_named, chain_over, is_part}
+use Rattle.pli_declare_scopes.specs.Scopes.{BlockItems, item_at, is_named, chain_over, is_part}
 use Rattle.pli_declare_scopes.specs.answers.Indexes.{last_below, OwnersBefore}
 use Rattle.pli_declare_scopes.specs.answers.Leaps.{rank, IsLastUpTo}
 use Rattle.pli_declare_scopes.specs.answers.Reaches.{Climbs, IsWithin, last_of, outermost_of, IsStillOpen, AreReaching, AreClosed}
 use Rattle.pli_declare_scopes.specs.laws.ScopeLaws.{IsPart}
-use Rattle.pli_declare_scopes.proofs.MeantMeans.{part_to}
-use Rattle.pli_declare_scopes.proofs.Chains.{chain_is}
+use Rattle.pli_declare_scopes.proofs.ReferencesMeanOne.{part_to}
+use Rattle.pli_declare_scopes.proofs.ChainLemmas.{chain_is}
 use Rattle.pli_declare_scopes.proofs.IndexKept.{item_front, item_last, named_front, both_true, below_or_last}
-use Rattle.pli_declare_scopes.proofs.Candidates.{last_within, last_passes}
+use Rattle.pli_declare_scopes.proofs.CandidateLemmas.{last_within, last_passes}
 use Rattle.pli_declare_scopes.proofs.LeapsKept.{passes_last}
 
 -- one level more, from the item below
-pub climbs_more : (items : Block) (k above n owner : ℕ) → Climbs items k n above → (item_at items n).owner ≡ Some owner → Climbs items (suc k) owner above
+pub climbs_more : (items : BlockItems) (k above n owner : ℕ) → Climbs items k n above → (item_at items n).owner ≡ Some owner → Climbs items (suc k) owner above
 climbs_more items zero above n owner c e = (owner, subst (λ m. (item_at items m).owner ≡ Some owner) c e, refl)
 climbs_more items (suc k) above n owner c e = (c.0, c.1, climbs_more items k c.0 n owner c.2 e)
 
 -- what an item belongs to stands before it
-pub climbs_back : (items : Block) → OwnersBefore items → (k above below : ℕ) → below < length items → Climbs items k above below → above ≤ below
+pub climbs_back : (items : BlockItems) → OwnersBefore items → (k above below : ℕ) → below < length items → Climbs items k above below → above ≤ below
 climbs_back items owners zero above below lt c = omega (arith, c)
 climbs_back items owners (suc k) above below lt c =
     let before : c.0 < below = subst (λ o. IfSome o (λ n. n < below)) c.1 (owners below lt) in
@@ -38,7 +38,7 @@ pub some_is : (a b : ℕ) → Some a ≡ Some b → a ≡ b
 some_is a b e = cc
 
 -- of two items that one is within, the second is within the first
-pub within_both : (items : Block) → OwnersBefore items → (k j n o last : ℕ) → last < length items → Climbs items k n last → Climbs items j o last → n ≤ o
+pub within_both : (items : BlockItems) → OwnersBefore items → (k j n o last : ℕ) → last < length items → Climbs items k n last → Climbs items j o last → n ≤ o
     → IsWithin items n o
 within_both items owners k zero n o last lt c d le = (k, subst (λ m. Climbs items k n m) (sym d) c)
 within_both items owners zero (suc j) n o last lt c d le =
@@ -49,7 +49,7 @@ within_both items owners (suc k) (suc j) n o last lt c d le =
     within_both items owners k j n o d.0 (omega (arith, before, lt)) (subst (λ m. Climbs items k n m) (some_is c.0 d.0 (sym c.1 ∙ d.1)) c.2) d.2 le
 
 -- the walk over the items that the last one is within
-pub record Closing (items : Block) (before : List (Option ℕ)) (owner : Option ℕ) (after : List (Option ℕ)) (at : Option ℕ) : Type 0 where
+pub record Closing (items : BlockItems) (before : List (Option ℕ)) (owner : Option ℕ) (after : List (Option ℕ)) (at : Option ℕ) : Type 0 where
   pub all : length after ≡ length before
   pub here : IfSome at (λ n. n < length items)
   pub kept : IfSome owner (λ o. (n : ℕ) → n ≤ o → last_of after n ≡ last_of before n)
@@ -62,7 +62,7 @@ same_kept : (before : List (Option ℕ)) (owner : Option ℕ) → IfSome owner (
 same_kept before None = tt
 same_kept before (Some o) = λ n le. refl
 
-module _ (items : Block) (before : List (Option ℕ)) (all : length before ≡ length items) (owner : Option ℕ) where
+module _ (items : BlockItems) (before : List (Option ℕ)) (all : length before ≡ length items) (owner : Option ℕ) where
   pub closing_first : (at : Option ℕ) → ((n : ℕ) → at ≡ Some n → suc n ≡ length items) → ((n : ℕ) → suc n ≡ length items → at ≡ Some n)
       → Closing items before owner before at
   closing_first at e last_is = record {
@@ -150,7 +150,7 @@ module _ (items : Block) (before : List (Option ℕ)) (all : length before ≡ l
           (suc c.0, climbs_more items c.0 l n k c.1 f)
 
 -- what is closed at last
-pub closing_ends : (items : Block) → OwnersBefore items → (before : List (Option ℕ)) (owner : Option ℕ) (after : List (Option ℕ)) (at : Option ℕ) (is_ordered : Bool)
+pub closing_ends : (items : BlockItems) → OwnersBefore items → (before : List (Option ℕ)) (owner : Option ℕ) (after : List (Option ℕ)) (at : Option ℕ) (is_ordered : Bool)
     → Closing items before owner after at
     → (is_ordered ≡ true → (o : ℕ) → owner ≡ Some o → at ≡ Some o) → ((m : ℕ) → at ≡ Some m → m < rank owner) → AreClosed items before owner after is_ordered
 closing_ends items owners before owner after at is_ordered h met up_to = record {
@@ -176,8 +176,8 @@ closing_ends items owners before owner after at is_ordered h met up_to = record 
     by (Some k) f e = subst (λ a. IfSome a (λ n. (last : ℕ) → suc last ≡ length items → IsWithin items n last)) (met e k f) h.within
 
 -- what an item of the new block belongs to, if it is none of those before
-module _ (items : Block) (i : Declared) where
-  abbrev more : Block
+module _ (items : BlockItems) (i : Declared) where
+  abbrev more : BlockItems
   more = items ++ i ∷ []
 
   climbs_front : OwnersBefore items → (k above below : ℕ) → below < length items → Climbs more k above below → Climbs items k above below
@@ -201,14 +201,14 @@ module _ (items : Block) (i : Declared) where
       (c.0, own, climbs_front owners k above c.0 (subst (λ o. IfSome o (λ n. n < length items)) own owned) c.2)
 
 -- climbing on
-pub climbs_through : (items : Block) (k j above middle below : ℕ) → Climbs items k above middle → Climbs items j middle below → IsWithin items above below
+pub climbs_through : (items : BlockItems) (k j above middle below : ℕ) → Climbs items k above middle → Climbs items j middle below → IsWithin items above below
 climbs_through items k zero above middle below c d = (k, subst (λ n. Climbs items k above n) d c)
 climbs_through items k (suc j) above middle below c d =
     let rest = climbs_through items k j above middle d.0 c d.2 in
     (suc rest.0, (d.0, d.1, rest.1))
 
 -- what a counting item belongs to counts
-pub counts_up : (items : Block) → OwnersBefore items
+pub counts_up : (items : BlockItems) → OwnersBefore items
     → ((n owner : ℕ) → n < length items → (item_at items n).counts ≡ true → (item_at items n).owner ≡ Some owner → (item_at items owner).counts ≡ true)
     → (k above below : ℕ) → below < length items → (item_at items below).counts ≡ true → Climbs items k above below → (item_at items above).counts ≡ true
 counts_up items owners counted zero above below lt h c = ap (λ n. (item_at items n).counts) c ∙ h
@@ -217,7 +217,7 @@ counts_up items owners counted (suc k) above below lt h c =
     counts_up items owners counted k above c.0 (omega (arith, before, lt)) (counted below c.0 lt h c.1) c.2
 
 -- one item more
-module _ (items : Block) (owners : OwnersBefore items) (lasts now : List (Option ℕ)) (tops : List ℕ) (is_ordered then_ordered : Bool) (kept : AreReaching items lasts tops is_ordered)
+module _ (items : BlockItems) (owners : OwnersBefore items) (lasts now : List (Option ℕ)) (tops : List ℕ) (is_ordered then_ordered : Bool) (kept : AreReaching items lasts tops is_ordered)
     (i : Declared) (owned : IfSome i.owner (λ o. o < length items)) (before : Option ℕ)
     (link : i.counts ≡ true → before ≡ last_below (is_named items i.name) (length items))
     (within : IfSome before (λ b. b < length items))
@@ -228,7 +228,7 @@ module _ (items : Block) (owners : OwnersBefore items) (lasts now : List (Option
   abbrev top : ℕ
   top = outermost_of now tops before (length items)
 
-  abbrev later : Block
+  abbrev later : BlockItems
   later = items ++ i ∷ []
 
   top_front : (n : ℕ) → n < length items → get_or (tops ++ top ∷ []) n 0 ≡ get_or tops n 0
@@ -626,7 +626,7 @@ turned_among (n ∷ ns) zero lt = subst (IsAmong n) (sym (reverse-append (n ∷ 
 turned_among (n ∷ ns) (suc k) lt =
     subst (IsAmong (get_or ns k [])) (sym (reverse-append (n ∷ []) ns)) (among_front (get_or ns k []) (reverse ns) (n ∷ []) (turned_among ns k (omega (arith, lt))))
 
-module _ (items : Block) (owners : OwnersBefore items) where
+module _ (items : BlockItems) (owners : OwnersBefore items) where
   -- a name above an item is that of one that it is within
   pub above_named : (x : Name) (m n : ℕ) → n < m → n < length items → IsAmong x (chain_over items (item_at items n).owner)
       → (above : ℕ) × (IsWithin items above n) × (above < n) × ((item_at items above).name ≡ x)
@@ -679,7 +679,7 @@ module _ (items : Block) (owners : OwnersBefore items) where
       by (Some a) e h g r = (a, e, kept.reach ordered up.0 n a lt counts up.1 (subst (λ y. is_named items y a ≡ true) (sym up.3) g) (omega (arith, r)) h)
 
 -- the item of its name before one that counts stands before it; one that does not count has none
-pub noted_within : (items : Block) (i : Declared) (before : Option ℕ) → (i.counts ≡ true → before ≡ last_below (is_named items i.name) (length items))
+pub noted_within : (items : BlockItems) (i : Declared) (before : Option ℕ) → (i.counts ≡ true → before ≡ last_below (is_named items i.name) (length items))
     → (i.counts ≡ false → before ≡ None) → IfSome before (λ b. b < length items)
 noted_within items i before named none = by i.counts refl
   where

@@ -6,14 +6,14 @@ use Rattle.std.specs.Cmp.Lexicographic.{same_text}
 use Rattle.pli_base.specs.Name.{Name}
 use Rattle.pli_base.specs.laws.NameLaws.{pointwise-refl}
 use Rattle.pli_base.specs.Words.{same_name}
-use Rattle.pli_declare_scopes.specs.Scopes.{Block, item_at, is_named, chain_over, is_part}
+use Rattle.pli_declare_scopes.specs.Scopes.{BlockItems, item_at, is_named, chain_over, is_part}
 use Rattle.pli_declare_scopes.specs.answers.Indexes.{OwnersBefore}
 use Rattle.pli_declare_scopes.specs.answers.Leaps.{rank, IsLastUpTo}
 use Rattle.pli_declare_scopes.specs.answers.Reaches.{Climbs, IsWithin, last_of, AreReaching, IsNearest}
 use Rattle.pli_declare_scopes.specs.laws.ScopeLaws.{IsPart}
-use Rattle.pli_declare_scopes.proofs.Chains.{chain_is, backwards}
+use Rattle.pli_declare_scopes.proofs.ChainLemmas.{chain_is, backwards}
 use Rattle.pli_declare_scopes.proofs.IndexKept.{both_true}
-use Rattle.pli_declare_scopes.proofs.MeantMeans.{part_to, part_from}
+use Rattle.pli_declare_scopes.proofs.ReferencesMeanOne.{part_to, part_from}
 use Rattle.pli_declare_scopes.proofs.ReachesKept.{climbs_back, counts_up, IsAmong, part_among, above_named}
 
 -- one name is a part where it is among the names
@@ -25,7 +25,7 @@ part_of_one x (y ∷ ys) h = elim h [
 ]
 
 -- the name of an item is among those of what is within it
-among_above : (items : Block) → OwnersBefore items → (k above place : ℕ) → place < length items → Climbs items k above place
+among_above : (items : BlockItems) → OwnersBefore items → (k above place : ℕ) → place < length items → Climbs items k above place
     → IsAmong (item_at items above).name (chain_over items (Some place))
 among_above items owners zero above place lt c =
     subst (IsAmong (item_at items above).name) (sym (chain_is items place owners lt)) (inl (ap (λ n. (item_at items n).name) (sym c)))
@@ -35,7 +35,7 @@ among_above items owners (suc k) above place lt c =
     subst (IsAmong (item_at items above).name) (sym (chain_is items place owners lt))
     (inr (subst (λ o. IsAmong (item_at items above).name (chain_over items o)) (sym c.1) rest))
 
-module _ (items : Block) (owners : OwnersBefore items) (lasts : List (Option ℕ)) (tops : List ℕ) (kept : AreReaching items lasts tops true)
+module _ (items : BlockItems) (owners : OwnersBefore items) (lasts : List (Option ℕ)) (tops : List ℕ) (kept : AreReaching items lasts tops true)
     (name : Name) (place : ℕ) (lt : place < length items) (counts : (item_at items place).counts ≡ true)
     (found : Option ℕ) (is : IsLastUpTo items name place found) where
   abbrev above : Bool
@@ -109,7 +109,7 @@ module _ (items : Block) (owners : OwnersBefore items) (lasts : List (Option ℕ
 first_alone : (x : Name) (xs ys : List Name) → is_part (x ∷ xs) ys ≡ true → is_part (x ∷ []) ys ≡ true
 first_alone x xs ys h = part_from ys (x ∷ []) (part_of_one x ys (part_among x (x ∷ xs) ys (part_to ys (x ∷ xs) h) (inl refl)))
 
-module _ (items : Block) (owners : OwnersBefore items) (lasts : List (Option ℕ)) (tops : List ℕ) (kept : AreReaching items lasts tops true) (name : Name) where
+module _ (items : BlockItems) (owners : OwnersBefore items) (lasts : List (Option ℕ)) (tops : List ℕ) (kept : AreReaching items lasts tops true) (name : Name) where
   -- names of items that a search passes over
   passed_up : (rest : List Name) (k last place : ℕ) → place < length items → (item_at items place).counts ≡ true → Climbs items k last place
       → ((n : ℕ) → n ≤ place → is_named items name n ≡ true → n ≤ last)
@@ -171,7 +171,7 @@ module _ (items : Block) (owners : OwnersBefore items) (lasts : List (Option ℕ
         w = kept.inside refl last place bounded lt reach
 
 -- the names before a place of a reference, read backwards
-module _ (items : Block) (names : List Name) (left : ℕ) (lt : left < length names) (some : 0 < left) (place : ℕ) (result : Option ℕ)
+module _ (items : BlockItems) (names : List Name) (left : ℕ) (lt : left < length names) (some : 0 < left) (place : ℕ) (result : Option ℕ)
     (near : IsNearest items (get_or names (left - 1) []) place result) where
   turned : get_or names (left - 1) [] ∷ reverse (take (left - 1) names) ≡ reverse (take left names)
   turned =
@@ -203,7 +203,7 @@ module _ (items : Block) (names : List Name) (left : ℕ) (lt : left < length na
       by (Some n) h = λ e. h
 
 -- where items stand in order, the owner of an item that counts counts
-pub owner_counts : (items : Block) (lasts : List (Option ℕ)) (tops : List ℕ) (is_ordered : Bool) → AreReaching items lasts tops is_ordered
+pub owner_counts : (items : BlockItems) (lasts : List (Option ℕ)) (tops : List ℕ) (is_ordered : Bool) → AreReaching items lasts tops is_ordered
     → (place : ℕ) → place < length items → (is_ordered ≡ true → (item_at items place).counts ≡ true)
     → (owner : Option ℕ) → (item_at items place).owner ≡ owner → IfSome owner (λ o. is_ordered ≡ true → (item_at items o).counts ≡ true)
 owner_counts items lasts tops is_ordered kept place lt counts None own = tt

@@ -6,13 +6,13 @@ use Rattle.pli_base.specs.Name.{Name}
 use Rattle.pli_base.specs.Words.{same_name}
 use Rattle.pli_declare_scopes.specs.declared.found.Found.{Found}
 use Rattle.pli_declare_scopes.specs.declared.found.Found.TheVariants.{Nothing, One, Several}
-use Rattle.pli_declare_scopes.specs.Scopes.{Block, item_at, is_named, chain_at, is_part, fits_chain, fits, with_number, found_below}
+use Rattle.pli_declare_scopes.specs.Scopes.{BlockItems, item_at, is_named, chain_at, is_part, fits_chain, fits, with_number, found_below}
 use Rattle.pli_declare_scopes.specs.answers.Indexes.{OwnersBefore}
 use Rattle.pli_declare_scopes.specs.answers.Remembered.{found_fitting}
 use Rattle.pli_declare_scopes.specs.laws.ScopeLaws.{IsPart}
 use Rattle.pli_declare_scopes.proofs.IndexKept.{both_true}
-use Rattle.pli_declare_scopes.proofs.MeantMeans.{part_to, part_from}
-use Rattle.pli_declare_scopes.proofs.Candidates.{found_more, only_named}
+use Rattle.pli_declare_scopes.proofs.ReferencesMeanOne.{part_to, part_from}
+use Rattle.pli_declare_scopes.proofs.CandidateLemmas.{found_more, only_named}
 use Rattle.pli_declare_scopes.proofs.PairsReach.{part_through, part_front}
 
 part_same : (xs : List Name) → IsPart xs xs
@@ -28,7 +28,7 @@ chain_front (n ∷ ns) ms (own ∷ above) some h =
     ap (λ b. b && is_part ns above) t.0
     ∙ part_from above ns (part_through ns (ns ++ ms) above (part_front ns ns ms (part_same ns)) (part_to above (ns ++ ms) t.1))
 
-pub tail_fits : (items : Block) (first : Name) (tail : List Name) → 0 < length tail → (n : ℕ) → fits items (first ∷ tail) n ≡ true → fits items tail n ≡ true
+pub tail_fits : (items : BlockItems) (first : Name) (tail : List Name) → 0 < length tail → (n : ℕ) → fits items (first ∷ tail) n ≡ true → fits items tail n ≡ true
 tail_fits items first tail some n h =
     let t = both_true (item_at items n).counts (fits_chain (reverse (first ∷ tail)) (chain_at items n)) h in
     ap (λ b. b && fits_chain (reverse tail) (chain_at items n)) t.0
@@ -84,7 +84,7 @@ module _ (test other : ℕ → Bool) (only : (j : ℕ) → test j ≡ true → o
       (subst (Narrowed (suc k) test other (if other k then with_number k (found_below other k Nothing) else found_below other k Nothing)) (sym (found_more test k))
       (step k (found_below other k Nothing) (found_below test k Nothing) (other k) refl (narrowed k)))
 
-module _ (items : Block) (first : Name) (tail : List Name) (some : 0 < length tail) where
+module _ (items : BlockItems) (first : Name) (tail : List Name) (some : 0 < length tail) where
   abbrev found : Narrowed (length items) (fits items (first ∷ tail)) (fits items tail) (found_fitting items tail) (found_fitting items (first ∷ tail))
   found = narrowed (fits items (first ∷ tail)) (fits items tail) (tail_fits items first tail some) (length items)
 
@@ -103,14 +103,14 @@ module _ (items : Block) (first : Name) (tail : List Name) (some : 0 < length ta
   one_fits n e = (found.one n e).1
 
 -- an item that names fit has the last of them, with one name before them too
-pub last_named : (items : Block) → OwnersBefore items → (first : Name) (tail : List Name) → 0 < length tail → (n : ℕ) → n < length items → fits items tail n ≡ true
+pub last_named : (items : BlockItems) → OwnersBefore items → (first : Name) (tail : List Name) → 0 < length tail → (n : ℕ) → n < length items → fits items tail n ≡ true
     → is_named items (get_or (first ∷ tail) (length (first ∷ tail) - 1) []) n ≡ true
 last_named items owners first tail some n lt h =
     subst (λ (k : ℕ). is_named items (get_or (first ∷ tail) k []) n ≡ true) (let last : suc (length tail - 1) ≡ suc (length tail) - 1 = omega (arith, some) in last)
     (only_named items owners tail some n lt h)
 
 -- the same of names of which the first is left out
-pub rest_named : (items : Block) → OwnersBefore items → (names : List Name) → 1 < length names → (n : ℕ) → n < length items → fits items (drop 1 names) n ≡ true
+pub rest_named : (items : BlockItems) → OwnersBefore items → (names : List Name) → 1 < length names → (n : ℕ) → n < length items → fits items (drop 1 names) n ≡ true
     → is_named items (get_or names (length names - 1) []) n ≡ true
 rest_named items owners [] some n lt h = absurd (omega (arith, some))
 rest_named items owners (first ∷ tail) some n lt h = last_named items owners first tail (omega (arith, some)) n lt h

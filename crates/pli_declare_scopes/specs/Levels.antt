@@ -3,7 +3,7 @@ use Rattle.std.specs.Prelude.{ℕ, ◌+◌, Bool, ◌||◌, ◌&&◌, nat_eq, na
 use Rattle.std.specs.Prelude.{None, Some, if◌then◌else◌}
 use Rattle.std.specs.Option.{is_none, unwrap_or}
 use Rattle.pli_declare_scopes.specs.declared.level.Numbered.{Numbered}
-use Rattle.pli_declare_scopes.specs.declared.level.Standing.{Standing}
+use Rattle.pli_declare_scopes.specs.declared.level.ItemStanding.{ItemStanding}
 
 -- an item without a level has level 1
 abbrev pub level_of : Option ℕ → ℕ
@@ -28,16 +28,16 @@ abbrev pub is_bad : (level : ℕ) → (nearest : Option ℕ) → Bool
 is_bad level nearest = nat_eq level 0 || nat_lt 255 level || nat_lt 1 level && is_none nearest
 
 -- where an item of this level stands, by its owner
-abbrev pub standing : (level : ℕ) → (nearest : Option ℕ) → Standing
+abbrev pub standing : (level : ℕ) → (nearest : Option ℕ) → ItemStanding
 standing level nearest = record { owner = owner_of level nearest; is_bad = is_bad level nearest }
 
 -- how further items stand, the first of which has this number
-abbrev pub standings_after : List Numbered → ℕ → List ℕ → List Standing
+abbrev pub standings_after : List Numbered → ℕ → List ℕ → List ItemStanding
 standings_after before number [] = []
 standings_after before number (l ∷ ls) =
     standing l (nearest l before)
     ∷ standings_after (before ++ record { number = number; level = l } ∷ []) (number + 1) ls
 
 -- how the items of a list stand, numbered from 0
-abbrev pub standings_of : List (Option ℕ) → List Standing
+abbrev pub standings_of : List (Option ℕ) → List ItemStanding
 standings_of levels = standings_after [] 0 (map level_of levels)

@@ -33,7 +33,7 @@ pub struct Declared {
 
 /// The items that a block declares, numbered from 0 in their order. Contracts see the list of them.
 #[derive(Drop)]
-pub struct Block {
+pub struct BlockItems {
     items: Vec<Declared>,
     /// For each item the one of its name before it.
     earlier: Vec<Option<usize>>,
@@ -59,7 +59,7 @@ pub struct Block {
     tails: IndexMap<Vec<Name>, Found>,
 }
 
-impl Model for Block {
+impl Model for BlockItems {
     ghost use Rattle.std.specs.Prelude.{List};
     ghost use Rattle.pli_declare_scopes.specs.declared.block.Declared.{Declared as Item};
     ghost use Rattle.pli_declare_scopes.specs.answers.Indexes.{IsIndexed};
@@ -93,12 +93,12 @@ fn note(
     Ok(latest.insert(item.name, number)?)
 }
 
-impl Block {
+impl BlockItems {
     /// A block that declares nothing.
-    pub fn new(alloc: Global) -> Block
+    pub fn new(alloc: Global) -> BlockItems
         ensures { result ≡ [] }
     {
-        Block {
+        BlockItems {
             items: Vec::new(alloc),
             earlier: Vec::new(alloc),
             latest: IndexMap::new(alloc),
@@ -133,10 +133,10 @@ impl Block {
     }
 
     /// A block that declares nothing, with room for so many items.
-    pub fn with_room(alloc: Global, count: usize) -> Result<Block, AllocError>
+    pub fn with_room(alloc: Global, count: usize) -> Result<BlockItems, AllocError>
         ensures { IfOk result (λ block. block ≡ []) }
     {
-        let mut block = Block::new(alloc);
+        let mut block = BlockItems::new(alloc);
         if block.reserve(count).is_err() {
             drop(block);
             return Err(AllocError);

@@ -12,7 +12,7 @@ pub enum Found {
 
 /// What a reference means. Names of built-in functions are the caller's.
 #[derive(Clone, Copy, Debug, PartialEq, Eq)]
-pub enum Meant {
+pub enum ReferenceMeaning {
     /// The item of this number in a block, and how many blocks outwards that is: 0 for the innermost.
     Item { number: usize, block: usize },
     /// A10 AMBIGUOUS: two items or more, with nothing to prefer one.
@@ -33,13 +33,13 @@ impl Found {
     }
 
     /// What this means in the block that is so many blocks outwards.
-    pub fn meant(self, block: usize) -> Meant
+    pub fn meant(self, block: usize) -> ReferenceMeaning
         ensures { result ≡ meant_there block self }
     {
         match self {
-            Found::Nothing => Meant::NotDeclared,
-            Found::One(number) => Meant::Item { number, block },
-            Found::Several => Meant::Ambiguous,
+            Found::Nothing => ReferenceMeaning::NotDeclared,
+            Found::One(number) => ReferenceMeaning::Item { number, block },
+            Found::Several => ReferenceMeaning::Ambiguous,
         }
     }
 }

@@ -26,14 +26,14 @@ pub fn bad_levels_are_found()
 {}
 
 /// A law: what is looked up is what a reference means, both ways, and a reference means one thing.
-#[tactic(auto, using(crate::proofs::MeantMeans::meant_is_means, crate::proofs::MeantMeans::means_one))]
+#[tactic(auto, using(crate::proofs::ReferencesMeanOne::meant_is_means, crate::proofs::ReferencesMeanOne::means_one))]
 pub fn meant_is_means()
     ensures both_ways { MeantIsMeans }
     ensures one { MeansOne }
 {}
 
 /// A law: an item's chain of names is its own name and then the names of the items that it belongs to, the nearest first.
-#[tactic(auto, using(crate::proofs::Chains::chains_are_names))]
+#[tactic(auto, using(crate::proofs::ChainLemmas::chains_are_names))]
 pub fn chains_are_names()
     ensures { ChainsAreNames }
 {}
@@ -56,7 +56,7 @@ pub fn examples_of_references()
 {}
 
 /// A law: an item counts where its owner does and no item before it is its like, and of those that are alike the later are faults.
-#[tactic(auto, using(crate::proofs::Judged::all_are_judged, crate::proofs::Judged::counts_once, crate::proofs::Judged::later_is_fault, crate::proofs::Judged::members_are_passed_over))]
+#[tactic(auto, using(crate::proofs::CountedItems::all_are_judged, crate::proofs::CountedItems::counts_once, crate::proofs::CountedItems::later_is_fault, crate::proofs::CountedItems::members_are_passed_over))]
 pub fn later_is_fault()
     ensures all { AllAreJudged }
     ensures counts { CountsOnce }

@@ -3,7 +3,7 @@ ghost use Rattle.std.specs.Prelude.{◌≡◌, ℕ, ◌<◌, ◌≤◌, ◌++◌
 ghost use Rattle.pli_base.specs.Name.{Name as Characters};
 ghost use Rattle.pli_base.specs.Words.{same_name};
 ghost use Rattle.pli_declare_scopes.specs.declared.block.Declared.{Declared as Item};
-ghost use Rattle.pli_declare_scopes.specs.Scopes.{Block as Items, is_named};
+ghost use Rattle.pli_declare_scopes.specs.Scopes.{BlockItems as Items, is_named};
 ghost use Rattle.pli_declare_scopes.specs.answers.Indexes.{last_below};
 ghost use Rattle.pli_declare_scopes.specs.answers.Leaps.{AreLeaps, leap_at};
 

@@ -13,7 +13,7 @@ pub struct Numbered {
 
 /// How an item stands in its list.
 #[derive(Clone, Copy)]
-pub struct Standing {
+pub struct ItemStanding {
     /// The number of the item that it is a member of; none where it is a variable of its own.
     pub owner: Option<usize>,
     /// Whether its level is a fault, A8 BAD LEVEL: 0, over 255, or over 1 with no lesser level before it (own).
@@ -21,10 +21,10 @@ pub struct Standing {
 }
 
 /// How an item of this level stands, where this is the nearest before it with a lesser level.
-fn standing_behind(level: u32, nearest: Option<usize>) -> Standing
+fn standing_behind(level: u32, nearest: Option<usize>) -> ItemStanding
     ensures { result ≡ standing level nearest }
 {
-    Standing {
+    ItemStanding {
         owner: if level > 1 { nearest } else { None },
         is_bad: level == 0 || level > 255 || level > 1 && nearest.is_none(),
     }
@@ -47,7 +47,7 @@ fn nearest_among(before: &mut Vec<Numbered>, level: u32) -> Option<usize>
 /// How the items of a list stand, from their levels: one of a level over 1 belongs to the nearest item before it with a lesser
 /// level (X3.74). An item without a level has level 1; one of level 0 is a variable of its own, to which later items of levels
 /// over 1 may belong (own).
-pub fn standings(alloc: Global, levels: &[Option<u32>]) -> Result<Vec<Standing>, AllocError>
+pub fn standings(alloc: Global, levels: &[Option<u32>]) -> Result<Vec<ItemStanding>, AllocError>
     ensures { IfOk result (λ standings. standings.items ≡ standings_of levels.now) }
 {
     let mut before = Vec::new(alloc);

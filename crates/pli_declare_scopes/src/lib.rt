@@ -13,12 +13,12 @@ mod repeat;
 mod room;
 mod scope;
 
-pub use block::{Block, Declared};
-pub use found::{Found, Meant};
+pub use block::{BlockItems, Declared};
+pub use found::{Found, ReferenceMeaning};
 pub use laws::{
     bad_levels_are_found, chains_are_names, examples_of_levels, examples_of_references,
     examples_of_repeats, later_is_fault, levels_fall, meant_is_means, owners_are_nearest,
 };
-pub use level::{Numbered, Standing, standings};
+pub use level::{ItemStanding, Numbered, standings};
 pub use repeat::{Verdict, Written, verdicts};
 pub use scope::Scope;

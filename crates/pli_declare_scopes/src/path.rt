@@ -1,6 +1,6 @@
 //! Paths of names: that of an item is its name below the path of the item that it belongs to.
 ghost use Rattle.std.specs.Prelude.{◌≡◌, ◌<◌, ℕ, List, Bool, true, get_or, set, if◌then◌else◌, length, option_map, IfSome, IfOk};
-ghost use Rattle.pli_declare_scopes.specs.Scopes.{Block as Items, with_number};
+ghost use Rattle.pli_declare_scopes.specs.Scopes.{BlockItems as Items, with_number};
 ghost use Rattle.pli_declare_scopes.specs.declared.found.Found.TheVariants as variants;
 ghost use Rattle.pli_declare_scopes.specs.answers.Paths.{step_at, ArePaths};
 

@@ -2,7 +2,7 @@
 ghost use Rattle.std.specs.Prelude.{◌≡◌, ◌<◌, ◌≤◌, ◌++◌, [], ◌∷◌, ℕ, true, false, get_or, length, None, Some, IfSome};
 ghost use Rattle.std.specs.Vec.{vec_len, vec_capacity};
 ghost use Rattle.pli_base.specs.Name.{Name as Characters};
-ghost use Rattle.pli_declare_scopes.specs.Scopes.{Block as Items, item_at, is_named, is_part, chain_over};
+ghost use Rattle.pli_declare_scopes.specs.Scopes.{BlockItems as Items, item_at, is_named, is_part, chain_over};
 ghost use Rattle.pli_declare_scopes.specs.answers.Indexes.{last_below, OwnersBefore};
 ghost use Rattle.pli_declare_scopes.specs.answers.Leaps.{rank, IsLastUpTo};
 ghost use Rattle.pli_declare_scopes.specs.answers.Reaches.{AreClosed, AreReaching, IsNearest, outermost_of};

@@ -3,7 +3,7 @@ use Rattle.std.proofs.Common.{◌≡◌, ◌≢◌, ℕ, suc, ◌+◌, ◌<◌, 
 use Rattle.std.specs.Option.{unwrap_or}
 use Rattle.std.proofs.lemmas.Bool.Decides.{nat_tests}
 use Rattle.std.proofs.lemmas.List.{length-map, map-set, get_or-map, get_or-set_same, get_or-set_other}
-use Rattle.pli_declare_outline.specs.Outlines.{Region, Placed}
+use Rattle.pli_declare_outline.specs.Outlines.{Region, PlacedMark}
 use Rattle.pli_declare_constructs.specs.Regions.{first_or_unit, block_of}
 use Rattle.pli_declare_scopes.specs.declared.repeat.Verdict.{Verdict}
 use Rattle.pli_declare_tables.specs.Tables.{Entry, entries_of, entries_after, with_verdicts, numbers_from}
@@ -31,7 +31,7 @@ block_within None n m h lt = omega arith
 block_within (Some b) n m h lt = omega (arith, h)
 
 -- one more mark
-pub mark_more : (regions : List Region) (blocks next : List (List Entry)) (p : Placed) (ps : List Placed) (block : ℕ) → block ≡ block_of regions p.region → block < length blocks
+pub mark_more : (regions : List Region) (blocks next : List (List Entry)) (p : PlacedMark) (ps : List PlacedMark) (block : ℕ) → block ≡ block_of regions p.region → block < length blocks
     → next ≡ set blocks block (get_or blocks block [] ++ entries_of (length (get_or blocks block [])) p.region p.mark)
     → (b : ℕ) → entries_after regions b (get_or next b []) ps ≡ entries_after regions b (get_or blocks b []) (p ∷ ps)
 mark_more regions blocks next p ps block is lt made b = ap (λ es. entries_after regions b es ps) (by (block_of regions p.region == b) refl)

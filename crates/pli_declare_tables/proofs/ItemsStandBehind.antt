@@ -4,12 +4,12 @@ use Rattle.pli_base.specs.declared.syntax.Identifier.{Identifier}
 use Rattle.pli_base.specs.Declarations.{Item}
 use Rattle.pli_declare_scopes.specs.Levels.{level_of, nearest_after, nearest, owner_of, standing, standings_after, standings_of}
 use Rattle.pli_declare_scopes.specs.declared.level.Numbered.{Numbered}
-use Rattle.pli_declare_scopes.specs.declared.level.Standing.{Standing}
+use Rattle.pli_declare_scopes.specs.declared.level.ItemStanding.{ItemStanding}
 use Rattle.pli_declare_tables.specs.Tables.{item_entries}
 use Rattle.pli_declare_tables.specs.answers.Answers.{StandBehindOwners}
 
 -- each of some items that stand behind so many others has its owner before it
-abbrev pub StandFrom : ℕ → List Standing → Type 0
+abbrev pub StandFrom : ℕ → List ItemStanding → Type 0
 StandFrom n [] = Unit {0}
 StandFrom n (s ∷ ss) = IfSome s.owner (λ o. o < n) × StandFrom (n + 1) ss
 
@@ -48,7 +48,7 @@ stand_after (l ∷ ls) before n h =
 pub standings_stand : (levels : List (Option ℕ)) → StandFrom 0 (standings_of levels)
 standings_stand levels = stand_after (map level_of levels) [] 0 tt
 
-at_each : (ss : List Standing) (n k : ℕ) → StandFrom n ss → k < length ss → IfSome (get_or ss k (standing 1 None)).owner (λ o. o < n + k)
+at_each : (ss : List ItemStanding) (n k : ℕ) → StandFrom n ss → k < length ss → IfSome (get_or ss k (standing 1 None)).owner (λ o. o < n + k)
 at_each [] n k h lt = absurd (omega arith)
 at_each (s ∷ ss) n zero h lt = wider s.owner n (n + 0) (omega arith) h.0
 at_each (s ∷ ss) n (suc k) h lt = wider (get_or ss k (standing 1 None)).owner ((n + 1) + k) (n + suc k) (omega arith) (at_each ss (n + 1) k h.1 (omega arith))
@@ -57,14 +57,14 @@ at_each (s ∷ ss) n (suc k) h lt = wider (get_or ss k (standing 1 None)).owner 
 pub stand_behind : (levels : List (Option ℕ)) → StandBehindOwners (standings_of levels)
 stand_behind levels n lt = wider (get_or (standings_of levels) n (standing 1 None)).owner (0 + n) n (omega arith) (at_each (standings_of levels) 0 n (standings_stand levels) lt)
 
-from_each : (ss : List Standing) (n : ℕ) → ((k : ℕ) → k < length ss → IfSome (get_or ss k (standing 1 None)).owner (λ o. o < n + k)) → StandFrom n ss
+from_each : (ss : List ItemStanding) (n : ℕ) → ((k : ℕ) → k < length ss → IfSome (get_or ss k (standing 1 None)).owner (λ o. o < n + k)) → StandFrom n ss
 from_each [] n h = tt
 from_each (s ∷ ss) n h = (
   wider s.owner (n + 0) n (omega arith) (h 0 (omega arith)),
   from_each ss (n + 1) (λ k lt. wider (get_or ss k (standing 1 None)).owner (n + suc k) ((n + 1) + k) (omega arith) (h (suc k) (omega arith))),
 )
 
-pub stand_from : (ss : List Standing) → StandBehindOwners ss → StandFrom 0 ss
+pub stand_from : (ss : List ItemStanding) → StandBehindOwners ss → StandFrom 0 ss
 stand_from ss h = from_each ss 0 (λ k lt. wider (get_or ss k (standing 1 None)).owner k (0 + k) (omega arith) (h k lt))
 
 no_standings : (base : ℕ) (xs : List (Identifier × Item)) → item_entries base xs [] ≡ []
@@ -72,7 +72,7 @@ no_standings base [] = refl
 no_standings base (x ∷ xs) = refl
 
 -- nothing is left where names or standings are at their end
-pub none_left : (base : ℕ) (xs : List (Identifier × Item)) (ss : List Standing) → (xs ≡ []) ⊎ (ss ≡ []) → item_entries base xs ss ≡ []
+pub none_left : (base : ℕ) (xs : List (Identifier × Item)) (ss : List ItemStanding) → (xs ≡ []) ⊎ (ss ≡ []) → item_entries base xs ss ≡ []
 none_left base xs ss over = elim over [
   | inl h ↦ ap (λ ys. item_entries base ys ss) h
   | inr h ↦ ap (item_entries base xs) h ∙ no_standings base xs

@@ -4,11 +4,11 @@ use Rattle.std.proofs.lemmas.List.{length-map}
 use Rattle.std.specs.List.{flat_map}
 use Rattle.pli_base.specs.declared.syntax.Identifier.{Identifier}
 use Rattle.pli_base.specs.Declarations.{Item}
-use Rattle.pli_declare_outline.specs.Outlines.{Region, Mark, Declared, Labelled, Entered, Used, Jumped, Placed}
+use Rattle.pli_declare_outline.specs.Outlines.{Region, Mark, Declared, Labelled, Entered, Used, Jumped, PlacedMark}
 use Rattle.pli_declare_constructs.specs.Regions.{block_of}
 use Rattle.pli_declare_scopes.specs.Levels.{standings_of}
 use Rattle.pli_declare_scopes.specs.laws.RepeatLaws.{written_at}
-use Rattle.pli_declare_scopes.specs.declared.level.Standing.{Standing}
+use Rattle.pli_declare_scopes.specs.declared.level.ItemStanding.{ItemStanding}
 use Rattle.pli_declare_tables.specs.Tables.{Entry, written, named, item_entries, entries_of, entries_after, inner_marks, heading_entries, unit_entries}
 use Rattle.pli_declare_tables.specs.answers.Answers.{AreBehindOwners}
 use Rattle.pli_declare_tables.specs.laws.TableLaws.{OwnersStandBefore}
@@ -27,7 +27,7 @@ owned : (base n m : ℕ) (owner : Option ℕ) → n ≡ base + m → IfSome owne
 owned base n m None e h = tt
 owned base n m (Some o) e h = omega (arith, h)
 
-behind_items : (xs : List (Identifier × Item)) (ss : List Standing) (base n m : ℕ) → n ≡ base + m → StandFrom m ss → Behind n (item_entries base xs ss)
+behind_items : (xs : List (Identifier × Item)) (ss : List ItemStanding) (base n m : ℕ) → n ≡ base + m → StandFrom m ss → Behind n (item_entries base xs ss)
 behind_items [] ss base n m e h = tt
 behind_items (x ∷ xs) [] base n m e h = tt
 behind_items (x ∷ xs) (s ∷ ss) base n m e h = (owned base n m s.owner e h.0, behind_items xs ss base (n + 1) (m + 1) (omega arith) h.1)
@@ -50,7 +50,7 @@ behind_more : (entries : List Entry) (here : ℕ) (mark : Mark) (b : Bool) → B
 behind_more entries here mark true h = behind_both entries _ 0 (length entries) (omega arith) h (behind_of (length entries) here mark)
 behind_more entries here mark false h = subst (Behind 0) (sym (append-nil entries)) h
 
-behind_after : (regions : List Region) (block : ℕ) (entries : List Entry) (ps : List Placed) → Behind 0 entries → Behind 0 (entries_after regions block entries ps)
+behind_after : (regions : List Region) (block : ℕ) (entries : List Entry) (ps : List PlacedMark) → Behind 0 entries → Behind 0 (entries_after regions block entries ps)
 behind_after regions block entries [] h = h
 behind_after regions block entries (p ∷ ps) h =
     behind_after regions block (entries ++ (if block_of regions p.region == block then entries_of (length entries) p.region p.mark else [])) ps (behind_more entries p.region p.mark (block_of regions p.region == block) h)
@@ -85,6 +85,6 @@ behind_heading (Used names) = tt
 behind_heading (Jumped label) = tt
 
 -- the unit's own name is a member of none
-pub unit_behind : (ps : List Placed) → AreBehindOwners (unit_entries ps)
+pub unit_behind : (ps : List PlacedMark) → AreBehindOwners (unit_entries ps)
 unit_behind [] = behind_owners [] tt
 unit_behind (p ∷ ps) = behind_owners (heading_entries p.mark) (behind_heading p.mark)

@@ -1,8 +1,8 @@
 -- The tables of all blocks of a unit, and of the unit itself.
 use Rattle.std.proofs.Common.{◌≡◌, ℕ, zero, suc, ◌+◌, true, List, [], ◌∷◌, map, None, refl, ap, arith}
-use Rattle.pli_declare_outline.specs.Outlines.{Mark, Declared, Labelled, Entered, Used, Jumped, Placed, Outline}
+use Rattle.pli_declare_outline.specs.Outlines.{Mark, Declared, Labelled, Entered, Used, Jumped, PlacedMark, Outline}
 use Rattle.pli_declare_scopes.specs.Repeats.{verdicts_of}
-use Rattle.pli_declare_scopes.specs.Scopes.{Block}
+use Rattle.pli_declare_scopes.specs.Scopes.{BlockItems}
 use Rattle.pli_declare_tables.specs.Tables.{Entry, written, with_verdicts, entries_in, heading_entries, unit_entries, numbers_from, table_with, table_in}
 use Rattle.pli_declare_tables.specs.answers.Answers.{AllBehindOwners}
 use Rattle.pli_declare_tables.proofs.MembersStandBehind.{owners_stand_before}
@@ -16,7 +16,7 @@ pub tables_in : (o : Outline) (ns : List ℕ) → map table_with (map (entries_i
 tables_in o [] = refl
 tables_in o (n ∷ ns) = ap (λ ts. table_in o n ∷ ts) (tables_in o ns)
 
-abbrev counted : List Entry → Block
+abbrev counted : List Entry → BlockItems
 counted es = map (λ e. record { name = e.identifier.name; owner = None; counts = true }) es
 
 heading_is : (mark : Mark) → with_verdicts (heading_entries mark) (verdicts_of (map written (heading_entries mark))) ≡ counted (heading_entries mark)
@@ -27,6 +27,6 @@ heading_is (Used names) = refl
 heading_is (Jumped label) = refl
 
 -- the unit's own name counts
-pub unit_is : (ps : List Placed) → with_verdicts (unit_entries ps) (verdicts_of (map written (unit_entries ps))) ≡ counted (unit_entries ps)
+pub unit_is : (ps : List PlacedMark) → with_verdicts (unit_entries ps) (verdicts_of (map written (unit_entries ps))) ≡ counted (unit_entries ps)
 unit_is [] = refl
 unit_is (p ∷ ps) = heading_is p.mark

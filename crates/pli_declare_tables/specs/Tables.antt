@@ -6,11 +6,11 @@ use Rattle.pli_base.specs.declared.syntax.Identifier.{Identifier}
 use Rattle.pli_base.specs.Declarations.{Item}
 use Rattle.pli_base.specs.Statements.{Heading}
 use Rattle.pli_declare_outline.specs.Outlines.{Region, Mark, Declared, Labelled, Entered, Used, Jumped}
-use Rattle.pli_declare_outline.specs.Outlines.{Placed, Outline}
+use Rattle.pli_declare_outline.specs.Outlines.{PlacedMark, Outline}
 use Rattle.pli_declare_scopes.specs.Levels.{standings_of}
 use Rattle.pli_declare_scopes.specs.Repeats.{verdicts_of, is_counting}
-use Rattle.pli_declare_scopes.specs.Scopes.{Block, Scope}
-use Rattle.pli_declare_scopes.specs.declared.level.Standing.{Standing}
+use Rattle.pli_declare_scopes.specs.Scopes.{BlockItems, Scope}
+use Rattle.pli_declare_scopes.specs.declared.level.ItemStanding.{ItemStanding}
 use Rattle.pli_declare_scopes.specs.declared.repeat.Verdict.{Verdict}
 use Rattle.pli_declare_scopes.specs.declared.repeat.Written.{Written}
 use Rattle.pli_declare_constructs.specs.Regions.{block_of, blocks_round}
@@ -37,12 +37,12 @@ abbrev pub named : Item → List (Identifier × Item)
 named item = map (λ i. (i, item)) item.names
 
 -- the entry of a name of an item
-abbrev pub item_entry : (base : ℕ) → Identifier × Item → Standing → Entry
+abbrev pub item_entry : (base : ℕ) → Identifier × Item → ItemStanding → Entry
 item_entry base x s =
     record { identifier = x.0; owner = option_map (λ o. base + o) s.owner; entity = AsItem x.1 s.is_bad }
 
 -- the entries of names of items
-abbrev pub item_entries : (base : ℕ) → List (Identifier × Item) → List Standing → List Entry
+abbrev pub item_entries : (base : ℕ) → List (Identifier × Item) → List ItemStanding → List Entry
 item_entries base [] ss = []
 item_entries base (x ∷ xs) [] = []
 item_entries base (x ∷ xs) (s ∷ ss) = item_entry base x s ∷ item_entries base xs ss
@@ -63,7 +63,7 @@ entries_of base here (Used names) = []
 entries_of base here (Jumped label) = []
 
 -- what marks declare in a block, behind what it declares before them
-abbrev pub entries_after : List Region → (block : ℕ) → List Entry → List Placed → List Entry
+abbrev pub entries_after : List Region → (block : ℕ) → List Entry → List PlacedMark → List Entry
 entries_after regions block entries [] = entries
 entries_after regions block entries (p ∷ ps) =
     entries_after regions block (entries
@@ -71,7 +71,7 @@ entries_after regions block entries (p ∷ ps) =
     else [])) ps
 
 -- the marks of a unit but the first, which declares the unit's own name
-abbrev pub inner_marks : List Placed → List Placed
+abbrev pub inner_marks : List PlacedMark → List PlacedMark
 inner_marks [] = []
 inner_marks (p ∷ ps) = ps
 
@@ -88,14 +88,14 @@ abbrev pub verdicts_in : Outline → ℕ → List Verdict
 verdicts_in o block = verdicts_of (map written (entries_in o block))
 
 -- entries as look-up sees them
-abbrev pub with_verdicts : List Entry → List Verdict → Block
+abbrev pub with_verdicts : List Entry → List Verdict → BlockItems
 with_verdicts [] vs = []
 with_verdicts (e ∷ es) [] = []
 with_verdicts (e ∷ es) (v ∷ vs) =
     record { name = e.identifier.name; owner = e.owner; counts = is_counting v } ∷ with_verdicts es vs
 
 -- the block, as names are looked up in it
-abbrev pub block_in : Outline → ℕ → Block
+abbrev pub block_in : Outline → ℕ → BlockItems
 block_in o block = with_verdicts (entries_in o block) (verdicts_in o block)
 
 -- the outermost block declares the unit's own name alone
@@ -105,12 +105,12 @@ heading_entries (Entered heading region) =
 heading_entries mark = []
 
 -- the entry of the unit's own name
-abbrev pub unit_entries : List Placed → List Entry
+abbrev pub unit_entries : List PlacedMark → List Entry
 unit_entries [] = []
 unit_entries (p ∷ ps) = heading_entries p.mark
 
 -- the outermost block, which declares it
-abbrev pub unit_block : Outline → Block
+abbrev pub unit_block : Outline → BlockItems
 unit_block o =
     map (λ e. record { name = e.identifier.name; owner = None; counts = true }) (unit_entries o.marks)
 
@@ -123,7 +123,7 @@ numbers_from first (suc count) = first ∷ numbers_from (first + 1) count
 pub record Table : Type 0 where
   pub entries : List Entry
   pub verdicts : List Verdict
-  pub block : Block
+  pub block : BlockItems
 
 -- the table of a block that declares these
 abbrev pub table_with : List Entry → Table

@@ -12,7 +12,7 @@ use pli_base::declaration::Item;
 use pli_base::syntax::Identifier;
 use pli_declare_attributes::ItemFacts;
 use pli_declare_outline::Mark;
-use pli_declare_scopes::{Standing, standings};
+use pli_declare_scopes::{ItemStanding, standings};
 use std::alloc::{AllocError, AllocFailed, Global};
 
 /// A name of an item.
@@ -85,7 +85,7 @@ pub fn add_entry<'a>(
 fn add_items<'a>(
     entries: &mut Vec<Entry<'a>>,
     names: &[NamedItem<'a>],
-    standings: &[Standing],
+    standings: &[ItemStanding],
 ) -> Result<(), AllocError>
     requires { StandBehindOwners standings.now }
     ensures { OnOk result (entries_view entries.new.items

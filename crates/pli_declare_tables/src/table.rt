@@ -9,8 +9,8 @@ ghost use Rattle.pli_declare_tables.specs.answers.Answers.{AreOf, AreBehindOwner
 use crate::entries::{add_entry, declare};
 use crate::entry::{Entity, Entry};
 use pli_declare_constructs::Nesting;
-use pli_declare_outline::{Mark, Outline, Placed};
-use pli_declare_scopes::{Block, Declared, Verdict, Written, verdicts};
+use pli_declare_outline::{Mark, Outline, PlacedMark};
+use pli_declare_scopes::{BlockItems, Declared, Verdict, Written, verdicts};
 use std::alloc::{AllocError, Global};
 
 /// What a block declares.
@@ -19,7 +19,7 @@ pub struct Table<'a> {
     pub entries: Vec<Entry<'a>>,
     /// Which of them count; one for each.
     pub verdicts: Vec<Verdict>,
-    pub block: Block,
+    pub block: BlockItems,
 }
 
 /// What each block of a unit declares.
@@ -47,7 +47,7 @@ fn declare_in<'a>(
     alloc: Global,
     blocks: &mut Vec<Vec<Entry<'a>>>,
     block: usize,
-    placed: &Placed<'a>,
+    placed: &PlacedMark<'a>,
 ) -> Result<(), AllocError>
     requires { block < length blocks.old.items }
     ensures { OnOk result (blocks_view blocks.new.items
@@ -61,7 +61,7 @@ fn declare_in<'a>(
 fn declare_all<'a>(
     alloc: Global,
     blocks: &mut Vec<Vec<Entry<'a>>>,
-    marks: &[Placed<'a>],
+    marks: &[PlacedMark<'a>],
     nesting: &Nesting,
 ) -> Result<(), AllocError>
     requires { length nesting.now < length blocks.old.items }
@@ -126,7 +126,7 @@ fn verdicts_on(alloc: Global, entries: &[Entry<'_>]) -> Result<Vec<Verdict>, All
 
 /// Declares the items of a block that declares nothing yet, as names are looked up in it.
 fn declare_names(
-    block: &mut Block,
+    block: &mut BlockItems,
     entries: &[Entry<'_>],
     verdicts: &[Verdict],
 ) -> Result<(), AllocError>
@@ -149,11 +149,11 @@ fn block_with(
     alloc: Global,
     entries: &[Entry<'_>],
     verdicts: &[Verdict],
-) -> Result<Block, AllocError>
+) -> Result<BlockItems, AllocError>
     requires { AreBehindOwners (entries_view entries.now) }
     ensures { IfOk result (λ block. block ≡ with_verdicts (entries_view entries.now) verdicts.now) }
 {
-    let mut block = Block::with_room(alloc, entries.len())?;
+    let mut block = BlockItems::with_room(alloc, entries.len())?;
     if declare_names(&mut block, entries, verdicts).is_err() {
         drop(block);
         return Err(AllocError);

@@ -5,16 +5,16 @@ use Rattle.pli_base.specs.Name.{Name}
 use Rattle.pli_base.specs.declared.code.Code.{Code}
 use Rattle.pli_map.specs.Description.{Description}
 use Rattle.pli_declare_attributes.specs.Faults.{item_fault}
-use Rattle.pli_declare_attributes.specs.declared.place.Place.{Place}
+use Rattle.pli_declare_attributes.specs.declared.place.ItemPlace.{ItemPlace}
 use Rattle.pli_declare_tables.specs.Tables.{Entity, AsItem, AsLabel, AsProcedure, Entry, no_entry, numbers_from}
 use Rattle.pli_declare_tables.specs.views.TableView.{entry_view, entries_view}
 use Rattle.pli_declare_tables.specs.declared.entry.Entry as program
 use Rattle.pli_declare_variables.specs.Places.{item_in, place_in, own_code}
 use Rattle.pli_declare_variables.specs.Descriptions.{own_codes}
-use Rattle.pli_declare_variables.specs.Declarations.{Kind, OfItem, whole_description, kind_of, IsGood}
+use Rattle.pli_declare_variables.specs.Declarations.{DeclaredKind, OfItem, whole_description, kind_of, IsGood}
 use Rattle.pli_declare_variables.specs.answers.Declaring.{kind_with, whole_at, IsFaultless, IsFaultlessCut}
 use Rattle.pli_declare_variables.specs.answers.Walks.{cut_place_in}
-use Rattle.pli_declare_attributes.proofs.Cuts.{cut_completed}
+use Rattle.pli_declare_attributes.proofs.CutLemmas.{cut_completed}
 
 -- the codes of all entries
 pub all_codes : (entries : List program.Entry) (names : List Name) (codes : List (Option Code))
@@ -29,7 +29,7 @@ without entries names n (AsLabel region) is good = tt
 without entries names n (AsProcedure heading region) is good = good
 
 -- an entry of a good block has no fault at its place
-pub faultless : (entries : List Entry) (names : List Name) (n : ℕ) (e : Entry) (place : Place) → get_or entries n no_entry ≡ e → place ≡ cut_place_in entries names n
+pub faultless : (entries : List Entry) (names : List Name) (n : ℕ) (e : Entry) (place : ItemPlace) → get_or entries n no_entry ≡ e → place ≡ cut_place_in entries names n
     → IsGood entries names n (get_or entries n no_entry).entity → IsFaultlessCut place e.entity
 faultless entries names n e place view is good = (
   place_in entries names n,
@@ -48,7 +48,7 @@ standing entries names n (AsLabel region) = refl
 standing entries names n (AsProcedure heading region) = refl
 
 -- what an entry is declared as
-pub kind_at : (entries : List Entry) (names : List Name) (n : ℕ) (e : Entry) (place : Place) (description : Option Description) (kind : Kind)
+pub kind_at : (entries : List Entry) (names : List Name) (n : ℕ) (e : Entry) (place : ItemPlace) (description : Option Description) (kind : DeclaredKind)
     → get_or entries n no_entry ≡ e → place ≡ cut_place_in entries names n → description ≡ whole_description entries names n → kind ≡ kind_with place description e.entity
     → kind ≡ kind_of entries names n (get_or entries n no_entry).entity
 kind_at entries names n e place description kind view placed described made =

@@ -17,7 +17,7 @@ use Rattle.pli_declare_variables.specs.Descriptions.{is_of_shape, scalar_at, mem
 use Rattle.pli_declare_variables.specs.answers.Measures.{IsMeasured, AreMeasured}
 use Rattle.pli_declare_variables.specs.declared.sizes.Measured.{Measured}
 use Rattle.pli_declare_variables.specs.declared.sizes.Measured.TheVariants.{Unknown}
-use Rattle.pli_declare_variables.proofs.NumbersOn.{length_numbers, numbers_more, map_at, map_same, set_at_number, filtered, filter_push}
+use Rattle.pli_declare_variables.proofs.NumberListLemmas.{length_numbers, numbers_more, map_at, map_same, set_at_number, filtered, filter_push}
 
 -- an owner stands before its members
 pub before : (entries : List Entry) → AreBehindOwners entries → (k o : ℕ) → k < length entries → (get_or entries k no_entry).owner ≡ Some o → o < k

@@ -17,16 +17,16 @@ use Rattle.pli_declare_variables.specs.Descriptions.{description_of}
 -- what a name is declared as: an item, completed, with its description if it is a variable of its own (a
 -- member's is a part of it); a label of a statement in a region; a procedure, with what it returns, if it
 -- does, and the number of its own region
-pub data Kind : Type 0 where
-  OfItem : (completed : Completed) (description : Option Description) → Kind
-  OfLabel : (region : ℕ) → Kind
-  OfProcedure : (returned : Option Description) (region : ℕ) → Kind
+pub data DeclaredKind : Type 0 where
+  OfItem : (completed : Completed) (description : Option Description) → DeclaredKind
+  OfLabel : (region : ℕ) → DeclaredKind
+  OfProcedure : (returned : Option Description) (region : ℕ) → DeclaredKind
 
 -- a declared name, and the number in its block of the item that it is a member of
 pub record Declaration : Type 0 where
   pub identifier : Identifier
   pub owner : Option ℕ
-  pub kind : Kind
+  pub kind : DeclaredKind
 
 -- the attributes in each RETURNS of a procedure
 abbrev pub returned_by : List ProcedureOption → List (List DescribedAttribute)
@@ -46,7 +46,7 @@ whole_description entries parameters n =
     then description_of entries parameters n else None
 
 -- what an entry is declared as
-abbrev pub kind_of : List Entry → (parameters : List Name) → ℕ → Entity → Kind
+abbrev pub kind_of : List Entry → (parameters : List Name) → ℕ → Entity → DeclaredKind
 kind_of entries parameters n (AsItem item is_bad) =
     OfItem (completed_of (place_in entries parameters n) item) (whole_description entries parameters n)
 kind_of entries parameters n (AsLabel region) = OfLabel region

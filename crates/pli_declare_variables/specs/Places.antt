@@ -13,7 +13,7 @@ use Rattle.pli_declare_attributes.specs.Extents.{all_bounds, are_bad_bounds, is_
 use Rattle.pli_declare_attributes.specs.Faults.{item_fault}
 use Rattle.pli_declare_attributes.specs.Sets.{outermost, set_of, has, none_of, entry, built_in, based, area}
 use Rattle.pli_declare_attributes.specs.Sets.{pointer, offset}
-use Rattle.pli_declare_attributes.specs.declared.place.Place.{Place}
+use Rattle.pli_declare_attributes.specs.declared.place.ItemPlace.{ItemPlace}
 use Rattle.pli_declare_attributes.specs.declared.place.Position.{Position}
 use Rattle.pli_declare_attributes.specs.declared.place.Position.TheVariants.{AtLevelOne, Member, Parameter}
 use Rattle.pli_declare_tables.specs.Tables.{Entity, AsItem, AsLabel, AsProcedure, Entry, no_entry}
@@ -87,7 +87,7 @@ elements_through entries (n ∷ ns) =
     else option_map (λ count. count * count_of (all_bounds dimensions)) (elements_through entries ns)
 
 -- where an item stands; the parameters are those of the procedure that is the block
-abbrev pub place_in : List Entry → (parameters : List Name) → ℕ → Place
+abbrev pub place_in : List Entry → (parameters : List Name) → ℕ → ItemPlace
 place_in entries parameters n =
     let entry = get_or entries n no_entry in
     let name = entry.identifier.name in

@@ -4,7 +4,7 @@ ghost use Rattle.pli_base.specs.Name.{Name as Characters};
 ghost use Rattle.pli_base.specs.views.DeclarationView.{item_view};
 ghost use Rattle.pli_declare_attributes.specs.Faults as fault;
 ghost use Rattle.pli_declare_attributes.specs.answers.Cuts.{cut_place};
-ghost use Rattle.pli_declare_attributes.specs.declared.place.Place.{Place as SpecPlace};
+ghost use Rattle.pli_declare_attributes.specs.declared.place.ItemPlace.{ItemPlace as SpecPlace};
 ghost use Rattle.pli_declare_tables.specs.Tables.{numbers_from};
 ghost use Rattle.pli_declare_tables.specs.views.TableView.{entry_view, entries_view};
 ghost use Rattle.pli_declare_tables.specs.answers.Answers.{AreBehindOwners};
@@ -17,13 +17,13 @@ ghost use Rattle.pli_declare_variables.specs.answers.Walks.{cut_place_in};
 use crate::places;
 use pli_base::declaration::Item;
 use pli_base::{Code, Name};
-use pli_declare_attributes::{ItemFacts, Place, item_fault};
+use pli_declare_attributes::{ItemFacts, ItemPlace, item_fault};
 use pli_declare_tables::{Entity, Entry};
 use std::alloc::{AllocError, Global};
 
 /// The fault of an entry at its place, whose number of elements above may be cut at the limit, where a label and a procedure are as
 /// an item without anything. An item that is known to be good has none.
-fn own_code(place: Place, entry: &Entry, nothing: &ItemFacts, is_good: bool) -> Option<Code>
+fn own_code(place: ItemPlace, entry: &Entry, nothing: &ItemFacts, is_good: bool) -> Option<Code>
     requires { item_view nothing.now.item.now ≡ no_item }
     ensures { (p : SpecPlace) → place ≡ cut_place p → (is_good ≡ true → IsFaultless p (entry_view entry.now).entity)
         → result ≡ fault.item_fault p (item_in (entry_view entry.now).entity) }
@@ -55,7 +55,7 @@ fn no_item(alloc: Global) -> Item
 pub(crate) fn codes_at(
     alloc: Global,
     entries: &[Entry],
-    places: &[Place],
+    places: &[ItemPlace],
     are_good: bool,
 ) -> Result<Vec<Option<Code>>, AllocError>
     requires { length places.now ≡ length entries.now }

@@ -9,7 +9,7 @@ use std::alloc::{AllocError, Global};
 
 /// What a name is declared as.
 #[derive(Drop)]
-pub enum Kind<'a> {
+pub enum DeclaredKind<'a> {
     /// An item. A variable of its own has its description; a member's is a part of it.
     Item {
         completed: Completed<'a>,
@@ -32,24 +32,24 @@ pub struct Declaration<'a> {
     pub identifier: Identifier,
     /// The number in its block of the item that it is a member of.
     pub owner: Option<usize>,
-    pub kind: Kind<'a>,
+    pub kind: DeclaredKind<'a>,
 }
 
-impl<'a> Kind<'a> {
+impl<'a> DeclaredKind<'a> {
     /// What says the same.
-    pub fn copy(&self, alloc: Global) -> Result<Kind<'a>, AllocError>
+    pub fn copy(&self, alloc: Global) -> Result<DeclaredKind<'a>, AllocError>
         ensures { IfOk result (λ copied. kind_view copied ≡ kind_view self.now) }
     {
         Ok(match self {
-            Kind::Item {
+            DeclaredKind::Item {
                 completed,
                 description,
-            } => Kind::Item {
+            } => DeclaredKind::Item {
                 description: copied_description(alloc, description)?,
                 completed: completed.copy(alloc)?,
             },
-            Kind::Label { region } => Kind::Label { region: *region },
-            Kind::Procedure { returned, region } => Kind::Procedure {
+            DeclaredKind::Label { region } => DeclaredKind::Label { region: *region },
+            DeclaredKind::Procedure { returned, region } => DeclaredKind::Procedure {
                 returned: copied_description(alloc, returned)?,
                 region: *region,
             },

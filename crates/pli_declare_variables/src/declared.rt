@@ -15,14 +15,14 @@ ghost use Rattle.pli_declare_variables.specs.views.DeclarationView.{kind_view, d
 ghost use Rattle.pli_declare_variables.specs.answers.Declaring.{kind_with, whole_at, IsFaultlessCut};
 
 use crate::codes::codes_at;
-use crate::declaration::{Declaration, Kind};
+use crate::declaration::{Declaration, DeclaredKind};
 use crate::descriptions::describe;
 use crate::items::is_variable;
 use crate::places;
 use crate::returned::returned;
 use crate::sizes::members_by_owner;
 use pli_base::{Code, Name};
-use pli_declare_attributes::{AttributeError, Completed, ItemFacts, Place, completed_item};
+use pli_declare_attributes::{AttributeError, Completed, ItemFacts, ItemPlace, completed_item};
 use pli_declare_tables::{Entity, Entry};
 use pli_map::Description;
 use std::alloc::{AllocError, Global};
@@ -30,7 +30,7 @@ use std::alloc::{AllocError, Global};
 /// What the attributes of an item are completed to, where it has no fault.
 fn completed<'a>(
     alloc: Global,
-    place: Place,
+    place: ItemPlace,
     facts: &ItemFacts<'a>,
 ) -> Result<Completed<'a>, AllocError>
     requires { item_fault place (item_view facts.now.item.now) ≡ None }
@@ -69,10 +69,10 @@ fn whole_description(
 /// cut at a limit makes no fault.
 fn kind<'a>(
     alloc: Global,
-    place: Place,
+    place: ItemPlace,
     entry: &Entry<'a>,
     description: Option<Description>,
-) -> Result<Kind<'a>, AllocError>
+) -> Result<DeclaredKind<'a>, AllocError>
     requires { IsFaultlessCut place (entry_view entry.now).entity }
     ensures { IfOk result (λ kind. kind_view kind ≡ kind_with place (option_map description_view description) (entry_view entry.now).entity) }
 {
@@ -80,12 +80,12 @@ fn kind<'a>(
         Entity::Item {
             facts,
             is_bad_level: _,
-        } => Ok(Kind::Item {
+        } => Ok(DeclaredKind::Item {
             completed: completed(alloc, place, &facts)?,
             description,
         }),
-        Entity::Label { region } => Ok(Kind::Label { region }),
-        Entity::Procedure { procedure, region } => Ok(Kind::Procedure {
+        Entity::Label { region } => Ok(DeclaredKind::Label { region }),
+        Entity::Procedure { procedure, region } => Ok(DeclaredKind::Procedure {
             returned: returned(procedure),
             region,
         }),

@@ -5,7 +5,7 @@ ghost use Rattle.pli_declare_tables.specs.views.TableView.{entry_view};
 ghost use Rattle.pli_declare_variables.specs.Places.{item_in};
 ghost use Rattle.pli_declare_variables.specs.Places as places;
 
-use pli_base::declaration::{Attribute, Bounds};
+use pli_base::declaration::{Attribute, WrittenBounds};
 use pli_declare_attributes::Named;
 use pli_declare_tables::{Entity, Entry};
 
@@ -23,7 +23,7 @@ pub(crate) fn is_bad_level(entry: &Entry) -> bool
 }
 
 /// The dimensions of its own.
-pub(crate) fn dimensions<'a>(entry: &Entry<'a>) -> &'a [Bounds]
+pub(crate) fn dimensions<'a>(entry: &Entry<'a>) -> &'a [WrittenBounds]
     ensures { result.now ≡ (item_in (entry_view entry.now).entity).dimensions }
 {
     match entry.entity {

@@ -16,7 +16,7 @@ mod sizes;
 mod words;
 
 pub use attribute_names::{area_of, locator_of, returned_area};
-pub use declaration::{Declaration, Kind};
+pub use declaration::{Declaration, DeclaredKind};
 pub use declared::declare;
 pub use judged::{Judged, judge};
 pub use laws::descriptions_are_of_members;

@@ -16,27 +16,27 @@ use crate::items::{self, dimensions};
 use crate::words::is_built_in;
 use indexmap::IndexSet;
 use pli_base::Name;
-use pli_base::declaration::Bounds;
-use pli_declare_attributes::{Place, Position, elements_within};
+use pli_base::declaration::WrittenBounds;
+use pli_declare_attributes::{ItemPlace, Position, elements_within};
 use pli_declare_tables::Entry;
 use std::alloc::{AllocError, AllocFailed, Global};
 
 /// What the levels above an item make.
 #[derive(Clone, Copy)]
-pub(crate) struct Surroundings {
+pub(crate) struct LevelsAbove {
     /// Whether one of them has dimensions.
     in_array: bool,
     /// How many elements they make, up to a limit, where none of them has bad bounds.
     elements: Option<u128>,
 }
 
-impl Surroundings {
+impl LevelsAbove {
     /// With a level more, which is the next one below.
-    fn and(self, dimensions: &[Bounds]) -> Surroundings
+    fn and(self, dimensions: &[WrittenBounds]) -> LevelsAbove
         ensures in_array { result.in_array ≡ (is_array dimensions.now || self.in_array) }
         ensures elements { result.elements ≡ cut (elements_inside self.elements dimensions.now) }
     {
-        Surroundings {
+        LevelsAbove {
             in_array: !dimensions.is_empty() || self.in_array,
             elements: elements_within(self.elements, dimensions),
         }
@@ -44,13 +44,13 @@ impl Surroundings {
 }
 
 /// What the levels above a member of this owner make, where it is known of each item before.
-fn above(aboves: &[Surroundings], entries: &[Entry], owner: Option<usize>) -> Surroundings
+fn above(aboves: &[LevelsAbove], entries: &[Entry], owner: Option<usize>) -> LevelsAbove
     requires before { IfSome owner (λ o. o < length aboves.now) }
     requires within { length aboves.now ≤ length entries.now }
     ensures { result ≡ above_owner aboves.now (entries_view entries.now) owner }
 {
     match owner {
-        None => Surroundings {
+        None => LevelsAbove {
             in_array: false,
             elements: Some(1),
         },
@@ -59,7 +59,7 @@ fn above(aboves: &[Surroundings], entries: &[Entry], owner: Option<usize>) -> Su
 }
 
 /// What the levels above each item make.
-fn aboves(alloc: Global, entries: &[Entry]) -> Result<Vec<Surroundings>, AllocError>
+fn aboves(alloc: Global, entries: &[Entry]) -> Result<Vec<LevelsAbove>, AllocError>
     requires { AreBehindOwners (entries_view entries.now) }
     ensures { IfOk result (λ aboves. aboves.items ≡ map (above_at (entries_view entries.now)) (numbers_from 0 (length entries.now))) }
 {
@@ -115,12 +115,12 @@ fn place(
     entry: &Entry,
     parameters: &IndexSet<Name>,
     has_members: bool,
-    above: Surroundings,
-) -> Place
+    above: LevelsAbove,
+) -> ItemPlace
     ensures { result ≡ placed (entry_view entry.now) parameters.now.keys has_members above }
 {
     let name = entry.identifier.name;
-    Place {
+    ItemPlace {
         position: position(entry, parameters.contains(&name)),
         has_members,
         in_array: above.in_array,
@@ -135,7 +135,7 @@ pub(crate) fn places(
     alloc: Global,
     entries: &[Entry],
     parameters: &[Name],
-) -> Result<Vec<Place>, AllocError>
+) -> Result<Vec<ItemPlace>, AllocError>
     requires { AreBehindOwners (entries_view entries.now) }
     ensures { IfOk result (λ places. places.items ≡ map (cut_place_in (entries_view entries.now) parameters.now) (numbers_from 0 (length entries.now))) }
 {

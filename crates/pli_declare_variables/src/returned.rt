@@ -36,7 +36,7 @@ fn first_returned(options: &[ProcedureOption]) -> Option<Description>
 }
 
 /// The options of a procedure.
-#[tactic(auto, using(crate::proofs::Options::options_out))]
+#[tactic(auto, using(crate::proofs::OptionLemmas::options_out))]
 pub fn options_of(procedure: &Procedure) -> &[ProcedureOption]
     ensures { map option_view result.now ≡ (unit_view procedure.now).heading.options }
 {

@@ -18,7 +18,7 @@ ghost use Rattle.pli_declare_variables.specs.declared.sizes.Measured.TheVariants
 
 use crate::items::{attributes, dimensions, is_variable};
 use pli_base::Code;
-use pli_base::declaration::Bounds;
+use pli_base::declaration::WrittenBounds;
 use pli_declare_attributes::{array_layout, scalar_layout};
 use pli_declare_tables::Entry;
 use pli_map::Layout;
@@ -58,7 +58,7 @@ impl Measured {
     }
 
     /// An array of these dimensions, which are good, or the element itself where there are none.
-    fn with_dimensions(self, dimensions: &[Bounds]) -> Measured
+    fn with_dimensions(self, dimensions: &[WrittenBounds]) -> Measured
         requires { are_bad_bounds dimensions.now ≡ false }
         ensures { (d : Option Description) → IsMeasured self d → IsMeasured result (option_map (with_bounds (all_bounds dimensions.now)) d) }
     {

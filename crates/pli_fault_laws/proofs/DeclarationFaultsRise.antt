@@ -8,15 +8,15 @@ use Rattle.pli_base.specs.TreeTokens.{tokens_of_each, name_tokens, item_tokens}
 use Rattle.pli_base.specs.declared.code.Code.{Code}
 use Rattle.pli_base.specs.declared.syntax.Identifier.{Identifier}
 use Rattle.pli_base.specs.declared.token.Fault.{Fault}
-use Rattle.pli_declare_outline.specs.Outlines.{Mark, Declared, Labelled, Entered, Used, Jumped, Placed, Outline, outline_of}
+use Rattle.pli_declare_outline.specs.Outlines.{Mark, Declared, Labelled, Entered, Used, Jumped, PlacedMark, Outline, outline_of}
 use Rattle.pli_declare_constructs.specs.Regions.{block_of}
-use Rattle.pli_declare_scopes.specs.declared.level.Standing.{Standing}
+use Rattle.pli_declare_scopes.specs.declared.level.ItemStanding.{ItemStanding}
 use Rattle.pli_declare_tables.specs.Tables.{Entry, named, item_entries, entries_of}
 use Rattle.pli_declare.specs.Resolution.{at_token, item_code, codes_from, parameter_code, parameter_codes, parameter_faults, used_faults, mark_faults, declared_by, faults_after, heading_faults, unit_faults, outline_faults, resolution_faults}
 use Rattle.pli_parse.proofs.StatementTokens.{unit_read_rises}
 use Rattle.pli_fault_laws.specs.MarkTokens.{mark_tokens, placed_mark_tokens}
 use Rattle.pli_fault_laws.specs.FaultOrder.{fault_tokens, DeclarationFaultsRise}
-use Rattle.pli_fault_laws.proofs.Keeping.{Keeps, kept, none_kept, token_kept, both_kept, each_kept}
+use Rattle.pli_fault_laws.proofs.RisingLemmas.{Keeps, kept, none_kept, token_kept, both_kept, each_kept}
 use Rattle.pli_fault_laws.proofs.MarksRise.{marks_rise}
 use Rattle.pli_fault_laws.proofs.StatementsBegin.{statements_begin}
 
@@ -52,7 +52,7 @@ pair_tokens xs = tokens_of_each (λ (x : Identifier × Item). x.0.at ∷ []) xs
 through : (xs ys zs : List ℕ) → Keeps xs ys → Keeps ys zs → Keeps xs zs
 through xs ys zs k l low high h = k low high (l low high h)
 
-entries_kept : (base : ℕ) (xs : List (Identifier × Item)) (ss : List Standing) → Keeps (entry_tokens (item_entries base xs ss)) (pair_tokens xs)
+entries_kept : (base : ℕ) (xs : List (Identifier × Item)) (ss : List ItemStanding) → Keeps (entry_tokens (item_entries base xs ss)) (pair_tokens xs)
 entries_kept base [] ss = none_kept []
 entries_kept base (x ∷ xs) [] = none_kept (pair_tokens (x ∷ xs))
 entries_kept base (x ∷ xs) (s ∷ ss) = token_kept x.0.at (entry_tokens (item_entries base xs ss)) (pair_tokens xs) (entries_kept base xs ss)
@@ -104,7 +104,7 @@ marked o block number here (Used []) = told_none []
 marked o block number here (Used (name ∷ names)) = told_at name.at _
 marked o block number here (Jumped label) = told_at label.at _
 
-marks_told : (o : Outline) (before ps : List Placed) → Told (faults_after o before ps) (placed_mark_tokens ps)
+marks_told : (o : Outline) (before ps : List PlacedMark) → Told (faults_after o before ps) (placed_mark_tokens ps)
 marks_told o before [] = none_kept []
 marks_told o before (p ∷ ps) =
     let number = declared_by o (block_of o.regions p.region) before in
@@ -122,7 +122,7 @@ own_told o (Labelled label) = none_kept (mark_tokens (Labelled label))
 own_told o (Used names) = none_kept (mark_tokens (Used names))
 own_told o (Jumped label) = none_kept (mark_tokens (Jumped label))
 
-outline_told : (o : Outline) (ps : List Placed) → Told (outline_faults o ps) (placed_mark_tokens ps)
+outline_told : (o : Outline) (ps : List PlacedMark) → Told (outline_faults o ps) (placed_mark_tokens ps)
 outline_told o [] = none_kept []
 outline_told o (p ∷ ps) =
     told_both (unit_faults o p) (faults_after o [] ps) (mark_tokens p.mark) (placed_mark_tokens ps) (own_told o p.mark) (marks_told o [] ps)

@@ -23,7 +23,7 @@ use Rattle.pli_type.specs.Typing.{referred, joined, begun, is_call, all_subscrip
 use Rattle.pli_type.specs.Typing.{as_value, one_value, ended, with_more}
 use Rattle.pli_type.specs.declared.expression_type.ExpressionType.{ExpressionType}
 use Rattle.pli_type_tree.specs.TypedTree.{Callee, TypedExpression, TypedArguments}
-use Rattle.pli_fault_laws.proofs.Below.{Below, below_left, below_right}
+use Rattle.pli_fault_laws.proofs.BelowLemmas.{Below, below_left, below_right}
 
 -- a fault, where there is one, stands before the bound; of what else is given, this is true
 pub Gives : (high : ℕ) {A : Type 0} (P : A → Type 0) → Result A Fault → Type 0

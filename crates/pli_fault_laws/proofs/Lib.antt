@@ -1,7 +1,7 @@
-pub mod Below
+pub mod BelowLemmas
 pub mod DeclarationFaultsRise
 pub mod ExpressionFaultsStand
-pub mod Keeping
+pub mod RisingLemmas
 pub mod MarksRise
 pub mod PlacesHold
 pub mod StatementsBegin

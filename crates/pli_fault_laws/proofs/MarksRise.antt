@@ -9,22 +9,22 @@ use Rattle.pli_base.specs.TreeTokens.{Rises, expression_tokens, reference_tokens
 use Rattle.pli_base.specs.laws.TreeTokenLaws.{rises_up}
 use Rattle.pli_base.specs.declared.syntax.Identifier.{Identifier}
 use Rattle.pli_base.specs.declared.syntax.Joining.TheVariants.{Member, Located}
-use Rattle.pli_declare_outline.specs.Outlines.{Mark, Declared, Used, Jumped, Placed, outline_of, placed, reference_marks, joined_marks, argument_marks, list_marks, expression_marks, optional_marks, range_marks, control_marks, both_marks, allocation_marks, label_marks, statement_marks, body_marks, statements_marks, alternative_marks, regions_in}
+use Rattle.pli_declare_outline.specs.Outlines.{Mark, Declared, Used, Jumped, PlacedMark, outline_of, placed, reference_marks, joined_marks, argument_marks, list_marks, expression_marks, optional_marks, range_marks, control_marks, both_marks, allocation_marks, label_marks, statement_marks, body_marks, statements_marks, alternative_marks, regions_in}
 use Rattle.pli_fault_laws.specs.MarkTokens.{mark_tokens, placed_mark_tokens, MarksRise}
 use Rattle.pli_fault_laws.specs.StatementStarts.{Begins, BodyBegins, AllBegin, ElseBegins}
-use Rattle.pli_fault_laws.proofs.Keeping.{Keeps, kept, none_kept, token_kept, token_left, rises_apart, both_kept, each_kept}
+use Rattle.pli_fault_laws.proofs.RisingLemmas.{Keeps, kept, none_kept, token_kept, token_left, rises_apart, both_kept, each_kept}
 
 -- the tokens of these marks rise where those of the text do
 abbrev Marked : List Mark → List ℕ → Type 0
 Marked ms ts = Keeps (tokens_of_each mark_tokens ms) ts
 
-abbrev Outlined : List Placed → List ℕ → Type 0
+abbrev Outlined : List PlacedMark → List ℕ → Type 0
 Outlined ps ts = Keeps (placed_mark_tokens ps) ts
 
 marked_both : (ms ns : List Mark) (ts us : List ℕ) → Marked ms ts → Marked ns us → Marked (ms ++ ns) (ts ++ us)
 marked_both ms ns ts us k l = each_kept mark_tokens ms ns ts us k l
 
-outlined_both : (ps qs : List Placed) (ts us : List ℕ) → Outlined ps ts → Outlined qs us → Outlined (ps ++ qs) (ts ++ us)
+outlined_both : (ps qs : List PlacedMark) (ts us : List ℕ) → Outlined ps ts → Outlined qs us → Outlined (ps ++ qs) (ts ++ us)
 outlined_both ps qs ts us k l = each_kept (λ p. mark_tokens p.mark) ps qs ts us k l
 
 mutual
@@ -131,7 +131,7 @@ placed_marked : (here : ℕ) (ms : List Mark) (ts : List ℕ) → Marked ms ts �
 placed_marked here ms ts k = subst (λ us. Keeps us ts) (sym (placed_same here ms)) k
 
 -- behind a label
-labelled : (here : ℕ) (ms : List Mark) (label : Option Identifier) (ps : List Placed) (ts : List ℕ) → Marked ms (tokens_of_some name_tokens label) → Outlined ps ts
+labelled : (here : ℕ) (ms : List Mark) (label : Option Identifier) (ps : List PlacedMark) (ts : List ℕ) → Marked ms (tokens_of_some name_tokens label) → Outlined ps ts
     → Outlined (placed here ms ++ ps) (tokens_of_some name_tokens label ++ ts)
 labelled here ms label ps ts k l = outlined_both (placed here ms) ps (tokens_of_some name_tokens label) ts (placed_marked here ms (tokens_of_some name_tokens label) k) l
 

@@ -24,7 +24,7 @@ use Rattle.pli_type_tree.specs.TypedTree.{TypedUnit}
 use Rattle.pli_fault_laws.specs.FaultOrder.{fault_tokens}
 use Rattle.pli_fault_laws.specs.TypeFaultPlaces.{AllStand}
 use Rattle.pli_fault_laws.specs.DiagnosticPlaces.{FaultsHavePlaces, HasPlace, HavePlaces, DiagnosticsHavePlaces}
-use Rattle.pli_fault_laws.proofs.Below.{Below, rising_below}
+use Rattle.pli_fault_laws.proofs.BelowLemmas.{Below, rising_below}
 use Rattle.pli_fault_laws.proofs.DeclarationFaultsRise.{declaration_faults_rise}
 use Rattle.pli_fault_laws.proofs.TypeFaultsStand.{at_token, type_faults_stand_at_tokens}
 

@@ -9,8 +9,8 @@ use Rattle.pli_parse_expression.specs.Expressions.{Deeper, SpellsReference}
 use Rattle.pli_parse_expression.specs.Operators.{nesting_limit}
 use Rattle.pli_parse_statement.specs.StatementGrammar.{SpellsStatement, SpellsBody, SpellsStatements, SpellsAlternative, StandsIn}
 use Rattle.pli_parse_statement.specs.StatementWords.{Context, standing, the_unit, a_procedure}
-use Rattle.pli_parse_statement.specs.declared.keyword.Standing.{Standing}
-use Rattle.pli_parse_statement.specs.declared.keyword.Standing.TheVariants.{InBlock, InGroup, AsClause, AsUnit}
+use Rattle.pli_parse_statement.specs.declared.keyword.StatementStanding.{StatementStanding}
+use Rattle.pli_parse_statement.specs.declared.keyword.StatementStanding.TheVariants.{InBlock, InGroup, AsClause, AsUnit}
 use Rattle.pli_fault_laws.specs.StatementStarts.{Begins, BodyBegins, AllBegin, ElseBegins, StatementsBegin}
 
 -- what holds a level deeper makes something hold
@@ -21,7 +21,7 @@ deeper F G (suc m) g h = g m h
 first_stands : (p : ℕ) (ts : Tokens) (r : Reference) → SpellsReference p ts r → first_token r ≡ p
 first_stands p ts (Named name arguments more) h = h.3
 
-named : (standing : Standing) (label : Option Identifier) (heading : Heading) (statements : Statements) (end : ℕ)
+named : (standing : StatementStanding) (label : Option Identifier) (heading : Heading) (statements : Statements) (end : ℕ)
     → StandsIn standing label (Procedure heading statements end) → label ≡ Some heading.name
 named InBlock label heading statements end s = s
 named InGroup label heading statements end s = absurd s

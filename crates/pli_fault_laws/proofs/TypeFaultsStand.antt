@@ -23,7 +23,7 @@ use Rattle.pli_type.specs.Typing.{first_token}
 use Rattle.pli_type_tree.specs.TypedTree.{Callee, TypedArguments, TypedRange, TypedStatements, TypedProcedure, TypedUnit}
 use Rattle.pli_fault_laws.specs.StatementStarts.{Begins, BodyBegins, AllBegin, ElseBegins}
 use Rattle.pli_fault_laws.specs.TypeFaultPlaces.{AllStand, TypeFaultsStandAtTokens}
-use Rattle.pli_fault_laws.proofs.Below.{Below, rising_below, below_left, below_right}
+use Rattle.pli_fault_laws.proofs.BelowLemmas.{Below, rising_below, below_left, below_right}
 use Rattle.pli_fault_laws.proofs.ExpressionFaultsStand.{Only, fine, told, only_then, only_or, only_if, first_below, only_passed, only_denoted, only_referred, only_arguments, only_value_of}
 use Rattle.pli_fault_laws.proofs.StatementsBegin.{statements_begin}
 use Rattle.pli_fault_laws.proofs.UnbuiltStands.{AtBelow, start_below, unit_below}

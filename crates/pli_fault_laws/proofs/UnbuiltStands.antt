@@ -11,7 +11,7 @@ use Rattle.pli_type.specs.Names.{Compiled}
 use Rattle.pli_type.specs.Unbuilt.{first_of, or_else, token_if, later_expression, later_control, later_part, later_option, later_body, later_statement, later_statements, later_alternative, later_heading, first_unbuilt}
 use Rattle.pli_fault_laws.specs.StatementStarts.{Begins, BodyBegins, AllBegin, ElseBegins}
 use Rattle.pli_fault_laws.specs.TypeFaultPlaces.{UnbuiltStandsAtToken}
-use Rattle.pli_fault_laws.proofs.Below.{Below, rising_below, below_left, below_right}
+use Rattle.pli_fault_laws.proofs.BelowLemmas.{Below, rising_below, below_left, below_right}
 use Rattle.pli_fault_laws.proofs.StatementsBegin.{statements_begin}
 
 -- the token, if there is one, stands before the bound

@@ -3,7 +3,7 @@
 use Rattle.std.specs.Prelude.{ℕ, List, [], ◌∷◌}
 use Rattle.pli_base.specs.Statements.{ExternalProcedure}
 use Rattle.pli_base.specs.TreeTokens.{Rises, tokens_of_each, name_tokens, item_tokens, unit_tokens}
-use Rattle.pli_declare_outline.specs.Outlines.{Mark, Declared, Labelled, Entered, Used, Jumped, Placed}
+use Rattle.pli_declare_outline.specs.Outlines.{Mark, Declared, Labelled, Entered, Used, Jumped, PlacedMark}
 use Rattle.pli_declare_outline.specs.Outlines.{outline_of}
 use Rattle.pli_fault_laws.specs.StatementStarts.{AllBegin}
 
@@ -17,7 +17,7 @@ mark_tokens (Used (name ∷ names)) = name.at ∷ []
 mark_tokens (Jumped label) = label.at ∷ []
 
 -- of marks in their regions
-abbrev pub placed_mark_tokens : List Placed → List ℕ
+abbrev pub placed_mark_tokens : List PlacedMark → List ℕ
 placed_mark_tokens marks = tokens_of_each (λ p. mark_tokens p.mark) marks
 
 -- where the tokens of a tree rise, and its statements begin where they should, those of its marks rise

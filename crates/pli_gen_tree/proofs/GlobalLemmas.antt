@@ -8,7 +8,7 @@ use Rattle.pli_map.specs.laws.SameLaws.{same_decides}
 use Rattle.pli_type_tree.specs.Templates.{Template}
 use Rattle.pli_type_tree.specs.TypedTree.{Signature, Global, OwnVariable, ExternalVariable, EntryPoint}
 use Rattle.pli_unit_code.specs.CodeTables as plain
-use Rattle.pli_gen_tree.specs.Encoding.{Tables, numbered, signature_descriptions, global_descriptions, global_templates, template_number, signature_code, global_code}
+use Rattle.pli_gen_tree.specs.Encoding.{NumberedTables, numbered, signature_descriptions, global_descriptions, global_templates, template_number, signature_code, global_code}
 use Rattle.pli_type_keys.specs.Same.{same_template}
 use Rattle.pli_gen_tree.proofs.KeyLemmas.{numbered_after, all_there, repeated}
 use Rattle.pli_gen_tree.proofs.TableNumbers.{Has, has_all}
@@ -73,7 +73,7 @@ entries_templated s [] table = refl
 entries_templated s (n ∷ ns) table = entries_templated s ns table
 
 -- the code of each
-module _ (t : Tables) where
+module _ (t : NumberedTables) where
   pub own_coded : (n : ℕ) (x : Template) → replicate n (plain.OwnVariable (template_number t x)) ≡ map (global_code t) (map OwnVariable (replicate n x))
   own_coded zero x = refl
   own_coded (suc n) x = ap (λ gs. plain.OwnVariable (template_number t x) ∷ gs) (own_coded n x)

@@ -13,7 +13,7 @@ use Rattle.pli_map.specs.Same.{same}
 use Rattle.pli_map.specs.laws.SameLaws.{same_decides}
 use Rattle.pli_type_tree.specs.Templates.{Template}
 use Rattle.pli_value.specs.Value.{Value}
-use Rattle.pli_gen_tree.specs.Encoding.{Tables, numbered}
+use Rattle.pli_gen_tree.specs.Encoding.{NumberedTables, numbered}
 use Rattle.pli_type_keys.specs.Same.{same_template}
 use Rattle.pli_type_keys.specs.laws.KeyLaws.{template_decides}
 use Rattle.pli_gen_tree.proofs.TableNumbers.{Has, more, now}
@@ -76,7 +76,7 @@ group_templated n table t some = repeated same_template template_decides n table
 pub described_apart : (ts us : List Template) → map (λ t. t.description) (ts ++ us) ≡ map (λ t. t.description) ts ++ map (λ t. t.description) us
 described_apart ts us = map-append (λ t. t.description) ts us
 
-abbrev tables : List Description → List Template → List Value → Tables
+abbrev tables : List Description → List Template → List Value → NumberedTables
 tables ds ts vs = record { descriptions = ds; templates = ts; values = vs }
 
 pub same_tables : (ds ds2 : List Description) (ts ts2 : List Template) (vs vs2 : List Value) → ds ≡ ds2 → ts ≡ ts2 → vs ≡ vs2 → tables ds ts vs ≡ tables ds2 ts2 vs2

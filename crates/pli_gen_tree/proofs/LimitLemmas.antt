@@ -19,7 +19,7 @@ use Rattle.pli_type_tree.specs.Templates.{InitialScalar, Template}
 use Rattle.pli_type_tree.specs.TypedTree as typed
 use Rattle.pli_type_tree.specs.TypedTree.{TypedUnit}
 use Rattle.pli_gen_emit.specs.TreeTranslation.{BlockTree, behind, block_code}
-use Rattle.pli_gen_tree.specs.Encoding.{Tables, number_in, template_number, template_code, global_code, instruction_code, coded_blocks, coded_unit}
+use Rattle.pli_gen_tree.specs.Encoding.{NumberedTables, number_in, template_number, template_code, global_code, instruction_code, coded_blocks, coded_unit}
 use Rattle.pli_gen_tree.specs.Limits.{is_over, member_count, has_many_members, one_has_many, has_many_slots, bytes_of, initial_bytes_of, initial_bytes, is_too_long}
 use Rattle.pli_gen_tree.specs.answers.Pieces.{takes_many_slots, template_bytes, HaveDescriptions}
 use Rattle.pli_gen_tree.proofs.TableNumbers.{Has, number_stands}
@@ -81,7 +81,7 @@ bytes_there : (ds : List Description) (d : Description) (is : List InitialScalar
 bytes_there ds d [] h = refl
 bytes_there ds d (i ∷ is) h = ap bytes_of (number_stands same same_decides ds d h)
 
-module _ (t : Tables) where
+module _ (t : NumberedTables) where
   all_bytes : (ts : List Template) (n : ℕ) → AllByRecursion (λ u. list_any (same u.description) t.descriptions ≡ true) ts
       → fold (λ sum u. sum + initial_bytes_of t.descriptions u) n (map (template_code t) ts) ≡ fold (λ sum u. sum + template_bytes u) n ts
   all_bytes [] n h = refl
@@ -107,7 +107,7 @@ three_apart : (x y z w : Bool) → (x || (y || z || w)) ≡ (x || y || z || w)
 three_apart x y z w = or_apart x (y || z) w ∙ ap (λ c. c || w) (or_apart x y z)
 
 -- the limits of a unit, in three parts
-module _ (t : Tables) (u : TypedUnit) (bs : List BlockTree) (code : List op.Instruction) (stand : HaveDescriptions t) where
+module _ (t : NumberedTables) (u : TypedUnit) (bs : List BlockTree) (code : List op.Instruction) (stand : HaveDescriptions t) where
   abbrev pub long_tables : Bool
   long_tables = is_over t.descriptions || is_over t.templates || is_over t.values
 
@@ -158,7 +158,7 @@ none_of false y h = (refl, h)
 pub few : (limit n : ℕ) → nat_lt limit n ≡ false → n ≤ limit
 few limit n h = grind (arith, nat_tests)
 
-pub record Short (t : Tables) (u : TypedUnit) (bs : List BlockTree) (code : List op.Instruction) : Type 0 where
+pub record Short (t : NumberedTables) (u : TypedUnit) (bs : List BlockTree) (code : List op.Instruction) : Type 0 where
   pub descriptions : length t.descriptions ≤ 65535
   pub templates : length t.templates ≤ 65535
   pub values : length t.values ≤ 65535
@@ -169,7 +169,7 @@ pub record Short (t : Tables) (u : TypedUnit) (bs : List BlockTree) (code : List
   pub members : list_any has_many_members t.descriptions ≡ false
   pub bytes : initial_bytes (coded_unit t u bs code) ≤ 16777216
 
-pub short_parts : (t : Tables) (u : TypedUnit) (bs : List BlockTree) (code : List op.Instruction) → is_too_long (coded_unit t u bs code) ≡ false → Short t u bs code
+pub short_parts : (t : NumberedTables) (u : TypedUnit) (bs : List BlockTree) (code : List op.Instruction) → is_too_long (coded_unit t u bs code) ≡ false → Short t u bs code
 short_parts t u bs code h =
     let c = coded_unit t u bs code in
     let no_bytes = none_of _ _ h in

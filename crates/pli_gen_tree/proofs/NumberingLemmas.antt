@@ -14,12 +14,12 @@ use Rattle.pli_type_keys.specs.Same.{same_template, same_value}
 use Rattle.pli_gen_tree.specs.Encoding.{signature_descriptions, global_descriptions, global_templates, block_templates}
 use Rattle.pli_gen_tree.specs.answers.Numbering.{Numbers}
 use Rattle.pli_gen_tree.specs.answers.Pieces.{no_tables}
-use Rattle.pli_gen_tree.specs.declared.table.Tables.{Tables}
+use Rattle.pli_gen_tree.specs.declared.table.NumberedTables.{NumberedTables}
 use Rattle.pli_gen_tree.specs.views.TableView.{tables_view}
 use Rattle.pli_gen_tree.proofs.KeyLemmas.{numbered_more, numbered_after, same_tables}
 
 -- some behind others
-pub numbers_both : (old mid new : Tables) (ds ds2 : List Description) (ts ts2 : List Template) (vs vs2 : List Value)
+pub numbers_both : (old mid new : NumberedTables) (ds ds2 : List Description) (ts ts2 : List Template) (vs vs2 : List Value)
     → Numbers old mid ds ts vs → Numbers mid new ds2 ts2 vs2 → Numbers old new (ds ++ ds2) (ts ++ ts2) (vs ++ vs2)
 numbers_both old mid new ds ds2 ts ts2 vs vs2 a b = record {
   memory = λ h. a.memory (b.memory h);
@@ -29,7 +29,7 @@ numbers_both old mid new ds ds2 ts ts2 vs vs2 a b = record {
 }
 
 -- in a loop: what was numbered so far and what is left come to the whole
-abbrev pub IsNumbering : (initial now : Tables) → (ds : List Description) → (ts : List Template) → (vs : List Value)
+abbrev pub IsNumbering : (initial now : NumberedTables) → (ds : List Description) → (ts : List Template) → (vs : List Value)
     → (all_ds : List Description) → (all_ts : List Template) → (all_vs : List Value) → Type 0
 IsNumbering initial now ds ts vs all_ds all_ts all_vs = record {
   memory : now.lacks_memory ≡ false → initial.lacks_memory ≡ false;
@@ -43,7 +43,7 @@ module _ {X : Type 0} (ds : List X → List Description) (ts : List X → List T
     (d : X → List Description) (t : X → List Template) (v : X → List Value)
     (d_splits : (x : X) (xs : List X) → ds (x ∷ xs) ≡ d x ++ ds xs) (t_splits : (x : X) (xs : List X) → ts (x ∷ xs) ≡ t x ++ ts xs)
     (v_splits : (x : X) (xs : List X) → vs (x ∷ xs) ≡ v x ++ vs xs) where
-  pub numbering_next : (initial now new : Tables) (xs : List X) (i : ℕ) (x : X) → i < length xs → x ≡ get_or xs i x → Numbers now new (d x) (t x) (v x)
+  pub numbering_next : (initial now new : NumberedTables) (xs : List X) (i : ℕ) (x : X) → i < length xs → x ≡ get_or xs i x → Numbers now new (d x) (t x) (v x)
       → IsNumbering initial now (ds (drop i xs)) (ts (drop i xs)) (vs (drop i xs)) (ds xs) (ts xs) (vs xs)
       → IsNumbering initial new (ds (drop (i + 1) xs)) (ts (drop (i + 1) xs)) (vs (drop (i + 1) xs)) (ds xs) (ts xs) (vs xs)
   numbering_next initial now new xs i x lt read e was = record {
@@ -54,7 +54,7 @@ module _ {X : Type 0} (ds : List X → List Description) (ts : List X → List T
   }
 
 -- entries that come to the same
-pub numbers_like : (old new : Tables) (ds ds2 : List Description) (ts ts2 : List Template) → Numbers old new ds ts []
+pub numbers_like : (old new : NumberedTables) (ds ds2 : List Description) (ts ts2 : List Template) → Numbers old new ds ts []
     → ((table : List Description) → numbered same table ds ≡ numbered same table ds2)
     → ((table : List Template) → numbered same_template table ts ≡ numbered same_template table ts2) → Numbers old new ds2 ts2 []
 numbers_like old new ds ds2 ts ts2 n d t = record {
@@ -65,7 +65,7 @@ numbers_like old new ds ds2 ts ts2 n d t = record {
 }
 
 -- the tables of a unit: its signature, its globals, the variables of its blocks, and its instructions
-pub numbered_unit : (old one two three four : Tables) (u : TypedUnit) (bs : List BlockTree) (code : List Instruction) → tables_view old ≡ no_tables
+pub numbered_unit : (old one two three four : NumberedTables) (u : TypedUnit) (bs : List BlockTree) (code : List Instruction) → tables_view old ≡ no_tables
     → Numbers old one (signature_descriptions u.signature) [] [] → Numbers one two (flat_map global_descriptions u.globals) (flat_map global_templates u.globals) []
     → Numbers two three (map (λ t. t.description) (block_templates bs)) (block_templates bs) []
     → Numbers three four (flat_map descriptions_named code) (flat_map templates_named code) (flat_map values_named code)
@@ -81,6 +81,6 @@ numbered_unit old one two three four u bs code empty a b d e h =
     let all = numbers_both old three four (from_signature ++ from_globals ++ from_blocks) (flat_map descriptions_named code) (outside ++ inside) (flat_map templates_named code)
     [] (flat_map values_named code) three_parts e in
     same_tables _ _ _ _ _ _
-    (all.descriptions h ∙ ap (λ (t : plain.Tables). numbered same t.descriptions (from_signature ++ from_globals ++ from_blocks ++ flat_map descriptions_named code)) empty)
-    (all.templates h ∙ ap (λ (t : plain.Tables). numbered same_template t.templates (outside ++ inside ++ flat_map templates_named code)) empty)
-    (all.values h ∙ ap (λ (t : plain.Tables). numbered same_value t.values (flat_map values_named code)) empty)
+    (all.descriptions h ∙ ap (λ (t : plain.NumberedTables). numbered same t.descriptions (from_signature ++ from_globals ++ from_blocks ++ flat_map descriptions_named code)) empty)
+    (all.templates h ∙ ap (λ (t : plain.NumberedTables). numbered same_template t.templates (outside ++ inside ++ flat_map templates_named code)) empty)
+    (all.values h ∙ ap (λ (t : plain.NumberedTables). numbered same_value t.values (flat_map values_named code)) empty)

@@ -16,7 +16,7 @@ use Rattle.pli_type_tree.specs.TypedTree.{Global, OwnVariable, ExternalVariable,
 use Rattle.pli_unit_code.specs.CodeTables.{Code, looked_up, template_at, variables_at, block_looked_up, program_of, there, naming, with_description, described}
 use Rattle.pli_unit_code.specs.CodeTables.{global_before, globals_linked}
 use Rattle.pli_gen_emit.specs.TreeTranslation.{BlockTree, blocks_of, blocks_at, block_at, block_code, behind, instructions_of, globals_code, unit_code}
-use Rattle.pli_gen_tree.specs.Encoding.{Tables, tables_for, descriptions_named, templates_named, values_named, dummy, fitted_by}
+use Rattle.pli_gen_tree.specs.Encoding.{NumberedTables, tables_for, descriptions_named, templates_named, values_named, dummy, fitted_by}
 use Rattle.pli_type_keys.specs.Same.{same_value, same_template}
 use Rattle.pli_gen_tree.specs.Encoding.{signature_descriptions, global_descriptions, global_templates, block_templates}
 use Rattle.pli_gen_tree.specs.Encoding.{description_number, template_number, relation_code, operation_code, instruction_code, template_code, global_code, coded_blocks, coded_unit, code_of}
@@ -26,7 +26,7 @@ use Rattle.pli_type_keys.specs.laws.KeyLaws.{value_decides, template_decides}
 use Rattle.pli_gen_tree.proofs.TableNumbers.{Has, number_stands, has_all}
 use Rattle.pli_gen_tree.proofs.UnitLemmas.{globals_described}
 
-module _ (tables : Tables) (u : TypedUnit) (bs : List BlockTree) (code : List op.Instruction) where
+module _ (tables : NumberedTables) (u : TypedUnit) (bs : List BlockTree) (code : List op.Instruction) where
   abbrev c : Code
   c = coded_unit tables u bs code
 

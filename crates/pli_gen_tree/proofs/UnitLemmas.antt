@@ -12,7 +12,7 @@ use Rattle.pli_type_tree.specs.TypedTree.{Global, OwnVariable, ExternalVariable,
 use Rattle.pli_unit_code.specs.CodeTables.{CodedTemplate, CodedBlock, CodedSignature, CodedGlobal, Code}
 use Rattle.pli_unit_code.specs.declared.instruction.Instruction.{Instruction}
 use Rattle.pli_gen_emit.specs.TreeTranslation.{BlockTree, behind, block_code, blocks_code, blocks_of, places_of, statement_place, with_target, instructions_of}
-use Rattle.pli_gen_tree.specs.Encoding.{Tables, tables_for, numbered, descriptions_named, templates_named, values_named}
+use Rattle.pli_gen_tree.specs.Encoding.{NumberedTables, tables_for, numbered, descriptions_named, templates_named, values_named}
 use Rattle.pli_type_keys.specs.Same.{same_template, same_value}
 use Rattle.pli_gen_tree.specs.Encoding.{signature_descriptions, global_descriptions, global_templates, block_templates}
 use Rattle.pli_gen_tree.specs.Encoding.{template_code, signature_code, global_code, instruction_code, coded_block, coded_blocks, coded_unit, code_of}
@@ -110,7 +110,7 @@ module _ (places : List (ℕ × ℕ)) where
 abbrev pub coded : CodedSignature → List Description → List CodedTemplate → List Value → List CodedGlobal → List CodedBlock → List Instruction → Code
 coded s ds ts vs gs bs is = record { signature = s; descriptions = ds; templates = ts; values = vs; globals = gs; blocks = bs; instructions = is }
 
-module _ (t : Tables) where
+module _ (t : NumberedTables) where
   blocks_placed : (bs : List BlockTree) (p : ℕ) → blocks_with_entries t bs (entries_of bs p) ≡ coded_blocks t bs p
   blocks_placed [] p = refl
   blocks_placed (b ∷ bs) p = ap (λ cs. coded_block t b p ∷ cs) (blocks_placed bs (behind (block_code b p) p))
@@ -142,7 +142,7 @@ tables_again : (u : TypedUnit) (bs : List BlockTree) → tables_for u bs (blocks
 tables_again u bs =
     let code = blocks_code bs 0 in
     let places = places_of bs 0 in
-    let with : List Description → List Template → List Value → Tables = λ ds ts vs. record {
+    let with : List Description → List Template → List Value → NumberedTables = λ ds ts vs. record {
       descriptions = numbered same [] (signature_descriptions u.signature ++ flat_map global_descriptions u.globals ++ map (λ t. t.description) (block_templates bs) ++ ds);
       templates = numbered same_template [] (flat_map global_templates u.globals ++ block_templates bs ++ ts);
       values = numbered same_value [] vs;
@@ -154,7 +154,7 @@ tables_again u bs =
     )
 
 -- only how many instructions there are matters to a unit's limits
-limits_again : (t : Tables) (u : TypedUnit) (bs : List BlockTree) (code other : List op.Instruction) → length code ≡ length other
+limits_again : (t : NumberedTables) (u : TypedUnit) (bs : List BlockTree) (code other : List op.Instruction) → length code ≡ length other
     → is_too_long (coded_unit t u bs code) ≡ is_too_long (coded_unit t u bs other)
 limits_again t u bs code other e =
     let c = coded_unit t u bs code in
@@ -163,7 +163,7 @@ limits_again t u bs code other e =
     || list_any has_many_slots c.blocks || list_any has_many_members c.descriptions || nat_lt 16777216 (initial_bytes c)) count
 
 -- the parts of a unit, as they are made
-module _ (u : TypedUnit) (bs : List BlockTree) (code : List op.Instruction) (t : Tables)
+module _ (u : TypedUnit) (bs : List BlockTree) (code : List op.Instruction) (t : NumberedTables)
     (blocks : bs ≡ blocks_of u) (made : code ≡ blocks_code bs 0) (numbers : t ≡ tables_for u bs code) where
   pub have_descriptions : HaveDescriptions t
   have_descriptions = subst HaveDescriptions (sym numbers) (tables_stand u bs code)

@@ -81,13 +81,13 @@ abbrev pub block_templates : List BlockTree → List Template
 block_templates bs = flat_map (λ b. b.head.variables) bs
 
 -- the entries of tables
-pub record Tables : Type 0 where
+pub record NumberedTables : Type 0 where
   pub descriptions : List Description
   pub templates : List Template
   pub values : List Value
 
 -- those of a unit of these blocks and instructions
-abbrev pub tables_for : TypedUnit → List BlockTree → List op.Instruction → Tables
+abbrev pub tables_for : TypedUnit → List BlockTree → List op.Instruction → NumberedTables
 tables_for u bs code = record {
   descriptions =
       numbered same []
@@ -109,7 +109,7 @@ relation_code calculate.Greater = relations.Greater
 relation_code calculate.AtLeast = relations.AtLeast
 
 -- with these tables
-module _ (tables : Tables) where
+module _ (tables : NumberedTables) where
   -- the number of a description
   abbrev pub description_number : Description → ℕ
   description_number d = number_in same tables.descriptions d

@@ -9,7 +9,7 @@ ghost use Rattle.pli_gen_tree.specs.Encoding.{template_code, template_number};
 ghost use Rattle.pli_gen_tree.specs.views.TableView.{tables_view};
 
 use crate::numbers::Numbers;
-use crate::table::{Tables, template_key};
+use crate::table::{NumberedTables, template_key};
 use pli_map::Description;
 use pli_type_tree::{InitialScalar, VariableGroup};
 use pli_unit_code::CodedTemplate;
@@ -19,7 +19,7 @@ use std::alloc::{AllocError, Global};
 /// Appends copies of the descriptions of a table.
 pub(crate) fn copy_descriptions(
     alloc: Global,
-    tables: &Tables<'_>,
+    tables: &NumberedTables<'_>,
     copied: &mut Vec<Description>,
 ) -> Result<(), AllocError>
     ensures { OnOk result
@@ -34,7 +34,7 @@ pub(crate) fn copy_descriptions(
 /// Appends copies of the values of a table.
 pub(crate) fn copy_values(
     alloc: Global,
-    tables: &Tables<'_>,
+    tables: &NumberedTables<'_>,
     copied: &mut Vec<Value>,
 ) -> Result<(), AllocError>
     ensures { OnOk result

@@ -11,7 +11,7 @@ ghost use Rattle.pli_gen_tree.specs.views.TableView.{tables_view};
 
 use crate::limits::is_too_long;
 use crate::one::One;
-use crate::table::{Tables, number_unit};
+use crate::table::{NumberedTables, number_unit};
 use crate::unit::encode_unit;
 use indexmap::IndexSet;
 use pli_gen_emit::{Emitted, emit_procedures};
@@ -48,7 +48,7 @@ fn code_numbered<'a>(
     one: One<'a>,
     unit: &'a TypedUnit,
     emitted: &Emitted<'a>,
-    tables: &Tables<'a>,
+    tables: &NumberedTables<'a>,
 ) -> Result<Code, GenerateError>
     requires emitted { IsEmitted (unit_view unit.now).procedures emitted.now }
     requires tables { tables.now.lacks_memory ≡ false → tables_view tables.now
@@ -90,7 +90,7 @@ fn code_emitted<'a>(
     requires { IsEmitted (unit_view unit.now).procedures emitted.now }
     ensures { Generates result (code_of (unit_view unit.now)) }
 {
-    let mut tables = Tables {
+    let mut tables = NumberedTables {
         descriptions: IndexSet::new(alloc),
         templates: IndexSet::new(alloc),
         values: IndexSet::new(alloc),

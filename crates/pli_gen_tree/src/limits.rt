@@ -13,7 +13,7 @@ ghost use Rattle.pli_type_keys.specs.views.KeyView.{templated};
 ghost use Rattle.pli_gen_emit.specs.views.NamingView.{naming_code};
 ghost use Rattle.pli_gen_tree.specs.views.TableView.{tables_view};
 
-use crate::table::Tables;
+use crate::table::NumberedTables;
 use pli_gen_emit::{BlockSource, Emitted};
 use pli_map::{Description, far_size};
 use pli_type_keys::TemplateKey;
@@ -77,7 +77,7 @@ fn one_has_many(members: &[Description]) -> bool
 }
 
 /// Whether a description in a table has too many members somewhere.
-fn has_wide_structure(tables: &Tables<'_>) -> bool
+fn has_wide_structure(tables: &NumberedTables<'_>) -> bool
     ensures { result ≡ list_any has_many_members (tables_view tables.now).descriptions }
 {
     for key in tables.descriptions.as_slice() {
@@ -100,7 +100,7 @@ fn template_bytes(template: TemplateKey<'_>) -> u64
 }
 
 /// Whether templates with initial values have too many bytes.
-fn has_many_bytes(tables: &Tables<'_>) -> bool
+fn has_many_bytes(tables: &NumberedTables<'_>) -> bool
     ensures { result ≡ nat_lt 16777216 (sum_by template_bytes (tables_view tables.now).templates) }
 {
     let mut bytes: u64 = 0;
@@ -114,7 +114,7 @@ fn has_many_bytes(tables: &Tables<'_>) -> bool
 }
 
 /// Whether one of a unit's tables has too many entries.
-fn has_long_table(tables: &Tables<'_>) -> bool
+fn has_long_table(tables: &NumberedTables<'_>) -> bool
     ensures { let t = tables_view tables.now in
         result ≡ is_over t.descriptions || is_over t.templates || is_over t.values }
 {
@@ -160,7 +160,7 @@ fn has_long_list(groups: &[GlobalGroup], emitted: &Emitted<'_>) -> bool
 }
 
 /// Whether a part of a unit is too large: a block, a structure, or all initial values.
-fn has_large_part(blocks: &[BlockSource<'_>], tables: &Tables<'_>) -> bool
+fn has_large_part(blocks: &[BlockSource<'_>], tables: &NumberedTables<'_>) -> bool
     ensures { let t = tables_view tables.now in
         result
         ≡ list_any takes_many_slots (block_trees blocks.now) || list_any has_many_members t.descriptions
@@ -170,7 +170,11 @@ fn has_large_part(blocks: &[BlockSource<'_>], tables: &Tables<'_>) -> bool
 }
 
 /// Whether a unit's code is too long (G1).
-pub(crate) fn is_too_long(unit: &TypedUnit, emitted: &Emitted<'_>, tables: &Tables<'_>) -> bool
+pub(crate) fn is_too_long(
+    unit: &TypedUnit,
+    emitted: &Emitted<'_>,
+    tables: &NumberedTables<'_>,
+) -> bool
     requires { HaveDescriptions (tables_view tables.now) }
     ensures { let blocks = block_trees emitted.now.blocks.items in
         result ≡ is_too_long (coded_unit (tables_view tables.now) (unit_view unit.now) blocks (naming_code emitted.now.code.items)) }

@@ -9,7 +9,7 @@ ghost use Rattle.pli_type_keys.specs.views.KeyView.{templated};
 ghost use Rattle.pli_gen_tree.specs.views.TableView.{tables_view};
 
 use crate::one::One;
-use crate::table::Tables;
+use crate::table::NumberedTables;
 use pli_map::Description;
 use pli_type_keys::{DescriptionKey, TemplateKey, ValueKey};
 use pli_value::Value;
@@ -18,7 +18,7 @@ use std::collections::HashMap;
 /// The tables of a unit, of at most 65,535 entries each, the places at which its statements begin, and the number 1.
 #[derive(Clone, Copy)]
 pub(crate) struct Numbers<'t, 'a> {
-    pub tables: &'t Tables<'a>,
+    pub tables: &'t NumberedTables<'a>,
     pub places: &'t HashMap<u32, usize>,
     pub one: One<'a>,
     ghost few_descriptions: { length tables.now.descriptions.keys ≤ 65535 },

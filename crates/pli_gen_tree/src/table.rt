@@ -31,7 +31,7 @@ use pli_value::Value;
 /// numbering has no path that fails: what was numbered counts only if memory was not wanting, which is asked once, at
 /// the end.
 #[derive(Drop)]
-pub(crate) struct Tables<'a> {
+pub(crate) struct NumberedTables<'a> {
     pub descriptions: IndexSet<DescriptionKey<'a>>,
     pub templates: IndexSet<TemplateKey<'a>>,
     pub values: IndexSet<ValueKey<'a>>,
@@ -39,7 +39,7 @@ pub(crate) struct Tables<'a> {
 }
 
 /// Puts a description at the end of its table, if that lacks it.
-fn number_description<'a>(tables: &mut Tables<'a>, description: &'a Description)
+fn number_description<'a>(tables: &mut NumberedTables<'a>, description: &'a Description)
     ensures { Numbers tables.old tables.new (description_view description.now ∷ []) [] [] }
 {
     if tables
@@ -52,7 +52,7 @@ fn number_description<'a>(tables: &mut Tables<'a>, description: &'a Description)
 }
 
 /// Puts a template at the end of its table, if that lacks it.
-fn number_template<'a>(tables: &mut Tables<'a>, template: TemplateKey<'a>)
+fn number_template<'a>(tables: &mut NumberedTables<'a>, template: TemplateKey<'a>)
     ensures { Numbers tables.old tables.new [] (templated template.entry ∷ []) [] }
 {
     if tables.templates.insert(template).is_err() {
@@ -61,7 +61,7 @@ fn number_template<'a>(tables: &mut Tables<'a>, template: TemplateKey<'a>)
 }
 
 /// Puts a value at the end of its table, if that lacks it.
-fn number_value<'a>(tables: &mut Tables<'a>, value: &'a Value)
+fn number_value<'a>(tables: &mut NumberedTables<'a>, value: &'a Value)
     ensures { Numbers tables.old tables.new [] [] (value_view value.now ∷ []) }
 {
     if tables.values.insert(ValueKey { value }).is_err() {
@@ -80,7 +80,7 @@ pub(crate) fn template_key(template: &Template) -> TemplateKey<'_>
 }
 
 /// Numbers a template that is used, and its description.
-fn number_used<'a>(tables: &mut Tables<'a>, template: &'a Template)
+fn number_used<'a>(tables: &mut NumberedTables<'a>, template: &'a Template)
     ensures { let used = template_view template.now in
         Numbers tables.old tables.new (used.description ∷ []) (used ∷ []) [] }
 {
@@ -89,7 +89,7 @@ fn number_used<'a>(tables: &mut Tables<'a>, template: &'a Template)
 }
 
 /// Numbers the description and the template of variables, if there is a variable.
-fn number_group<'a>(tables: &mut Tables<'a>, group: &'a VariableGroup)
+fn number_group<'a>(tables: &mut NumberedTables<'a>, group: &'a VariableGroup)
     ensures { let templates = group_view group.now in
         Numbers tables.old tables.new (map (λ t. t.description) templates) templates [] }
 {
@@ -100,7 +100,7 @@ fn number_group<'a>(tables: &mut Tables<'a>, group: &'a VariableGroup)
 }
 
 /// Numbers the descriptions and the templates of variables.
-fn number_variables<'a>(tables: &mut Tables<'a>, groups: &'a [VariableGroup])
+fn number_variables<'a>(tables: &mut NumberedTables<'a>, groups: &'a [VariableGroup])
     ensures { let templates = groups_view groups.now in
         Numbers tables.old tables.new (map (λ t. t.description) templates) templates [] }
 {
@@ -110,7 +110,7 @@ fn number_variables<'a>(tables: &mut Tables<'a>, groups: &'a [VariableGroup])
 }
 
 /// The same for the variables of blocks.
-fn number_block_variables<'a>(tables: &mut Tables<'a>, blocks: &[BlockSource<'a>])
+fn number_block_variables<'a>(tables: &mut NumberedTables<'a>, blocks: &[BlockSource<'a>])
     ensures { let templates = block_templates (block_trees blocks.now) in
         Numbers tables.old tables.new (map (λ t. t.description) templates) templates [] }
 {
@@ -120,7 +120,7 @@ fn number_block_variables<'a>(tables: &mut Tables<'a>, blocks: &[BlockSource<'a>
 }
 
 /// Numbers descriptions.
-fn number_descriptions<'a>(tables: &mut Tables<'a>, descriptions: &'a [Description])
+fn number_descriptions<'a>(tables: &mut NumberedTables<'a>, descriptions: &'a [Description])
     ensures { Numbers tables.old tables.new (map description_view descriptions.now) [] [] }
 {
     for description in descriptions {
@@ -129,7 +129,7 @@ fn number_descriptions<'a>(tables: &mut Tables<'a>, descriptions: &'a [Descripti
 }
 
 /// Numbers what a procedure takes and gives.
-fn number_signature<'a>(tables: &mut Tables<'a>, signature: &'a Signature)
+fn number_signature<'a>(tables: &mut NumberedTables<'a>, signature: &'a Signature)
     ensures { Numbers tables.old tables.new (signature_descriptions (signature_view signature.now)) [] [] }
 {
     number_descriptions(tables, signature.parameters.as_slice());
@@ -139,7 +139,7 @@ fn number_signature<'a>(tables: &mut Tables<'a>, signature: &'a Signature)
 }
 
 /// Numbers what external variables of these names are made from, if there is one.
-fn number_external<'a>(tables: &mut Tables<'a>, names: &[Name], template: &'a Template)
+fn number_external<'a>(tables: &mut NumberedTables<'a>, names: &[Name], template: &'a Template)
     ensures { let globals = map (λ name. plain.ExternalVariable name (template_view template.now)) names.now in
         Numbers tables.old tables.new (flat_map global_descriptions globals) (flat_map global_templates globals) [] }
 {
@@ -150,7 +150,7 @@ fn number_external<'a>(tables: &mut Tables<'a>, names: &[Name], template: &'a Te
 }
 
 /// Numbers what entries of these names take and give, if there is one.
-fn number_entries<'a>(tables: &mut Tables<'a>, names: &[Name], signature: &'a Signature)
+fn number_entries<'a>(tables: &mut NumberedTables<'a>, names: &[Name], signature: &'a Signature)
     ensures { let globals = map (λ name. plain.EntryPoint name (signature_view signature.now)) names.now in
         Numbers tables.old tables.new (flat_map global_descriptions globals) (flat_map global_templates globals) [] }
 {
@@ -161,7 +161,7 @@ fn number_entries<'a>(tables: &mut Tables<'a>, names: &[Name], signature: &'a Si
 }
 
 /// Numbers what the globals of a group name.
-fn number_global_group<'a>(tables: &mut Tables<'a>, group: &'a GlobalGroup)
+fn number_global_group<'a>(tables: &mut NumberedTables<'a>, group: &'a GlobalGroup)
     ensures { let globals = global_group_view group.now in
         Numbers tables.old tables.new (flat_map global_descriptions globals) (flat_map global_templates globals) [] }
 {
@@ -177,7 +177,7 @@ fn number_global_group<'a>(tables: &mut Tables<'a>, group: &'a GlobalGroup)
 }
 
 /// Numbers what globals name.
-fn number_globals<'a>(tables: &mut Tables<'a>, groups: &'a [GlobalGroup])
+fn number_globals<'a>(tables: &mut NumberedTables<'a>, groups: &'a [GlobalGroup])
     ensures { let globals = globals_view groups.now in
         Numbers tables.old tables.new (flat_map global_descriptions globals) (flat_map global_templates globals) [] }
 {
@@ -187,7 +187,11 @@ fn number_globals<'a>(tables: &mut Tables<'a>, groups: &'a [GlobalGroup])
 }
 
 /// Numbers what an instruction names.
-fn number_named<'a>(tables: &mut Tables<'a>, one: One<'a>, instruction: NamingInstruction<'a>)
+fn number_named<'a>(
+    tables: &mut NumberedTables<'a>,
+    one: One<'a>,
+    instruction: NamingInstruction<'a>,
+)
     ensures { let i = naming_view instruction.entry in
         Numbers tables.old tables.new (descriptions_named i) (templates_named i) (values_named i) }
 {
@@ -211,7 +215,7 @@ fn number_named<'a>(tables: &mut Tables<'a>, one: One<'a>, instruction: NamingIn
 }
 
 /// Numbers what code names.
-fn number_code<'a>(tables: &mut Tables<'a>, one: One<'a>, code: &[NamingInstruction<'a>])
+fn number_code<'a>(tables: &mut NumberedTables<'a>, one: One<'a>, code: &[NamingInstruction<'a>])
     ensures { let is = naming_code code.now in
         Numbers tables.old tables.new (flat_map descriptions_named is) (flat_map templates_named is) (flat_map values_named is) }
 {
@@ -222,7 +226,7 @@ fn number_code<'a>(tables: &mut Tables<'a>, one: One<'a>, code: &[NamingInstruct
 
 /// Numbers what a unit with these blocks and instructions names, in tables without entries.
 pub(crate) fn number_unit<'a>(
-    tables: &mut Tables<'a>,
+    tables: &mut NumberedTables<'a>,
     one: One<'a>,
     unit: &'a TypedUnit,
     emitted: &Emitted<'a>,

@@ -17,7 +17,7 @@ use crate::globals::{encode_descriptions, encode_globals, result_number};
 use crate::numbers::Numbers;
 use crate::one::One;
 use crate::places::step_places;
-use crate::table::Tables;
+use crate::table::NumberedTables;
 use pli_gen_emit::{BlockSource, Emitted};
 use pli_type_tree::TypedUnit;
 use pli_unit_code::{Block, Code};
@@ -70,7 +70,7 @@ fn encode_blocks<'a>(
 /// gives, its tables, its globals, its blocks with their entries, and its instructions.
 pub(crate) fn encode_unit<'a>(
     alloc: Global,
-    tables: &Tables<'a>,
+    tables: &NumberedTables<'a>,
     one: One<'a>,
     unit: &'a TypedUnit,
     emitted: &Emitted<'a>,

@@ -14,7 +14,7 @@ use Rattle.pli_include.specs.declared.expansion.ExpansionFault.{ExpansionFault}
 use Rattle.pli_include.specs.declared.reading.Request.{Request}
 use Rattle.pli_include.specs.declared.reading.Pause.TheVariants as at
 use Rattle.pli_include.specs.declared.walk.OpenMember.{OpenMember}
-use Rattle.pli_include.specs.declared.walk.Walk.{Walk}
+use Rattle.pli_include.specs.declared.walk.ExpansionWalk.{ExpansionWalk}
 use Rattle.pli_members.specs.Members.{Store}
 use Rattle.pli_include.specs.Expanded.{look_in, outcome_of}
 use Rattle.pli_include.specs.Pieces.{pieces_of}
@@ -189,7 +189,7 @@ under_way_push look s t texts path more fs f is slots names longer holds at = re
 }
 
 -- a walk that has not begun is under way
-pub fresh_is_under_way : (look : Look) (w : Walk) → IsFresh w → IsUnderWay look w.progress.looked w.texts.items w.path.keys w.frames.items
+pub fresh_is_under_way : (look : Look) (w : ExpansionWalk) → IsFresh w → IsUnderWay look w.progress.looked w.texts.items w.path.keys w.frames.items
 fresh_is_under_way look w fresh =
     let looked : w.progress.looked ≡ [] = ap (λ p. p.looked) fresh.progress in
     record {
@@ -200,7 +200,7 @@ fresh_is_under_way look w fresh =
     }
 
 -- what a unit's directive does is what its expansion is
-pub unit_read : (s : Store) (u : Name) (w : Walk) (o : Outcome) → IsFresh w
+pub unit_read : (s : Store) (u : Name) (w : ExpansionWalk) (o : Outcome) → IsFresh w
     → o ≡ (include_from 200000 (look_in s.entries) w.path.keys (record { member = u; line = 1 }) u w.progress then going 200000 (look_in s.entries) [] w.frames.items)
     → o ≡ outcome_of s.entries u
 unfolding expanded_within

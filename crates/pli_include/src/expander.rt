@@ -5,7 +5,7 @@ ghost use Rattle.pli_include.specs.answers.Walking.{ended, IsEven};
 
 use crate::expansion::{Expansion, ExpansionFault, TraceEntry};
 use crate::progress::Progress;
-use crate::walk::Walk;
+use crate::walk::ExpansionWalk;
 use pli_base::Name;
 use pli_members::Members;
 use std::alloc::{AllocError, Global};
@@ -61,7 +61,7 @@ fn finish(
 fn expansion(alloc: Global, members: &Members, unit: Name) -> Result<Expansion, AllocError>
     ensures { IfOk result (λ expansion. expansion ≡ expansion_of members.now unit) }
 {
-    let mut walk = Walk::new(alloc, members.entries().len())?;
+    let mut walk = ExpansionWalk::new(alloc, members.entries().len())?;
     let fault = walk.read(alloc, members, unit)?;
     finish(alloc, members, walk.progress, fault)
 }

@@ -14,11 +14,11 @@ use std::marker::Model;
 
 /// The tokens of a member. Contracts see the list of them.
 #[derive(Drop)]
-pub struct Text {
+pub struct MemberTokens {
     tokens: Vec<Token>,
 }
 
-impl Model for Text {
+impl Model for MemberTokens {
     ghost use Rattle.std.specs.Prelude.{List};
     ghost use Rattle.pli_base.specs.declared.token.Token.{Token};
 
@@ -27,12 +27,12 @@ impl Model for Text {
     ghost view = { λ t. t.tokens.items };
 }
 
-impl Text {
+impl MemberTokens {
     /// The text that has these tokens.
-    fn new(tokens: Vec<Token>) -> Text
+    fn new(tokens: Vec<Token>) -> MemberTokens
         ensures { result ≡ tokens.items }
     {
-        Text { tokens }
+        MemberTokens { tokens }
     }
 
     /// The tokens.
@@ -60,7 +60,7 @@ pub fn look(
     alloc: Global,
     members: &Members,
     progress: &mut Progress,
-    texts: &mut Vec<Text>,
+    texts: &mut Vec<MemberTokens>,
     name: Name,
 ) -> Result<Membership, AllocError>
     requires kept { IsKept members.now }
@@ -78,7 +78,7 @@ pub fn look(
     };
     match lex(alloc, lines) {
         Ok(tokens) => {
-            texts.push(Text::new(tokens))?;
+            texts.push(MemberTokens::new(tokens))?;
             Ok(Membership::At(slot))
         }
         Err(LexError::Fault(fault)) => Ok(Membership::Faulty(fault)),

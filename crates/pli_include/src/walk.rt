@@ -7,7 +7,7 @@ ghost use Rattle.pli_include.specs.Expansion.{◌then◌};
 ghost use Rattle.pli_include.specs.answers.Walking.{IsUnderWay, IsFresh, going, goes_on, ended, include_from, work_left};
 
 use crate::expansion::ExpansionFault;
-use crate::library::{Membership, Text, look};
+use crate::library::{MemberTokens, Membership, look};
 use crate::progress::Progress;
 use crate::reading::{Pause, read_tokens};
 use indexmap::IndexSet;
@@ -25,19 +25,19 @@ pub struct OpenMember {
 
 /// An expansion under way. The path has the names of the open members.
 #[derive(Drop)]
-pub struct Walk {
+pub struct ExpansionWalk {
     pub progress: Progress,
-    pub texts: Vec<Text>,
+    pub texts: Vec<MemberTokens>,
     pub path: IndexSet<Name>,
     pub frames: Vec<OpenMember>,
 }
 
-impl Walk {
+impl ExpansionWalk {
     /// No member is open yet. There is room for the texts of so many members.
-    pub fn new(alloc: Global, count: usize) -> Result<Walk, AllocError>
+    pub fn new(alloc: Global, count: usize) -> Result<ExpansionWalk, AllocError>
         ensures { IfOk result IsFresh }
     {
-        Ok(Walk {
+        Ok(ExpansionWalk {
             progress: Progress::new(alloc),
             texts: Vec::with_capacity(alloc, count)?,
             path: IndexSet::new(alloc),

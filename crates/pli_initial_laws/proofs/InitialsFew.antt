@@ -12,10 +12,10 @@ use Rattle.pli_map.specs.Scalars.{scalars_in}
 use Rattle.pli_declare.specs.Resolution.{parameters_of, resolution_faults}
 use Rattle.pli_declare.proofs.ListsByNumber.{made_at, made_length}
 use Rattle.pli_declare_attributes.specs.Completed.{OfVariable}
-use Rattle.pli_declare_attributes.specs.declared.completed.Scope.{Scope}
+use Rattle.pli_declare_attributes.specs.declared.completed.ScopeAttribute.{ScopeAttribute}
 use Rattle.pli_declare_outline.specs.Outlines.{outline_of}
 use Rattle.pli_declare_tables.specs.Tables.{Entry, no_entry, entries_in}
-use Rattle.pli_declare_variables.specs.Declarations.{Declaration, Kind, OfItem, declaration_at, declared_in}
+use Rattle.pli_declare_variables.specs.Declarations.{Declaration, DeclaredKind, OfItem, declaration_at, declared_in}
 use Rattle.pli_resolve.specs.ResolvedUnits.{resolved_unit_of, all_symbols, facts_of, block_regions_of}
 use Rattle.pli_resolve.specs.Symbols.{Symbol, SymbolKind, SymbolFacts, Way, Variable, Member, Label, Procedure, Entry as AnEntry, BuiltIn, no_way, symbol_kind, ways_of}
 use Rattle.pli_resolve.specs.declared.block_numbers.BlockRegion.{BlockRegion}
@@ -127,7 +127,7 @@ abbrev IsOwned : Way → (owner : Option ℕ) → (root : ℕ) → (path : List 
 IsOwned w owner root path = (o : ℕ) × (owner ≡ Some o) × (w.root ≡ root) × (w.path ≡ path)
 
 -- only what has an owner is a member
-only_member : (f : SymbolFacts) (ps : List Name) (w : Way) (i : Identifier) (owner : Option ℕ) (kind : Kind) (root : ℕ) (path : List ℕ) (initial : List InitialValue) (area : Option SymbolKey)
+only_member : (f : SymbolFacts) (ps : List Name) (w : Way) (i : Identifier) (owner : Option ℕ) (kind : DeclaredKind) (root : ℕ) (path : List ℕ) (initial : List InitialValue) (area : Option SymbolKey)
     → symbol_kind f ps w i owner kind ≡ Member root path initial area → IsOwned w owner root path
 only_member f ps w i (Some o) (OfItem (OfVariable v) d) root path initial area e = (o, refl, cc, cc)
 only_member f ps w i None (OfItem (OfVariable v) d) root path initial area e = cc
@@ -212,7 +212,7 @@ module _ (u : ExternalProcedure) (h : resolution_faults u ≡ []) where
 
     -- a member's way leads from its variable to a part
     leads : (root n : ℕ) (s whole : Symbol) (path : List ℕ) (values initial : List InitialValue) (area other : Option SymbolKey)
-        (d : Description) (class : StorageClass) (scope : Scope) → slice_get (symbols block) root ≡ Some whole → whole.kind ≡ Variable d class scope initial other
+        (d : Description) (class : StorageClass) (scope : ScopeAttribute) → slice_get (symbols block) root ≡ Some whole → whole.kind ≡ Variable d class scope initial other
         → slice_get (symbols block) n ≡ Some s → s.kind ≡ Member root path values area → Reaches d path
     leads root n s whole path values initial area other d class scope at_root as_whole there is =
         let p = members_are_parts u h (key_to block n) s root path values area there is in
@@ -221,11 +221,11 @@ module _ (u : ExternalProcedure) (h : resolution_faults u ≡ []) where
         sym p.is_variable ∙ ap (λ (x : Symbol). x.kind) one ∙ as_whole in
         subst (λ e. Reaches e path) (same_description p.description d p.class class p.scope scope p.initial initial p.area other kinds) (p.part, p.leads)
       where
-        same_description : (c d : Description) (k l : StorageClass) (s t : Scope) (v w : List InitialValue) (a b : Option SymbolKey)
+        same_description : (c d : Description) (k l : StorageClass) (s t : ScopeAttribute) (v w : List InitialValue) (a b : Option SymbolKey)
             → Variable c k s v a ≡ Variable d l t w b → c ≡ d
         same_description c d k l s t v w a b e = cc
 
-    variable_few : (n : ℕ) (s : Symbol) (d : Description) (class : StorageClass) (scope : Scope) (values : List InitialValue) (area : Option SymbolKey)
+    variable_few : (n : ℕ) (s : Symbol) (d : Description) (class : StorageClass) (scope : ScopeAttribute) (values : List InitialValue) (area : Option SymbolKey)
         → slice_get (symbols block) n ≡ Some s → s.kind ≡ Variable d class scope values area
         → length (template_of d (record { path = []; values = values } ∷ member_items n (symbols block))).initial ≤ scalars_in d
     variable_few n s d class scope values area there is =

@@ -23,7 +23,7 @@ use Rattle.pli_link.specs.laws.AlikeLaws.{option_decides}
 use Rattle.pli_type_keys.specs.laws.KeyLaws.{template_decides}
 use Rattle.pli_type_keys.specs.views.KeyView.{templated}
 use Rattle.pli_type_keys.specs.declared.key.TemplateKey.{TemplateKey}
-use Rattle.pli_link.specs.declared.names.External.{External}
+use Rattle.pli_link.specs.declared.names.KnownExternal.{KnownExternal}
 
 same_itself : (t : Template) → same_template t t ≡ true
 same_itself t = (template_decides t t).1 refl
@@ -116,7 +116,7 @@ class_stays old new g (Some t) (Some k) h = ap (place_of t) (ap known_in g.is �
 pub classes_stay : (old new : List TemplateKey) (code : Code) (classes : List (Option ℕ)) → Grows old new → AreClasses (known_in old) code classes → AreClasses (known_in new) code classes
 classes_stay old new code classes g all = λ number. class_stays old new g (template_at code number) (class_at classes number) (all number)
 
-pub classed_stay : (old new : List TemplateKey) (es : List (Name × External)) → Grows old new → AreClassed (known_in old) es → AreClassed (known_in new) es
+pub classed_stay : (old new : List TemplateKey) (es : List (Name × KnownExternal)) → Grows old new → AreClassed (known_in old) es → AreClassed (known_in new) es
 classed_stay old new [] g all = tt
 classed_stay old new (e ∷ es) g all = (class_stays old new g (option_map templated e.1.template) e.1.class all.0, classed_stay old new es g all.1)
 
@@ -227,7 +227,7 @@ all_classes known code classes long all number = by (nat_lt number (length code.
 
 -- a table of external variables with one more
 
-pub classed_put : (known : List Template) (es : List (Name × External)) (n : Name) (x : External) → is_among n (keys_of es) ≡ false → AreClassed known es
+pub classed_put : (known : List Template) (es : List (Name × KnownExternal)) (n : Name) (x : KnownExternal) → is_among n (keys_of es) ≡ false → AreClassed known es
     → IsClass known (option_map templated x.template) x.class → AreClassed known (es ++ (n, x) ∷ [])
 classed_put known [] n x new all one = (one, tt)
 classed_put known (e ∷ es) n x new all one = (all.0, by (same_name n e.0) new (λ h. classed_put known es n x h all.1 one))
@@ -238,7 +238,7 @@ classed_put known (e ∷ es) n x new all one = (all.0, by (same_name n e.0) new 
 
 -- what is looked up in it has its class
 
-pub classed_found : (known : List Template) (test : Name → Bool) (es : List (Name × External)) (g : Option (Bor External)) → AreClassed known es
+pub classed_found : (known : List Template) (test : Name → Bool) (es : List (Name × KnownExternal)) (g : Option (Bor KnownExternal)) → AreClassed known es
     → option_copied g ≡ lookup test es → IsFirstClassed known g
 classed_found known test es None all e = tt
 classed_found known test [] (Some x) all e = let bad : ⊥ = cc in absurd bad
@@ -246,12 +246,12 @@ classed_found known test (y ∷ es) (Some x) all e = by (test y.0) e (classed_fo
   where
     by : (b : Bool) → Some x.now ≡ cond b (Some y.1) (lookup test es) → (Some x.now ≡ lookup test es → IsClass known (option_map templated x.now.template) x.now.class)
         → IsClass known (option_map templated x.now.template) x.now.class
-    by true h rest = subst (λ (z : External). IsClass known (option_map templated z.template) z.class) (sym (some_is x.now y.1 h)) all.0
+    by true h rest = subst (λ (z : KnownExternal). IsClass known (option_map templated z.template) z.class) (sym (some_is x.now y.1 h)) all.0
     by false h rest = rest h
 
 -- an external variable is unlike the first one where it is of another class
 
-pub unlike_by_class : (known : List Template) (t : Option Template) (class : Option ℕ) (e : Bor External) → IsClass known t class → IsFirstClassed known (Some e)
+pub unlike_by_class : (known : List Template) (t : Option Template) (class : Option ℕ) (e : Bor KnownExternal) → IsClass known t class → IsFirstClassed known (Some e)
     → not (option_eq nat_eq e.now.class class) ≡ not (is_like_first t (Some (option_map templated e.now.template)))
 unlike_by_class known t class e h i = ap not (same_class known (option_map templated e.now.template) t e.now.class class i h)
 

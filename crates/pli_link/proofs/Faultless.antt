@@ -6,7 +6,7 @@ use Rattle.std.specs.Ordering.{nat_cmp}
 use Rattle.std.proofs.lemmas.Bool.Decides.{nat_tests}
 use Rattle.std.proofs.lemmas.Cmp.{nat_list_cmp_total}
 use Rattle.std.proofs.lemmas.List.Sorted.{length_permutation}
-use Rattle.pli_sort.proofs.Sorted.{items_are_sorted}
+use Rattle.pli_sort.proofs.SortedLemmas.{items_are_sorted}
 use Rattle.pli_type_tree.specs.Templates.{Template}
 use Rattle.pli_link.specs.Link.{in_order, name_alone, defined_again, mains, later, none_among, too_large_if, link_faults}
 use Rattle.pli_link.specs.Mismatches.{faulty_linked}

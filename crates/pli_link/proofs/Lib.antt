@@ -1,6 +1,6 @@
-pub mod AllOwn
+pub mod OwnBytesLemmas
 pub mod ClassLemmas
-pub mod Counted
+pub mod ByteCountLemmas
 pub mod Faultless
 pub mod LinkedUnits
 pub mod MeantFirst

@@ -15,7 +15,7 @@ ghost use Rattle.pli_unit_code.specs.views.CodeView.{code_view, global_view, sig
 use crate::alike::is_same_signature;
 use crate::classes::{class_at, classes_of};
 use crate::global_fault::GlobalFault;
-use crate::names::{External, Names};
+use crate::names::{KnownExternal, Names};
 use crate::units::{LinkedName, NamedUnit};
 use indexmap::IndexSet;
 use pli_base::Name;
@@ -55,7 +55,7 @@ fn is_unlike_procedure(
 fn is_unlike(
     class: Option<usize>,
     procedure: Option<&NamedUnit>,
-    first: Option<&External<'_>>,
+    first: Option<&KnownExternal<'_>>,
 ) -> bool
     ensures { (known : List Template) (t : Option Template) → IsClass known t class → IsFirstClassed known first.entry
         → result ≡ spec.is_unlike t (option_map (λ u. compiled_view u.now) procedure.entry) (option_map (λ e. option_map templated e.now.template) first.entry) }

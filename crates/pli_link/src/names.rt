@@ -20,7 +20,7 @@ use std::alloc::{AllocError, Global};
 /// An external variable: the template of its first declaration, if the unit's tables have it, and its class among the
 /// templates that are known.
 #[derive(Clone, Copy)]
-pub(crate) struct External<'a> {
+pub(crate) struct KnownExternal<'a> {
     pub template: Option<TemplateKey<'a>>,
     pub class: Option<usize>,
 }
@@ -31,7 +31,7 @@ pub(crate) struct Names<'a, 'b> {
     pub units: &'a [NamedUnit],
     /// External procedures, by the numbers of the first units that have one of their names.
     pub procedures: &'b IndexMap<Name, usize>,
-    pub externals: &'b IndexMap<Name, External<'a>>,
+    pub externals: &'b IndexMap<Name, KnownExternal<'a>>,
 }
 
 /// Notes the number of a unit for the name of its procedure, unless one before has the name.
@@ -65,9 +65,9 @@ pub(crate) fn procedures(
 
 /// Notes a declaration for its name, unless one before has the name.
 fn note_external<'a>(
-    externals: &mut IndexMap<Name, External<'a>>,
+    externals: &mut IndexMap<Name, KnownExternal<'a>>,
     name: Name,
-    external: External<'a>,
+    external: KnownExternal<'a>,
 ) -> Result<(), AllocError>
     ensures first { OnOk result (externals_view externals.new.entries ≡ spec.with_first (externals_view externals.old.entries) (name, option_map templated external.entry.template)) }
     ensures classed { OnOk result ((known : List Template) → AreClassed known externals.old.entries → IsClass known (option_map templated external.entry.template) external.entry.class → AreClassed known externals.new.entries) }
@@ -83,7 +83,7 @@ fn note_external<'a>(
 
 /// Notes the external variables of a unit whose templates have these classes.
 fn note_shared<'a>(
-    externals: &mut IndexMap<Name, External<'a>>,
+    externals: &mut IndexMap<Name, KnownExternal<'a>>,
     code: &'a Code,
     classes: &[Option<usize>],
     globals: &'a [CodedGlobal],
@@ -93,7 +93,7 @@ fn note_shared<'a>(
 {
     for global in globals {
         if let CodedGlobal::ExternalVariable { name, template } = global {
-            let external = External {
+            let external = KnownExternal {
                 template: template_at(code, *template),
                 class: class_at(classes, *template),
             };
@@ -108,7 +108,7 @@ pub(crate) fn externals<'a>(
     alloc: Global,
     known: &mut IndexSet<TemplateKey<'a>>,
     units: &'a [NamedUnit],
-) -> Result<IndexMap<Name, External<'a>>, AllocError>
+) -> Result<IndexMap<Name, KnownExternal<'a>>, AllocError>
     ensures first { IfOk result (λ found. externals_view found.entries ≡ spec.externals (map compiled_view units.now)) }
     ensures classed { IfOk result (λ found. AreClassed (known_in known.new.keys) found.entries) }
 {

@@ -14,7 +14,7 @@ ghost use Rattle.pli_unit_code.specs.CodeTables.{there};
 ghost use Rattle.pli_type_keys.specs.views.KeyView.{templated};
 
 use crate::alike::template_at;
-use crate::names::{External, Names};
+use crate::names::{KnownExternal, Names};
 use crate::units::NamedUnit;
 use indexmap::IndexMap;
 use pli_base::Name;
@@ -87,7 +87,7 @@ fn with_all_own(units: &[NamedUnit]) -> Option<u32>
 }
 
 /// Bytes with those of the external variables, unless they are too many.
-fn with_externals(bytes: u32, externals: &IndexMap<Name, External<'_>>) -> Option<u32>
+fn with_externals(bytes: u32, externals: &IndexMap<Name, KnownExternal<'_>>) -> Option<u32>
     requires { bytes ≤ 16777216 }
     ensures counts { result ≡ counted bytes (flat_map there (values_of (externals_view externals.now.entries))) }
     ensures within { IfSome result (λ more. more ≤ 16777216) }

@@ -10,7 +10,7 @@ use Rattle.pli_type_tree.specs.Templates.{Template}
 use Rattle.pli_link.specs.Names as link
 use Rattle.pli_link.specs.Names.{with_first}
 use Rattle.pli_deck_code.specs.CodeModules.{with_declaration, firsts}
-use Rattle.pli_deck_code.specs.declared.externals.Declaration.{Declaration}
+use Rattle.pli_deck_code.specs.declared.externals.ExternalDeclaration.{ExternalDeclaration}
 use Rattle.pli_link_laws.proofs.Sums.{total, total_joined}
 use Rattle.pli_link_laws.proofs.Tables.{at, Rises, or_turned, put, put_count, put_total, put_all, put_found, put_rises}
 
@@ -18,9 +18,9 @@ end_among : {X : Type 0} (test : Name → Bool) (bs : List (Name × X)) (x : Nam
 end_among test [] x = refl
 end_among test (b ∷ bs) x = ap (λ c. test b.0 || c) (end_among test bs x) ∙ or_turned (test b.0) (test x.0) (list_any test (keys_of bs))
 
-module _ (f : Name × Option Template → ℕ) (g : Name × Declaration → ℕ) (P : Name × Declaration → Type 0) where
+module _ (f : Name × Option Template → ℕ) (g : Name × ExternalDeclaration → ℕ) (P : Name × ExternalDeclaration → Type 0) where
   -- the same names, as many, and as large together
-  pub record Alike (bs : List (Name × Option Template)) (es : List (Name × Declaration)) : Type 0 where
+  pub record Alike (bs : List (Name × Option Template)) (es : List (Name × ExternalDeclaration)) : Type 0 where
     pub names : (n : Name) → is_among n (keys_of bs) ≡ is_some (lookup (at n) es)
     pub count : length bs ≡ length es
     pub size : total f bs ≡ total g es
@@ -30,7 +30,7 @@ module _ (f : Name × Option Template → ℕ) (g : Name × Declaration → ℕ)
   none_alike : Alike [] []
   none_alike = record { names = λ n. refl; count = refl; size = refl; good = tt; rising = tt }
 
-  one_more : (bs : List (Name × Option Template)) (es : List (Name × Declaration)) (x : Name × Option Template) (d : Name × Declaration) → x.0 ≡ d.0 → f x ≡ g d → P d
+  one_more : (bs : List (Name × Option Template)) (es : List (Name × ExternalDeclaration)) (x : Name × Option Template) (d : Name × ExternalDeclaration) → x.0 ≡ d.0 → f x ≡ g d → P d
       → Alike bs es → Alike (with_first bs x) (with_declaration es d)
   one_more bs es x d same size good h =
       by (is_among x.0 (keys_of bs)) (is_some (lookup (at d.0) es)) refl refl (h.names x.0 ∙ ap (λ n. is_some (lookup (at n) es)) same)
@@ -50,37 +50,37 @@ module _ (f : Name × Option Template → ℕ) (g : Name × Declaration → ℕ)
       }
 
   -- what is put in is of the same names and sizes
-  abbrev pub Paired : List (Name × Option Template) → List (Name × Declaration) → Type 0
+  abbrev pub Paired : List (Name × Option Template) → List (Name × ExternalDeclaration) → Type 0
   Paired [] [] = Unit {0}
   Paired [] (d ∷ ds) = ⊥
   Paired (x ∷ xs) [] = ⊥
   Paired (x ∷ xs) (d ∷ ds) = (x.0 ≡ d.0) × (f x ≡ g d) × P d × Paired xs ds
 
-  pub paired_behind : (xs us : List (Name × Option Template)) (ds es : List (Name × Declaration)) → Paired xs ds → Paired us es → Paired (xs ++ us) (ds ++ es)
+  pub paired_behind : (xs us : List (Name × Option Template)) (ds es : List (Name × ExternalDeclaration)) → Paired xs ds → Paired us es → Paired (xs ++ us) (ds ++ es)
   paired_behind [] us [] es h k = k
   paired_behind [] us (d ∷ ds) es h k = absurd h
   paired_behind (x ∷ xs) us [] es h k = absurd h
   paired_behind (x ∷ xs) us (d ∷ ds) es h k = (h.0, h.1, h.2, paired_behind xs us ds es h.3 k)
 
-  filled : (bs xs : List (Name × Option Template)) (es ds : List (Name × Declaration)) → Paired xs ds → Alike bs es → Alike (link.firsts bs xs) (firsts es ds)
+  filled : (bs xs : List (Name × Option Template)) (es ds : List (Name × ExternalDeclaration)) → Paired xs ds → Alike bs es → Alike (link.firsts bs xs) (firsts es ds)
   filled bs [] es [] h a = a
   filled bs [] es (d ∷ ds) h a = absurd h
   filled bs (x ∷ xs) es [] h a = absurd h
   filled bs (x ∷ xs) es (d ∷ ds) h a = filled (with_first bs x) xs (with_declaration es d) ds h.3 (one_more bs es x d h.0 h.1 h.2 a)
 
-  pub tables_alike : (xs : List (Name × Option Template)) (ds : List (Name × Declaration)) → Paired xs ds → Alike (link.firsts [] xs) (firsts [] ds)
+  pub tables_alike : (xs : List (Name × Option Template)) (ds : List (Name × ExternalDeclaration)) → Paired xs ds → Alike (link.firsts [] xs) (firsts [] ds)
   tables_alike xs ds h = filled [] xs [] ds h none_alike
 
 -- ---- each name that is put in is found
 
-abbrev pub IsFoundIn : List (Name × Declaration) → Name × Declaration → Type 0
+abbrev pub IsFoundIn : List (Name × ExternalDeclaration) → Name × ExternalDeclaration → Type 0
 IsFoundIn es d = is_some (lookup (at d.0) es) ≡ true
 
 or_right : (a b : Bool) → b ≡ true → (a || b) ≡ true
 or_right true b h = refl
 or_right false b h = h
 
-found_still : (es : List (Name × Declaration)) (d e : Name × Declaration) → IsFoundIn es e → IsFoundIn (with_declaration es d) e
+found_still : (es : List (Name × ExternalDeclaration)) (d e : Name × ExternalDeclaration) → IsFoundIn es e → IsFoundIn (with_declaration es d) e
 found_still es d e h = by (is_some (lookup (at d.0) es)) refl
   where
     by : (c : Bool) → is_some (lookup (at d.0) es) ≡ c → IsFoundIn (if c then es else put d.0 d.1 es) e
@@ -90,17 +90,17 @@ found_still es d e h = by (is_some (lookup (at d.0) es)) refl
 at_itself : (n : Name) → at n n ≡ true
 at_itself n = sym (texts_ties n n) ∙ nat_list_eq_equiv.refl n
 
-found_now : (es : List (Name × Declaration)) (d : Name × Declaration) → IsFoundIn (with_declaration es d) d
+found_now : (es : List (Name × ExternalDeclaration)) (d : Name × ExternalDeclaration) → IsFoundIn (with_declaration es d) d
 found_now es d = by (is_some (lookup (at d.0) es)) refl
   where
     by : (c : Bool) → is_some (lookup (at d.0) es) ≡ c → IsFoundIn (if c then es else put d.0 d.1 es) d
     by true k = k
     by false k = put_found d.0 d.1 d.0 es k ∙ ap (λ b. b || is_some (lookup (at d.0) es)) (at_itself d.0)
 
-found_after : (es ds : List (Name × Declaration)) (e : Name × Declaration) → IsFoundIn es e → IsFoundIn (firsts es ds) e
+found_after : (es ds : List (Name × ExternalDeclaration)) (e : Name × ExternalDeclaration) → IsFoundIn es e → IsFoundIn (firsts es ds) e
 found_after es [] e h = h
 found_after es (d ∷ ds) e h = found_after (with_declaration es d) ds e (found_still es d e h)
 
-pub all_found : (es ds : List (Name × Declaration)) → AllByRecursion (IsFoundIn (firsts es ds)) ds
+pub all_found : (es ds : List (Name × ExternalDeclaration)) → AllByRecursion (IsFoundIn (firsts es ds)) ds
 all_found es [] = tt
 all_found es (d ∷ ds) = (found_after (with_declaration es d) ds d (found_now es d), all_found (with_declaration es d) ds)

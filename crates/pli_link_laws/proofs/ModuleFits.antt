@@ -6,12 +6,12 @@ use Rattle.pli_base.specs.Name.{Name}
 use Rattle.pli_deck.specs.DeckFields.{name, deck}
 use Rattle.pli_deck.specs.DeckFaults.{fault_of}
 use Rattle.pli_deck.specs.Fields.{u1, u2, u4, from_to}
-use Rattle.pli_deck.specs.ModuleFields.{External, Member, Module, is_less, comes_after, external_behind, fit_behind, is_none, is_external, member, module_field}
+use Rattle.pli_deck.specs.ModuleFields.{External, Member, DeckModule, is_less, comes_after, external_behind, fit_behind, is_none, is_external, member, module_field}
 use Rattle.pli_deck.specs.ModuleSpelling.{has_kind, global_at, are_good_links, links_stand, module_within_limits}
 use Rattle.pli_deck.specs.Spelling.{deck_bytes}
-use Rattle.pli_deck.specs.declared.fault.Fault.TheVariants.{BadNumber, OverLimit}
+use Rattle.pli_deck.specs.declared.fault.DeckFault.TheVariants.{BadNumber, OverLimit}
 use Rattle.pli_deck_code.specs.CodeModules.{external_of}
-use Rattle.pli_deck_code.specs.declared.externals.Declaration.{Declaration}
+use Rattle.pli_deck_code.specs.declared.externals.ExternalDeclaration.{ExternalDeclaration}
 use Rattle.pli_link_laws.specs.LinkedModules.{IsSaidAlone, IsModule}
 use Rattle.pli_link_laws.proofs.Sums.{both_hold}
 use Rattle.pli_link_laws.proofs.Tables.{Above, Rises}
@@ -30,7 +30,7 @@ after : (before : Option External) (n : Name) → Above (option_map (λ (e : Ext
 after None n h = refl
 after (Some e) n h = ap is_less h
 
-externals_fit : (members : List Member) (before : Option External) (ds : List (Name × Declaration)) → Rises (option_map (λ (e : External). e.name) before) ds → AllByRecursion (IsDeclared members) ds
+externals_fit : (members : List Member) (before : Option External) (ds : List (Name × ExternalDeclaration)) → Rises (option_map (λ (e : External). e.name) before) ds → AllByRecursion (IsDeclared members) ds
     → fit_behind external_behind before (map external_of ds) ≡ true
 unfolding external_behind
 externals_fit members before [] up all = refl
@@ -44,7 +44,7 @@ externals_fit members before (d ∷ ds) up all =
     (both_hold kind place refl (both_hold (u2.fits d.1.unit) (u2.fits d.1.global) (fits_short d.1.unit all.0.unit) (fits_short d.1.global all.0.number))))
     (externals_fit members (Some (external_of d)) ds up.1 all.1)
 
-externals_stand : (members : List Member) (ds : List (Name × Declaration)) → AllByRecursion (IsDeclared members) ds
+externals_stand : (members : List Member) (ds : List (Name × ExternalDeclaration)) → AllByRecursion (IsDeclared members) ds
     → list_all (λ (e : External). has_kind e.kind (global_at members e.unit e.global)) (map external_of ds) ≡ true
 externals_stand members [] all = refl
 externals_stand members (d ∷ ds) all =
@@ -62,12 +62,12 @@ no_more test (x ∷ xs) = by (test x) (no_more test xs)
     by false h = omega (arith, h)
 
 -- what is asked of the links of a unit
-pub record Leads (m : Module) (u : Member) : Type 0 where
+pub record Leads (m : DeckModule) (u : Member) : Type 0 where
   pub good : are_good_links m (filter is_external u.deck.globals) u.links ≡ true
   pub counted : length u.links ≡ length (filter is_external u.deck.globals)
   pub short : list_all u2.fits u.links ≡ true
 
-unit_fits : (m : Module) (u : Member) → IsSaidAlone u → Leads m u → member.fits u ≡ true
+unit_fits : (m : DeckModule) (u : Member) → IsSaidAlone u → Leads m u → member.fits u ≡ true
 unfolding member
 unit_fits m u said leads =
     let few = (globals_fit u.deck said.is_deck.fits).few in
@@ -82,11 +82,11 @@ unit_fits m u said leads =
     (both_hold ((from_to k k u2).fits (length u.links)) (list_all u2.fits u.links)
     (fits_range k k (length u.links) (omega (arith, within, leads.counted)) (omega (arith, leads.counted)) (omega (arith, leads.counted))) leads.short)
 
-units_fit : (m : Module) (us : List Member) → AllByRecursion IsSaidAlone us → AllByRecursion (Leads m) us → list_all member.fits us ≡ true
+units_fit : (m : DeckModule) (us : List Member) → AllByRecursion IsSaidAlone us → AllByRecursion (Leads m) us → list_all member.fits us ≡ true
 units_fit m [] said leads = refl
 units_fit m (u ∷ us) said leads = both_hold (member.fits u) (list_all member.fits us) (unit_fits m u said.0 leads.0) (units_fit m us said.1 leads.1)
 
-units_stand : (m : Module) (us : List Member) → AllByRecursion (Leads m) us → list_all (λ (u : Member). are_good_links m (filter is_external u.deck.globals) u.links) us ≡ true
+units_stand : (m : DeckModule) (us : List Member) → AllByRecursion (Leads m) us → list_all (λ (u : Member). are_good_links m (filter is_external u.deck.globals) u.links) us ≡ true
 units_stand m [] leads = refl
 units_stand m (u ∷ us) leads =
     both_hold (are_good_links m (filter is_external u.deck.globals) u.links) (list_all (λ (u : Member). are_good_links m (filter is_external u.deck.globals) u.links) us) leads.0.good
@@ -94,7 +94,7 @@ units_stand m (u ∷ us) leads =
 
 -- ---- the module
 
-pub record HasParts (m : Module) (ds : List (Name × Declaration)) : Type 0 where
+pub record HasParts (m : DeckModule) (ds : List (Name × ExternalDeclaration)) : Type 0 where
   pub externals : m.externals ≡ map external_of ds
   pub few : length m.externals ≤ 65535
   pub rising : Rises None ds
@@ -105,7 +105,7 @@ pub record HasParts (m : Module) (ds : List (Name × Declaration)) : Type 0 wher
   pub leads : AllByRecursion (Leads m) m.units
   pub limits : module_within_limits m ≡ true
 
-module _ (m : Module) (ds : List (Name × Declaration)) (h : HasParts m ds) where
+module _ (m : DeckModule) (ds : List (Name × ExternalDeclaration)) (h : HasParts m ds) where
   fits : module_field.fits m ≡ true
   unfolding module_field
   fits =

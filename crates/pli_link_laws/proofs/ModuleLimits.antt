@@ -13,11 +13,11 @@ use Rattle.pli_link.specs.Link.{linked_unit}
 use Rattle.pli_link.specs.ModuleSize.{own_of, all_own, variables_made, is_oversized, are_too_large, is_too_large}
 use Rattle.pli_link.specs.Names.{externals}
 use Rattle.pli_link.specs.Units.{Compiled}
-use Rattle.pli_deck.specs.ModuleFields.{Member, Module}
+use Rattle.pli_deck.specs.ModuleFields.{Member, DeckModule}
 use Rattle.pli_deck.specs.ModuleSpelling.{static_bytes, external_bytes, module_within_limits}
 use Rattle.pli_deck_code.specs.CodeDecks.{instruction_of, global_of, deck_of}
 use Rattle.pli_deck_code.specs.CodeModules.{external_of, members_of}
-use Rattle.pli_deck_code.specs.declared.externals.Declaration.{Declaration}
+use Rattle.pli_deck_code.specs.declared.externals.ExternalDeclaration.{ExternalDeclaration}
 use Rattle.pli_link_laws.proofs.Sums.{total, sum_is_total, total_joined, total_mapped, both_hold}
 use Rattle.pli_link_laws.proofs.DeckParts.{size_in, there_bytes, own_bytes}
 use Rattle.pli_link_laws.proofs.UnitDeclarations.{shared_bytes, bytes_where}
@@ -77,7 +77,7 @@ shared_same : (es : List (Name × Option Template)) → total size_in (flat_map 
 shared_same [] = refl
 shared_same (e ∷ es) = omega (arith, total_joined size_in (there e.1) (flat_map there (values_of es)), there_bytes e.1, shared_same es)
 
-pub within_limits : (numbers : List (Name × ℕ)) (main : ℕ) (names : List Name) (cs : List Compiled) (ds : List (Name × Declaration)) (m : Module) → m.units ≡ members_of main names 0 (map (linked_unit numbers) cs)
+pub within_limits : (numbers : List (Name × ℕ)) (main : ℕ) (names : List Name) (cs : List Compiled) (ds : List (Name × ExternalDeclaration)) (m : DeckModule) → m.units ≡ members_of main names 0 (map (linked_unit numbers) cs)
     → m.externals ≡ map external_of ds → IsCounted cs → total shared_bytes (externals cs) ≡ total (bytes_where m.units) ds → module_within_limits m ≡ true
 within_limits numbers main names cs ds m units_are externals_are h same =
     let units = members_of main names 0 (map (linked_unit numbers) cs) in

@@ -15,7 +15,7 @@ use Rattle.pli_link.proofs.MeantFirst.{procedures_within}
 use Rattle.pli_deck.specs.ModuleFields as deck
 use Rattle.pli_deck.specs.ModuleFields.{Member, is_external}
 use Rattle.pli_deck_code.specs.CodeModules.{declarations, all_declared, external_of, members_of, module_of}
-use Rattle.pli_deck_code.specs.declared.externals.Declaration.{Declaration}
+use Rattle.pli_deck_code.specs.declared.externals.ExternalDeclaration.{ExternalDeclaration}
 use Rattle.pli_link_laws.specs.LinkedModules.{IsSaidAlone, IsModule, LinkedModulesAreSaid}
 use Rattle.pli_link_laws.proofs.FirstDeclarations.{Alike, tables_alike, all_found}
 use Rattle.pli_link_laws.proofs.LinkedFrom.{of_faultless}
@@ -47,13 +47,13 @@ few_found bound bound_is es e h = subst (λ b. AllByRecursion (λ p. p.1 < b) es
 -- ---- a module of units without faults
 
 module _ (cs : List Compiled) (main : ℕ) (few : length cs ≤ 999) (here : position (λ (c : Compiled). c.is_main) cs ≡ Some main) (good : IsFaultless cs) where
-  abbrev m : deck.Module
+  abbrev m : deck.DeckModule
   m = module_of (link.module_of cs main)
 
   abbrev us : List LinkedUnit
   us = map (linked_unit (procedures cs)) cs
 
-  abbrev ds : List (Name × Declaration)
+  abbrev ds : List (Name × ExternalDeclaration)
   ds = declarations us
 
   units : length m.units ≡ length cs

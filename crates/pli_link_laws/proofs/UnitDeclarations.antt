@@ -16,14 +16,14 @@ use Rattle.pli_deck.specs.ModuleFields.{Member}
 use Rattle.pli_deck.specs.ModuleSpelling.{global_in, global_at, has_kind, declared_bytes, bytes_in_unit, external_bytes}
 use Rattle.pli_deck_code.specs.CodeDecks.{short, global_of, deck_of}
 use Rattle.pli_deck_code.specs.CodeModules.{declaration, declared_in, all_declared, external_of, member, members_of}
-use Rattle.pli_deck_code.specs.declared.externals.Declaration.{Declaration}
+use Rattle.pli_deck_code.specs.declared.externals.ExternalDeclaration.{ExternalDeclaration}
 use Rattle.pli_link_laws.specs.LinkedModules.{IsSaidAlone}
 use Rattle.pli_link_laws.proofs.Sums.{both_of}
 use Rattle.pli_link_laws.proofs.FirstDeclarations.{Paired, paired_behind}
 use Rattle.pli_link_laws.proofs.DeckParts.{globals_fit, name_fits, bytes_of, template_same}
 
 -- a variable where it is declared: a static one that units share
-pub record IsDeclared (members : List Member) (d : Name × Declaration) : Type 0 where
+pub record IsDeclared (members : List Member) (d : Name × ExternalDeclaration) : Type 0 where
   pub named : name.fits d.0 ≡ true
   pub kind : has_kind 2 (global_at members d.1.unit d.1.global) ≡ true
   pub unit : d.1.unit ≤ 65535
@@ -32,7 +32,7 @@ pub record IsDeclared (members : List Member) (d : Name × Declaration) : Type 0
 abbrev pub shared_bytes : Name × Option Template → ℕ
 shared_bytes x = bytes_of x.1
 
-abbrev pub bytes_where : List Member → Name × Declaration → ℕ
+abbrev pub bytes_where : List Member → Name × ExternalDeclaration → ℕ
 bytes_where members d = external_bytes members (external_of d)
 
 short_is : (n : ℕ) → n ≤ 65535 → short n ≡ n

@@ -11,24 +11,24 @@ use Rattle.pli_link.specs.Names.{meant, procedures}
 use Rattle.pli_link.specs.Units.{Compiled}
 use Rattle.pli_deck.specs.Decks.{Global}
 use Rattle.pli_deck.specs.Fields.{u2}
-use Rattle.pli_deck.specs.ModuleFields.{Member, Module, is_external}
+use Rattle.pli_deck.specs.ModuleFields.{Member, DeckModule, is_external}
 use Rattle.pli_deck.specs.ModuleSpelling.{is_of_kind, is_good_link, are_good_links}
 use Rattle.pli_deck_code.specs.CodeDecks.{short, global_of}
 use Rattle.pli_deck_code.specs.CodeModules.{declared_in, all_declared, external_of, number_of, links_of, members_of}
-use Rattle.pli_deck_code.specs.declared.externals.Declaration.{Declaration}
+use Rattle.pli_deck_code.specs.declared.externals.ExternalDeclaration.{ExternalDeclaration}
 use Rattle.pli_link_laws.proofs.Sums.{both_hold, all_front, all_back}
 use Rattle.pli_link_laws.proofs.Tables.{at}
 use Rattle.pli_link_laws.proofs.FirstDeclarations.{IsFoundIn}
 use Rattle.pli_link_laws.proofs.ResolvedEntries.{IsResolved, AreResolved}
 
 -- each external is static
-static_at : (ds : List (Name × Declaration)) (l : ℕ) → l < length ds → is_of_kind 2 (slice_get (map external_of ds) l) ≡ true
+static_at : (ds : List (Name × ExternalDeclaration)) (l : ℕ) → l < length ds → is_of_kind 2 (slice_get (map external_of ds) l) ≡ true
 static_at [] l lt = absurd (omega (arith, lt))
 static_at (d ∷ ds) zero lt = refl
 static_at (d ∷ ds) (suc l) lt = static_at ds l (omega (arith, lt))
 
 -- a name that is found has a number
-record HasNumber (ds : List (Name × Declaration)) (number : ℕ) (n : Name) : Type 0 where
+record HasNumber (ds : List (Name × ExternalDeclaration)) (number : ℕ) (n : Name) : Type 0 where
   place : ℕ
   found : number_of number (keys_of ds) n ≡ Some place
   within : place < number + length ds
@@ -36,7 +36,7 @@ record HasNumber (ds : List (Name × Declaration)) (number : ℕ) (n : Name) : T
 same_found : (d n : Name) → same_name d n ≡ at n d
 same_found d n = nat_list_eq_equiv.symm d n ∙ texts_ties n d
 
-number_found : (ds : List (Name × Declaration)) (number : ℕ) (n : Name) → is_some (lookup (at n) ds) ≡ true → HasNumber ds number n
+number_found : (ds : List (Name × ExternalDeclaration)) (number : ℕ) (n : Name) → is_some (lookup (at n) ds) ≡ true → HasNumber ds number n
 number_found [] number n some = absurd (true≢false (sym some))
 number_found (d ∷ ds) number n some = by (same_name d.0 n) refl (number_found ds (number + 1) n)
   where
@@ -64,7 +64,7 @@ number_within bound test (x ∷ es) n all e = by (test x.0) e (number_within bou
     by false h rest = rest h
 
 -- what external globals lead to, of a module with these declarations and so many units
-module _ (m : Module) (ds : List (Name × Declaration)) (cs : List Compiled) (declared : m.externals ≡ map external_of ds) (few : length ds ≤ 65535) (units : length m.units ≤ 999)
+module _ (m : DeckModule) (ds : List (Name × ExternalDeclaration)) (cs : List Compiled) (declared : m.externals ≡ map external_of ds) (few : length ds ≤ 65535) (units : length m.units ≤ 999)
     (all : AllByRecursion (λ p. p.1 < length m.units) (procedures cs)) where
   abbrev pub Lead : List Global → List ℕ → Type 0
   Lead [] [] = Unit {0}

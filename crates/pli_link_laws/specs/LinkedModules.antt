@@ -12,7 +12,7 @@ use Rattle.pli_link.specs.Units.{Compiled}
 use Rattle.pli_unit_code.specs.Modules.{Module}
 
 -- modules that have a spelling: all numbers are in their ranges, and name what is there
-pub record IsModule (m : deck.Module) : Type 0 where
+pub record IsModule (m : deck.DeckModule) : Type 0 where
   pub fits : module_field.fits m ≡ true
   pub faultless : module_fault m ≡ None
 
@@ -35,4 +35,4 @@ LinkedModulesAreSaid =
 -- where all bytes of a module are so few, those of each deck are
 abbrev pub ShortModulesHaveShortDecks : Type 0
 ShortModulesHaveShortDecks =
-    (m : deck.Module) → length (module_bytes m) < 4294967296 → AllByRecursion HasShortDeck m.units
+    (m : deck.DeckModule) → length (module_bytes m) < 4294967296 → AllByRecursion HasShortDeck m.units

@@ -6,7 +6,7 @@ use Rattle.pli_map.specs.Description as tree
 use Rattle.pli_map.specs.Sizes.{alignment_of, size_of, stride_of, end_behind}
 use Rattle.pli_map.proofs.Counts.{cut_factor}
 use Rattle.pli_map.proofs.Members.{later}
-use Rattle.pli_map.proofs.Multiples.{IsAlignment}
+use Rattle.pli_map.proofs.MultipleLemmas.{IsAlignment}
 use Rattle.pli_map.proofs.PlaceLaws.{four_alignments}
 
 lower : (far limit x y : ℕ) → far ≤ limit → min (x + 0) limit ≡ min (y + 0) limit → min x far ≡ min y far

@@ -1,12 +1,12 @@
 pub mod Alignments
 pub mod Counts
 pub mod Elements
-pub mod Equality
+pub mod EqualityLemmas
 pub mod FarSizes
 pub mod FirstValues
 pub mod FoundScalars
 pub mod Members
-pub mod Multiples
+pub mod MultipleLemmas
 pub mod Paths
 pub mod PlaceLaws
 pub mod Places

@@ -10,7 +10,7 @@ use Rattle.pli_map.specs.Description.{Description, FixedBinary, Character, Varyi
 use Rattle.pli_map.specs.laws.Laws.{Apart, PartsDoNotMeet, PartsLieWithin, PartsStandAligned, AreasAreRounded, WithinBounds, ElementsAreWithinBounds, ElementsAreInRowMajorOrder}
 use Rattle.pli_map.specs.Parts.{PathStep, Member, Element, PlacedPart, index_of, member_behind, part_at, moved, place_of}
 use Rattle.pli_map.specs.Sizes.{count_of, alignment_of, greatest_alignment, size_of, stride_of}
-use Rattle.pli_map.proofs.Multiples.{IsAlignment, sum_aligned, next_aligned, times_aligned, divides, greater}
+use Rattle.pli_map.proofs.MultipleLemmas.{IsAlignment, sum_aligned, next_aligned, times_aligned, divides, greater}
 use Rattle.pli_map.proofs.Places.{met, turns, MemberStep, ElementStep, element_part, step_is, step_inside, index_below, index_apart, members_apart, element_inside, fits_stride}
 
 -- ---- alignments

@@ -11,7 +11,7 @@ use Rattle.pli_type_tree.specs.Templates.{Template}
 use Rattle.pli_type_tree.specs.TypedTree.{Signature, Global, OwnVariable, ExternalVariable, EntryPoint, TypedUnit}
 use Rattle.pli_unit_code.specs.CodeTables.{CodedGlobal, template_at, there, with_description, described}
 use Rattle.pli_gen_emit.specs.TreeTranslation.{blocks_of, instructions_of}
-use Rattle.pli_gen_tree.specs.Encoding.{Tables, tables_for, description_number, template_number, template_code, signature_code, global_code, code_of}
+use Rattle.pli_gen_tree.specs.Encoding.{NumberedTables, tables_for, description_number, template_number, template_code, signature_code, global_code, code_of}
 use Rattle.pli_gen_tree.specs.Encoding.{signature_descriptions, global_descriptions, global_templates, block_templates, descriptions_named, templates_named}
 use Rattle.pli_gen_tree.specs.laws.ListLaws.{all_front, all_back}
 use Rattle.pli_type_keys.specs.Same.{same_template}
@@ -44,7 +44,7 @@ abbrev pub owned : List Global → List Template
 owned gs = flat_map own_one gs
 
 -- the tables of a unit
-abbrev pub tables : TypedUnit → Tables
+abbrev pub tables : TypedUnit → NumberedTables
 tables u = tables_for u (blocks_of u) (instructions_of (blocks_of u))
 
 abbrev pub coded_global : TypedUnit → Global → CodedGlobal

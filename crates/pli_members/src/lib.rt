@@ -16,5 +16,5 @@ pub use laws::{
     runs_keep, worked_examples,
 };
 pub use members::Members;
-pub use names::Names;
+pub use names::NamesLeft;
 pub use refusal::{EditError, Refusal};

@@ -13,7 +13,7 @@ ghost use Rattle.pli_members.specs.declared.refusal.Refusal.TheVariants.{Version
 use crate::entry::NamedMember;
 use crate::kind::MemberKind;
 use crate::lines::{Change, change_refusal};
-use crate::names::Names;
+use crate::names::NamesLeft;
 use crate::refusal::{EditError, Refusal};
 use pli_base::{Line, Name};
 use std::alloc::Global;
@@ -71,10 +71,10 @@ impl Members {
     }
 
     /// The names in order.
-    pub fn names(&self) -> Names<'_>
+    pub fn names(&self) -> NamesLeft<'_>
         ensures { result ≡ names_of self.now }
     {
-        Names::of(self.entries())
+        NamesLeft::of(self.entries())
     }
 
     /// Law: there are at most 999 members.

@@ -9,11 +9,11 @@ use std::marker::Model;
 
 /// The names that are left, in order.
 #[derive(Drop)]
-pub struct Names<'a> {
+pub struct NamesLeft<'a> {
     entries: &'a [NamedMember],
 }
 
-impl<'a> Model for Names<'a> {
+impl<'a> Model for NamesLeft<'a> {
     ghost use Rattle.std.specs.Prelude.{List};
     ghost use Rattle.std.specs.Map.{keys_of};
     ghost use Rattle.pli_base.specs.Name.{Name as Characters};
@@ -23,16 +23,16 @@ impl<'a> Model for Names<'a> {
     ghost view = { λ n. keys_of n.entries.now };
 }
 
-impl<'a> Names<'a> {
+impl<'a> NamesLeft<'a> {
     // The names of these entries.
-    pub(crate) fn of(entries: &'a [NamedMember]) -> Names<'a>
+    pub(crate) fn of(entries: &'a [NamedMember]) -> NamesLeft<'a>
         ensures { result ≡ keys_of entries.now }
     {
-        Names { entries }
+        NamesLeft { entries }
     }
 }
 
-impl<'a> Iterator for Names<'a> {
+impl<'a> Iterator for NamesLeft<'a> {
     type Item = Name;
 
     ghost next_gives = { YieldsFirst (λ names. names) };

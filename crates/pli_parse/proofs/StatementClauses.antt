@@ -7,7 +7,7 @@ use Rattle.pli_base.specs.declared.code.Code.TheVariants.{ThenExpected}
 use Rattle.pli_base.specs.declared.failure.Failure.TheVariants as errors
 use Rattle.pli_base.specs.Statements.{Statement, count}
 use Rattle.pli_parse_statement.specs.StatementWords.{Context, standing}
-use Rattle.pli_parse_statement.specs.declared.keyword.Standing.TheVariants.{AsClause}
+use Rattle.pli_parse_statement.specs.declared.keyword.StatementStanding.TheVariants.{AsClause}
 use Rattle.pli_parse_statement.specs.StatementReading.{Inside, expression_in, alternative_from, else_first, if_at}
 use Rattle.pli_base.specs.declared.failure.Failure.{Failure}
 use Rattle.pli_base.specs.declared.token.Fault.{Fault}

@@ -22,12 +22,12 @@ use Rattle.pli_parse_declaration.specs.DeclarationReading.{identifier_at, list_a
 use Rattle.pli_parse_declaration.specs.declared.list.Separator.TheVariants.{Commas}
 use Rattle.pli_base.specs.Reading.{read_as, mapped, if_open}
 use Rattle.pli_parse_declaration.proofs.DeclarationFaults.{identifier_sound, Stands, at_least, stands_behind, stands_then, stands_made, mapped_stands, taken_then, optional_stands, list_sound, declaration_stands, fault_of}
-use Rattle.pli_parse_statement.specs.StatementWords.{Context, standing, the_unit, a_procedure, Kind, Assigns, Empty, Keyed, Unknown, kind_of}
-use Rattle.pli_parse_statement.specs.StatementReading.{expression_in, reference_in, stopped, closing, assignment_at, condition_at, control_at, allocation_at, put_at, call_at, heading_at, StatementReader, Inside, deeper, has_semicolon, label_at, is_labelled, second_label, bad_label, Misplacement, AtLabel, AtStatement, unit_misplaced, standing_misplaced, misplacement, at_label, Listing, is_label, named_end, ending_at, Next, EndsHere, Another, next_of, list_by, list_from, list_in, else_first, alternative_from, if_at, on_at, do_at, begin_at, inner_list, procedure_at, keyed_at, unless_misplaced, body_from, behind_label, begun, statement_of, inside_of, statement_at, finished, external_at, unit_from, unit_of}
+use Rattle.pli_parse_statement.specs.StatementWords.{Context, standing, the_unit, a_procedure, StatementKind, Assigns, Empty, Keyed, Unknown, kind_of}
+use Rattle.pli_parse_statement.specs.StatementReading.{expression_in, reference_in, stopped, closing, assignment_at, condition_at, control_at, allocation_at, put_at, call_at, heading_at, StatementReader, Inside, deeper, has_semicolon, label_at, is_labelled, second_label, bad_label, Misplacement, AtLabel, AtStatement, unit_misplaced, standing_misplaced, misplacement, at_label, Listing, is_label, named_end, ending_at, NextStatement, EndsHere, Another, next_of, list_by, list_from, list_in, else_first, alternative_from, if_at, on_at, do_at, begin_at, inner_list, procedure_at, keyed_at, unless_misplaced, body_from, behind_label, begun, statement_of, inside_of, statement_at, finished, external_at, unit_from, unit_of}
 use Rattle.pli_parse_statement.specs.declared.keyword.Keyword.{Keyword}
 use Rattle.pli_parse_statement.specs.declared.keyword.Keyword.TheVariants as words
-use Rattle.pli_parse_statement.specs.declared.keyword.Standing.{Standing}
-use Rattle.pli_parse_statement.specs.declared.keyword.Standing.TheVariants.{InBlock, InGroup, AsClause, AsUnit}
+use Rattle.pli_parse_statement.specs.declared.keyword.StatementStanding.{StatementStanding}
+use Rattle.pli_parse_statement.specs.declared.keyword.StatementStanding.TheVariants.{InBlock, InGroup, AsClause, AsUnit}
 use Rattle.pli_parse.proofs.StatementReadFirst.{empty_begins, word_begins, two_words_begin, end_begins, else_begins}
 use Rattle.pli_parse.proofs.StatementFaults.{expression_sound, reference_sound, stopped_sound, closing_stands, behind_first, assignment_stands, condition_sound, control_stands, allocation_sound, put_stands, call_sound, heading_stands}
 
@@ -50,7 +50,7 @@ ending_stands label p (Word n ∷ us) = by (is_label label n)
 ending_stands label p (t ∷ us) = stopped_sound tt p (t ∷ us)
 
 module _ (one : StatementReader) (sound : IsSoundReader one) (c : Context) (label : Option Identifier) where
-  list_step : (more : (p k : ℕ) → Tokens → Result (Front Listing) Fault) (p k : ℕ) (ts : Tokens) → ((q l : ℕ) (us : Tokens) → length us < length ts → Stands 1 q us (more q l us)) → (n : Next) → next_of ts ≡ n
+  list_step : (more : (p k : ℕ) → Tokens → Result (Front Listing) Fault) (p k : ℕ) (ts : Tokens) → ((q l : ℕ) (us : Tokens) → length us < length ts → Stands 1 q us (more q l us)) → (n : NextStatement) → next_of ts ≡ n
       → Stands 1 p ts (list_by one c label more p k ts n)
   list_step more p k ts stands (EndsHere us) e =
       behind_first 1 p ts us (list_by one c label more p k ts (EndsHere us)) (ap length (end_begins ts us e)) (mapped_stands 1 (p + 1) us _ (ending_at label (p + 1) us) (ending_stands label (p + 1) us))
@@ -110,7 +110,7 @@ begin_stands i sound c label p k ts =
     (λ us. stands_made 1 (p + 1) us (list_in i (standing InBlock c) label (p + 1) k us) (λ list. body.Begin list.value.statements list.value.end) (list_in_stands i sound (standing InBlock c) label (p + 1) k us))
 
 -- PROCEDURE has a label where it may stand
-procedure_stands : (i : Inside) → IsSoundReader i.statement → (s : Standing) (label : Option Identifier) → standing_misplaced s words.Procedure (is_labelled label) ≡ None → (number p : ℕ) (ts : Tokens) → Stands 2 p ts (procedure_at i label number p ts)
+procedure_stands : (i : Inside) → IsSoundReader i.statement → (s : StatementStanding) (label : Option Identifier) → standing_misplaced s words.Procedure (is_labelled label) ≡ None → (number p : ℕ) (ts : Tokens) → Stands 2 p ts (procedure_at i label number p ts)
 unfolding procedure_at
 procedure_stands i sound InBlock None placed number p ts = cc
 procedure_stands i sound InGroup None placed number p ts = cc
@@ -208,7 +208,7 @@ at_same : {a b : ℕ} → ◌≡◌ {A = Option ℕ} (Some a) (Some b) → a ≡
 at_same h = cc
 
 -- the label that may not stand
-bad_label_stands : (s : Standing) (p : ℕ) (ts : Tokens) (x : Front (Option Identifier)) → Passes 0 p ts x.next x.rest → (label : Option Identifier) → LabelStands p ts label → (q : ℕ) → bad_label s x label ≡ Some q
+bad_label_stands : (s : StatementStanding) (p : ℕ) (ts : Tokens) (x : Front (Option Identifier)) → Passes 0 p ts x.next x.rest → (label : Option Identifier) → LabelStands p ts label → (q : ℕ) → bad_label s x label ≡ Some q
     → IsToldOf p ts (record { code = BadLabel; at = q })
 bad_label_stands s p ts x passed None here q h = cc
 bad_label_stands AsClause p ts x passed (Some l) here q h =
@@ -244,7 +244,7 @@ unit_code words.Signal = tt
 unit_code words.Stop = tt
 unit_code keyword = refl
 
-standing_code : (s : Standing) (keyword : Keyword) (l : Bool) → PlacedCode (standing_misplaced s keyword l)
+standing_code : (s : StatementStanding) (keyword : Keyword) (l : Bool) → PlacedCode (standing_misplaced s keyword l)
 standing_code AsUnit keyword l = unit_code keyword
 standing_code AsClause words.Procedure l = refl
 standing_code AsClause words.Declare l = refl
@@ -281,7 +281,7 @@ module _ (levels : ℕ) (inside : Option Inside) (sound : InsideSound inside) (c
       behind_stands (at_fault code q) (told_first code part q us (some_first us vs keyword kind))
   placed_stands vs keyword kind None e = behind_stands (keyed_at levels inside c label q k vs keyword) (keyed_stands levels inside sound c label q k us vs keyword kind e)
 
-  body_stands : has_semicolon us ≡ true → (kind : Kind) → kind_of us ≡ kind → Stands 1 p ts (body_from levels inside c label q k us kind)
+  body_stands : has_semicolon us ≡ true → (kind : StatementKind) → kind_of us ≡ kind → Stands 1 p ts (body_from levels inside c label q k us kind)
   body_stands has Assigns e = behind_stands (assignment_at levels q us) (assignment_stands levels q us)
   body_stands has (Empty vs) e =
       let one : length us ≡ suc (length vs) = ap length (empty_begins us vs e).1 in

@@ -32,7 +32,7 @@ use Rattle.pli_parse_statement.specs.StatementWords.{condition_of, behind_word}
 use Rattle.pli_parse_statement.specs.StatementReading.{uncounted, expression_in, reference_in, stopped, closing, parenthesized, is_equals, assignment_at, condition_from, condition_at, if_word, optional_at, RangeWord, ToWord, ByWord, RepeatWord, range_first, range_from, range_at, Specified, Unspecified, Conditioned, Iterated, specified, control_from, control_at, PlaceWord, InWord, SetWord, place_first, placed_by, places_from, allocation_at, PutWord, SkipWord, ListWord, put_first, put_by, put_from, put_begun, put_at, call_at, OptionWord, OptionsWord, ReturnsWord, RecursiveWord, option_first, main_at, options_by, options_from, heading_at}
 use Rattle.pli_parse.proofs.StatementReadTools.{expression_reads, parenthesized_reads, list_reads, behind_is}
 
-uncounted_stands : {A : Type 0} (least p : ℕ) (ts : Tokens) (r : Result (expressions.Front A) Fault) → found.Stands least p ts r → Stands least p ts (uncounted r)
+uncounted_stands : {A : Type 0} (least p : ℕ) (ts : Tokens) (r : Result (expressions.ExpressionFront A) Fault) → found.Stands least p ts r → Stands least p ts (uncounted r)
 uncounted_stands least p ts (Ok x) h = h
 uncounted_stands least p ts (Err f) h = h
 

@@ -14,9 +14,9 @@ use Rattle.pli_parse_expression.specs.Operators.{nesting_limit}
 use Rattle.pli_parse_expression.specs.Expressions.{Deeper}
 use Rattle.pli_parse_declaration.specs.DeclarationGrammar.{SpellsFront}
 use Rattle.pli_parse_declaration.proofs.DeclarationSteps.{mapped_ok, two}
-use Rattle.pli_parse_fault.proofs.Steps.{bind_ok}
+use Rattle.pli_parse_fault.proofs.StepLemmas.{bind_ok}
 use Rattle.pli_base.specs.Statements.{Statement, Numbered, Body, ExternalProcedure, Heading, list_count, AwaitsElse}
-use Rattle.pli_parse_statement.specs.StatementWords.{Context, a_procedure, keyword_of, begins_assignment, Kind, Assigns, Empty, Keyed, Unknown, kind_of}
+use Rattle.pli_parse_statement.specs.StatementWords.{Context, a_procedure, keyword_of, begins_assignment, StatementKind, Assigns, Empty, Keyed, Unknown, kind_of}
 use Rattle.pli_parse_statement.specs.StatementReading.{Inside, Listing, inner_list, has_semicolon, heading_at, label_at, is_labelled, bad_label, Misplacement, AtLabel, AtStatement, misplacement, keyed_at, unless_misplaced, body_from, behind_label, begun, statement_of, inside_of, statement_at, finished, external_at, unit_from, unit_of, else_first}
 use Rattle.pli_parse_statement.specs.StatementGrammar.{SpellsHeading, SpellsEnd, SpellsStatement, SpellsStatements, SpellsUnit}
 use Rattle.pli_parse_statement.specs.declared.keyword.Keyword.{Keyword}
@@ -89,7 +89,7 @@ module _ (inside : Option Inside) (levels : ℕ) (inner : InsideReads levels ins
   placed_read us keyword kind (Some m) placed y h = absurd (faulty us keyword label m y h)
 
   -- a statement behind its label
-  body_read : (kind : Kind) → kind_of ts ≡ kind → (y : Front Body) → body_from levels inside c label p k ts kind ≡ Ok y → BodyRead c levels label p k ts y
+  body_read : (kind : StatementKind) → kind_of ts ≡ kind → (y : Front Body) → body_from levels inside c label p k ts kind ≡ Ok y → BodyRead c levels label p k ts y
   body_read Assigns kind y h = assignment_read c levels label p k fits ts y h
   body_read (Empty us) kind y h = let e = empty_begins ts us kind in null_read c levels label p k fits ts us e.1 (none e.0) y h
   body_read (Keyed keyword us) kind y h = placed_read us keyword kind (misplacement c keyword (is_labelled label) c.in_unit) refl y h

@@ -9,8 +9,8 @@ use Rattle.pli_base.specs.declared.token.TokenText.TheVariants.{Word, Sign}
 use Rattle.pli_base.specs.declared.syntax.Identifier.{Identifier}
 use Rattle.pli_parse_declaration.specs.DeclarationWords.{is_either}
 use Rattle.pli_parse_declaration.specs.DeclarationGrammar.{SpellsFront}
-use Rattle.pli_parse_fault.proofs.Steps.{some_same}
-use Rattle.pli_parse_statement.specs.StatementWords.{keyword_of, behind_word, begins_assignment, Kind, Assigns, Empty, Keyed, Unknown, go_kind, word_kind, first_kind, kind_of}
+use Rattle.pli_parse_fault.proofs.StepLemmas.{some_same}
+use Rattle.pli_parse_statement.specs.StatementWords.{keyword_of, behind_word, begins_assignment, StatementKind, Assigns, Empty, Keyed, Unknown, go_kind, word_kind, first_kind, kind_of}
 use Rattle.pli_parse_statement.specs.StatementReading.{has_semicolon, label_at, is_labelled, ending_at, is_label, named_end, EndsHere, next_by, next_of, else_by, else_first}
 use Rattle.pli_parse_statement.specs.StatementGrammar.{BeginsAssignment, SpellsLabel, SpellsEnd}
 use Rattle.pli_parse_statement.specs.declared.keyword.Keyword.{Keyword}
@@ -94,7 +94,7 @@ keyed_first (Word n ∷ ts) us keyword h = by (keyword_of n) refl h
 keyed_first (t ∷ ts) us keyword h = cc
 
 -- what a statement is where it is no assignment
-kind_first : (ts : Tokens) (k : Kind) → kind_of ts ≡ k → (k ≡ Assigns → ⊥) → (begins_assignment ts ≡ false) × (first_kind ts ≡ k)
+kind_first : (ts : Tokens) (k : StatementKind) → kind_of ts ≡ k → (k ≡ Assigns → ⊥) → (begins_assignment ts ≡ false) × (first_kind ts ≡ k)
 unfolding kind_of
 kind_first ts k h not = by (begins_assignment ts) refl h
   where
@@ -146,7 +146,7 @@ end_begins ts us h = by (has_semicolon ts) (label_at 0 ts).value (kind_of ts) re
     ends : (vs : Tokens) → kind_of ts ≡ Keyed words.End vs → ts ≡ Word (codes "END") ∷ vs
     ends vs k = let w = (word_begins ts vs words.End k (λ e. cc)).1 in w.1 ∙ ap (λ n. Word n ∷ vs) (end_is w.0 w.2)
 
-    by : (b : Bool) (l : Option Identifier) (k : Kind) → kind_of ts ≡ k → next_by b l k ≡ EndsHere us → ts ≡ Word (codes "END") ∷ us
+    by : (b : Bool) (l : Option Identifier) (k : StatementKind) → kind_of ts ≡ k → next_by b l k ≡ EndsHere us → ts ≡ Word (codes "END") ∷ us
     by true None (Keyed words.End vs) e g = let rest : vs ≡ us = cc in ends vs e ∙ ap (λ ws. Word (codes "END") ∷ ws) rest
     by true None (Keyed keyword vs) e g = cc
     by true None Assigns e g = cc

@@ -17,7 +17,7 @@ use Rattle.pli_parse_declaration.specs.DeclarationReading.{returned_at, identifi
 use Rattle.pli_parse_declaration.specs.DeclarationReading as items
 use Rattle.pli_parse_declaration.specs.DeclarationGrammar.{SpellsFront, SpellsListed, Anywhere, SpellsReturned}
 use Rattle.pli_parse_declaration.proofs.DeclarationSteps.{mapped_ok, taken_ok, two}
-use Rattle.pli_parse_fault.proofs.Steps.{same_ok, bind_ok}
+use Rattle.pli_parse_fault.proofs.StepLemmas.{same_ok, bind_ok}
 use Rattle.pli_parse_declaration.proofs.DeclarationRead.{Reads}
 use Rattle.pli_parse_declaration.proofs.DeclarationItemsRead.{returned_reads}
 use Rattle.pli_base.specs.Statements.{ProcedureOption, Main, Returns, Recursive, Heading, Body, Call}
@@ -30,12 +30,12 @@ use Rattle.pli_parse.proofs.WordsFirst.{option_spelling, option_begins}
 use Rattle.pli_parse_declaration.specs.declared.list.Separator.TheVariants.{Commas}
 
 -- the arguments of CALL are outermost expressions
-abbrev ArgumentsRead : (levels p : ℕ) → Tokens → expressions.Front Arguments → Type 0
+abbrev ArgumentsRead : (levels p : ℕ) → Tokens → expressions.ExpressionFront Arguments → Type 0
 ArgumentsRead levels p ts x =
     (front : Tokens) × (ts ≡ front ++ x.rest) × (x.next ≡ p + length front) × SpellsArguments p front x.value
     × GivenFits (λ list. Deeper (λ m. Every (OutermostFits m) list) levels) x.value
 
-arguments_reads : (levels p : ℕ) (ts : Tokens) (x : expressions.Front Arguments) → arguments_at (option_map (argument_of true) (inside levels)) 0 p ts ≡ Ok x → ArgumentsRead levels p ts x
+arguments_reads : (levels p : ℕ) (ts : Tokens) (x : expressions.ExpressionFront Arguments) → arguments_at (option_map (argument_of true) (inside levels)) 0 p ts ≡ Ok x → ArgumentsRead levels p ts x
 unfolding arguments_at inside expression_at
 arguments_reads levels p [] x h = subst (ArgumentsRead levels p []) (same_ok h) ([], refl, omega arith, refl, tt)
 arguments_reads zero p (Sign signs.OpenParenthesis ∷ ts) x h = cc

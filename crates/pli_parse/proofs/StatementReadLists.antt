@@ -7,12 +7,12 @@ use Rattle.pli_base.specs.declared.token.TokenText.TheVariants.{Word}
 use Rattle.pli_base.specs.declared.syntax.Identifier.{Identifier}
 use Rattle.pli_parse_declaration.specs.DeclarationGrammar.{SpellsFront}
 use Rattle.pli_parse_declaration.proofs.DeclarationSteps.{mapped_ok, two}
-use Rattle.pli_parse_fault.proofs.Steps.{same_ok, bind_ok}
+use Rattle.pli_parse_fault.proofs.StepLemmas.{same_ok, bind_ok}
 use Rattle.pli_base.specs.Statements.{Statement, Before, Alternative, Else, count, list_count, AwaitsElse, AlternativeAwaitsElse}
 use Rattle.pli_parse_statement.specs.StatementWords.{Context, standing}
-use Rattle.pli_parse_statement.specs.StatementReading.{StatementReader, Inside, deeper, Listing, ending_at, Next, EndsHere, Another, next_of, list_by, list_from, else_first, alternative_from}
+use Rattle.pli_parse_statement.specs.StatementReading.{StatementReader, Inside, deeper, Listing, ending_at, NextStatement, EndsHere, Another, next_of, list_by, list_from, else_first, alternative_from}
 use Rattle.pli_parse_statement.specs.StatementGrammar.{SpellsStatement, SpellsStatements, SpellsEnd, SpellsAlternative}
-use Rattle.pli_parse_statement.specs.declared.keyword.Standing.TheVariants.{AsClause}
+use Rattle.pli_parse_statement.specs.declared.keyword.StatementStanding.TheVariants.{AsClause}
 use Rattle.pli_parse.proofs.StatementReadFirst.{end_begins, else_begins, ending_spelled}
 
 -- what reads statements reads what is spelled so; behind one that awaits an ELSE none stands
@@ -64,7 +64,7 @@ module _ (m : ℕ) (one : StatementReader) (reads : StatementReads m one) (c : C
         ),
       )
 
-  list_step : (more : (p k : ℕ) → Tokens → Result (Front Listing) Fault) → MoreReads more → (p k : ℕ) (ts : Tokens) (y : Front Listing) (n : Next) → next_of ts ≡ n
+  list_step : (more : (p k : ℕ) → Tokens → Result (Front Listing) Fault) → MoreReads more → (p k : ℕ) (ts : Tokens) (y : Front Listing) (n : NextStatement) → next_of ts ≡ n
       → list_by one c label more p k ts n ≡ Ok y → SpellsFront (SpellsListing c m label k) p ts y
   list_step more more_reads p k ts y (EndsHere us) e g =
       let x = mapped_ok _ (ending_at label (p + 1) us) y g in

@@ -8,14 +8,14 @@ use Rattle.pli_base.specs.declared.token.Sign.TheVariants.{Semicolon}
 use Rattle.pli_base.specs.declared.token.TokenText.TheVariants.{Word, Sign}
 use Rattle.pli_base.specs.declared.syntax.Identifier.{Identifier}
 use Rattle.pli_parse_declaration.proofs.DeclarationSteps.{semicolon_first, taken_ok, two}
-use Rattle.pli_parse_fault.proofs.Steps.{same_ok, bind_ok}
+use Rattle.pli_parse_fault.proofs.StepLemmas.{same_ok, bind_ok}
 use Rattle.pli_base.specs.Statements as body
 use Rattle.pli_base.specs.Statements.{Body, count}
 use Rattle.pli_parse_statement.specs.StatementWords.{Context, standing, the_unit, a_procedure, keyword_of}
 use Rattle.pli_parse_statement.specs.StatementReading.{expression_in, control_at, heading_at, condition_at, Inside, deeper, list_in, inner_list, is_labelled, else_first, alternative_from, if_at, on_at, do_at, begin_at, procedure_at, standing_misplaced}
 use Rattle.pli_parse_statement.specs.StatementGrammar.{SpellsStatement, SpellsStatements, SpellsAlternative}
 use Rattle.pli_parse_statement.specs.declared.keyword.Keyword.TheVariants as words
-use Rattle.pli_parse_statement.specs.declared.keyword.Standing.TheVariants.{InBlock, InGroup, AsClause}
+use Rattle.pli_parse_statement.specs.declared.keyword.StatementStanding.TheVariants.{InBlock, InGroup, AsClause}
 use Rattle.pli_parse.proofs.StatementReadTools.{expression_reads, word_first}
 use Rattle.pli_parse.proofs.StatementReadParts.{control_reads, condition_reads}
 use Rattle.pli_parse.proofs.StatementReadHeading.{heading_reads}

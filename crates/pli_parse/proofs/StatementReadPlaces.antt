@@ -10,7 +10,7 @@ use Rattle.pli_base.specs.declared.syntax.Identifier.{Identifier}
 use Rattle.pli_parse_expression.specs.Expressions.{SpellsReferenceAlone}
 use Rattle.pli_parse_declaration.specs.DeclarationGrammar.{SpellsFront}
 use Rattle.pli_parse_declaration.proofs.DeclarationSteps.{two}
-use Rattle.pli_parse_fault.proofs.Steps.{same_ok, bind_ok}
+use Rattle.pli_parse_fault.proofs.StepLemmas.{same_ok, bind_ok}
 use Rattle.pli_parse_declaration.proofs.DeclarationRead.{Reads}
 use Rattle.pli_base.specs.Statements.{Allocation}
 use Rattle.pli_parse_statement.specs.StatementReading.{reference_in, parenthesized, PlaceWord, InWord, SetWord, place_first, placed_by, places_from, allocation_at}

@@ -17,7 +17,7 @@ use Rattle.pli_parse_expression.proofs.ReadIsSpelled.{expression_spelled, refere
 use Rattle.pli_parse_declaration.specs.DeclarationReading.{list_at, identifier_at, name_at}
 use Rattle.pli_parse_declaration.specs.DeclarationGrammar.{SpellsFront, SpellsListed}
 use Rattle.pli_parse_declaration.proofs.DeclarationSteps.{mapped_ok, first_is, open_first, semicolon_first, taken_ok}
-use Rattle.pli_parse_fault.proofs.Steps.{same_ok, some_same, bind_ok}
+use Rattle.pli_parse_fault.proofs.StepLemmas.{same_ok, some_same, bind_ok}
 use Rattle.pli_parse_declaration.proofs.DeclarationRead.{Reads, enclosed_spelled, listed_reads}
 use Rattle.pli_parse_statement.specs.StatementWords.{behind_word}
 use Rattle.pli_parse_statement.specs.StatementReading.{uncounted, expression_in, reference_in, stopped, parenthesized, is_equals, if_word, optional_at}
@@ -25,7 +25,7 @@ use Rattle.pli_parse_statement.specs.StatementGrammar.{SpellsEnclosed, SpellsOpt
 use Rattle.pli_parse_declaration.specs.declared.list.Separator.TheVariants.{Commas}
 
 -- the count of operators is dropped
-pub uncounted_ok : {A : Type 0} (r : Result (expressions.Front A) Fault) (y : Front A) → uncounted r ≡ Ok y → (x : expressions.Front A) × (r ≡ Ok x) × (record { value = x.value; next = x.next; rest = x.rest } ≡ y)
+pub uncounted_ok : {A : Type 0} (r : Result (expressions.ExpressionFront A) Fault) (y : Front A) → uncounted r ≡ Ok y → (x : expressions.ExpressionFront A) × (r ≡ Ok x) × (record { value = x.value; next = x.next; rest = x.rest } ≡ y)
 uncounted_ok (Ok x) y h = (x, refl, same_ok h)
 uncounted_ok (Err e) y h = cc
 

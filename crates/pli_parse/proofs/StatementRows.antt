@@ -11,7 +11,7 @@ use Rattle.pli_base.specs.Statements.{count, list_count}
 use Rattle.pli_parse_statement.specs.StatementWords.{Context}
 use Rattle.pli_base.specs.views.StatementView.{statement_view, statements_view}
 use Rattle.pli_base.specs.declared.statement.Statement.{Statement}
-use Rattle.pli_parse_statement.specs.StatementReading.{StatementReader, Listing, Next, EndsHere, Another, next_of, list_by, list_from, before, ending_at}
+use Rattle.pli_parse_statement.specs.StatementReading.{StatementReader, Listing, NextStatement, EndsHere, Another, next_of, list_by, list_from, before, ending_at}
 use Rattle.pli_base.specs.declared.failure.Failure.{Failure}
 use Rattle.pli_base.specs.answers.FailureAnswers.{Fails}
 
@@ -54,7 +54,7 @@ module _ (one : StatementReader) (c : Context) (label : Option Identifier) where
       begun done (Err f) empty = refl
 
   module _ (done : List Statement) (p k : ℕ) (ts : Tokens) (total : Result (Front Listing) Fault) where
-    turned : (bound : ℕ) (n : Next) → next_of ts ≡ n → with_rows done (list_from one c label (suc bound) p k ts) ≡ total → with_rows done (list_by one c label (list_from one c label bound) p k ts n) ≡ total
+    turned : (bound : ℕ) (n : NextStatement) → next_of ts ≡ n → with_rows done (list_from one c label (suc bound) p k ts) ≡ total → with_rows done (list_by one c label (list_from one c label bound) p k ts n) ≡ total
     unfolding list_from
     turned bound n next so_far = sym (ap (λ n. with_rows done (list_by one c label (list_from one c label bound) p k ts n)) next) ∙ so_far
 

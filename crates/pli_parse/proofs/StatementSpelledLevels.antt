@@ -13,8 +13,8 @@ use Rattle.pli_parse_statement.specs.StatementGrammar.{IsOfItsKind, StandsIn, Ma
 use Rattle.pli_parse_statement.specs.StatementReading.{StatementReader, Inside, deeper, has_semicolon, label_at, bad_label, second_label, begin_at, do_at, if_at, on_at, procedure_at, behind_label, begun, statement_of, inside_of, else_first}
 use Rattle.pli_parse_statement.specs.StatementWords.{Context, standing, begins_assignment}
 use Rattle.pli_parse_statement.specs.declared.keyword.Keyword.TheVariants as words
-use Rattle.pli_parse_statement.specs.declared.keyword.Standing.{Standing}
-use Rattle.pli_parse_statement.specs.declared.keyword.Standing.TheVariants.{InBlock, InGroup, AsClause, AsUnit}
+use Rattle.pli_parse_statement.specs.declared.keyword.StatementStanding.{StatementStanding}
+use Rattle.pli_parse_statement.specs.declared.keyword.StatementStanding.TheVariants.{InBlock, InGroup, AsClause, AsUnit}
 use Rattle.pli_base.specs.declared.statement.Condition.{Condition}
 use Rattle.pli_parse.proofs.StatementSpelledTools.{HasSemicolon, semicolon_front, no_assignment_begins}
 use Rattle.pli_parse.proofs.StatementSpelledStarts.{Started, no_label}
@@ -124,7 +124,7 @@ clause_label label b h = h
 some_none : {A : Type 0} (x : A) → ◌≡◌ {A = Option A} (Some x) None → ⊥
 some_none x h = cc
 
-label_stands : (s : Standing) (label : Option Identifier) (b : Body) (q : ℕ) (rest more : Tokens) → StandsIn s label b → Started rest → bad_label s (labelled label q (rest ++ more)) label ≡ None
+label_stands : (s : StatementStanding) (label : Option Identifier) (b : Body) (q : ℕ) (rest more : Tokens) → StandsIn s label b → Started rest → bad_label s (labelled label q (rest ++ more)) label ≡ None
 label_stands s None b q rest more stands started = refl
 label_stands InBlock (Some l) b q rest more stands started = ap (λ (x : Front (Option Identifier)). second_label q x.value) (no_label q rest more started)
 label_stands InGroup (Some l) b q rest more stands started = ap (λ (x : Front (Option Identifier)). second_label q x.value) (no_label q rest more started)

@@ -18,7 +18,7 @@ use Rattle.pli_parse_expression.specs.Reading as expressions
 use Rattle.pli_parse_expression.specs.Reading.{Reader, arguments_at, argument_of, joined_from, parts_behind, part_behind, reference_of, reference_at}
 use Rattle.pli_parse_expression.proofs.SpelledIsRead.{reference_is_read}
 use Rattle.pli_parse_expression.proofs.ReadingTools as tools
-use Rattle.pli_parse_fault.proofs.Steps as steps
+use Rattle.pli_parse_fault.proofs.StepLemmas as steps
 use Rattle.pli_parse_declaration.specs.DeclarationReading.{list_at, identifier_at, name_at}
 use Rattle.pli_parse_declaration.proofs.DeclarationReadAgain.{placed}
 use Rattle.pli_base.specs.Statements.{Allocation, Body}
@@ -146,19 +146,19 @@ pub allocation_some : (levels p : ℕ) (ts : Tokens) (a : Allocation) → Spells
 allocation_some levels p ts a spelled = omega (arith, ap length spelled.1)
 
 -- the arguments of CALL: a reference of one name has them too
-joined_alone : (j : Joining) (n : Identifier) (a : Arguments) (m : JoinedParts) (count q : ℕ) (ts : Tokens) (y : expressions.Front JoinedParts)
-    → ◌≡◌ {A = Result (expressions.Front JoinedParts) Fault} (Ok (record { value = Joined j n a m; count = count; next = q; rest = ts })) (Ok y) → y.value ≡ Alone → ⊥
-joined_alone j n a m count q ts y h alone = differs (ap (λ (z : expressions.Front JoinedParts). z.value) (steps.same_ok h) ∙ alone)
+joined_alone : (j : Joining) (n : Identifier) (a : Arguments) (m : JoinedParts) (count q : ℕ) (ts : Tokens) (y : expressions.ExpressionFront JoinedParts)
+    → ◌≡◌ {A = Result (expressions.ExpressionFront JoinedParts) Fault} (Ok (record { value = Joined j n a m; count = count; next = q; rest = ts })) (Ok y) → y.value ≡ Alone → ⊥
+joined_alone j n a m count q ts y h alone = differs (ap (λ (z : expressions.ExpressionFront JoinedParts). z.value) (steps.same_ok h) ∙ alone)
   where
     differs : Joined j n a m ≡ Alone → ⊥
     differs e = cc
 
-joined_ends : (one : Option Reader) (bound count p : ℕ) (ts : Tokens) (y : expressions.Front JoinedParts) → joined_from one (suc bound) count p ts ≡ Ok y → y.value ≡ Alone → (y.next ≡ p) × (y.rest ≡ ts)
+joined_ends : (one : Option Reader) (bound count p : ℕ) (ts : Tokens) (y : expressions.ExpressionFront JoinedParts) → joined_from one (suc bound) count p ts ≡ Ok y → y.value ≡ Alone → (y.next ≡ p) × (y.rest ≡ ts)
 unfolding joined_from
 joined_ends one bound count p ts y h alone = by (joining_at ts) h
   where
     by : (o : Option (Joining × Tokens)) → parts_behind one (joined_from one bound) count p ts o ≡ Ok y → (y.next ≡ p) × (y.rest ≡ ts)
-    by None g = let e = steps.same_ok g in (sym (ap (λ (z : expressions.Front JoinedParts). z.next) e), sym (ap (λ (z : expressions.Front JoinedParts). z.rest) e))
+    by None g = let e = steps.same_ok g in (sym (ap (λ (z : expressions.ExpressionFront JoinedParts). z.next) e), sym (ap (λ (z : expressions.ExpressionFront JoinedParts). z.rest) e))
     by (Some x) g = part (name_first x.1) g
       where
         part : (o : Option (Name × Tokens)) → part_behind one (joined_from one bound) x.0 count (p + 1) x.1 o ≡ Ok y → (y.next ≡ p) × (y.rest ≡ ts)
@@ -180,17 +180,17 @@ alone_again one p n name ts more a q h =
     let f = steps.bind_ok (arguments_at one 0 (p + 1) ts) _ _ h in
     let g = steps.bind_ok (joined_from one (length f.0.rest + 1) f.0.count f.0.next f.0.rest) _ _ f.2 in
     let e = steps.same_ok g.2 in
-    let names = named_same (record { name = n; at = p }) name f.0.value a g.0.value Alone (ap (λ (z : expressions.Front Reference). z.value) e) in
+    let names = named_same (record { name = n; at = p }) name f.0.value a g.0.value Alone (ap (λ (z : expressions.ExpressionFront Reference). z.value) e) in
     let bound : length f.0.rest + 1 ≡ suc (length f.0.rest) = omega arith in
     let ends = joined_ends one (length f.0.rest) f.0.count f.0.next f.0.rest g.0 (ap (λ b. joined_from one b f.0.count f.0.next f.0.rest) (sym bound) ∙ g.1) names.1 in
-    let next : f.0.next ≡ q = sym ends.0 ∙ ap (λ (z : expressions.Front Reference). z.next) e in
-    let rest : f.0.rest ≡ more = sym ends.1 ∙ ap (λ (z : expressions.Front Reference). z.rest) e in
+    let next : f.0.next ≡ q = sym ends.0 ∙ ap (λ (z : expressions.ExpressionFront Reference). z.next) e in
+    let rest : f.0.rest ≡ more = sym ends.1 ∙ ap (λ (z : expressions.ExpressionFront Reference). z.rest) e in
     ap uncounted f.1
     ∙ ap (λ (v : Arguments). read_as v f.0.next f.0.rest) names.0
     ∙ ap (λ (m : ℕ). read_as a m f.0.rest) next
     ∙ ap (λ (us : Tokens). read_as a q us) rest
 
-of_reference : (levels p : ℕ) (ts : Tokens) (r : Result (expressions.Front Reference) Fault) → reference_at levels p ts ≡ r → reference_of (option_map (argument_of true) (expressions.inside levels)) 0 p ts ≡ r
+of_reference : (levels p : ℕ) (ts : Tokens) (r : Result (expressions.ExpressionFront Reference) Fault) → reference_at levels p ts ≡ r → reference_of (option_map (argument_of true) (expressions.inside levels)) 0 p ts ≡ r
 unfolding reference_at
 of_reference levels p ts r h = h
 

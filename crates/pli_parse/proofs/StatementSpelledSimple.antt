@@ -22,8 +22,8 @@ use Rattle.pli_parse_statement.specs.StatementReading.{expression_in, reference_
 use Rattle.pli_parse_statement.specs.StatementWords.{Context, begins_assignment, Assigns, Empty, Keyed, first_kind, kind_of}
 use Rattle.pli_parse_statement.specs.declared.keyword.Keyword.{Keyword}
 use Rattle.pli_parse_statement.specs.declared.keyword.Keyword.TheVariants as words
-use Rattle.pli_parse_statement.specs.declared.keyword.Standing.{Standing}
-use Rattle.pli_parse_statement.specs.declared.keyword.Standing.TheVariants.{InBlock, InGroup, AsClause, AsUnit}
+use Rattle.pli_parse_statement.specs.declared.keyword.StatementStanding.{StatementStanding}
+use Rattle.pli_parse_statement.specs.declared.keyword.StatementStanding.TheVariants.{InBlock, InGroup, AsClause, AsUnit}
 use Rattle.pli_base.specs.declared.statement.Condition.{Condition}
 use Rattle.pli_parse.proofs.StatementSpelledTools.{assignment_begins}
 use Rattle.pli_parse.proofs.StatementSpelledParts.{expression_again, reference_again, identifier_again, condition_again, stopped_again, closing_again, commas_again, commas_stop, references_again}
@@ -35,13 +35,13 @@ use Rattle.pli_parse_declaration.specs.declared.list.Separator.TheVariants.{Comm
 -- where statements may stand
 
 stands_each : (k : Keyword) (l : Bool) → standing_misplaced InBlock k l ≡ None → standing_misplaced InGroup k l ≡ None → standing_misplaced AsClause k l ≡ None
-    → (s : Standing) → (s ≡ AsUnit → unit_misplaced k ≡ None) → standing_misplaced s k l ≡ None
+    → (s : StatementStanding) → (s ≡ AsUnit → unit_misplaced k ≡ None) → standing_misplaced s k l ≡ None
 stands_each k l block group clause InBlock unit = block
 stands_each k l block group clause InGroup unit = group
 stands_each k l block group clause AsClause unit = clause
 stands_each k l block group clause AsUnit unit = unit refl
 
-no_unit : (s : Standing) (label : Option Identifier) (b : Body) → StandsIn s label b → (IsUnitBody b → ⊥) → s ≡ AsUnit → ⊥
+no_unit : (s : StatementStanding) (label : Option Identifier) (b : Body) → StandsIn s label b → (IsUnitBody b → ⊥) → s ≡ AsUnit → ⊥
 no_unit s label b stands never e = never (subst (λ s. StandsIn s label b) e stands).1
 
 abbrev pub Placed : Context → Option Identifier → Keyword → Type 0
@@ -50,7 +50,7 @@ Placed c label k = misplacement c k (is_labelled label) c.in_unit ≡ None
 pub procedure_placed : (c : Context) (label : Option Identifier) (heading : Heading) (statements : Statements) (end : ℕ) → StandsIn c.standing label (Procedure heading statements end) → (label ≡ Some heading.name) × Placed c label words.Procedure
 procedure_placed c label heading statements end stands = by c.standing stands
   where
-    by : (s : Standing) → StandsIn s label (Procedure heading statements end) → (label ≡ Some heading.name) × (standing_misplaced s words.Procedure (is_labelled label) ≡ None)
+    by : (s : StatementStanding) → StandsIn s label (Procedure heading statements end) → (label ≡ Some heading.name) × (standing_misplaced s words.Procedure (is_labelled label) ≡ None)
     by InBlock e = (e, ap (λ l. standing_misplaced InBlock words.Procedure (is_labelled l)) e)
     by InGroup e = absurd e
     by AsClause e = absurd e
@@ -59,7 +59,7 @@ procedure_placed c label heading statements end stands = by c.standing stands
 pub declare_placed : (c : Context) (label : Option Identifier) (items : List Item) → StandsIn c.standing label (Declare items) → Placed c label words.Declare
 declare_placed c label items stands = by c.standing stands
   where
-    by : (s : Standing) → StandsIn s label (Declare items) → standing_misplaced s words.Declare (is_labelled label) ≡ None
+    by : (s : StatementStanding) → StandsIn s label (Declare items) → standing_misplaced s words.Declare (is_labelled label) ≡ None
     by InBlock e = ap (λ l. standing_misplaced InBlock words.Declare (is_labelled l)) e
     by InGroup e = ap (λ l. standing_misplaced InGroup words.Declare (is_labelled l)) e
     by AsClause e = absurd e

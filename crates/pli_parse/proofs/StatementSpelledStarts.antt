@@ -16,7 +16,7 @@ use Rattle.pli_parse_declaration.specs.DeclarationGrammar.{SpellsListed, SpellsL
 use Rattle.pli_base.specs.Statements.{Heading, Control, While, Iterate, Allocation, ProcedureOption, Main, Returns, Recursive}
 use Rattle.pli_parse_statement.specs.StatementGrammar.{BeginsAssignment, SpellsKeyed, SpellsClosed, SpellsParameters, SpellsOptions, SpellsHeading, SpellsControl, SpellsAllocation, SpellsSkip, SpellsItems, SpellsPut, SpellsValue, SpellsGoto}
 use Rattle.pli_parse_statement.specs.StatementReading.{label_at, has_semicolon, is_labelled, Another, next_by, next_of, else_by, else_first}
-use Rattle.pli_parse_statement.specs.StatementWords.{keyword_of, behind_word, begins_assignment, Kind, Assigns, Keyed, word_kind, first_kind, kind_of}
+use Rattle.pli_parse_statement.specs.StatementWords.{keyword_of, behind_word, begins_assignment, StatementKind, Assigns, Keyed, word_kind, first_kind, kind_of}
 use Rattle.pli_parse_statement.specs.declared.keyword.Keyword.{Keyword}
 use Rattle.pli_parse_statement.specs.declared.keyword.Keyword.TheVariants.{End}
 use Rattle.pli_parse_statement.specs.declared.keyword.Keyword.TheVariants as words
@@ -138,7 +138,7 @@ value_not_colon levels p None ts us shape h = subst (λ vs. NotColon (vs ++ us))
 value_not_colon levels p (Some e) ts us spelled h = subst (λ vs. NotColon (vs ++ us)) (sym spelled.1) tt
 
 -- no END is what comes
-abbrev pub NotEnd : Kind → Type 0
+abbrev pub NotEnd : StatementKind → Type 0
 NotEnd (Keyed End us) = ⊥
 NotEnd kind = Unit {0}
 
@@ -240,13 +240,13 @@ pub labelled_no_else : (n : Name) (us : Tokens) → else_first (Word n ∷ Sign 
 unfolding else_first label_at
 labelled_no_else n us = refl
 
-next_another : (s : Bool) (l : Option Identifier) (k : Kind) → NotEnd k → next_by s l k ≡ Another
+next_another : (s : Bool) (l : Option Identifier) (k : StatementKind) → NotEnd k → next_by s l k ≡ Another
 next_another false l k h = refl
 next_another true (Some l) k h = refl
 next_another true None (Keyed End us) h = absurd h
 next_another true None k h = refl
 
-cond_not_end : (b : Bool) (k : Kind) → NotEnd k → NotEnd (cond b Assigns k)
+cond_not_end : (b : Bool) (k : StatementKind) → NotEnd k → NotEnd (cond b Assigns k)
 cond_not_end true k h = tt
 cond_not_end false k h = h
 
@@ -270,7 +270,7 @@ another ts more started =
     (⊎_elim (λ s. other_kind (ts ++ more) (subst (λ us. NotEnd (first_kind (us ++ more))) (sym s.1) (semicolon_kind (s.0 ++ more))))
     (λ s. ⊎_elim (λ a. assigned_kind (ts ++ more) (assignment_begins a.0 ts more a.1)) (λ o. other_kind (ts ++ more) (o.1 more)) s.4) started)
 
-labelled_next : (s : Bool) (l : Identifier) (k : Kind) → next_by s (Some l) k ≡ Another
+labelled_next : (s : Bool) (l : Identifier) (k : StatementKind) → next_by s (Some l) k ≡ Another
 labelled_next true l k = refl
 labelled_next false l k = refl
 

@@ -7,7 +7,7 @@ use Rattle.pli_base.specs.Results.{◌>>=◌}
 use Rattle.pli_base.specs.Reading.{misplaced}
 use Rattle.pli_base.specs.declared.token.Sign.TheVariants.{Colon, Semicolon}
 use Rattle.pli_base.specs.declared.token.TokenText.TheVariants.{Word, Sign}
-use Rattle.pli_parse_fault.proofs.Steps.{same_ok, some_same}
+use Rattle.pli_parse_fault.proofs.StepLemmas.{same_ok, some_same}
 use Rattle.pli_base.specs.Statements.{Heading, Statements, ExternalProcedure, list_count}
 use Rattle.pli_parse_statement.specs.StatementGrammar.{SpellsHeading, SpellsEnd, SpellsStatements, SpellsUnit}
 use Rattle.pli_parse_statement.specs.StatementReading.{heading_at, Inside, deeper, has_semicolon, list_in, statement_of, inside_of, inner_list, finished, external_at, unit_from, unit_of}

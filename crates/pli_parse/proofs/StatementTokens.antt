@@ -20,7 +20,7 @@ use Rattle.pli_parse_declaration.proofs.DeclarationTokens.{Rise, listed_rise, de
 use Rattle.pli_parse_statement.specs.StatementWords.{Context, standing, the_unit, a_procedure}
 use Rattle.pli_parse_statement.specs.StatementReading.{statement_at, unit_of}
 use Rattle.pli_parse_statement.specs.StatementGrammar.{SpellsEnclosed, SpellsOptional, SpellsParameters, SpellsRange, SpellsControl, SpellsPlaced, SpellsAllocation, SpellsItems, SpellsPut, SpellsValue, SpellsLabel, SpellsStatement, SpellsBody, SpellsStatements, SpellsAlternative, SpellsUnit}
-use Rattle.pli_parse_statement.specs.declared.keyword.Standing.TheVariants.{InBlock, InGroup, AsClause}
+use Rattle.pli_parse_statement.specs.declared.keyword.StatementStanding.TheVariants.{InBlock, InGroup, AsClause}
 use Rattle.pli_parse.proofs.StatementRead.{statement_spelled, unit_reads}
 
 outermost_rises : (levels : ℕ) → Rise expression_tokens (SpellsOutermost levels)

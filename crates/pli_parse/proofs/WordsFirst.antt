@@ -4,7 +4,7 @@ use Rattle.pli_base.specs.Name.{Name}
 use Rattle.pli_base.specs.laws.NameLaws.{equal_from_pointwise}
 use Rattle.pli_base.specs.Words.{Tokens, same_name}
 use Rattle.pli_base.specs.declared.token.TokenText.TheVariants.{Word}
-use Rattle.pli_parse_fault.proofs.Steps.{some_same}
+use Rattle.pli_parse_fault.proofs.StepLemmas.{some_same}
 use Rattle.pli_parse_statement.specs.StatementReading.{paired, known_first, RangeWord, ToWord, ByWord, RepeatWord, range_word, range_first}
 use Rattle.pli_parse_statement.specs.StatementReading.{PlaceWord, InWord, SetWord, place_word, place_first, PutWord, SkipWord, ListWord, put_word, put_first}
 use Rattle.pli_parse_statement.specs.StatementReading.{OptionWord, OptionsWord, ReturnsWord, RecursiveWord, option_word, option_first}

@@ -15,9 +15,10 @@ use pli_base::statement::{Body, Procedure, Statement};
 use pli_base::syntax::Identifier;
 use pli_base::{Code, Front, Name, ParseError, TokenText, fault, semicolon_taken};
 use pli_parse_statement::{
-    Context, Counted, Heading, Keyword, Kind, Listing, Misplacement, Next, Standing, assignment_at,
-    bad_label, condition_at, control_at, else_first, expression_in, has_semicolon, heading_at,
-    kind_of, label_at, next_of, simple_at, why_misplaced, word_taken,
+    Context, Counted, Heading, Keyword, Listing, Misplacement, NextStatement, StatementKind,
+    StatementStanding, assignment_at, bad_label, condition_at, control_at, else_first,
+    expression_in, has_semicolon, heading_at, kind_of, label_at, next_of, simple_at, why_misplaced,
+    word_taken,
 };
 use std::alloc::Global;
 
@@ -106,7 +107,7 @@ pub fn list_in<'a>(
     let mut rest = texts;
     loop {
         match next_of(alloc, rest)? {
-            Next::EndsHere(behind) => {
+            NextStatement::EndsHere(behind) => {
                 let ended = ending_at(label, next + 1, behind)?;
                 return Ok(Counted {
                     value: Listing {
@@ -118,7 +119,7 @@ pub fn list_in<'a>(
                     rest: ended.rest,
                 });
             }
-            Next::Another => {
+            NextStatement::Another => {
                 let read = statement_at(alloc, levels, context, next, count, rest)?;
                 statements.push(read.value)?;
                 count = read.number;
@@ -149,7 +150,7 @@ fn begin_at<'a>(
 {
     let rest = semicolon_taken(at, texts)?;
     let inner = Context {
-        standing: Standing::InBlock,
+        standing: StatementStanding::InBlock,
         in_unit: context.in_unit,
     };
     let list = list_in(alloc, levels, inner, label, at + 1, number, rest)?;
@@ -191,7 +192,7 @@ fn do_at<'a>(
         }
     };
     let inner = Context {
-        standing: Standing::InGroup,
+        standing: StatementStanding::InGroup,
         in_unit: context.in_unit,
     };
     let list = match list_in(alloc, levels, inner, label, control.next + 1, number, rest) {
@@ -251,7 +252,7 @@ fn procedure_at<'a>(
     };
     let heading = heading_at(alloc, at, texts)?;
     let context = Context {
-        standing: Standing::InBlock,
+        standing: StatementStanding::InBlock,
         in_unit: false,
     };
     let list = list_in(
@@ -297,7 +298,7 @@ fn alternative_at<'a>(
         });
     };
     let inner = Context {
-        standing: Standing::AsClause,
+        standing: StatementStanding::AsClause,
         in_unit: context.in_unit,
     };
     let read = statement_at(alloc, levels, inner, at + 1, number, behind)?;
@@ -335,7 +336,7 @@ fn if_at<'a>(
         }
     };
     let inner = Context {
-        standing: Standing::AsClause,
+        standing: StatementStanding::AsClause,
         in_unit: context.in_unit,
     };
     let first = match statement_at(alloc, levels, inner, condition.next + 1, number, behind) {
@@ -383,7 +384,7 @@ fn on_at<'a>(
 {
     let condition = condition_at(at, texts)?;
     let inner = Context {
-        standing: Standing::AsUnit,
+        standing: StatementStanding::AsUnit,
         in_unit: true,
     };
     let unit = statement_at(alloc, levels, inner, condition.next, number, condition.rest)?;
@@ -450,14 +451,18 @@ fn body_at<'a>(
     ensures place { IfOk result (λ x. (x.number + at ≤ x.next + number) × (x.next + length x.rest.now ≡ at + length texts.now)) }
 {
     match kind_of(alloc, texts)? {
-        Kind::Assigns => Ok(alone(assignment_at(alloc, levels, at, texts)?, number)),
-        Kind::Empty(rest) => Ok(Counted {
+        StatementKind::Assigns => Ok(alone(assignment_at(alloc, levels, at, texts)?, number)),
+        StatementKind::Empty(rest) => Ok(Counted {
             value: Body::Null,
             number: number + 1,
             next: at + 1,
             rest,
         }),
-        Kind::Keyed(keyword, rest) => match why_misplaced(context, keyword, label.is_some()) {
+        StatementKind::Keyed(keyword, rest) => match why_misplaced(
+            context,
+            keyword,
+            label.is_some(),
+        ) {
             Some(Misplacement::AtLabel(code)) => match label {
                 Some(label) => Err(fault(code, label.at)),
                 None => Err(fault(code, at)),
@@ -465,7 +470,7 @@ fn body_at<'a>(
             Some(Misplacement::AtStatement(code)) => Err(fault(code, at)),
             None => keyed_at(alloc, levels, context, label, keyword, at, number, rest),
         },
-        Kind::Unknown => Err(fault(Code::NotAStatement, at)),
+        StatementKind::Unknown => Err(fault(Code::NotAStatement, at)),
     }
 }
 

@@ -10,7 +10,7 @@ use crate::reader::{last_place, list_in};
 use pli_base::statement::Procedure;
 use pli_base::syntax::Identifier;
 use pli_base::{Code, Name, ParseError, Sign, TokenText, fault};
-use pli_parse_statement::{Context, Standing, has_semicolon, heading_at, is_name};
+use pli_parse_statement::{Context, StatementStanding, has_semicolon, heading_at, is_name};
 use std::alloc::Global;
 
 /// The greatest number of levels that may be opened (own): the unit is the first.
@@ -54,7 +54,7 @@ fn external_at(
 {
     let heading = heading_at(alloc, 3, texts)?;
     let context = Context {
-        standing: Standing::InBlock,
+        standing: StatementStanding::InBlock,
         in_unit: false,
     };
     let label = Some(*name);

@@ -8,7 +8,7 @@ use Rattle.pli_base.specs.declared.token.Fault.{Fault}
 use Rattle.pli_base.specs.declared.token.TokenText.{TokenText}
 use Rattle.pli_base.specs.declared.token.TokenText.TheVariants.{Word}
 use Rattle.pli_base.specs.Declarations as tree
-use Rattle.pli_base.specs.declared.declaration.Bounds.{Bounds}
+use Rattle.pli_base.specs.declared.declaration.WrittenBounds.{WrittenBounds}
 use Rattle.pli_parse_declaration.specs.DeclarationWords.{attribute_word, with_rest, attribute_first, if_first, with_attribute}
 use Rattle.pli_base.specs.Words.{behind}
 use Rattle.pli_parse_declaration.specs.DeclarationReading.{listed_after, listed_at, list_at, bounds_at, dimensions_at, number_at, length_at, scaled_at, precision_at, name_at, area_at, locator_at, values_at, simple_of, parameters_at, entry_from, entry_at, returned_at, attribute_from, attribute_at, attributes_from, attributes_at, level_at, names_at, item_at, items_at}
@@ -23,7 +23,7 @@ use Rattle.pli_parse_declaration.specs.declared.word.SimpleWord.TheVariants as w
 use Rattle.pli_parse_declaration.specs.declared.word.AttributeWord.{AttributeWord}
 use Rattle.pli_parse_declaration.specs.declared.word.AttributeWord.TheVariants as attribute
 use Rattle.pli_parse_declaration.proofs.DeclarationSteps.{mapped_ok}
-use Rattle.pli_parse_fault.proofs.Steps.{same_ok, bind_ok}
+use Rattle.pli_parse_fault.proofs.StepLemmas.{same_ok, bind_ok}
 use Rattle.pli_parse_declaration.proofs.DeclarationRead.{optional_reads, list_reads, bounds_reads}
 use Rattle.pli_parse_declaration.proofs.DeclarationItemsRead.{items_reads}
 use Rattle.pli_parse_declaration.proofs.DeclarationItemsAgain.{items_before, items_again}
@@ -74,9 +74,9 @@ unfolding dimensions_at
 dimensions_end p ts y h =
     let m = mapped_ok or_none (if_open (list_at Commas bounds_at) p ts (behind is_open ts)) y h in
     let f = optional_reads (list_at Commas bounds_at) (SpellsList Commas SpellsBounds) (list_reads Commas bounds_at SpellsBounds bounds_reads) p ts m.0 m.1 in
-    subst (λ (z : Front (List Bounds)). DimensionsEnd z.value z.rest) m.2 (by m.0.rest m.0.value f.0 f.3 (optional_ends (list_at Commas bounds_at) p ts m.0 m.1))
+    subst (λ (z : Front (List WrittenBounds)). DimensionsEnd z.value z.rest) m.2 (by m.0.rest m.0.value f.0 f.3 (optional_ends (list_at Commas bounds_at) p ts m.0 m.1))
   where
-    by : (us : Tokens) (o : Option (List Bounds)) (front : Tokens) → SpellsOptional (SpellsList Commas SpellsBounds) front o → OptionEnds o us → DimensionsEnd (or_none o) us
+    by : (us : Tokens) (o : Option (List WrittenBounds)) (front : Tokens) → SpellsOptional (SpellsList Commas SpellsBounds) front o → OptionEnds o us → DimensionsEnd (or_none o) us
     by us None front spelled end = end
     by us (Some []) front spelled end = absurd spelled.2
     by us (Some (b ∷ bs)) front spelled end = tt
@@ -140,7 +140,7 @@ attribute_ends p ts y h = by (attribute_first ts) h
     by (Some (attribute.Returns, us)) g = made_ends tree.Returns returned_at (λ x vs. Unit {0}) AttributeEnds (λ q vs x e. tt) (λ x vs e. tt) (p + 1) us y g
 
 -- attributes behind dimensions
-attributes_end : (dims : List Bounds) (p : ℕ) (ts : Tokens) (y : Front (List tree.Attribute)) → DimensionsEnd dims ts → attributes_at p ts ≡ Ok y → (with_attribute y.rest ≡ None) × AttributesEnd dims y.value y.rest
+attributes_end : (dims : List WrittenBounds) (p : ℕ) (ts : Tokens) (y : Front (List tree.Attribute)) → DimensionsEnd dims ts → attributes_at p ts ≡ Ok y → (with_attribute y.rest ≡ None) × AttributesEnd dims y.value y.rest
 unfolding attributes_at
 attributes_end dims p ts y before h = by (with_attribute ts) refl h
   where
@@ -208,11 +208,11 @@ last_front Ends [] us more front h = tt
 last_front Ends (x ∷ []) us more front h = front x h
 last_front Ends (x ∷ y ∷ xs) us more front h = last_front Ends (y ∷ xs) us more front h
 
-dimensions_front : (bs : List Bounds) (us more : Tokens) → DimensionsEnd bs (us ++ more) → DimensionsEnd bs us
+dimensions_front : (bs : List WrittenBounds) (us more : Tokens) → DimensionsEnd bs (us ++ more) → DimensionsEnd bs us
 dimensions_front [] us more h = first_decides is_open us more h
 dimensions_front (b ∷ bs) us more h = tt
 
-attributes_front : (dims : List Bounds) (attributes : List tree.Attribute) (us more : Tokens) → AttributesEnd dims attributes (us ++ more) → AttributesEnd dims attributes us
+attributes_front : (dims : List WrittenBounds) (attributes : List tree.Attribute) (us more : Tokens) → AttributesEnd dims attributes (us ++ more) → AttributesEnd dims attributes us
 attributes_front dims [] us more h = dimensions_front dims us more h
 attributes_front dims (a ∷ rest) us more h = last_front AttributeEnds (a ∷ rest) us more (λ b g. attribute_front b us more g) h
 

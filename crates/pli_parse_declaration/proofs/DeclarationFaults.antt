@@ -16,7 +16,7 @@ use Rattle.pli_base.specs.declared.token.TokenText.TheVariants.{Word, Decimal, B
 use Rattle.pli_base.specs.Declarations as tree
 use Rattle.pli_base.specs.declared.syntax.Identifier.{Identifier}
 use Rattle.pli_base.specs.declared.declaration.Integer.{Integer}
-use Rattle.pli_base.specs.declared.declaration.Bounds.{Bounds}
+use Rattle.pli_base.specs.declared.declaration.WrittenBounds.{WrittenBounds}
 use Rattle.pli_base.specs.declared.declaration.InitialValue.{InitialValue}
 use Rattle.pli_base.specs.declared.declaration.InitialValue.TheVariants as initial
 use Rattle.pli_parse_declaration.specs.DeclarationWords.{attribute_first, with_attribute, begins_description, is_zero}

@@ -16,7 +16,7 @@ use Rattle.pli_base.specs.declared.syntax.Identifier.{Identifier}
 use Rattle.pli_parse_declaration.specs.declared.word.AttributeWord.{AttributeWord}
 use Rattle.pli_parse_declaration.specs.declared.word.AttributeWord.TheVariants as attribute
 use Rattle.pli_parse_declaration.specs.ItemEnds.{OptionEnds, AttributeEnds, DimensionsEnd, LastEnds, AttributesEnd, ItemEnds, ItemsEnd}
-use Rattle.pli_parse_fault.proofs.Steps.{same_ok}
+use Rattle.pli_parse_fault.proofs.StepLemmas.{same_ok}
 use Rattle.pli_parse_declaration.proofs.DeclarationReadAgain.{ReadAgain, ReadBefore, any_option, any_simple, any_dimensions, any_last, listed_before, dimensions_before, simple_before, Anyhow, NoOpen, ListEnds, no_open_close, no_open_comma, no_open_word, placed, open_taken, open_behind, enclosed_again, listed_again, list_again, comma_goes, commas_close, identifier_again, dimensions_again, simple_again, word_again}
 use Rattle.pli_parse_declaration.proofs.DeclarationRead.{any_place}
 use Rattle.pli_parse_declaration.proofs.DeclarationNestsAgain.{entry_word, returns_word, FirstWord, FirstOfDescription, dimensions_describe, first_no_open, nest_again}

@@ -14,7 +14,7 @@ use Rattle.pli_parse_declaration.specs.declared.word.SimpleWord.{SimpleWord}
 use Rattle.pli_parse_declaration.specs.declared.word.AttributeWord.{AttributeWord}
 use Rattle.pli_parse_declaration.specs.declared.word.AttributeWord.TheVariants as attribute
 use Rattle.pli_parse_declaration.proofs.DeclarationSteps.{mapped_ok, open_first, close_first, semicolon_first, taken_ok, two}
-use Rattle.pli_parse_fault.proofs.Steps.{same_ok, bind_ok}
+use Rattle.pli_parse_fault.proofs.StepLemmas.{same_ok, bind_ok}
 use Rattle.pli_parse_declaration.proofs.DeclarationRead.{Reads, enclosed_spelled, listed_reads, list_reads, dimensions_reads, identifier_reads, word_first, simple_spelled, entry_is, returns_is}
 use Rattle.pli_parse_declaration.proofs.DeclarationNestsRead.{nest_reads}
 use Rattle.pli_parse_declaration.specs.declared.list.Separator.TheVariants.{Commas, Nothing}

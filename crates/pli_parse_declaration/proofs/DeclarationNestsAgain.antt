@@ -13,7 +13,7 @@ use Rattle.pli_parse_declaration.specs.DeclarationWords.{data_word, storage_word
 use Rattle.pli_base.specs.Declarations.{SimpleAttribute}
 use Rattle.pli_parse_declaration.specs.DeclarationReading.{simple_of, Walk, description_walk, parameters_walk, entry_walk, word_walk, behind_walk, walk_by, step_at, walked_after, walked, nest_at}
 use Rattle.pli_parse_declaration.specs.DeclarationGrammar.{SpellsDimensions, SpellsSimple, word_of, Part, OneAttribute, Attributes, OneDescription, Descriptions, IsWellFormed, simple, entry, entry_of_none, entry_of, returns_of, last_attribute, more_attributes, description, last_description, more_descriptions}
-use Rattle.pli_base.specs.declared.declaration.Bounds.{Bounds}
+use Rattle.pli_base.specs.declared.declaration.WrittenBounds.{WrittenBounds}
 use Rattle.pli_parse_declaration.specs.declared.nest.Open.{Open}
 use Rattle.pli_parse_declaration.specs.declared.nest.Open.TheVariants as opened
 use Rattle.pli_parse_declaration.specs.declared.nest.Expects.{Expects}
@@ -53,7 +53,7 @@ unfolding behind begins_description
 open_describes us zs = (refl, refl)
 
 -- a description begins with its dimensions or its first attribute
-pub dimensions_describe : (front rest : Tokens) (bounds : List Bounds) → SpellsDimensions front bounds → FirstWord rest → FirstOfDescription (front ++ rest)
+pub dimensions_describe : (front rest : Tokens) (bounds : List WrittenBounds) → SpellsDimensions front bounds → FirstWord rest → FirstOfDescription (front ++ rest)
 dimensions_describe front rest [] spelled (k, us, w, e, word) =
     subst (λ vs. FirstOfDescription vs) (sym (ap (λ vs. vs ++ rest) spelled ∙ e)) (word_describes k us w word)
 dimensions_describe front rest (b ∷ bs) (inner, e, spelled) first =
@@ -220,12 +220,12 @@ more_attributes_again ts front rest e one first many o opens what p bound more s
     comes_placed _ (o ∷ opens) (p + length front + length rest) (p + length ts) more place
     (comes_from _ (walked a.0 (o ∷ opens) expects.More (p + length front) (rest ++ more)) (o ∷ opens) (p + length front + length rest) more (ap (walked bound (o ∷ opens) what p) shape ∙ a.2) b)
 
-dimensions_walked : (opens : List Open) (p : ℕ) (front more : Tokens) (bounds : List Bounds) → SpellsDimensions front bounds → NoOpen more
+dimensions_walked : (opens : List Open) (p : ℕ) (front more : Tokens) (bounds : List WrittenBounds) → SpellsDimensions front bounds → NoOpen more
     → description_walk opens p (front ++ more) ≡ Ok (record { opens = opened.Entry ∷ opens; expects = expects.Attribute; next = p + length front; rest = more })
 unfolding description_walk
 dimensions_walked opens p front more bounds spelled stops = ap (λ r. r >>= λ x. Ok (record { opens = opened.Entry ∷ opens; expects = expects.Attribute; next = x.next; rest = x.rest })) (dimensions_again p front more bounds spelled stops)
 
-description_again : (ts front rest : Tokens) (bounds : List Bounds) → ts ≡ front ++ rest → SpellsDimensions front bounds → FirstWord rest → Again Attributes rest → Again OneDescription ts
+description_again : (ts front rest : Tokens) (bounds : List WrittenBounds) → ts ≡ front ++ rest → SpellsDimensions front bounds → FirstWord rest → Again Attributes rest → Again OneDescription ts
 description_again ts front rest bounds e spelled first many opens p bound more stops small =
     let shape : ts ++ more ≡ front ++ (rest ++ more) = ap (λ us. us ++ more) e ∙ append_assoc front rest more in
     let less : length (rest ++ more) < bound = omega (arith, small, ap length shape, length-append front (rest ++ more)) in

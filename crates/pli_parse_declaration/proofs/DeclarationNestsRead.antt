@@ -10,7 +10,7 @@ use Rattle.pli_base.specs.declared.token.TokenText.TheVariants.{Word, Sign}
 use Rattle.pli_parse_declaration.specs.DeclarationWords.{attribute_first, begins_description}
 use Rattle.pli_parse_declaration.specs.DeclarationReading.{dimensions_at, simple_of, Walk, description_walk, parameters_walk, entry_walk, word_walk, closed_walk, comma_walk, behind_walk, no_word_walk, walk_by, step_at, walked_after, walked, nest_at}
 use Rattle.pli_parse_declaration.specs.DeclarationGrammar.{SpellsFront, SpellsDimensions, OneAttribute, Attributes, OneDescription, Descriptions, IsWellFormed, simple, entry, entry_of_none, entry_of, returns_of, last_attribute, more_attributes, description, last_description, more_descriptions}
-use Rattle.pli_base.specs.declared.declaration.Bounds.{Bounds}
+use Rattle.pli_base.specs.declared.declaration.WrittenBounds.{WrittenBounds}
 use Rattle.pli_parse_declaration.specs.declared.nest.Open.{Open}
 use Rattle.pli_parse_declaration.specs.declared.nest.Open.TheVariants as opened
 use Rattle.pli_parse_declaration.specs.declared.nest.Expects.{Expects}
@@ -19,7 +19,7 @@ use Rattle.pli_parse_declaration.specs.declared.word.SimpleWord.{SimpleWord}
 use Rattle.pli_parse_declaration.specs.declared.word.AttributeWord.{AttributeWord}
 use Rattle.pli_parse_declaration.specs.declared.word.AttributeWord.TheVariants as attribute
 use Rattle.pli_parse_declaration.proofs.DeclarationSteps.{open_first, close_first, comma_first, taken_ok, two}
-use Rattle.pli_parse_fault.proofs.Steps.{same_ok, bind_ok}
+use Rattle.pli_parse_fault.proofs.StepLemmas.{same_ok, bind_ok}
 use Rattle.pli_parse_declaration.proofs.DeclarationRead.{Reads, dimensions_reads, word_first, simple_spelled, entry_is, returns_is}
 
 -- attributes, or none
@@ -81,7 +81,7 @@ attribute_before (o ∷ opens) expects.More live front back one (inner, rest, sh
     (front ++ inner, rest, ap (λ us. front ++ us) shape ∙ sym (append_assoc front inner (Sign CloseParenthesis ∷ rest)), starts_remain o (front ++ inner) (starts_with o front inner one remains), closes)
 
 -- dimensions before the attributes of a description
-descriptions_from : (dims inner : Tokens) (bounds : List Bounds) → SpellsDimensions dims bounds → Starts opened.Entry inner → IsWellFormed Descriptions (dims ++ inner)
+descriptions_from : (dims inner : Tokens) (bounds : List WrittenBounds) → SpellsDimensions dims bounds → Starts opened.Entry inner → IsWellFormed Descriptions (dims ++ inner)
 descriptions_from dims inner bounds spelled (front, rest, shape, attributes, later) =
     let one : IsWellFormed OneDescription (dims ++ front) = description (dims ++ front) dims front bounds refl spelled attributes in
     ⊎_elim

@@ -15,7 +15,7 @@ use Rattle.pli_base.specs.Declarations as tree
 use Rattle.pli_parse_declaration.specs.DeclarationReading.{listed_after, listed_at, list_at, number_at, signed, integer_at, bounds_from, bounds_at, dimensions_at, length_at, with_scale, scaled_at, precision_at, name_at, identifier_at, area_at, locator_at, repeated_at, null_from, value_at, values_at, simple_of}
 use Rattle.pli_parse_declaration.specs.DeclarationGrammar.{SpellsFront, between, SpellsListed, Anywhere, SpellsList, SpellsEnclosed, SpellsOptional, SpellsNumber, SpellsInteger, SpellsBounds, SpellsDimensions, SpellsScaled, SpellsName, SpellsValue, word_of, SpellsBehind, SpellsSimple}
 use Rattle.pli_base.specs.declared.declaration.Integer.{Integer}
-use Rattle.pli_base.specs.declared.declaration.Bounds.{Bounds}
+use Rattle.pli_base.specs.declared.declaration.WrittenBounds.{WrittenBounds}
 use Rattle.pli_base.specs.declared.declaration.InitialValue.{InitialValue}
 use Rattle.pli_base.specs.declared.declaration.InitialValue.TheVariants as initial
 use Rattle.pli_parse_declaration.specs.declared.word.SimpleWord.{SimpleWord}
@@ -23,7 +23,7 @@ use Rattle.pli_parse_declaration.specs.declared.word.SimpleWord.TheVariants as w
 use Rattle.pli_parse_declaration.specs.declared.word.AttributeWord.{AttributeWord}
 use Rattle.pli_parse_declaration.specs.declared.word.AttributeWord.TheVariants as attribute
 use Rattle.pli_parse_declaration.proofs.DeclarationSteps.{mapped_ok, open_first, close_first, comma_first, colon_first, zero_first, taken_ok, enclosed_ok, two, separator_first, separator_place}
-use Rattle.pli_parse_fault.proofs.Steps.{same_ok, some_same, bind_ok}
+use Rattle.pli_parse_fault.proofs.StepLemmas.{same_ok, some_same, bind_ok}
 use Rattle.pli_parse_declaration.specs.Separators.{separated, behind_separator}
 use Rattle.pli_parse_declaration.specs.declared.list.Separator.{Separator}
 use Rattle.pli_parse_declaration.specs.declared.list.Separator.TheVariants.{Commas, Periods}
@@ -154,7 +154,7 @@ more_reads one fits after Spells SpellsMore reads so p ts y h =
     so p ts g.0 (reads p ts g.0 g.1) (behind fits g.0.rest) refl y g.2
 
 bounds_spelled : (p : ℕ) (ts : Tokens) (x : Front Integer) → SpellsFront (Anywhere SpellsInteger) p ts x → (o : Option Tokens)
-    → behind is_colon x.rest ≡ o → (y : Front Bounds) → bounds_from x o ≡ Ok y → SpellsFront (Anywhere SpellsBounds) p ts y
+    → behind is_colon x.rest ≡ o → (y : Front WrittenBounds) → bounds_from x o ≡ Ok y → SpellsFront (Anywhere SpellsBounds) p ts y
 bounds_spelled p ts x f None e y g = subst (SpellsFront (Anywhere SpellsBounds) p ts) (same_ok g) (f.0, f.1, f.2, f.3)
 bounds_spelled p ts x f (Some us) e y g =
     let m = mapped_ok (λ high. record { low = Some x.value; high = high }) (integer_at (x.next + 1) us) y g in
@@ -166,7 +166,7 @@ pub bounds_reads : Reads bounds_at (Anywhere SpellsBounds)
 unfolding bounds_at
 bounds_reads = more_reads integer_at is_colon bounds_from (Anywhere SpellsInteger) (Anywhere SpellsBounds) integer_reads bounds_spelled
 
-dimensions_so : (p : ℕ) (ts : Tokens) (o : Option (List Bounds)) → SpellsOptional (SpellsList Commas SpellsBounds) ts o → SpellsDimensions ts (or_none o)
+dimensions_so : (p : ℕ) (ts : Tokens) (o : Option (List WrittenBounds)) → SpellsOptional (SpellsList Commas SpellsBounds) ts o → SpellsDimensions ts (or_none o)
 dimensions_so p ts None s = s
 dimensions_so p ts (Some []) s = absurd s.2
 dimensions_so p ts (Some (b ∷ bs)) s = s

@@ -14,7 +14,7 @@ use Rattle.pli_base.specs.Declarations as tree
 use Rattle.pli_parse_declaration.specs.DeclarationReading.{listed_after, listed_at, list_at, number_at, signed, integer_at, bounds_from, bounds_at, dimensions_at, length_at, with_scale, scaled_at, precision_at, name_at, identifier_at, area_at, locator_at, repeated_at, null_from, value_at, values_at, simple_of}
 use Rattle.pli_parse_declaration.specs.DeclarationGrammar.{between, SpellsListed, Anywhere, SpellsList, SpellsEnclosed, SpellsOptional, SpellsNumber, SpellsSigned, SpellsInteger, SpellsRange, SpellsBounds, SpellsDimensions, SpellsScaled, SpellsName, SpellsValue, word_of, SpellsBehind}
 use Rattle.pli_base.specs.declared.declaration.Integer.{Integer}
-use Rattle.pli_base.specs.declared.declaration.Bounds.{Bounds}
+use Rattle.pli_base.specs.declared.declaration.WrittenBounds.{WrittenBounds}
 use Rattle.pli_base.specs.declared.declaration.InitialValue.{InitialValue}
 use Rattle.pli_base.specs.declared.declaration.InitialValue.TheVariants as initial
 use Rattle.pli_parse_declaration.specs.declared.word.AttributeWord.{AttributeWord}
@@ -61,7 +61,7 @@ any_simple (tree.Offset n) more stops = any_option n more stops
 any_simple (tree.Based n) more stops = any_option n more stops
 any_simple a more stops = tt
 
-pub any_dimensions : (bs : List Bounds) (more : Tokens) → NoOpen more → DimensionsEnd bs more
+pub any_dimensions : (bs : List WrittenBounds) (more : Tokens) → NoOpen more → DimensionsEnd bs more
 any_dimensions [] more stops = stops
 any_dimensions (b ∷ bs) more stops = tt
 
@@ -252,7 +252,7 @@ no_colon_close : (zs : Tokens) → NoColon (Sign CloseParenthesis ∷ zs)
 unfolding behind
 no_colon_close zs = refl
 
-dimensions_so : (p : ℕ) (ts more : Tokens) (bounds : List Bounds) (o : Option (List Bounds)) → or_none o ≡ bounds → SpellsOptional (SpellsList Commas SpellsBounds) ts o → OptionEnds o more
+dimensions_so : (p : ℕ) (ts more : Tokens) (bounds : List WrittenBounds) (o : Option (List WrittenBounds)) → or_none o ≡ bounds → SpellsOptional (SpellsList Commas SpellsBounds) ts o → OptionEnds o more
     → dimensions_at p (ts ++ more) ≡ read_as bounds (p + length ts) more
 unfolding dimensions_at
 dimensions_so p ts more bounds o e spelled stops =
@@ -260,7 +260,7 @@ dimensions_so p ts more bounds o e spelled stops =
     (optional_again (list_at Commas bounds_at) (SpellsList Commas SpellsBounds) (ListEnds Commas NoColon)
     (list_again Commas bounds_at SpellsBounds NoColon bounds_again (λ q us zs b s. (comma_goes (us ++ zs), no_colon_comma (us ++ zs))) (λ q us b s. range_some b.low b.high us s))
     (λ zs. (commas_close zs, no_colon_close zs)) p ts more o spelled stops)
-    ∙ ap (λ (bs : List Bounds). read_as bs (p + length ts) more) e
+    ∙ ap (λ (bs : List WrittenBounds). read_as bs (p + length ts) more) e
 
 pub dimensions_before : ReadBefore dimensions_at (Anywhere SpellsDimensions) DimensionsEnd
 dimensions_before p ts more [] spelled stops = dimensions_so p ts more [] None refl spelled stops

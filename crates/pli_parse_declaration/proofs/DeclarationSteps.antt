@@ -16,7 +16,7 @@ use Rattle.pli_parse_declaration.specs.declared.word.AttributeWord.{AttributeWor
 use Rattle.pli_parse_declaration.specs.Separators.{separated, behind_separator}
 use Rattle.pli_parse_declaration.specs.declared.list.Separator.{Separator}
 use Rattle.pli_parse_declaration.specs.declared.list.Separator.TheVariants.{Commas, Periods, Nothing}
-use Rattle.pli_parse_fault.proofs.Steps.{same_ok, some_same, bind_ok}
+use Rattle.pli_parse_fault.proofs.StepLemmas.{same_ok, some_same, bind_ok}
 
 -- what is read becomes another
 pub mapped_ok : {A B : Type 0} (f : A → B) (r : Result (Front A) Fault) (y : Front B) → mapped f r ≡ Ok y → (x : Front A) × (r ≡ Ok x) × (record { value = f x.value; next = x.next; rest = x.rest } ≡ y)

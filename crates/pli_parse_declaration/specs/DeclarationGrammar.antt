@@ -12,7 +12,7 @@ use Rattle.pli_parse_declaration.specs.DeclarationWords.{attribute_word, with_at
 use Rattle.pli_base.specs.Declarations as tree
 use Rattle.pli_base.specs.declared.syntax.Identifier.{Identifier}
 use Rattle.pli_base.specs.declared.declaration.Integer.{Integer}
-use Rattle.pli_base.specs.declared.declaration.Bounds.{Bounds}
+use Rattle.pli_base.specs.declared.declaration.WrittenBounds.{WrittenBounds}
 use Rattle.pli_base.specs.declared.declaration.InitialValue.{InitialValue}
 use Rattle.pli_base.specs.declared.declaration.InitialValue.TheVariants as initial
 use Rattle.pli_parse_declaration.specs.declared.word.SimpleWord.{SimpleWord}
@@ -76,11 +76,11 @@ SpellsRange ts (Some low) high =
     × SpellsInteger hs high
 
 -- the bounds of a dimension
-abbrev pub SpellsBounds : Tokens → Bounds → Type 0
+abbrev pub SpellsBounds : Tokens → WrittenBounds → Type 0
 SpellsBounds ts b = SpellsRange ts b.low b.high
 
 -- [dims], dims = "(" bound {"," bound} ")"
-abbrev pub SpellsDimensions : Tokens → List Bounds → Type 0
+abbrev pub SpellsDimensions : Tokens → List WrittenBounds → Type 0
 SpellsDimensions ts [] = ts ≡ []
 SpellsDimensions ts (b ∷ bs) = SpellsEnclosed (SpellsList Commas SpellsBounds) ts (b ∷ bs)
 
@@ -162,7 +162,7 @@ pub data IsWellFormed : Part → Tokens → Type 0 where
   last_attribute : (ts : Tokens) → IsWellFormed OneAttribute ts → IsWellFormed Attributes ts
   more_attributes : (ts front rest : Tokens) → ts ≡ front ++ rest → IsWellFormed OneAttribute front
       → IsWellFormed Attributes rest → IsWellFormed Attributes ts
-  description : (ts front rest : Tokens) (dimensions : List Bounds) → ts ≡ front ++ rest
+  description : (ts front rest : Tokens) (dimensions : List WrittenBounds) → ts ≡ front ++ rest
       → SpellsDimensions front dimensions → IsWellFormed Attributes rest → IsWellFormed OneDescription ts
   last_description : (ts : Tokens) → IsWellFormed OneDescription ts → IsWellFormed Descriptions ts
   more_descriptions : (ts front rest : Tokens) → ts ≡ front ++ Sign Comma ∷ rest

@@ -20,7 +20,7 @@ use Rattle.pli_parse_declaration.specs.DeclarationWords.{is_zero}
 use Rattle.pli_base.specs.Declarations as tree
 use Rattle.pli_base.specs.declared.syntax.Identifier.{Identifier}
 use Rattle.pli_base.specs.declared.declaration.Integer.{Integer}
-use Rattle.pli_base.specs.declared.declaration.Bounds.{Bounds}
+use Rattle.pli_base.specs.declared.declaration.WrittenBounds.{WrittenBounds}
 use Rattle.pli_base.specs.declared.declaration.InitialValue.{InitialValue}
 use Rattle.pli_base.specs.declared.declaration.InitialValue.TheVariants as initial
 use Rattle.pli_parse_declaration.specs.declared.word.SimpleWord.{SimpleWord}
@@ -71,17 +71,17 @@ integer_at p (Sign Minus ∷ ts) = signed true (number_at (p + 1) ts)
 integer_at p ts = signed false (number_at p ts)
 
 -- a lower bound is one behind which a colon stands
-abbrev pub bounds_from : Front Integer → Option Tokens → Result (Front Bounds) Fault
+abbrev pub bounds_from : Front Integer → Option Tokens → Result (Front WrittenBounds) Fault
 bounds_from x None = read_as (record { low = None; high = x.value }) x.next x.rest
 bounds_from x (Some us) =
     mapped (λ high. record { low = Some x.value; high = high }) (integer_at (x.next + 1) us)
 
 -- the bounds of a dimension: one number, or two with a colon between them
-unfoldable pub bounds_at : ℕ → Tokens → Result (Front Bounds) Fault
+unfoldable pub bounds_at : ℕ → Tokens → Result (Front WrittenBounds) Fault
 bounds_at p ts = integer_at p ts >>= λ x. bounds_from x (behind is_colon x.rest)
 
 -- dimensions in parentheses, or none
-unfoldable pub dimensions_at : ℕ → Tokens → Result (Front (List Bounds)) Fault
+unfoldable pub dimensions_at : ℕ → Tokens → Result (Front (List WrittenBounds)) Fault
 dimensions_at p ts = mapped or_none (if_open (list_at Commas bounds_at) p ts (behind is_open ts))
 
 -- a length or a size in parentheses

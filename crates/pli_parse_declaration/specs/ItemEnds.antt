@@ -2,7 +2,7 @@
 use Rattle.std.specs.Prelude.{◌≡◌, List, [], ◌∷◌, Option, Some, None}
 use Rattle.pli_base.specs.Words.{Tokens, is_open, is_comma}
 use Rattle.pli_base.specs.Declarations as tree
-use Rattle.pli_base.specs.declared.declaration.Bounds.{Bounds}
+use Rattle.pli_base.specs.declared.declaration.WrittenBounds.{WrittenBounds}
 use Rattle.pli_parse_declaration.specs.DeclarationWords.{with_attribute}
 use Rattle.pli_base.specs.Words.{behind}
 
@@ -29,7 +29,7 @@ AttributeEnds (tree.Entry parameters) ts = OptionEnds parameters ts
 AttributeEnds (tree.Returns attributes) ts = Unit {0}
 
 -- where dimensions may stand and do not, `(` goes on
-abbrev pub DimensionsEnd : List Bounds → Tokens → Type 0
+abbrev pub DimensionsEnd : List WrittenBounds → Tokens → Type 0
 DimensionsEnd [] ts = behind is_open ts ≡ None
 DimensionsEnd (b ∷ bs) ts = Unit {0}
 
@@ -40,7 +40,7 @@ LastEnds Ends (x ∷ []) ts = Ends x ts
 LastEnds Ends (x ∷ y ∷ more) ts = LastEnds Ends (y ∷ more) ts
 
 -- an item ends by its last attribute, and without one by its dimensions
-abbrev pub AttributesEnd : List Bounds → List tree.Attribute → Tokens → Type 0
+abbrev pub AttributesEnd : List WrittenBounds → List tree.Attribute → Tokens → Type 0
 AttributesEnd dimensions [] ts = DimensionsEnd dimensions ts
 AttributesEnd dimensions (a ∷ more) ts = LastEnds AttributeEnds (a ∷ more) ts
 

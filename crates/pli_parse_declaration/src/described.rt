@@ -10,7 +10,7 @@ ghost use Rattle.pli_base.specs.Declarations as tree;
 
 use crate::extent::dimensions_at;
 use crate::front::{attribute_first, begins_description};
-use crate::list::{ReadsOne, Separator, list_at};
+use crate::list::{ListReader, Separator, list_at};
 use crate::nest::nest_at;
 use crate::simple::simple_of;
 use crate::word::AttributeWord;
@@ -24,7 +24,7 @@ struct EachDescribed {
     alloc: Global,
 }
 
-impl ReadsOne for EachDescribed {
+impl ListReader for EachDescribed {
     type Value = DescribedAttribute;
 
     ghost Tree = { tree.DescribedAttribute };
@@ -67,7 +67,7 @@ struct EachParameter {
     alloc: Global,
 }
 
-impl ReadsOne for EachParameter {
+impl ListReader for EachParameter {
     type Value = ParameterDescription;
 
     ghost Tree = { tree.ParameterDescription };

@@ -7,13 +7,13 @@ ghost use Rattle.pli_base.specs.Reading.{if_open};
 ghost use Rattle.pli_base.specs.answers.FailureAnswers.{Gives};
 ghost use Rattle.pli_base.specs.answers.ReadingAnswers.{Advances, Continues, front_view};
 ghost use Rattle.pli_parse_declaration.specs.declared.list.Separator.TheVariants.{Commas};
-ghost use Rattle.pli_base.specs.declared.declaration.Bounds as bounds;
+ghost use Rattle.pli_base.specs.declared.declaration.WrittenBounds as bounds;
 ghost use Rattle.std.proofs.Common.{sym};
 ghost use Rattle.std.proofs.lemmas.List.{map-id};
 
 use crate::front::{number_at, zero_taken};
-use crate::list::{ReadsOne, Separator, list_at};
-use pli_base::declaration::{Bounds, Integer};
+use crate::list::{ListReader, Separator, list_at};
+use pli_base::declaration::{Integer, WrittenBounds};
 use pli_base::{
     Front, ParseError, Sign, TokenText, behind_colon, behind_comma, behind_open, close_taken,
 };
@@ -52,10 +52,10 @@ pub fn integer_at(at: u32, texts: &[TokenText]) -> Result<Front<'_, Integer>, Pa
 #[derive(Clone, Copy)]
 struct EachBounds;
 
-impl ReadsOne for EachBounds {
-    type Value = Bounds;
+impl ListReader for EachBounds {
+    type Value = WrittenBounds;
 
-    ghost Tree = { bounds.Bounds };
+    ghost Tree = { bounds.WrittenBounds };
 
     ghost tree = { λ v. v };
 
@@ -66,13 +66,17 @@ impl ReadsOne for EachBounds {
     ghost each = { λ vs. sym (map-id vs) };
 
     #[tactic(auto, unfolding(crate::specs::DeclarationReading::bounds_at))]
-    fn read<'a>(&self, at: u32, texts: &'a [TokenText]) -> Result<Front<'a, Bounds>, ParseError> {
+    fn read<'a>(
+        &self,
+        at: u32,
+        texts: &'a [TokenText],
+    ) -> Result<Front<'a, WrittenBounds>, ParseError> {
         let first = integer_at(at, texts)?;
         match behind_colon(first.rest) {
             Some(rest) => {
                 let high = integer_at(first.next + 1, rest)?;
                 Ok(Front::new(
-                    Bounds {
+                    WrittenBounds {
                         low: Some(first.value),
                         high: high.value,
                     },
@@ -81,7 +85,7 @@ impl ReadsOne for EachBounds {
                 ))
             }
             None => Ok(Front::new(
-                Bounds {
+                WrittenBounds {
                     low: None,
                     high: first.value,
                 },
@@ -98,7 +102,7 @@ pub fn dimensions_at<'a>(
     alloc: Global,
     at: u32,
     texts: &'a [TokenText],
-) -> Result<Front<'a, Vec<Bounds>>, ParseError>
+) -> Result<Front<'a, Vec<WrittenBounds>>, ParseError>
     requires { at + length texts.now ≤ 200000 }
     ensures value { Gives (front_view (λ v. v.items)) result (dimensions_at at texts.now) }
     ensures place { IfOk result (Continues at texts.now) }

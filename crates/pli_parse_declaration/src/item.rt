@@ -14,7 +14,7 @@ ghost use Rattle.std.proofs.lemmas.List.{map-id};
 use crate::described::{parameters_at, returned_at};
 use crate::extent::dimensions_at;
 use crate::front::{attribute_first, level_at, with_attribute};
-use crate::list::{ReadsOne, Separator, list_at};
+use crate::list::{ListReader, Separator, list_at};
 use crate::simple::simple_of;
 use crate::word::AttributeWord;
 use pli_base::declaration::{Attribute, Item};
@@ -55,7 +55,7 @@ struct EachAttribute {
     alloc: Global,
 }
 
-impl ReadsOne for EachAttribute {
+impl ListReader for EachAttribute {
     type Value = Attribute;
 
     ghost Tree = { tree.Attribute };
@@ -116,7 +116,7 @@ fn attributes_at<'a>(
 #[derive(Clone, Copy)]
 struct EachIdentifier;
 
-impl ReadsOne for EachIdentifier {
+impl ListReader for EachIdentifier {
     type Value = Identifier;
 
     ghost Tree = { syntax.Identifier };
@@ -191,7 +191,7 @@ struct EachItem {
     alloc: Global,
 }
 
-impl ReadsOne for EachItem {
+impl ListReader for EachItem {
     type Value = Item;
 
     ghost Tree = { tree.Item };

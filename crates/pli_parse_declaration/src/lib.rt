@@ -17,4 +17,4 @@ pub use laws::{
     declarations_read_are_spelled, declarations_spelled_are_read, faults_stand_at_tokens,
     longest_items, one_declaration, tokens_of_items_rise, worked_examples,
 };
-pub use list::{ReadsOne, Separator, list_at};
+pub use list::{ListReader, Separator, list_at};

@@ -13,7 +13,7 @@ use pli_base::{Front, ParseError, TokenText, behind_comma, behind_period};
 use std::alloc::Global;
 
 /// What reads one value of a list.
-pub trait ReadsOne {
+pub trait ListReader {
     type Value: Drop;
 
     /// What a value is as a tree.
@@ -50,7 +50,7 @@ pub enum Separator {
 }
 
 /// One value or more, as long as what separates them comes.
-pub fn list_at<'a, R: ReadsOne>(
+pub fn list_at<'a, R: ListReader>(
     alloc: Global,
     separator: Separator,
     reader: &R,

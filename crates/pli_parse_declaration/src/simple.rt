@@ -15,7 +15,7 @@ ghost use Rattle.std.proofs.lemmas.List.{map-id};
 
 use crate::extent::{Measure, integer_at, measure_at};
 use crate::front::number_at;
-use crate::list::{ReadsOne, Separator, list_at};
+use crate::list::{ListReader, Separator, list_at};
 use crate::word::SimpleWord;
 use pli_base::declaration::{InitialValue, SimpleAttribute};
 use pli_base::{
@@ -47,7 +47,7 @@ fn offset_at(at: u32, texts: &[TokenText]) -> Result<Front<'_, SimpleAttribute>,
 #[derive(Clone, Copy)]
 struct EachName;
 
-impl ReadsOne for EachName {
+impl ListReader for EachName {
     type Value = Name;
 
     ghost Tree = { spelling.Name };
@@ -136,7 +136,7 @@ struct EachValue {
     alloc: Global,
 }
 
-impl ReadsOne for EachValue {
+impl ListReader for EachValue {
     type Value = InitialValue;
 
     ghost Tree = { initial.InitialValue };

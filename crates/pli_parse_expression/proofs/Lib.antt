@@ -4,9 +4,9 @@ pub mod ReadIsSpelled
 pub mod SpelledIsRead
 pub mod SpelledIsAccepted
 pub mod AcceptedIsSpelled
-pub mod Frames
+pub mod FrameLemmas
 pub mod NoSemicolons
-pub mod Loops
+pub mod LoopLemmas
 pub mod ReadFaults
 pub mod ReadEnds
 pub mod TokensRise

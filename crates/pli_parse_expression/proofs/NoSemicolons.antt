@@ -6,7 +6,7 @@ use Rattle.pli_base.specs.declared.token.Sign.TheVariants as signs
 use Rattle.pli_base.specs.declared.token.TokenText.{TokenText}
 use Rattle.pli_base.specs.declared.token.TokenText.TheVariants as tokens
 use Rattle.pli_parse_expression.specs.Assignments.{kind_of, move, moved, behind_frame, accepts, is_assignment}
-use Rattle.pli_parse_expression.specs.declared.assignment.Kind.TheVariants.{Foreign}
+use Rattle.pli_parse_expression.specs.declared.assignment.TokenKind.TheVariants.{Foreign}
 use Rattle.pli_parse_expression.specs.declared.assignment.State.{State}
 use Rattle.pli_parse_expression.specs.declared.assignment.State.TheVariants.{NameWanted, OperandWanted, ListBegun}
 use Rattle.pli_parse_expression.specs.declared.assignment.Frame.{Frame}

@@ -18,13 +18,13 @@ use Rattle.pli_base.specs.declared.token.TokenText.{TokenText}
 use Rattle.pli_base.specs.declared.token.TokenText.TheVariants.{Word, Decimal, Binary, Characters, Bits, Sign}
 use Rattle.pli_parse_expression.specs.Operators.{operator_limit, level_of, operator_at, joining_at, begins_expression}
 use Rattle.pli_base.specs.Words.{Tokens, name_first, behind, is_comma}
-use Rattle.pli_parse_expression.specs.Reading.{Front, Reader, limited, opened, closed, operand_then, grouped, infix_from, expression_of, listed_behind, further_from, listed_at, list_at, arguments_at, part_behind, parts_behind, joined_from, reference_behind, reference_of, prefix_of, parenthesis_of, constant_at, operand_of, inside, operand_at, expression_at, argument_of, reference_at}
+use Rattle.pli_parse_expression.specs.Reading.{ExpressionFront, Reader, limited, opened, closed, operand_then, grouped, infix_from, expression_of, listed_behind, further_from, listed_at, list_at, arguments_at, part_behind, parts_behind, joined_from, reference_behind, reference_of, prefix_of, parenthesis_of, constant_at, operand_of, inside, operand_at, expression_at, argument_of, reference_at}
 use Rattle.pli_base.specs.Results.{◌>>=◌}
 use Rattle.pli_base.specs.Reading.{at_fault, misfit, taken}
 use Rattle.pli_parse_expression.proofs.ReadingTools.{operator_ok, joining_ok, name_ok, comma_ok}
 
 -- what was read passes over so many tokens at least, and a fault stands at one of them
-abbrev pub Stands : {A : Type 0} → (least p : ℕ) → Tokens → Result (Front A) Fault → Type 0
+abbrev pub Stands : {A : Type 0} → (least p : ℕ) → Tokens → Result (ExpressionFront A) Fault → Type 0
 Stands least p ts (Ok x) = Passes least p ts x.next x.rest
 Stands least p ts (Err f) = IsToldOf p ts f
 
@@ -34,28 +34,28 @@ misfit_stands code part p [] = told_ended p
 misfit_stands code part p (t ∷ ts) = told_first code part p (t ∷ ts) (omega arith)
 
 -- with less passed over
-pub at_least : {A : Type 0} (most least p : ℕ) (ts : Tokens) (r : Result (Front A) Fault) → least ≤ most → Stands most p ts r → Stands least p ts r
+pub at_least : {A : Type 0} (most least p : ℕ) (ts : Tokens) (r : Result (ExpressionFront A) Fault) → least ≤ most → Stands most p ts r → Stands least p ts r
 at_least most least p ts (Ok x) less h = (omega (arith, h.0), h.1)
 at_least most least p ts (Err f) less h = h
 
 -- behind tokens that were passed over
-pub stands_behind : {A : Type 0} (a b p q : ℕ) (ts us : Tokens) (r : Result (Front A) Fault) → Passes a p ts q us → Stands b q us r → Stands (a + b) p ts r
+pub stands_behind : {A : Type 0} (a b p q : ℕ) (ts us : Tokens) (r : Result (ExpressionFront A) Fault) → Passes a p ts q us → Stands b q us r → Stands (a + b) p ts r
 stands_behind a b p q ts us (Ok x) passed h = passes_on a b p q x.next ts us x.rest passed h
 stands_behind a b p q ts us (Err f) passed h = told_behind a p q ts us f passed h
 
 -- one step behind another
-pub stands_then : {A B : Type 0} (a b p : ℕ) (ts : Tokens) (r : Result (Front A) Fault) (f : Front A → Result (Front B) Fault)
-    → Stands a p ts r → ((x : Front A) → Passes a p ts x.next x.rest → Stands b x.next x.rest (f x)) → Stands (a + b) p ts (r >>= f)
+pub stands_then : {A B : Type 0} (a b p : ℕ) (ts : Tokens) (r : Result (ExpressionFront A) Fault) (f : ExpressionFront A → Result (ExpressionFront B) Fault)
+    → Stands a p ts r → ((x : ExpressionFront A) → Passes a p ts x.next x.rest → Stands b x.next x.rest (f x)) → Stands (a + b) p ts (r >>= f)
 stands_then a b p ts (Ok x) f h more = stands_behind a b p x.next ts x.rest (f x) h (more x h)
 stands_then a b p ts (Err e) f h more = h
 
 -- where something is made of what was read
-pub stands_made : {A B : Type 0} (a p : ℕ) (ts : Tokens) (r : Result (Front A) Fault) (value : Front A → B) (count : Front A → ℕ)
+pub stands_made : {A B : Type 0} (a p : ℕ) (ts : Tokens) (r : Result (ExpressionFront A) Fault) (value : ExpressionFront A → B) (count : ExpressionFront A → ℕ)
     → Stands a p ts r → Stands a p ts (r >>= λ x. Ok (record { value = value x; count = count x; next = x.next; rest = x.rest }))
 stands_made a p ts (Ok x) value count h = h
 stands_made a p ts (Err e) value count h = h
 
-limited_stands : {A : Type 0} (least count p : ℕ) (ts : Tokens) (r : Result (Front A) Fault) → 0 < length ts → Stands least p ts r → Stands least p ts (limited count p r)
+limited_stands : {A : Type 0} (least count p : ℕ) (ts : Tokens) (r : Result (ExpressionFront A) Fault) → 0 < length ts → Stands least p ts r → Stands least p ts (limited count p r)
 limited_stands {A = A} least count p ts r some h = by (nat_lt count operator_limit)
   where
     by : (b : Bool) → Stands {A = A} least p ts (cond b r (at_fault NestedTooDeep p))
@@ -82,8 +82,8 @@ module _ (operand : Reader) (sound : IsSound operand) where
   step_stands bound more min count left p ts small (Some x) found =
       let one : length ts ≡ suc (length x.1) = ap length (operator_ok min ts x found).0 in
       let top : ℕ = level_of x.0 + 1 in
-      let right : Result (Front Expression) Fault = operand_then operand (infix_from operand bound) top (count + 1) (p + 1) x.1 in
-      let behind : Front Expression → Result (Front Expression) Fault = λ y. infix_from operand bound min y.count (Infix x.0 p left y.value) y.next y.rest in
+      let right : Result (ExpressionFront Expression) Fault = operand_then operand (infix_from operand bound) top (count + 1) (p + 1) x.1 in
+      let behind : ExpressionFront Expression → Result (ExpressionFront Expression) Fault = λ y. infix_from operand bound min y.count (Infix x.0 p left y.value) y.next y.rest in
       let right_stands : Stands 1 (p + 1) x.1 right =
       stands_then 1 0 (p + 1) x.1 (operand (count + 1) (p + 1) x.1) (λ z. infix_from operand bound top z.count z.value z.next z.rest) (sound (count + 1) (p + 1) x.1)
       (λ z s. more top z.count z.value z.next z.rest (omega (arith, s.0, s.1)))
@@ -113,7 +113,7 @@ module _ (one : Reader) (sound : IsSound one) where
   further_step bound more count p ts small None found = passes_none p ts
   further_step bound more count p ts small (Some us) found =
       let comma : length ts ≡ suc (length us) = ap length (comma_ok ts us found) in
-      let read : Result (Front Expressions) Fault = listed_behind one (further_from one bound) count p ts (Some us) in
+      let read : Result (ExpressionFront Expressions) Fault = listed_behind one (further_from one bound) count p ts (Some us) in
       let read_stands : Stands 1 (p + 1) us read =
       stands_then 1 0 (p + 1) us (one count (p + 1) us) (λ x. further_from one bound x.count x.next x.rest >>= λ y. Ok (record { value = Listed x.value y.value; count = y.count; next = y.next; rest = y.rest })) (sound count (p + 1) us)
       (λ x s. stands_made 0 x.next x.rest (further_from one bound x.count x.next x.rest) (λ y. Listed x.value y.value) (λ y. y.count) (more x.count x.next x.rest (omega (arith, s.0, s.1))))
@@ -150,7 +150,7 @@ opened_arguments : (one : Option Reader) → IsSoundWhere one → (count p : ℕ
     → Stands 0 p (Sign signs.OpenParenthesis ∷ ts) (opened one p (λ one. list_at one count (p + 1) ts >>= λ x. Ok (record { value = Given x.value; count = x.count; next = x.next; rest = x.rest })))
 opened_arguments None sound count p ts = told_first NestedTooDeep refl p (Sign signs.OpenParenthesis ∷ ts) (omega arith)
 opened_arguments (Some one) sound count p ts =
-    let read : Result (Front Arguments) Fault = list_at one count (p + 1) ts >>= λ x. Ok (record { value = Given x.value; count = x.count; next = x.next; rest = x.rest }) in
+    let read : Result (ExpressionFront Arguments) Fault = list_at one count (p + 1) ts >>= λ x. Ok (record { value = Given x.value; count = x.count; next = x.next; rest = x.rest }) in
     let us : Tokens = Sign signs.OpenParenthesis ∷ ts in
     at_least 2 0 p us read (omega arith)
     (stands_behind 1 1 p (p + 1) us ts read (passes_one p us ts (omega arith)) (stands_made 1 (p + 1) ts (list_at one count (p + 1) ts) (λ x. Given x.value) (λ x. x.count) (list_stands one sound count (p + 1) ts)))
@@ -171,7 +171,7 @@ module _ (one : Option Reader) (sound : IsSoundWhere one) where
   part_stands bound more joining count p ts small None found = misfit_stands NameExpected refl p ts
   part_stands bound more joining count p ts small (Some n) found =
       let name : length ts ≡ suc (length n.1) = ap length (name_ok ts n found) in
-      let read : Result (Front JoinedParts) Fault = part_behind one (joined_from one bound) joining count p ts (Some n) in
+      let read : Result (ExpressionFront JoinedParts) Fault = part_behind one (joined_from one bound) joining count p ts (Some n) in
       let read_stands : Stands 0 (p + 1) n.1 read =
       stands_then 0 0 (p + 1) n.1 (arguments_at one count (p + 1) n.1)
       (λ x. joined_from one bound x.count x.next x.rest >>= λ y. Ok (record { value = Joined joining (record { name = n.0; at = p }) x.value y.value; count = y.count; next = y.next; rest = y.rest }))
@@ -185,7 +185,7 @@ module _ (one : Option Reader) (sound : IsSoundWhere one) where
   parts_step bound more count p ts small None found = passes_none p ts
   parts_step bound more count p ts small (Some j) found =
       let sign : length ts ≡ suc (length j.1) = ap length (joining_ok ts j found) in
-      let read : Result (Front JoinedParts) Fault = part_behind one (joined_from one bound) j.0 count (p + 1) j.1 (name_first j.1) in
+      let read : Result (ExpressionFront JoinedParts) Fault = part_behind one (joined_from one bound) j.0 count (p + 1) j.1 (name_first j.1) in
       at_least 1 0 p ts read (omega arith) (stands_behind 1 0 p (p + 1) ts j.1 read (passes_one p ts j.1 sign) (part_stands bound more j.0 count (p + 1) j.1 (omega arith) (name_first j.1) refl))
 
   parts_stand : (bound : ℕ) → PartsStand bound
@@ -197,7 +197,7 @@ module _ (one : Option Reader) (sound : IsSoundWhere one) where
   reference_step count p ts None found = misfit_stands NameExpected refl p ts
   reference_step count p ts (Some n) found =
       let name : length ts ≡ suc (length n.1) = ap length (name_ok ts n found) in
-      let read : Result (Front Reference) Fault = reference_behind one count p ts (Some n) in
+      let read : Result (ExpressionFront Reference) Fault = reference_behind one count p ts (Some n) in
       let read_stands : Stands 0 (p + 1) n.1 read =
       stands_then 0 0 (p + 1) n.1 (arguments_at one count (p + 1) n.1)
       (λ x. joined_from one (length x.rest + 1) x.count x.next x.rest >>= λ y. Ok (record { value = Named (record { name = n.0; at = p }) x.value y.value; count = y.count; next = y.next; rest = y.rest }))
@@ -220,7 +220,7 @@ unfolding prefix_of
 prefix_stands None sound operator count p t ts =
     limited_stands 1 count p (t ∷ ts) (at_fault NestedTooDeep p) (omega arith) (told_first NestedTooDeep refl p (t ∷ ts) (omega arith))
 prefix_stands (Some operand) sound operator count p t ts =
-    let read : Result (Front Expression) Fault = operand (count + 1) (p + 1) ts >>= λ x. Ok (record { value = Prefix operator p x.value; count = x.count; next = x.next; rest = x.rest }) in
+    let read : Result (ExpressionFront Expression) Fault = operand (count + 1) (p + 1) ts >>= λ x. Ok (record { value = Prefix operator p x.value; count = x.count; next = x.next; rest = x.rest }) in
     limited_stands 1 count p (t ∷ ts) read (omega arith)
     (at_least 2 1 p (t ∷ ts) read (omega arith)
     (stands_behind 1 1 p (p + 1) (t ∷ ts) ts read (passes_one p (t ∷ ts) ts (omega arith)) (stands_made 1 (p + 1) ts (operand (count + 1) (p + 1) ts) (λ x. Prefix operator p x.value) (λ x. x.count) (sound (count + 1) (p + 1) ts))))
@@ -229,7 +229,7 @@ parenthesis_stands : (one : Option Reader) → IsSoundWhere one → (count p : �
 unfolding parenthesis_of
 parenthesis_stands None sound count p t ts = told_first NestedTooDeep refl p (t ∷ ts) (omega arith)
 parenthesis_stands (Some operand) sound count p t ts =
-    let read : Result (Front Expression) Fault = expression_of operand count (p + 1) ts >>= λ x. closed (Parenthesized p x.value) x.count x.next x.rest in
+    let read : Result (ExpressionFront Expression) Fault = expression_of operand count (p + 1) ts >>= λ x. closed (Parenthesized p x.value) x.count x.next x.rest in
     at_least 3 1 p (t ∷ ts) read (omega arith)
     (stands_behind 1 2 p (p + 1) (t ∷ ts) ts read (passes_one p (t ∷ ts) ts (omega arith))
     (stands_then 1 1 (p + 1) ts (expression_of operand count (p + 1) ts) (λ x. closed (Parenthesized p x.value) x.count x.next x.rest) (expression_sound operand sound count (p + 1) ts)
@@ -280,7 +280,7 @@ reference_at_stands levels p ts = reference_stands (option_map (argument_of true
 err_same : {A : Type 0} {x y : Fault} → ◌≡◌ {A = Result A Fault} (Err x) (Err y) → x ≡ y
 err_same h = cc
 
-pub fault_of : {A : Type 0} (least p : ℕ) (ts : Tokens) (r : Result (Front A) Fault) (f : Fault) → Stands least p ts r → r ≡ Err f → IsToldOf p ts f
+pub fault_of : {A : Type 0} (least p : ℕ) (ts : Tokens) (r : Result (ExpressionFront A) Fault) (f : Fault) → Stands least p ts r → r ≡ Err f → IsToldOf p ts f
 fault_of least p ts (Ok x) f h e = cc
 fault_of least p ts (Err g) f h e = subst (IsToldOf p ts) (err_same e) h
 

@@ -15,15 +15,15 @@ use Rattle.pli_base.specs.declared.token.TokenText.{TokenText}
 use Rattle.pli_base.specs.declared.token.TokenText.TheVariants.{Word, Decimal, Binary, Characters, Bits, Sign}
 use Rattle.pli_parse_expression.specs.Operators.{operator_limit, operand_level, level, level_of, prefix_sign, infix_sign, joining_sign, constant_token, operator_at, joining_at, begins_expression}
 use Rattle.pli_parse_expression.specs.Expressions.{SpellsExpression, SpellsReference, SpellsJoined, SpellsArguments, SpellsListed, SpellsFurther, operators, reference_operators, joined_operators, listed_operators, Deeper, NestsWithin, ReferenceNests, JoinedNest, ArgumentsNest, ListNests, OutermostFits, SpellsOutermost, Every, GivenFits, JoinedFits, ReferenceFits, SpellsReferenceAlone}
-use Rattle.pli_parse_expression.specs.Reading.{Front, Reader, opened, closed, operand_then, grouped, infix_from, expression_of, listed_behind, further_from, listed_at, list_at, arguments_at, part_behind, parts_behind, joined_from, reference_behind, reference_of, prefix_of, parenthesis_of, constant_at, operand_of, inside, operand_at, expression_at, outermost, argument_of, reference_at}
+use Rattle.pli_parse_expression.specs.Reading.{ExpressionFront, Reader, opened, closed, operand_then, grouped, infix_from, expression_of, listed_behind, further_from, listed_at, list_at, arguments_at, part_behind, parts_behind, joined_from, reference_behind, reference_of, prefix_of, parenthesis_of, constant_at, operand_of, inside, operand_at, expression_at, outermost, argument_of, reference_at}
 use Rattle.pli_parse_expression.specs.laws.Laws.{FrontSpells}
 use Rattle.pli_parse_expression.proofs.ReadingTools.{limited_ok, wanted_none, closed_ok, operator_ok, operator_below, level_small, none_above, joining_ok, name_ok, comma_ok}
-use Rattle.pli_parse_fault.proofs.Steps.{same_ok, bind_ok}
+use Rattle.pli_parse_fault.proofs.StepLemmas.{same_ok, bind_ok}
 use Rattle.pli_base.specs.Words.{Tokens, name_first, behind, is_comma}
 use Rattle.pli_base.specs.Results.{◌>>=◌}
 
 -- the front of the tokens spells what was read, which has so many operators and fits; the rest is left
-pub record IsRead {A : Type 0} (Spells : ℕ → Tokens → A → Type 0) (count_of : A → ℕ) (Fits : A → Type 0) (count p : ℕ) (ts : Tokens) (x : Front A) : Type 0 where
+pub record IsRead {A : Type 0} (Spells : ℕ → Tokens → A → Type 0) (count_of : A → ℕ) (Fits : A → Type 0) (count p : ℕ) (ts : Tokens) (x : ExpressionFront A) : Type 0 where
   pub front : Tokens
   pub whole : ts ≡ front ++ x.rest
   pub spelled : Spells p front x.value
@@ -33,13 +33,13 @@ pub record IsRead {A : Type 0} (Spells : ℕ → Tokens → A → Type 0) (count
   pub fits : Fits x.value
 
 abbrev pub IsReadBy : (Fits : Expression → Type 0) → (count_of : Expression → ℕ) → Reader → Type 0
-IsReadBy Fits count_of reader = (count p : ℕ) (ts : Tokens) (x : Front Expression) → reader count p ts ≡ Ok x → IsRead SpellsExpression count_of Fits count p ts x
+IsReadBy Fits count_of reader = (count p : ℕ) (ts : Tokens) (x : ExpressionFront Expression) → reader count p ts ≡ Ok x → IsRead SpellsExpression count_of Fits count p ts x
 
 regroup : (a b c d : Tokens) → a ++ (b ++ (c ++ d)) ≡ ((a ++ b) ++ c) ++ d
 regroup a b c d = simp append_assoc
 
 -- what goes on behind a left operand
-record Goes (levels min : ℕ) (left : Expression) (q count p : ℕ) (ls ts : Tokens) (x : Front Expression) : Type 0 where
+record Goes (levels min : ℕ) (left : Expression) (q count p : ℕ) (ls ts : Tokens) (x : ExpressionFront Expression) : Type 0 where
   more : Tokens
   whole : ts ≡ more ++ x.rest
   spelled : SpellsExpression q (ls ++ more) x.value
@@ -56,10 +56,10 @@ IsOperandOf levels e = NestsWithin levels e × (level e ≡ operand_level)
 
 module _ (levels : ℕ) (operand : Reader) (operand_read : IsReadBy (IsOperandOf levels) operators operand) where
   abbrev LoopReads : ℕ → Type 0
-  LoopReads bound = (min count q p : ℕ) (left : Expression) (ls ts : Tokens) (x : Front Expression) → SpellsExpression q ls left → NestsWithin levels left → p ≡ q + length ls → min ≤ level left
+  LoopReads bound = (min count q p : ℕ) (left : Expression) (ls ts : Tokens) (x : ExpressionFront Expression) → SpellsExpression q ls left → NestsWithin levels left → p ≡ q + length ls → min ≤ level left
       → operator_at (suc (level left)) ts ≡ None → infix_from operand bound min count left p ts ≡ Ok x → Goes levels min left q count p ls ts x
 
-  step_reads : (bound : ℕ) → LoopReads bound → (min count q p : ℕ) (left : Expression) (ls ts : Tokens) (x : Front Expression) (o : Option (InfixOperator × Tokens)) → operator_at min ts ≡ o
+  step_reads : (bound : ℕ) → LoopReads bound → (min count q p : ℕ) (left : Expression) (ls ts : Tokens) (x : ExpressionFront Expression) (o : Option (InfixOperator × Tokens)) → operator_at min ts ≡ o
       → SpellsExpression q ls left → NestsWithin levels left → p ≡ q + length ls → min ≤ level left
       → operator_at (suc (level left)) ts ≡ None → grouped operand (infix_from operand bound) min count left p ts o ≡ Ok x → Goes levels min left q count p ls ts x
   step_reads bound more_read min count q p left ls ts x None found spelled nests place high low h =
@@ -141,9 +141,9 @@ SpellsClosed p ts list = (us : Tokens) × (ts ≡ us ++ Sign signs.CloseParenthe
 
 module _ (Fits : Expression → Type 0) (count_of : Expression → ℕ) (one : Reader) (one_read : IsReadBy Fits count_of one) where
   abbrev FurtherReads : ℕ → Type 0
-  FurtherReads bound = (count p : ℕ) (ts : Tokens) (x : Front Expressions) → further_from one bound count p ts ≡ Ok x → IsRead SpellsFurther (total count_of) (Every Fits) count p ts x
+  FurtherReads bound = (count p : ℕ) (ts : Tokens) (x : ExpressionFront Expressions) → further_from one bound count p ts ≡ Ok x → IsRead SpellsFurther (total count_of) (Every Fits) count p ts x
 
-  further_step : (bound : ℕ) → FurtherReads bound → (count p : ℕ) (ts : Tokens) (x : Front Expressions) (o : Option Tokens) → behind is_comma ts ≡ o → listed_behind one (further_from one bound) count p ts o ≡ Ok x
+  further_step : (bound : ℕ) → FurtherReads bound → (count p : ℕ) (ts : Tokens) (x : ExpressionFront Expressions) (o : Option Tokens) → behind is_comma ts ≡ o → listed_behind one (further_from one bound) count p ts o ≡ Ok x
       → IsRead SpellsFurther (total count_of) (Every Fits) count p ts x
   further_step bound more_read count p ts x None found h =
       subst (IsRead SpellsFurther (total count_of) (Every Fits) count p ts) (same_ok h) (record { front = []; whole = refl; spelled = refl; place = omega arith; counted = omega arith; few = λ f. f; fits = tt })
@@ -167,7 +167,7 @@ module _ (Fits : Expression → Type 0) (count_of : Expression → ℕ) (one : R
   further_reads zero count p ts x h = absurd (wanted_none ExpressionExpected p ts x h)
   further_reads (suc bound) count p ts x h = further_step bound (further_reads bound) count p ts x (behind is_comma ts) refl h
 
-  listed_reads : (count p : ℕ) (ts : Tokens) (x : Front Expressions) → listed_at one count p ts ≡ Ok x → IsRead SpellsClosed (total count_of) (Every Fits) count p ts x
+  listed_reads : (count p : ℕ) (ts : Tokens) (x : ExpressionFront Expressions) → listed_at one count p ts ≡ Ok x → IsRead SpellsClosed (total count_of) (Every Fits) count p ts x
   unfolding listed_at
   listed_reads count p ts x h =
       let a = bind_ok (one count p ts) _ x h in
@@ -185,7 +185,7 @@ module _ (Fits : Expression → Type 0) (count_of : Expression → ℕ) (one : R
         fits = (s.fits, r.fits);
       })
 
-  empty_reads : (count p : ℕ) (ts : Tokens) (x : Front Expressions) → closed Empty count p ts ≡ Ok x → IsRead SpellsClosed (total count_of) (Every Fits) count p ts x
+  empty_reads : (count p : ℕ) (ts : Tokens) (x : ExpressionFront Expressions) → closed Empty count p ts ≡ Ok x → IsRead SpellsClosed (total count_of) (Every Fits) count p ts x
   empty_reads count p ts x h =
       let c = closed_ok Empty count p ts x h in
       subst (IsRead SpellsClosed (total count_of) (Every Fits) count p ts) c.2 (record {
@@ -198,16 +198,16 @@ module _ (Fits : Expression → Type 0) (count_of : Expression → ℕ) (one : R
         fits = tt;
       })
 
-  list_step : (b : Bool) (count p : ℕ) (ts : Tokens) (x : Front Expressions) → cond b (listed_at one count p ts) (closed Empty count p ts) ≡ Ok x → IsRead SpellsClosed (total count_of) (Every Fits) count p ts x
+  list_step : (b : Bool) (count p : ℕ) (ts : Tokens) (x : ExpressionFront Expressions) → cond b (listed_at one count p ts) (closed Empty count p ts) ≡ Ok x → IsRead SpellsClosed (total count_of) (Every Fits) count p ts x
   list_step true count p ts x h = listed_reads count p ts x h
   list_step false count p ts x h = empty_reads count p ts x h
 
-  pub list_reads : (count p : ℕ) (ts : Tokens) (x : Front Expressions) → list_at one count p ts ≡ Ok x → IsRead SpellsClosed (total count_of) (Every Fits) count p ts x
+  pub list_reads : (count p : ℕ) (ts : Tokens) (x : ExpressionFront Expressions) → list_at one count p ts ≡ Ok x → IsRead SpellsClosed (total count_of) (Every Fits) count p ts x
   unfolding list_at
   list_reads count p ts x h = list_step (begins_expression ts) count p ts x h
 
 -- the same with other words for its number of operators and for what fits
-pub counted_as : {A : Type 0} (Spells : ℕ → Tokens → A → Type 0) (count_of other_count : A → ℕ) (Fits Others : A → Type 0) (count p : ℕ) (ts : Tokens) (x : Front A)
+pub counted_as : {A : Type 0} (Spells : ℕ → Tokens → A → Type 0) (count_of other_count : A → ℕ) (Fits Others : A → Type 0) (count p : ℕ) (ts : Tokens) (x : ExpressionFront A)
     → ((v : A) → count_of v ≡ other_count v) → ((v : A) → Fits v → Others v) → IsRead Spells count_of Fits count p ts x → IsRead Spells other_count Others count p ts x
 counted_as Spells count_of other_count Fits Others count p ts x same fit r =
     record { front = r.front; whole = r.whole; spelled = r.spelled; place = r.place; counted = r.counted ∙ ap (λ n. count + n) (same x.value); few = r.few; fits = fit x.value r.fits }
@@ -215,7 +215,7 @@ counted_as Spells count_of other_count Fits Others count p ts x same fit r =
 -- argument lists, and parts with them: the operators of each list, and what fits for each
 abbrev pub ListsReadBy : (Fits : Expressions → Type 0) → (count_of : Expressions → ℕ) → Option Reader → Type 0
 ListsReadBy Fits count_of None = Unit {0}
-ListsReadBy Fits count_of (Some one) = (count p : ℕ) (ts : Tokens) (x : Front Expressions) → list_at one count p ts ≡ Ok x → IsRead SpellsClosed count_of Fits count p ts x
+ListsReadBy Fits count_of (Some one) = (count p : ℕ) (ts : Tokens) (x : ExpressionFront Expressions) → list_at one count p ts ≡ Ok x → IsRead SpellsClosed count_of Fits count p ts x
 
 abbrev pub count_given : (Expressions → ℕ) → Arguments → ℕ
 count_given count_of Absent = 0
@@ -229,10 +229,10 @@ abbrev pub count_reference : (Expressions → ℕ) → Reference → ℕ
 count_reference count_of (Named name arguments more) = count_given count_of arguments + count_joined count_of more
 
 module _ (Fits : Expressions → Type 0) (count_of : Expressions → ℕ) where
-  abbrev ArgumentsRead : (count p : ℕ) (ts : Tokens) (x : Front Arguments) → Type 0
+  abbrev ArgumentsRead : (count p : ℕ) (ts : Tokens) (x : ExpressionFront Arguments) → Type 0
   ArgumentsRead count p ts x = IsRead SpellsArguments (count_given count_of) (GivenFits Fits) count p ts x
 
-  opened_reads : (one : Option Reader) → ListsReadBy Fits count_of one → (count p : ℕ) (ts : Tokens) (x : Front Arguments)
+  opened_reads : (one : Option Reader) → ListsReadBy Fits count_of one → (count p : ℕ) (ts : Tokens) (x : ExpressionFront Arguments)
       → opened one p (λ one. list_at one count (p + 1) ts >>= λ y. Ok (record { value = Given y.value; count = y.count; next = y.next; rest = y.rest })) ≡ Ok x → ArgumentsRead count p (Sign signs.OpenParenthesis ∷ ts) x
   opened_reads None lists count p ts x h = cc
   opened_reads (Some one) lists count p ts x h =
@@ -248,23 +248,23 @@ module _ (Fits : Expressions → Type 0) (count_of : Expressions → ℕ) where
         fits = s.fits;
       })
 
-  absent_reads : (count p : ℕ) (ts : Tokens) (x : Front Arguments) → ◌≡◌ {A = Result (Front Arguments) Fault} (Ok (record { value = Absent; count = count; next = p; rest = ts })) (Ok x) → ArgumentsRead count p ts x
+  absent_reads : (count p : ℕ) (ts : Tokens) (x : ExpressionFront Arguments) → ◌≡◌ {A = Result (ExpressionFront Arguments) Fault} (Ok (record { value = Absent; count = count; next = p; rest = ts })) (Ok x) → ArgumentsRead count p ts x
   absent_reads count p ts x h = subst (ArgumentsRead count p ts) (same_ok h) (record { front = []; whole = refl; spelled = refl; place = omega arith; counted = omega arith; few = λ f. f; fits = tt })
 
-  arguments_read : (one : Option Reader) → ListsReadBy Fits count_of one → (count p : ℕ) (ts : Tokens) (x : Front Arguments) → arguments_at one count p ts ≡ Ok x → ArgumentsRead count p ts x
+  arguments_read : (one : Option Reader) → ListsReadBy Fits count_of one → (count p : ℕ) (ts : Tokens) (x : ExpressionFront Arguments) → arguments_at one count p ts ≡ Ok x → ArgumentsRead count p ts x
   unfolding arguments_at
   arguments_read one lists count p [] x h = absent_reads count p [] x h
   arguments_read one lists count p (Sign signs.OpenParenthesis ∷ ts) x h = opened_reads one lists count p ts x h
   arguments_read one lists count p (t ∷ ts) x h = absent_reads count p (t ∷ ts) x h
 
   module _ (one : Option Reader) (lists : ListsReadBy Fits count_of one) where
-    abbrev PartsRead : (count p : ℕ) (ts : Tokens) (x : Front JoinedParts) → Type 0
+    abbrev PartsRead : (count p : ℕ) (ts : Tokens) (x : ExpressionFront JoinedParts) → Type 0
     PartsRead count p ts x = IsRead SpellsJoined (count_joined count_of) (JoinedFits Fits) count p ts x
 
     abbrev MoreRead : ℕ → Type 0
-    MoreRead bound = (count p : ℕ) (ts : Tokens) (x : Front JoinedParts) → joined_from one bound count p ts ≡ Ok x → PartsRead count p ts x
+    MoreRead bound = (count p : ℕ) (ts : Tokens) (x : ExpressionFront JoinedParts) → joined_from one bound count p ts ≡ Ok x → PartsRead count p ts x
 
-    part_step : (bound : ℕ) → MoreRead bound → (joining : Joining) (count p : ℕ) (us : Tokens) (x : Front JoinedParts) (o : Option (Name × Tokens)) → name_first us ≡ o
+    part_step : (bound : ℕ) → MoreRead bound → (joining : Joining) (count p : ℕ) (us : Tokens) (x : ExpressionFront JoinedParts) (o : Option (Name × Tokens)) → name_first us ≡ o
         → part_behind one (joined_from one bound) joining count (p + 1) us o ≡ Ok x → PartsRead count p (Sign (joining_sign joining) ∷ us) x
     part_step bound more_read joining count p us x None found h = absurd (wanted_none NameExpected (p + 1) us x h)
     part_step bound more_read joining count p us x (Some n) found h =
@@ -284,7 +284,7 @@ module _ (Fits : Expressions → Type 0) (count_of : Expressions → ℕ) where
           fits = (s.fits, r.fits);
         })
 
-    parts_step : (bound : ℕ) → MoreRead bound → (count p : ℕ) (ts : Tokens) (x : Front JoinedParts) (o : Option (Joining × Tokens)) → joining_at ts ≡ o → parts_behind one (joined_from one bound) count p ts o ≡ Ok x → PartsRead count p ts x
+    parts_step : (bound : ℕ) → MoreRead bound → (count p : ℕ) (ts : Tokens) (x : ExpressionFront JoinedParts) (o : Option (Joining × Tokens)) → joining_at ts ≡ o → parts_behind one (joined_from one bound) count p ts o ≡ Ok x → PartsRead count p ts x
     parts_step bound more_read count p ts x None found h =
         subst (PartsRead count p ts) (same_ok h) (record { front = []; whole = refl; spelled = refl; place = omega arith; counted = omega arith; few = λ f. f; fits = tt })
     parts_step bound more_read count p ts x (Some j) found h =
@@ -295,7 +295,7 @@ module _ (Fits : Expressions → Type 0) (count_of : Expressions → ℕ) where
     parts_read zero count p ts x h = absurd (wanted_none NameExpected p ts x h)
     parts_read (suc bound) count p ts x h = parts_step bound (parts_read bound) count p ts x (joining_at ts) refl h
 
-    reference_step : (count p : ℕ) (ts : Tokens) (x : Front Reference) (o : Option (Name × Tokens)) → name_first ts ≡ o → reference_behind one count p ts o ≡ Ok x → IsRead SpellsReference (count_reference count_of) (ReferenceFits Fits) count p ts x
+    reference_step : (count p : ℕ) (ts : Tokens) (x : ExpressionFront Reference) (o : Option (Name × Tokens)) → name_first ts ≡ o → reference_behind one count p ts o ≡ Ok x → IsRead SpellsReference (count_reference count_of) (ReferenceFits Fits) count p ts x
     reference_step count p ts x None found h = absurd (wanted_none NameExpected p ts x h)
     reference_step count p ts x (Some n) found h =
         let a = bind_ok (arguments_at one count (p + 1) n.1) _ x h in
@@ -312,7 +312,7 @@ module _ (Fits : Expressions → Type 0) (count_of : Expressions → ℕ) where
           fits = (s.fits, r.fits);
         })
 
-    pub reference_reads : (count p : ℕ) (ts : Tokens) (x : Front Reference) → reference_of one count p ts ≡ Ok x → IsRead SpellsReference (count_reference count_of) (ReferenceFits Fits) count p ts x
+    pub reference_reads : (count p : ℕ) (ts : Tokens) (x : ExpressionFront Reference) → reference_of one count p ts ≡ Ok x → IsRead SpellsReference (count_reference count_of) (ReferenceFits Fits) count p ts x
     unfolding reference_of
     reference_reads count p ts x h = reference_step count p ts x (name_first ts) refl h
 
@@ -354,7 +354,7 @@ OperandsReadBy n None = Unit {0}
 OperandsReadBy zero (Some operand) = ⊥
 OperandsReadBy (suc n) (Some operand) = IsReadBy (IsOperandOf n) operators operand
 
-abbrev OperandRead : (n count p : ℕ) → Tokens → Front Expression → Type 0
+abbrev OperandRead : (n count p : ℕ) → Tokens → ExpressionFront Expression → Type 0
 OperandRead n count p ts x = IsRead SpellsExpression operators (IsOperandOf n) count p ts x
 
 lists_read : (n : ℕ) (one : Option Reader) → OperandsReadBy n one → ListsReadBy (ListFits n) listed_operators (option_map expression_of one)
@@ -364,7 +364,7 @@ lists_read (suc n) (Some operand) reads = λ count p ts x h.
     counted_as SpellsClosed (total operators) listed_operators (Every (NestsWithin n)) (ListNests n) count p ts x total_is (list_nests n)
     (list_reads (NestsWithin n) operators (expression_of operand) (expression_read n operand reads) count p ts x h)
 
-referred_read : (n : ℕ) (one : Option Reader) → OperandsReadBy n one → (count p : ℕ) (ts : Tokens) (x : Front Expression)
+referred_read : (n : ℕ) (one : Option Reader) → OperandsReadBy n one → (count p : ℕ) (ts : Tokens) (x : ExpressionFront Expression)
     → (reference_of (option_map expression_of one) count p ts >>= λ y. Ok (record { value = Referred y.value; count = y.count; next = y.next; rest = y.rest })) ≡ Ok x → OperandRead n count p ts x
 referred_read n one reads count p ts x h =
     let a = bind_ok (reference_of (option_map expression_of one) count p ts) _ x h in
@@ -372,7 +372,7 @@ referred_read n one reads count p ts x h =
     (reference_reads (ListFits n) listed_operators (option_map expression_of one) (lists_read n one reads) count p ts a.0 a.1) in
     subst (OperandRead n count p ts) (same_ok a.2) (record { front = s.front; whole = s.whole; spelled = s.spelled; place = s.place; counted = s.counted; few = s.few; fits = (s.fits, refl) })
 
-prefix_opened : (n : ℕ) (one : Option Reader) → OperandsReadBy n one → (operator : PrefixOperator) (count p : ℕ) (ts : Tokens) (x : Front Expression) → count < operator_limit
+prefix_opened : (n : ℕ) (one : Option Reader) → OperandsReadBy n one → (operator : PrefixOperator) (count p : ℕ) (ts : Tokens) (x : ExpressionFront Expression) → count < operator_limit
     → opened one p (λ operand. operand (count + 1) (p + 1) ts >>= λ y. Ok (record { value = Prefix operator p y.value; count = y.count; next = y.next; rest = y.rest })) ≡ Ok x
     → OperandRead n count p (Sign (prefix_sign operator) ∷ ts) x
 prefix_opened n None reads operator count p ts x few h = cc
@@ -390,14 +390,14 @@ prefix_opened (suc n) (Some operand) reads operator count p ts x few h =
       fits = (s.fits.0, refl);
     })
 
-prefix_read : (n : ℕ) (one : Option Reader) → OperandsReadBy n one → (operator : PrefixOperator) (count p : ℕ) (ts : Tokens) (x : Front Expression) → prefix_of one operator count p ts ≡ Ok x
+prefix_read : (n : ℕ) (one : Option Reader) → OperandsReadBy n one → (operator : PrefixOperator) (count p : ℕ) (ts : Tokens) (x : ExpressionFront Expression) → prefix_of one operator count p ts ≡ Ok x
     → OperandRead n count p (Sign (prefix_sign operator) ∷ ts) x
 unfolding prefix_of
 prefix_read n one reads operator count p ts x h =
     let g = limited_ok count p (opened one p (λ operand. operand (count + 1) (p + 1) ts >>= λ y. Ok (record { value = Prefix operator p y.value; count = y.count; next = y.next; rest = y.rest }))) x h in
     prefix_opened n one reads operator count p ts x g.0 g.1
 
-parenthesis_read : (n : ℕ) (one : Option Reader) → OperandsReadBy n one → (count p : ℕ) (ts : Tokens) (x : Front Expression) → parenthesis_of one count p ts ≡ Ok x → OperandRead n count p (Sign signs.OpenParenthesis ∷ ts) x
+parenthesis_read : (n : ℕ) (one : Option Reader) → OperandsReadBy n one → (count p : ℕ) (ts : Tokens) (x : ExpressionFront Expression) → parenthesis_of one count p ts ≡ Ok x → OperandRead n count p (Sign signs.OpenParenthesis ∷ ts) x
 unfolding parenthesis_of
 parenthesis_read n None reads count p ts x h = cc
 parenthesis_read zero (Some operand) reads count p ts x h = absurd reads
@@ -415,8 +415,8 @@ parenthesis_read (suc n) (Some operand) reads count p ts x h =
       fits = (s.fits, refl);
     })
 
-constant_step : (n count p : ℕ) (t : TokenText) (v : _) (ts : Tokens) (x : Front Expression) → t ≡ constant_token v
-    → ◌≡◌ {A = Result (Front Expression) Fault} (Ok (record { value = Constant p v; count = count; next = p + 1; rest = ts })) (Ok x) → OperandRead n count p (t ∷ ts) x
+constant_step : (n count p : ℕ) (t : TokenText) (v : _) (ts : Tokens) (x : ExpressionFront Expression) → t ≡ constant_token v
+    → ◌≡◌ {A = Result (ExpressionFront Expression) Fault} (Ok (record { value = Constant p v; count = count; next = p + 1; rest = ts })) (Ok x) → OperandRead n count p (t ∷ ts) x
 constant_step n count p t v ts x is h =
     subst (OperandRead n count p (t ∷ ts)) (same_ok h) (record {
       front = t ∷ [];
@@ -428,7 +428,7 @@ constant_step n count p t v ts x is h =
       fits = (tt, refl);
     })
 
-constant_read : (n count p : ℕ) (ts : Tokens) (x : Front Expression) → constant_at count p ts ≡ Ok x → OperandRead n count p ts x
+constant_read : (n count p : ℕ) (ts : Tokens) (x : ExpressionFront Expression) → constant_at count p ts ≡ Ok x → OperandRead n count p ts x
 unfolding constant_at
 constant_read n count p [] x h = absurd (wanted_none ExpressionExpected p [] x h)
 constant_read n count p (Decimal v d ∷ ts) x h = constant_step n count p (Decimal v d) (constants.Decimal v d) ts x refl h
@@ -478,17 +478,17 @@ outermost_lists zero (Some operand) reads = absurd reads
 outermost_lists (suc n) (Some operand) reads = λ count p ts x h.
     list_reads (OutermostFits n) (λ e. 0) (outermost (expression_of operand)) (outermost_read n (expression_of operand) (expression_read n operand reads)) count p ts x h
 
-pub reference_at_read : (levels p : ℕ) (ts : Tokens) (x : Front Reference) → reference_at levels p ts ≡ Ok x
+pub reference_at_read : (levels p : ℕ) (ts : Tokens) (x : ExpressionFront Reference) → reference_at levels p ts ≡ Ok x
     → IsRead SpellsReference (count_reference (total (λ e. 0))) (ReferenceFits (λ list. Deeper (λ m. Every (OutermostFits m) list) levels)) 0 p ts x
 unfolding reference_at
 reference_at_read levels p ts x h =
     reference_reads (λ list. Deeper (λ m. Every (OutermostFits m) list) levels) (total (λ e. 0)) (option_map (argument_of true) (inside levels)) (outermost_lists levels (inside levels) (inside_read levels)) 0 p ts x h
 
-pub expression_spelled : (levels p : ℕ) (ts : Tokens) (x : Front Expression) → expression_at levels 0 p ts ≡ Ok x → FrontSpells (SpellsOutermost levels) p ts x
+pub expression_spelled : (levels p : ℕ) (ts : Tokens) (x : ExpressionFront Expression) → expression_at levels 0 p ts ≡ Ok x → FrontSpells (SpellsOutermost levels) p ts x
 expression_spelled levels p ts x h =
     let s = expression_at_read levels 0 p ts x h in
     let few : operators x.value ≤ operator_limit = omega (arith, s.counted, s.few (omega arith)) in
     (s.front, s.whole, s.place, (s.spelled, (s.fits, few)))
 
-pub reference_spelled : (levels p : ℕ) (ts : Tokens) (x : Front Reference) → reference_at levels p ts ≡ Ok x → FrontSpells (SpellsReferenceAlone levels) p ts x
+pub reference_spelled : (levels p : ℕ) (ts : Tokens) (x : ExpressionFront Reference) → reference_at levels p ts ≡ Ok x → FrontSpells (SpellsReferenceAlone levels) p ts x
 reference_spelled levels p ts x h = let s = reference_at_read levels p ts x h in (s.front, s.whole, s.place, (s.spelled, s.fits))

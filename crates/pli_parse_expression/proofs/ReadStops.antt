@@ -22,7 +22,7 @@ use Rattle.pli_parse_fault.proofs.OnePlace.{one_place}
 use Rattle.pli_parse_fault.proofs.ReadingStops.{Reads, SameFirst, Completes, Stops, EndsBehind, meets_again, behind_token, rebound, misfit_stops, fault_stops, token_stops, nothing_stops, first_decides, stops_made, stops_then, is_first, whole_spells}
 use Rattle.pli_parse_expression.specs.Operators.{operator_limit, level_of, prefix_sign, infix_sign, joining_sign, infix_of, not_below, operator_at, joining_at, begins_expression}
 use Rattle.pli_parse_expression.specs.Expressions.{operators, EndsExpression, SpellsOutermost, SpellsReferenceAlone}
-use Rattle.pli_parse_expression.specs.Reading.{Front, Reader, limited, opened, closed, operand_then, grouped, infix_from, expression_of, listed_behind, further_from, listed_at, list_at, arguments_at, part_behind, parts_behind, joined_from, reference_behind, reference_of, prefix_of, parenthesis_of, constant_at, operand_of, inside, operand_at, expression_at, argument_of, reference_at}
+use Rattle.pli_parse_expression.specs.Reading.{ExpressionFront, Reader, limited, opened, closed, operand_then, grouped, infix_from, expression_of, listed_behind, further_from, listed_at, list_at, arguments_at, part_behind, parts_behind, joined_from, reference_behind, reference_of, prefix_of, parenthesis_of, constant_at, operand_of, inside, operand_at, expression_at, argument_of, reference_at}
 use Rattle.pli_parse_expression.specs.Ends.{NoneGoesOn, NoInfix, goes_on_behind}
 use Rattle.pli_parse_expression.proofs.EndTools.{NotOpen, not_joined}
 use Rattle.pli_parse_expression.proofs.ReadingTools.{operator_ok, joining_ok, name_ok, comma_ok}
@@ -30,7 +30,7 @@ use Rattle.pli_parse_expression.proofs.ReadFaults.{Stands, IsSound, IsSoundWhere
 use Rattle.pli_parse_expression.proofs.ReadIsSpelled.{expression_spelled, reference_spelled}
 use Rattle.pli_parse_expression.proofs.SpelledIsRead.{all_read, infix_is_none, infix_ends, operator_there, no_arguments, joining_there, prefix_there, expression_ends_read, reference_ends_read}
 
-abbrev fronts : {A : Type 0} → Reads (Front A)
+abbrev fronts : {A : Type 0} → Reads (ExpressionFront A)
 fronts {A = A} =
     record {
       next = λ x. x.next;
@@ -125,7 +125,7 @@ same_begin (Sign signs.Not ∷ ts) us same = meets_again begins_expression (Sign
 same_begin (t ∷ ts) us same = meets_again begins_expression t ts us (begins_expression (t ∷ ts)) (λ vs. refl) same
 
 -- what was passed over
-passes_of : {A : Type 0} (least p : ℕ) (ts : Tokens) (r : Result (Front A) Fault) (x : Front A) → Stands least p ts r → r ≡ Ok x → Passes least p ts x.next x.rest
+passes_of : {A : Type 0} (least p : ℕ) (ts : Tokens) (r : Result (ExpressionFront A) Fault) (x : ExpressionFront A) → Stands least p ts r → r ≡ Ok x → Passes least p ts x.next x.rest
 passes_of least p ts r x h e = subst (Stands least p ts) e h
 
 -- a reader stops at a token that cannot stand
@@ -137,7 +137,7 @@ closed_stops : {A : Type 0} (First Last : Tokens → Type 0) → ((us : Tokens) 
 unfolding taken behind misfit
 closed_stops {A = A} First Last first value count p ts = by ts
   where
-    end : Completes {X = Front A} fronts (λ b us. closed value count p us) First Last []
+    end : Completes {X = ExpressionFront A} fronts (λ b us. closed value count p us) First Last []
     end = (
       Sign signs.CloseParenthesis ∷ [],
       (λ us last. (record { value = value; count = count; next = p + 1; rest = us }, λ b small. refl)),
@@ -155,12 +155,12 @@ module _ (operand : Reader) (stops : IsStopping operand) (sound : IsSound operan
       → Stops fronts (λ b us. infix_from operand b min count left p us) EndsExpression EndsExpression p ts (infix_from operand bound min count left p ts)
 
   -- a loop ends before what continues no expression
-  loop_ends : (min : ℕ) (made : Front Expression → Expression) → EndsBehind fronts fronts (λ b z. infix_from operand b min z.count (made z) z.next z.rest) EndsExpression EndsExpression
+  loop_ends : (min : ℕ) (made : ExpressionFront Expression → Expression) → EndsBehind fronts fronts (λ b z. infix_from operand b min z.count (made z) z.next z.rest) EndsExpression EndsExpression
   loop_ends min made = (
     [],
     (λ us last. last),
     (λ z us last.
-        let w : Front Expression = record { value = z.value; count = z.count; next = z.next; rest = us } in (
+        let w : ExpressionFront Expression = record { value = z.value; count = z.count; next = z.next; rest = us } in (
           record { value = made w; count = z.count; next = z.next; rest = us },
           λ b small. infix_ends operand b min z.count (made w) z.next us small (infix_is_none min us (ends_infix us last)),
         )),
@@ -193,8 +193,8 @@ module _ (operand : Reader) (stops : IsStopping operand) (sound : IsSound operan
       (operand_then operand (infix_from operand bound) (level_of o + 1) (count + 1) (p + 1) ts >>= λ y. infix_from operand bound min y.count (Infix o p left y.value) y.next y.rest)
   right_stops bound more min count left p o ts small =
       let top : ℕ = level_of o + 1 in
-      let first : Result (Front Expression) Fault = operand (count + 1) (p + 1) ts in
-      let right : Result (Front Expression) Fault = operand_then operand (infix_from operand bound) top (count + 1) (p + 1) ts in
+      let first : Result (ExpressionFront Expression) Fault = operand (count + 1) (p + 1) ts in
+      let right : Result (ExpressionFront Expression) Fault = operand_then operand (infix_from operand bound) top (count + 1) (p + 1) ts in
       let passes : Stands 1 (p + 1) ts right =
       stands_then 1 0 (p + 1) ts first (λ z. infix_from operand bound top z.count z.value z.next z.rest) (sound (count + 1) (p + 1) ts)
       (λ z s. loop_stands operand sound bound top z.count z.value z.next z.rest (omega (arith, s.0, s.1, small)))
@@ -224,7 +224,7 @@ module _ (operand : Reader) (stops : IsStopping operand) (sound : IsSound operan
       less : length x.1 < bound
       less = omega (arith, small, ap length shape.0)
 
-      read : Result (Front Expression) Fault
+      read : Result (ExpressionFront Expression) Fault
       read = operand_then operand (infix_from operand bound) (level_of x.0 + 1) (count + 1) (p + 1) x.1 >>= λ y. infix_from operand bound min y.count (Infix x.0 p left y.value) y.next y.rest
 
       by : (b : Bool) → nat_lt count operator_limit ≡ b
@@ -326,7 +326,7 @@ module _ (one : Reader) (stops : IsStopping one) (sound : IsSound one) where
       (λ y g. closed_stops Closes Last (λ us. tt) (Listed x.value y.value) y.count y.next y.rest))
 
   -- `)` alone
-  list_completes : (Last : Tokens → Type 0) (count p : ℕ) → Completes {X = Front Expressions} fronts (λ b us. list_at one count p us) Any Last []
+  list_completes : (Last : Tokens → Type 0) (count p : ℕ) → Completes {X = ExpressionFront Expressions} fronts (λ b us. list_at one count p us) Any Last []
   unfolding list_at begins_expression taken behind
   list_completes Last count p = (
     Sign signs.CloseParenthesis ∷ [],
@@ -341,7 +341,7 @@ module _ (one : Reader) (stops : IsStopping one) (sound : IsSound one) where
   list_stops : (Last : Tokens → Type 0) (count p : ℕ) (ts : Tokens) → Stops fronts (λ b us. list_at one count p us) Any Last p ts (list_at one count p ts)
   list_stops Last count p ts = subst (Stops fronts (λ b us. list_at one count p us) Any Last p ts) (sym (list_here count p ts (begins_expression ts) refl)) (by (begins_expression ts) refl)
     where
-      passes : (r : Result (Front Expressions) Fault) → Stands 1 p ts r → (x : Front Expressions) → r ≡ Ok x → p < x.next
+      passes : (r : Result (ExpressionFront Expressions) Fault) → Stands 1 p ts r → (x : ExpressionFront Expressions) → r ≡ Ok x → p < x.next
       passes r s x e = let less = passes_of 1 p ts r x s e in omega (arith, less.0)
 
       by : (c : Bool) → begins_expression ts ≡ c → Stops fronts (λ b us. list_at one count p us) Any Last p ts (cond c (listed_at one count p ts) (closed Empty count p ts))
@@ -357,7 +357,7 @@ abbrev StopsWhere : Option Reader → Type 0
 StopsWhere None = Unit {0}
 StopsWhere (Some one) = IsStopping one
 
-abbrev ArgumentsStop : (one : Option Reader) (count p : ℕ) (ts : Tokens) → Result (Front Arguments) Fault → Type 0
+abbrev ArgumentsStop : (one : Option Reader) (count p : ℕ) (ts : Tokens) → Result (ExpressionFront Arguments) Fault → Type 0
 ArgumentsStop one count p ts r = Stops fronts (λ b us. arguments_at one count p us) EndsExpression EndsExpression p ts r
 
 opened_stop : (one : Option Reader) → StopsWhere one → IsSoundWhere one → (count p : ℕ) (ts : Tokens)
@@ -401,7 +401,7 @@ abbrev IsBound : (ℕ → Tokens → ℕ) → Type 0
 IsBound size = (b : ℕ) (us : Tokens) → length us < b → length us < size b us
 
 -- the arguments behind a name, and further parts
-abbrev behind_name : {A : Type 0} (one : Option Reader) (size : ℕ → Tokens → ℕ) (make : Arguments → JoinedParts → A) (count p b : ℕ) → Tokens → Result (Front A) Fault
+abbrev behind_name : {A : Type 0} (one : Option Reader) (size : ℕ → Tokens → ℕ) (make : Arguments → JoinedParts → A) (count p b : ℕ) → Tokens → Result (ExpressionFront A) Fault
 behind_name one size make count p b us =
     arguments_at one count p us >>= λ x. joined_from one (size b x.rest) x.count x.next x.rest >>= λ y. Ok (record { value = make x.value y.value; count = y.count; next = y.next; rest = y.rest })
 
@@ -439,7 +439,7 @@ module _ (one : Option Reader) (stops : StopsWhere one) (sound : IsSoundWhere on
       (λ b us less. (size b us, bounds b us less, refl)) (more x.rest few x.count x.next x.rest (bounds bound x.rest (omega (arith, few, small))))))
 
   -- a name alone
-  part_completes : (joining : Joining) (count p : ℕ) → Completes {X = Front JoinedParts} fronts (λ b us. part_behind one (joined_from one b) joining count p us (name_first us)) Any EndsExpression []
+  part_completes : (joining : Joining) (count p : ℕ) → Completes {X = ExpressionFront JoinedParts} fronts (λ b us. part_behind one (joined_from one b) joining count p us (name_first us)) Any EndsExpression []
   unfolding name_first
   part_completes joining count p = (
     a_name ∷ [],
@@ -516,7 +516,7 @@ mapped_stops None stops sound = tt
 mapped_stops (Some operand) stops sound = expression_stops operand stops sound
 
 -- a constant alone
-operand_completes : (one : Option Reader) (count p : ℕ) → Completes {X = Front Expression} fronts (λ b us. operand_of one count p us) Any EndsExpression []
+operand_completes : (one : Option Reader) (count p : ℕ) → Completes {X = ExpressionFront Expression} fronts (λ b us. operand_of one count p us) Any EndsExpression []
 unfolding operand_of constant_at
 operand_completes one count p = (
   Decimal 1 1 ∷ [],
@@ -524,14 +524,14 @@ operand_completes one count p = (
   (λ none us last. tt),
 )
 
-abbrev OperandStops : (one : Option Reader) (count p : ℕ) (ts : Tokens) → Result (Front Expression) Fault → Type 0
+abbrev OperandStops : (one : Option Reader) (count p : ℕ) (ts : Tokens) → Result (ExpressionFront Expression) Fault → Type 0
 OperandStops one count p ts r = Stops fronts (λ b us. operand_of one count p us) Any EndsExpression p ts r
 
 prefix_stops : (one : Option Reader) → StopsWhere one → (operator : PrefixOperator) (count p : ℕ) (ts : Tokens) → OperandStops one count p (Sign (prefix_sign operator) ∷ ts) (prefix_of one operator count p ts)
 unfolding prefix_of
 prefix_stops None stops operator count p ts = by (nat_lt count operator_limit) refl
   where
-    deep : (b : Bool) (r : Result (Front Expression) Fault) → r ≡ at_fault NestedTooDeep p → cond b r (at_fault NestedTooDeep p) ≡ at_fault NestedTooDeep p
+    deep : (b : Bool) (r : Result (ExpressionFront Expression) Fault) → r ≡ at_fault NestedTooDeep p → cond b r (at_fault NestedTooDeep p) ≡ at_fault NestedTooDeep p
     deep true r e = e
     deep false r e = refl
 
@@ -544,7 +544,7 @@ prefix_stops None stops operator count p ts = by (nat_lt count operator_limit) r
         (λ us b less. prefix_there None operator count p us ∙ deep (nat_lt count operator_limit) (at_fault NestedTooDeep p) refl) (operand_completes None count p)
 prefix_stops (Some operand) stops operator count p ts = by (nat_lt count operator_limit) refl
   where
-    read : Tokens → Result (Front Expression) Fault
+    read : Tokens → Result (ExpressionFront Expression) Fault
     read us = operand (count + 1) (p + 1) us >>= λ x. Ok (record { value = Prefix operator p x.value; count = x.count; next = x.next; rest = x.rest })
 
     by : (b : Bool) → nat_lt count operator_limit ≡ b → OperandStops (Some operand) count p (Sign (prefix_sign operator) ∷ ts) (cond b (read ts) (at_fault NestedTooDeep p))

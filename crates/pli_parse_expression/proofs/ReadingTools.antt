@@ -12,10 +12,10 @@ use Rattle.pli_base.specs.declared.token.Sign.TheVariants as signs
 use Rattle.pli_base.specs.declared.token.TokenText.{TokenText}
 use Rattle.pli_base.specs.declared.token.TokenText.TheVariants.{Word, Sign}
 use Rattle.pli_parse_expression.specs.Operators.{operator_limit, operand_level, level_of, infix_sign, joining_sign, infix_of, not_below, operator_at, joining_at}
-use Rattle.pli_parse_expression.specs.Reading.{Front, limited, closed}
+use Rattle.pli_parse_expression.specs.Reading.{ExpressionFront, limited, closed}
 use Rattle.pli_base.specs.Words.{Tokens, name_first, behind, is_comma, is_close}
 use Rattle.pli_base.specs.Reading.{expected, taken}
-use Rattle.pli_parse_fault.proofs.Steps.{same_ok, some_same, bind_ok}
+use Rattle.pli_parse_fault.proofs.StepLemmas.{same_ok, some_same, bind_ok}
 
 -- a test passed
 pub guard_ok : {A : Type 0} (b : Bool) (r : Result A Fault) (e : Fault) (x : A) → cond b r (Err e) ≡ Ok x → (b ≡ true) × (r ≡ Ok x)
@@ -34,8 +34,8 @@ close_ok p [] us h = cc
 close_ok p (Sign signs.CloseParenthesis ∷ ts) us h = ap (λ vs. Sign signs.CloseParenthesis ∷ vs) (same_ok h)
 close_ok p (t ∷ ts) us h = cc
 
-pub closed_ok : {A : Type 0} (value : A) (count p : ℕ) (ts : Tokens) (x : Front A) → closed value count p ts ≡ Ok x
-    → (us : Tokens) × (ts ≡ Sign signs.CloseParenthesis ∷ us) × (◌≡◌ {A = Front A} (record { value = value; count = count; next = p + 1; rest = us }) x)
+pub closed_ok : {A : Type 0} (value : A) (count p : ℕ) (ts : Tokens) (x : ExpressionFront A) → closed value count p ts ≡ Ok x
+    → (us : Tokens) × (ts ≡ Sign signs.CloseParenthesis ∷ us) × (◌≡◌ {A = ExpressionFront A} (record { value = value; count = count; next = p + 1; rest = us }) x)
 closed_ok value count p ts x h = let b = bind_ok (taken is_close ParenthesisExpected p ts) _ x h in (b.0, close_ok p ts b.0 b.1, same_ok b.2)
 
 -- the sign of the infix operator that a token is, or the token

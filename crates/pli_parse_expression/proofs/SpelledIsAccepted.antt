@@ -17,8 +17,8 @@ use Rattle.pli_base.specs.declared.token.TokenText.TheVariants as tokens
 use Rattle.pli_parse_expression.specs.Operators.{prefix_sign, infix_sign, joining_sign, constant_token}
 use Rattle.pli_parse_expression.specs.Expressions.{SpellsExpression, SpellsReference, SpellsJoined, SpellsArguments, SpellsListed, SpellsFurther}
 use Rattle.pli_parse_expression.specs.Assignments.{IsAssignment, kind_of, move, may_end, moved, accepts, is_assignment}
-use Rattle.pli_parse_expression.specs.declared.assignment.Kind.{Kind}
-use Rattle.pli_parse_expression.specs.declared.assignment.Kind.TheVariants.{Name, Value, Opens, Closes, Separates, Joins, Equal, Sign, Operates}
+use Rattle.pli_parse_expression.specs.declared.assignment.TokenKind.{TokenKind}
+use Rattle.pli_parse_expression.specs.declared.assignment.TokenKind.TheVariants.{Name, Value, Opens, Closes, Separates, Joins, Equal, Sign, Operates}
 use Rattle.pli_parse_expression.specs.declared.assignment.State.{State}
 use Rattle.pli_parse_expression.specs.declared.assignment.State.TheVariants.{NameWanted, OperandWanted, ListBegun, BehindName, BehindList, BehindOperand}
 use Rattle.pli_parse_expression.specs.declared.assignment.Frame.{Frame}
@@ -89,7 +89,7 @@ start_is_name : (s : State) → IsStart s → IsNameStart s
 start_is_name = start_each IsNameStart tt tt
 
 -- behind an operand of an expression such a token leads to the next one
-abbrev JoinsOperands : Kind → Type 0
+abbrev JoinsOperands : TokenKind → Type 0
 JoinsOperands k = (f : Frame) → InExpression f → (s : State) → IsBehind s → move s f k ≡ Goes OperandWanted
 
 equal_joins : JoinsOperands Equal

@@ -16,18 +16,18 @@ use Rattle.pli_base.specs.declared.token.Sign.TheVariants as signs
 use Rattle.pli_base.specs.declared.token.TokenText.TheVariants.{Word, Sign}
 use Rattle.pli_parse_expression.specs.Operators.{operator_limit, operand_level, level, level_of, prefix_sign, infix_sign, joining_sign, infix_of, not_below, operator_at, joining_at, begins_expression, continues_reference}
 use Rattle.pli_parse_expression.specs.Expressions.{SpellsExpression, SpellsReference, SpellsJoined, SpellsArguments, SpellsListed, SpellsFurther, operators, reference_operators, listed_operators, Deeper, NestsWithin, ReferenceNests, JoinedNest, ArgumentsNest, ListNests, OutermostFits, SpellsOutermost, Every, GivenFits, JoinedFits, ReferenceFits, SpellsReferenceAlone, EndsReference, EndsExpression}
-use Rattle.pli_parse_expression.specs.Reading.{Front, Reader, closed, operand_then, grouped, infix_from, expression_of, further_from, listed_at, list_at, arguments_at, parts_behind, joined_from, reference_of, prefix_of, parenthesis_of, constant_at, operand_of, inside, operand_at, expression_at, outermost, argument_of, reference_at}
+use Rattle.pli_parse_expression.specs.Reading.{ExpressionFront, Reader, closed, operand_then, grouped, infix_from, expression_of, further_from, listed_at, list_at, arguments_at, parts_behind, joined_from, reference_of, prefix_of, parenthesis_of, constant_at, operand_of, inside, operand_at, expression_at, outermost, argument_of, reference_at}
 use Rattle.pli_parse_expression.specs.Ends.{parts_go_on, NoneGoesOn, ReferenceEnds, NoInfix, ExpressionEnds}
 use Rattle.pli_parse_expression.proofs.EndTools.{OperandEnds, operand_any, any_expression, any_reference, NotOpen, ArgumentsEnd, arguments_end, not_joined}
 use Rattle.pli_parse_expression.proofs.ReadingTools.{level_small}
-use Rattle.pli_parse_fault.proofs.Steps.{same_ok}
+use Rattle.pli_parse_fault.proofs.StepLemmas.{same_ok}
 use Rattle.pli_parse_expression.proofs.ReadIsSpelled.{IsOperandOf, total, count_given, count_joined, count_reference, total_is, reference_is, ListFits}
 use Rattle.pli_base.specs.Words.{Tokens, name_first, behind}
 use Rattle.pli_base.specs.Results.{◌>>=◌}
 use Rattle.pli_base.specs.Reading.{at_fault, taken}
 
 -- what is read of tokens with more behind them
-abbrev pub all_read : {A : Type 0} → A → (count next : ℕ) → Tokens → Result (Front A) Fault
+abbrev pub all_read : {A : Type 0} → A → (count next : ℕ) → Tokens → Result (ExpressionFront A) Fault
 all_read value count next rest = Ok (record { value = value; count = count; next = next; rest = rest })
 
 -- the reader reads what is spelled so, before what stops it
@@ -102,7 +102,7 @@ module _ (levels : ℕ) (operand : Reader) (operand_again : ReadsAgain (IsOperan
     ap (λ r. r >>= λ z. infix_from operand bound min z.count z.value z.next z.rest) (operand_again e count p ts more spelled (nests, is) few stops),
   )
 
-  climb_infix : (o : InfixOperator) (l r : Expression) (min count p q : ℕ) (ls rs more : Tokens) (b : ℕ) (read : Result (Front Expression) Fault) → min ≤ level_of o → count < operator_limit
+  climb_infix : (o : InfixOperator) (l r : Expression) (min count p q : ℕ) (ls rs more : Tokens) (b : ℕ) (read : Result (ExpressionFront Expression) Fault) → min ≤ level_of o → count < operator_limit
       → operator_at (level_of o + 1) more ≡ None → length (Sign (infix_sign o) ∷ (rs ++ more)) < b
       → read ≡ infix_from operand b min count l p (Sign (infix_sign o) ∷ (rs ++ more))
       → ((bound : ℕ) → length (rs ++ more) < bound → Climbs r (level_of o + 1) bound (count + 1) (p + 1) rs more)
@@ -111,7 +111,7 @@ module _ (levels : ℕ) (operand : Reader) (operand_again : ReadsAgain (IsOperan
   climb_infix o l r min count p q ls rs more zero read high few none small so_far right = absurd (omega arith)
   climb_infix o l r min count p q ls rs more (suc bound) read high few none small so_far right =
       let i = right bound (omega arith) in
-      let further : Result (Front Expression) Fault = operand_then operand (infix_from operand bound) (level_of o + 1) (count + 1) (p + 1) (rs ++ more) >>= λ y. infix_from operand bound min y.count (Infix o p l y.value) y.next y.rest in (
+      let further : Result (ExpressionFront Expression) Fault = operand_then operand (infix_from operand bound) (level_of o + 1) (count + 1) (p + 1) (rs ++ more) >>= λ y. infix_from operand bound min y.count (Infix o p l y.value) y.next y.rest in (
         bound,
         omega (arith, length-append rs more),
         so_far
@@ -384,7 +384,7 @@ prefix_again (suc n) None again o at e count p ts more spelled nests few stops =
 prefix_again (suc n) (Some operand) again o at e count p ts more (us, shape, place, is, spelled) nests few stops =
     let behind : p + 1 + length us ≡ p + length ts = omega (arith, ap length shape) in
     let counted : count + 1 + operators e ≡ count + (1 + operators e) = omega arith in
-    let read : Result (Front Expression) Fault = operand (count + 1) (p + 1) (us ++ more) >>= λ x. all_read (Prefix o p x.value) x.count x.next x.rest in
+    let read : Result (ExpressionFront Expression) Fault = operand (count + 1) (p + 1) (us ++ more) >>= λ x. all_read (Prefix o p x.value) x.count x.next x.rest in
     ap (λ vs. operand_of (Some operand) count p (vs ++ more)) shape
     ∙ prefix_there (Some operand) o count p (us ++ more)
     ∙ ap (λ b. cond b read (at_fault NestedTooDeep p)) (lt-ltb count operator_limit (omega arith))
@@ -461,7 +461,7 @@ pub reference_is_read : (levels p : ℕ) (ts more : Tokens) (r : Reference) → 
 reference_is_read levels p ts more r spelled stops = reference_ends_read levels p ts more r spelled (any_reference r more stops)
 
 same_value : {A : Type 0} (e f : A) (m n p q : ℕ) (ts us : Tokens) → all_read e m p ts ≡ all_read f n q us → e ≡ f
-same_value e f m n p q ts us h = ap (λ (x : Front _). x.value) (same_ok h)
+same_value e f m n p q ts us h = ap (λ (x : ExpressionFront _). x.value) (same_ok h)
 
 pub at_most_one : (levels p : ℕ) (ts : Tokens) (e f : Expression) → SpellsOutermost levels p ts e → SpellsOutermost levels p ts f → e ≡ f
 at_most_one levels p ts e f h g =

@@ -7,10 +7,11 @@ use Rattle.pli_base.specs.declared.token.TokenText.{TokenText}
 use Rattle.pli_base.specs.declared.token.TokenText.TheVariants as tokens
 use Rattle.pli_parse_expression.specs.Expressions.{SpellsReference, SpellsExpression}
 use Rattle.pli_base.specs.Words.{Tokens}
-use Rattle.pli_parse_expression.specs.declared.assignment.Kind.{Kind}
-use Rattle.pli_parse_expression.specs.declared.assignment.Kind.TheVariants.{Name, Value, Opens, Closes}
-use Rattle.pli_parse_expression.specs.declared.assignment.Kind.TheVariants.{Separates, Joins, Equal, Sign}
-use Rattle.pli_parse_expression.specs.declared.assignment.Kind.TheVariants.{Negates, Operates, Foreign}
+use Rattle.pli_parse_expression.specs.declared.assignment.TokenKind.{TokenKind}
+use Rattle.pli_parse_expression.specs.declared.assignment.TokenKind.TheVariants.{Name, Value, Opens, Closes}
+use Rattle.pli_parse_expression.specs.declared.assignment.TokenKind.TheVariants.{Separates, Joins, Equal}
+use Rattle.pli_parse_expression.specs.declared.assignment.TokenKind.TheVariants.{Sign}
+use Rattle.pli_parse_expression.specs.declared.assignment.TokenKind.TheVariants.{Negates, Operates, Foreign}
 use Rattle.pli_parse_expression.specs.declared.assignment.State.{State}
 use Rattle.pli_parse_expression.specs.declared.assignment.State.TheVariants.{NameWanted, OperandWanted}
 use Rattle.pli_parse_expression.specs.declared.assignment.State.TheVariants.{ListBegun, BehindName}
@@ -30,7 +31,7 @@ IsAssignment p ts =
 
 -- what a token can be in an expression: a constant is a value; `+` and `-` are signs, prefix or infix; `^`
 -- negates; the other infix operators operate
-abbrev pub kind_of : TokenText → Kind
+abbrev pub kind_of : TokenText → TokenKind
 kind_of (tokens.Word n) = Name
 kind_of (tokens.Sign signs.OpenParenthesis) = Opens
 kind_of (tokens.Sign signs.CloseParenthesis) = Closes
@@ -59,7 +60,7 @@ kind_of t = Value
 -- it cannot stand there; the test goes on; parentheses begin; they end; or the expression begins.
 
 -- where an operand must come
-abbrev pub operand_move : Kind → Move
+abbrev pub operand_move : TokenKind → Move
 operand_move Name = Goes BehindName
 operand_move Value = Goes BehindOperand
 operand_move Opens = Enters Group OperandWanted
@@ -68,7 +69,7 @@ operand_move Negates = Goes OperandWanted
 operand_move k = Stops
 
 -- behind an operand that nothing joins any more
-abbrev pub behind_move : Frame → Kind → Move
+abbrev pub behind_move : Frame → TokenKind → Move
 behind_move Target Equal = Turns
 behind_move Target k = Stops
 behind_move Group Closes = Leaves
@@ -80,7 +81,7 @@ behind_move f Operates = Goes OperandWanted
 behind_move f k = Stops
 
 -- what the next token does, by what is wanted and what is open
-abbrev pub move : State → Frame → Kind → Move
+abbrev pub move : State → Frame → TokenKind → Move
 move NameWanted f Name = Goes BehindName
 move NameWanted f k = Stops
 move OperandWanted f k = operand_move k

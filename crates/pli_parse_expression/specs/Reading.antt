@@ -25,7 +25,7 @@ use Rattle.pli_base.specs.Reading.{at_fault, expected, taken}
 
 -- what was read, how many operators the outermost expression has so far, the place behind it and the tokens
 -- from there
-pub record Front (A : Type 0) : Type 0 where
+pub record ExpressionFront (A : Type 0) : Type 0 where
   pub value : A
   pub count : ℕ
   pub next : ℕ
@@ -33,7 +33,7 @@ pub record Front (A : Type 0) : Type 0 where
 
 -- what reads an expression behind so many operators
 abbrev pub Reader : Type 0
-Reader = (count p : ℕ) → Tokens → Result (Front Expression) Fault
+Reader = (count p : ℕ) → Tokens → Result (ExpressionFront Expression) Fault
 
 -- one operator more, if there are not too many before it
 abbrev pub limited : {A : Type 0} → (count p : ℕ) → Result A Fault → Result A Fault
@@ -45,7 +45,7 @@ opened None p read = at_fault NestedTooDeep p
 opened (Some inside) p read = read inside
 
 -- behind a value: its closing parenthesis
-abbrev pub closed : {A : Type 0} → A → (count p : ℕ) → Tokens → Result (Front A) Fault
+abbrev pub closed : {A : Type 0} → A → (count p : ℕ) → Tokens → Result (ExpressionFront A) Fault
 closed value count p ts =
     taken is_close ParenthesisExpected p ts >>= λ us. Ok (record {
       value = value;
@@ -57,15 +57,17 @@ closed value count p ts =
 
 -- an operand, and then what more makes of it
 abbrev pub operand_then : Reader
-    → (more : (min count : ℕ) → Expression → ℕ → Tokens → Result (Front Expression) Fault) → (min : ℕ)
+    → (more : (min count : ℕ) → Expression → ℕ → Tokens → Result (ExpressionFront Expression) Fault)
+    → (min : ℕ)
     → Reader
 operand_then operand more min count p ts = operand count p ts >>= λ x. more min x.count x.value x.next x.rest
 
 -- behind a left operand: an infix operator, its right operand, which takes all that binds tighter, and so on;
 -- or the end
 abbrev pub grouped : Reader
-    → (more : (min count : ℕ) → Expression → ℕ → Tokens → Result (Front Expression) Fault) → (min count : ℕ)
-    → Expression → ℕ → Tokens → Option (InfixOperator × Tokens) → Result (Front Expression) Fault
+    → (more : (min count : ℕ) → Expression → ℕ → Tokens → Result (ExpressionFront Expression) Fault)
+    → (min count : ℕ)
+    → Expression → ℕ → Tokens → Option (InfixOperator × Tokens) → Result (ExpressionFront Expression) Fault
 grouped operand more min count left p ts None =
     Ok (record { value = left; count = count; next = p; rest = ts })
 grouped operand more min count left p ts (Some x) =
@@ -75,7 +77,7 @@ grouped operand more min count left p ts (Some x) =
 -- goes on as long as infix operators of level min or more come; each takes one of the bound, which is more
 -- than the number of tokens
 unfoldable pub infix_from : Reader → (bound min count : ℕ) → Expression → ℕ → Tokens
-    → Result (Front Expression) Fault
+    → Result (ExpressionFront Expression) Fault
 infix_from operand zero min count left p ts = expected ExpressionExpected p ts
 infix_from operand (suc bound) min count left p ts =
     grouped operand (infix_from operand bound) min count left p ts (operator_at min ts)
@@ -91,8 +93,9 @@ unfoldable pub expression_of : Reader → Reader
 expression_of operand count p ts = operand_then operand (infix_from operand (length ts + 1)) 0 count p ts
 
 -- an expression behind a comma, and then what more reads; or the end
-abbrev pub listed_behind : Reader → (more : (count p : ℕ) → Tokens → Result (Front Expressions) Fault)
-    → (count p : ℕ) → Tokens → Option Tokens → Result (Front Expressions) Fault
+abbrev pub listed_behind : Reader → (more : (count p : ℕ) → Tokens
+    → Result (ExpressionFront Expressions) Fault)
+    → (count p : ℕ) → Tokens → Option Tokens → Result (ExpressionFront Expressions) Fault
 listed_behind one more count p ts None = Ok (record { value = Empty; count = count; next = p; rest = ts })
 listed_behind one more count p ts (Some us) =
     one count (p
@@ -105,31 +108,34 @@ listed_behind one more count p ts (Some us) =
 
 -- expressions, each behind a comma, as long as commas come; each takes one of the bound, which is more than
 -- the number of tokens
-unfoldable pub further_from : Reader → (bound count p : ℕ) → Tokens → Result (Front Expressions) Fault
+unfoldable pub further_from : Reader → (bound count p : ℕ) → Tokens
+    → Result (ExpressionFront Expressions) Fault
 further_from one zero count p ts = expected ExpressionExpected p ts
 further_from one (suc bound) count p ts =
     listed_behind one (further_from one bound) count p ts (behind is_comma ts)
 
 -- one expression or more, with commas between, and the closing parenthesis
-unfoldable pub listed_at : Reader → (count p : ℕ) → Tokens → Result (Front Expressions) Fault
+unfoldable pub listed_at : Reader → (count p : ℕ) → Tokens → Result (ExpressionFront Expressions) Fault
 listed_at one count p ts =
     one count p ts >>= λ x. further_from one (length x.rest
     + 1) x.count x.next x.rest >>= λ y. closed (Listed x.value y.value) y.count y.next y.rest
 
 -- behind `(`: expressions and `)`, or `)` alone
-unfoldable pub list_at : Reader → (count p : ℕ) → Tokens → Result (Front Expressions) Fault
+unfoldable pub list_at : Reader → (count p : ℕ) → Tokens → Result (ExpressionFront Expressions) Fault
 list_at one count p ts = if begins_expression ts then listed_at one count p ts else closed Empty count p ts
 
 -- what stands in parentheses behind a name, if there are some
-unfoldable pub arguments_at : Option Reader → (count p : ℕ) → Tokens → Result (Front Arguments) Fault
+unfoldable pub arguments_at : Option Reader → (count p : ℕ) → Tokens
+    → Result (ExpressionFront Arguments) Fault
 arguments_at one count p (Sign OpenParenthesis ∷ ts) =
     opened one p (λ one. list_at one count (p
     + 1) ts >>= λ x. Ok (record { value = Given x.value; count = x.count; next = x.next; rest = x.rest }))
 arguments_at one count p ts = Ok (record { value = Absent; count = count; next = p; rest = ts })
 
 -- a part that is joined, from its name on, and then what more reads
-abbrev pub part_behind : Option Reader → (more : (count p : ℕ) → Tokens → Result (Front JoinedParts) Fault)
-    → Joining → (count p : ℕ) → Tokens → Option (Name × Tokens) → Result (Front JoinedParts) Fault
+abbrev pub part_behind : Option Reader → (more : (count p : ℕ) → Tokens
+    → Result (ExpressionFront JoinedParts) Fault)
+    → Joining → (count p : ℕ) → Tokens → Option (Name × Tokens) → Result (ExpressionFront JoinedParts) Fault
 part_behind one more joining count p ts None = expected NameExpected p ts
 part_behind one more joining count p ts (Some n) =
     arguments_at one count (p + 1) n.1 >>= λ x. more x.count x.next x.rest
@@ -141,19 +147,21 @@ part_behind one more joining count p ts (Some n) =
     })
 
 -- the further names of a reference, if a sign joins one
-abbrev pub parts_behind : Option Reader → (more : (count p : ℕ) → Tokens → Result (Front JoinedParts) Fault)
-    → (count p : ℕ) → Tokens → Option (Joining × Tokens) → Result (Front JoinedParts) Fault
+abbrev pub parts_behind : Option Reader → (more : (count p : ℕ) → Tokens
+    → Result (ExpressionFront JoinedParts) Fault)
+    → (count p : ℕ) → Tokens → Option (Joining × Tokens) → Result (ExpressionFront JoinedParts) Fault
 parts_behind one more count p ts None = Ok (record { value = Alone; count = count; next = p; rest = ts })
 parts_behind one more count p ts (Some x) = part_behind one more x.0 count (p + 1) x.1 (name_first x.1)
 
 -- parts, as long as `.` or `->` comes; each takes one of the bound, which is more than the number of tokens
-unfoldable pub joined_from : Option Reader → (bound count p : ℕ) → Tokens → Result (Front JoinedParts) Fault
+unfoldable pub joined_from : Option Reader → (bound count p : ℕ) → Tokens
+    → Result (ExpressionFront JoinedParts) Fault
 joined_from one zero count p ts = expected NameExpected p ts
 joined_from one (suc bound) count p ts = parts_behind one (joined_from one bound) count p ts (joining_at ts)
 
 -- a reference from its first name on
 abbrev pub reference_behind : Option Reader → (count p : ℕ) → Tokens → Option (Name × Tokens)
-    → Result (Front Reference) Fault
+    → Result (ExpressionFront Reference) Fault
 reference_behind one count p ts None = expected NameExpected p ts
 reference_behind one count p ts (Some n) =
     arguments_at one count (p + 1) n.1 >>= λ x. joined_from one (length x.rest + 1) x.count x.next x.rest
@@ -165,12 +173,13 @@ reference_behind one count p ts (Some n) =
     })
 
 -- a reference, whose arguments are read by one
-unfoldable pub reference_of : Option Reader → (count p : ℕ) → Tokens → Result (Front Reference) Fault
+unfoldable pub reference_of : Option Reader → (count p : ℕ) → Tokens
+    → Result (ExpressionFront Reference) Fault
 reference_of one count p ts = reference_behind one count p ts (name_first ts)
 
 -- a prefix operator, which opens a level, and its operand
 unfoldable pub prefix_of : Option Reader → PrefixOperator → (count p : ℕ) → Tokens
-    → Result (Front Expression) Fault
+    → Result (ExpressionFront Expression) Fault
 prefix_of inside operator count p ts =
     limited count p (opened inside p (λ operand. operand (count + 1) (p
     + 1) ts >>= λ x. Ok (record {
@@ -181,7 +190,8 @@ prefix_of inside operator count p ts =
     })))
 
 -- behind `(`, which opens a level: an expression and `)`
-unfoldable pub parenthesis_of : Option Reader → (count p : ℕ) → Tokens → Result (Front Expression) Fault
+unfoldable pub parenthesis_of : Option Reader → (count p : ℕ) → Tokens
+    → Result (ExpressionFront Expression) Fault
 parenthesis_of inside count p ts =
     opened inside p (λ operand. expression_of operand count (p
     + 1) ts >>= λ x. closed (Parenthesized p x.value) x.count x.next x.rest)
@@ -233,5 +243,5 @@ argument_of true operand = outermost (expression_of operand)
 argument_of false operand = expression_of operand
 
 -- a reference that is no part of an expression: each of its arguments is an outermost expression
-unfoldable pub reference_at : (levels p : ℕ) → Tokens → Result (Front Reference) Fault
+unfoldable pub reference_at : (levels p : ℕ) → Tokens → Result (ExpressionFront Reference) Fault
 reference_at levels p ts = reference_of (option_map (argument_of true) (inside levels)) 0 p ts

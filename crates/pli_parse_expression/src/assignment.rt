@@ -11,7 +11,7 @@ use std::alloc::{AllocError, AllocFailed, Global};
 
 /// What a token can be in an expression.
 #[derive(Clone, Copy)]
-enum Kind {
+enum TokenKind {
     Name,
     Value,
     Opens,
@@ -62,19 +62,19 @@ enum Move {
 }
 
 /// What the token can be.
-fn kind_of(text: &TokenText) -> Kind
+fn kind_of(text: &TokenText) -> TokenKind
     ensures { result ≡ kind_of text.now }
 {
     match text {
-        TokenText::Word(_) => Kind::Name,
+        TokenText::Word(_) => TokenKind::Name,
         TokenText::Sign(sign) => match sign {
-            Sign::OpenParenthesis => Kind::Opens,
-            Sign::CloseParenthesis => Kind::Closes,
-            Sign::Comma => Kind::Separates,
-            Sign::Period | Sign::Arrow => Kind::Joins,
-            Sign::Equals => Kind::Equal,
-            Sign::Plus | Sign::Minus => Kind::Sign,
-            Sign::Not => Kind::Negates,
+            Sign::OpenParenthesis => TokenKind::Opens,
+            Sign::CloseParenthesis => TokenKind::Closes,
+            Sign::Comma => TokenKind::Separates,
+            Sign::Period | Sign::Arrow => TokenKind::Joins,
+            Sign::Equals => TokenKind::Equal,
+            Sign::Plus | Sign::Minus => TokenKind::Sign,
+            Sign::Not => TokenKind::Negates,
             Sign::Or
             | Sign::And
             | Sign::NotEqual
@@ -83,51 +83,53 @@ fn kind_of(text: &TokenText) -> Kind
             | Sign::Greater
             | Sign::GreaterOrEqual
             | Sign::Concatenate
-            | Sign::Times => Kind::Operates,
-            Sign::Colon | Sign::Semicolon | Sign::Percent => Kind::Foreign,
+            | Sign::Times => TokenKind::Operates,
+            Sign::Colon | Sign::Semicolon | Sign::Percent => TokenKind::Foreign,
         },
-        _ => Kind::Value,
+        _ => TokenKind::Value,
     }
 }
 
 /// What a token does where an operand must come.
-fn operand_move(kind: Kind) -> Move
+fn operand_move(kind: TokenKind) -> Move
     ensures { result ≡ operand_move kind }
 {
     match kind {
-        Kind::Name => Move::Goes(State::BehindName),
-        Kind::Value => Move::Goes(State::BehindOperand),
-        Kind::Opens => Move::Enters(Frame::Group, State::OperandWanted),
-        Kind::Sign | Kind::Negates => Move::Goes(State::OperandWanted),
+        TokenKind::Name => Move::Goes(State::BehindName),
+        TokenKind::Value => Move::Goes(State::BehindOperand),
+        TokenKind::Opens => Move::Enters(Frame::Group, State::OperandWanted),
+        TokenKind::Sign | TokenKind::Negates => Move::Goes(State::OperandWanted),
         _ => Move::Stops,
     }
 }
 
 /// What a token does behind an operand that nothing joins any more.
-fn behind_move(frame: Frame, kind: Kind) -> Move
+fn behind_move(frame: Frame, kind: TokenKind) -> Move
     ensures { result ≡ behind_move frame kind }
 {
     match (frame, kind) {
-        (Frame::Target, Kind::Equal) => Move::Turns,
+        (Frame::Target, TokenKind::Equal) => Move::Turns,
         (Frame::Target, _) => Move::Stops,
-        (Frame::Group | Frame::Arguments, Kind::Closes) => Move::Leaves,
-        (Frame::Arguments, Kind::Separates) => Move::Goes(State::OperandWanted),
-        (_, Kind::Equal | Kind::Sign | Kind::Operates) => Move::Goes(State::OperandWanted),
+        (Frame::Group | Frame::Arguments, TokenKind::Closes) => Move::Leaves,
+        (Frame::Arguments, TokenKind::Separates) => Move::Goes(State::OperandWanted),
+        (_, TokenKind::Equal | TokenKind::Sign | TokenKind::Operates) => Move::Goes(
+            State::OperandWanted,
+        ),
         _ => Move::Stops,
     }
 }
 
 /// What a token does.
-fn movement(state: State, frame: Frame, kind: Kind) -> Move
+fn movement(state: State, frame: Frame, kind: TokenKind) -> Move
     ensures { result ≡ move state frame kind }
 {
     match (state, kind) {
-        (State::NameWanted, Kind::Name) => Move::Goes(State::BehindName),
+        (State::NameWanted, TokenKind::Name) => Move::Goes(State::BehindName),
         (State::NameWanted, _) => Move::Stops,
-        (State::ListBegun, Kind::Closes) => Move::Leaves,
+        (State::ListBegun, TokenKind::Closes) => Move::Leaves,
         (State::OperandWanted | State::ListBegun, _) => operand_move(kind),
-        (State::BehindName, Kind::Opens) => Move::Enters(Frame::Arguments, State::ListBegun),
-        (State::BehindName | State::BehindList, Kind::Joins) => Move::Goes(State::NameWanted),
+        (State::BehindName, TokenKind::Opens) => Move::Enters(Frame::Arguments, State::ListBegun),
+        (State::BehindName | State::BehindList, TokenKind::Joins) => Move::Goes(State::NameWanted),
         _ => behind_move(frame, kind),
     }
 }

@@ -8,7 +8,7 @@ ghost use Rattle.pli_base.specs.answers.FailureAnswers.{Gives};
 ghost use Rattle.pli_parse_expression.specs.answers.Answers.{front_view, Advances, Stays};
 ghost use Rattle.pli_base.specs.views.SyntaxView.{expressions_view, arguments_view, joined_view};
 
-use crate::front::Front;
+use crate::front::ExpressionFront;
 use pli_base::syntax::{
     ConstantValue, Expression, Identifier, InfixOperator, JoinedPart, Joining, Part,
     PrefixOperator, Reference,
@@ -116,7 +116,7 @@ fn expression_at<'a>(
     operators: u32,
     at: u32,
     texts: &'a [TokenText],
-) -> Result<Front<'a, Expression>, ParseError>
+) -> Result<ExpressionFront<'a, Expression>, ParseError>
     requires { at + length texts.now ≤ 200000 }
     ensures value { Gives (front_view expression_view) result (expression_of (operand_at levels) operators at texts.now) }
     ensures place { IfOk result (Advances at texts.now) }
@@ -145,7 +145,7 @@ fn infix_from<'a>(
     operators: u32,
     at: u32,
     texts: &'a [TokenText],
-) -> Result<Front<'a, Expression>, ParseError>
+) -> Result<ExpressionFront<'a, Expression>, ParseError>
     requires place { at + length texts.now ≤ 200000 }
     requires low { min < 8 }
     ensures value { (bound : ℕ) → length texts.now < bound →
@@ -163,7 +163,7 @@ fn infix_from<'a>(
         next = right.next;
         rest = right.rest;
     }
-    Ok(Front::new(sum, operators, next, rest))
+    Ok(ExpressionFront::new(sum, operators, next, rest))
 }
 
 /// Behind the infix operator at `at`: its right operand, which takes all that binds tighter.
@@ -176,7 +176,7 @@ fn right_of<'a>(
     operators: u32,
     at: u32,
     behind: &'a [TokenText],
-) -> Result<Front<'a, Expression>, ParseError>
+) -> Result<ExpressionFront<'a, Expression>, ParseError>
     requires { at + 1 + length behind.now ≤ 200000 }
     ensures value { (bound : ℕ) → length behind.now < bound → Gives (front_view expression_view) result (right_of (operand_at levels) bound operator operators at behind.now) }
     ensures place { IfOk result (Advances (at + 1) behind.now) }
@@ -224,7 +224,7 @@ fn operand_at<'a>(
     operators: u32,
     at: u32,
     texts: &'a [TokenText],
-) -> Result<Front<'a, Expression>, ParseError>
+) -> Result<ExpressionFront<'a, Expression>, ParseError>
     requires { at + length texts.now ≤ 200000 }
     ensures value { Gives (front_view expression_view) result (operand_at levels operators at texts.now) }
     ensures place { IfOk result (Advances at texts.now) }
@@ -232,7 +232,7 @@ fn operand_at<'a>(
     match texts {
         [TokenText::Word(_), ..] => {
             let reference = reference_of(alloc, false, levels, operators, at, texts)?;
-            Ok(Front::new(
+            Ok(ExpressionFront::new(
                 Expression::Reference(reference.value),
                 reference.operators,
                 reference.next,
@@ -262,7 +262,7 @@ fn constant_at<'a>(
     operators: u32,
     at: u32,
     texts: &'a [TokenText],
-) -> Result<Front<'a, Expression>, ParseError>
+) -> Result<ExpressionFront<'a, Expression>, ParseError>
     requires { at + length texts.now ≤ 200000 }
     ensures value { Gives (front_view expression_view) result (constant_at operators at texts.now) }
     ensures place { IfOk result (Advances at texts.now) }
@@ -283,7 +283,7 @@ fn constant_at<'a>(
         TokenText::Bits(string) => ConstantValue::Bits(string.copy(alloc)?),
         _ => return Err(misfit(Code::ExpressionExpected, at, texts)),
     };
-    Ok(Front::new(Expression::Constant { at, value }, operators, at + 1, rest))
+    Ok(ExpressionFront::new(Expression::Constant { at, value }, operators, at + 1, rest))
 }
 
 /// A prefix operator at `at`, which opens a level, and its operand.
@@ -296,7 +296,7 @@ fn prefix_of<'a>(
     operators: u32,
     at: u32,
     rest: &'a [TokenText],
-) -> Result<Front<'a, Expression>, ParseError>
+) -> Result<ExpressionFront<'a, Expression>, ParseError>
     requires { at + 1 + length rest.now ≤ 200000 }
     ensures value { Gives (front_view expression_view) result (prefix_of (inside levels) operator operators at rest.now) }
     ensures place { IfOk result (Advances (at + 1) rest.now) }
@@ -305,7 +305,7 @@ fn prefix_of<'a>(
         return Err(fault(Code::NestedTooDeep, at));
     }
     let operand = operand_at(alloc, levels - 1, operators + 1, at + 1, rest)?;
-    Ok(Front::new(
+    Ok(ExpressionFront::new(
         Expression::Prefix {
             operator,
             at,
@@ -326,7 +326,7 @@ fn parenthesis_of<'a>(
     operators: u32,
     at: u32,
     rest: &'a [TokenText],
-) -> Result<Front<'a, Expression>, ParseError>
+) -> Result<ExpressionFront<'a, Expression>, ParseError>
     requires { at + 1 + length rest.now ≤ 200000 }
     ensures value { Gives (front_view expression_view) result (parenthesis_of (inside levels) operators at rest.now) }
     ensures place { IfOk result (Advances (at + 1) rest.now) }
@@ -336,7 +336,7 @@ fn parenthesis_of<'a>(
     }
     let inner = expression_at(alloc, levels - 1, operators, at + 1, rest)?;
     let behind = close_taken(inner.next, inner.rest)?;
-    Ok(Front::new(
+    Ok(ExpressionFront::new(
         Expression::Parenthesized {
             at,
             inner: Box::new(alloc, inner.value)?,
@@ -357,7 +357,7 @@ fn reference_of<'a>(
     operators: u32,
     at: u32,
     texts: &'a [TokenText],
-) -> Result<Front<'a, Reference>, ParseError>
+) -> Result<ExpressionFront<'a, Reference>, ParseError>
     requires { at + length texts.now ≤ 200000 }
     ensures value { Gives (front_view reference_view) result (reference_of (option_map (argument_of outermost) (inside levels)) operators at texts.now) }
     ensures place { IfOk result (Advances at texts.now) }
@@ -380,7 +380,7 @@ fn reference_of<'a>(
         list.next,
         list.rest,
     )?;
-    Ok(Front::new(
+    Ok(ExpressionFront::new(
         Reference {
             first,
             joined: joined.value,
@@ -401,7 +401,7 @@ fn joined_from<'a>(
     operators: u32,
     at: u32,
     texts: &'a [TokenText],
-) -> Result<Front<'a, Vec<JoinedPart>>, ParseError>
+) -> Result<ExpressionFront<'a, Vec<JoinedPart>>, ParseError>
     requires { at + length texts.now ≤ 200000 }
     ensures value { (bound : ℕ) → length texts.now < bound → Gives (front_view (λ v. joined_view v.items)) result (joined_from (option_map (argument_of outermost) (inside levels)) bound operators at texts.now) }
     ensures place { IfOk result (Stays at texts.now) }
@@ -427,7 +427,7 @@ fn joined_from<'a>(
         next = list.next;
         rest = list.rest;
     }
-    Ok(Front::new(parts, operators, next, rest))
+    Ok(ExpressionFront::new(parts, operators, next, rest))
 }
 
 /// What stands in parentheses behind a name, if there are some.
@@ -440,19 +440,19 @@ fn arguments_at<'a>(
     operators: u32,
     at: u32,
     texts: &'a [TokenText],
-) -> Result<Front<'a, Option<Vec<Expression>>>, ParseError>
+) -> Result<ExpressionFront<'a, Option<Vec<Expression>>>, ParseError>
     requires { at + length texts.now ≤ 200000 }
     ensures value { Gives (front_view arguments_view) result (arguments_at (option_map (argument_of outermost) (inside levels)) operators at texts.now) }
     ensures place { IfOk result (Stays at texts.now) }
 {
     let [TokenText::Sign(Sign::OpenParenthesis), rest @ ..] = texts else {
-        return Ok(Front::new(None, operators, at, texts));
+        return Ok(ExpressionFront::new(None, operators, at, texts));
     };
     if levels == 0 {
         return Err(fault(Code::NestedTooDeep, at));
     }
     let list = list_at(alloc, outermost, levels - 1, operators, at + 1, rest)?;
-    Ok(Front::new(Some(list.value), list.operators, list.next, list.rest))
+    Ok(ExpressionFront::new(Some(list.value), list.operators, list.next, list.rest))
 }
 
 /// Behind `(`: expressions and `)`, or `)` alone.
@@ -465,7 +465,7 @@ fn list_at<'a>(
     operators: u32,
     at: u32,
     texts: &'a [TokenText],
-) -> Result<Front<'a, Vec<Expression>>, ParseError>
+) -> Result<ExpressionFront<'a, Vec<Expression>>, ParseError>
     requires { at + length texts.now ≤ 200000 }
     ensures value { Gives (front_view (λ v. expressions_view v.items)) result (list_at (argument_of outermost (operand_at levels)) operators at texts.now) }
     ensures place { IfOk result (Advances at texts.now) }
@@ -474,7 +474,7 @@ fn list_at<'a>(
         return listed_at(alloc, outermost, levels, operators, at, texts);
     }
     let behind = close_taken(at, texts)?;
-    Ok(Front::new(Vec::new(alloc), operators, at + 1, behind))
+    Ok(ExpressionFront::new(Vec::new(alloc), operators, at + 1, behind))
 }
 
 /// One expression or more, with commas between, and `)`.
@@ -487,7 +487,7 @@ fn listed_at<'a>(
     operators: u32,
     at: u32,
     texts: &'a [TokenText],
-) -> Result<Front<'a, Vec<Expression>>, ParseError>
+) -> Result<ExpressionFront<'a, Vec<Expression>>, ParseError>
     requires { at + length texts.now ≤ 200000 }
     ensures value { Gives (front_view (λ v. expressions_view v.items)) result (listed_at (argument_of outermost (operand_at levels)) operators at texts.now) }
     ensures place { IfOk result (Advances at texts.now) }
@@ -506,7 +506,7 @@ fn listed_at<'a>(
         rest = one.rest;
     }
     let behind = close_taken(next, rest)?;
-    Ok(Front::new(list, operators, next + 1, behind))
+    Ok(ExpressionFront::new(list, operators, next + 1, behind))
 }
 
 /// An argument: an outermost expression, or a part of one.
@@ -519,14 +519,14 @@ fn argument_at<'a>(
     operators: u32,
     at: u32,
     texts: &'a [TokenText],
-) -> Result<Front<'a, Expression>, ParseError>
+) -> Result<ExpressionFront<'a, Expression>, ParseError>
     requires { at + length texts.now ≤ 200000 }
     ensures value { Gives (front_view expression_view) result (argument_of outermost (operand_at levels) operators at texts.now) }
     ensures place { IfOk result (Advances at texts.now) }
 {
     let before = if outermost { 0 } else { operators };
     let argument = expression_at(alloc, levels, before, at, texts)?;
-    Ok(Front::new(
+    Ok(ExpressionFront::new(
         argument.value,
         if outermost {
             operators
@@ -547,7 +547,7 @@ pub fn outermost_expression_at<'a>(
     levels: u32,
     at: u32,
     texts: &'a [TokenText],
-) -> Result<Front<'a, Expression>, ParseError>
+) -> Result<ExpressionFront<'a, Expression>, ParseError>
     requires { at + length texts.now ≤ 200000 }
     ensures value { Gives (front_view expression_view) result (expression_at levels 0 at texts.now) }
     ensures place { IfOk result (Advances at texts.now) }
@@ -562,7 +562,7 @@ pub fn reference_at<'a>(
     levels: u32,
     at: u32,
     texts: &'a [TokenText],
-) -> Result<Front<'a, Reference>, ParseError>
+) -> Result<ExpressionFront<'a, Reference>, ParseError>
     requires { at + length texts.now ≤ 200000 }
     ensures value { Gives (front_view reference_view) result (reference_at levels at texts.now) }
     ensures place { IfOk result (Advances at texts.now) }
@@ -578,7 +578,7 @@ pub fn outermost_arguments_at<'a>(
     levels: u32,
     at: u32,
     texts: &'a [TokenText],
-) -> Result<Front<'a, Option<Vec<Expression>>>, ParseError>
+) -> Result<ExpressionFront<'a, Option<Vec<Expression>>>, ParseError>
     requires { at + length texts.now ≤ 200000 }
     ensures value { Gives (front_view arguments_view) result (arguments_at (option_map (argument_of true) (inside levels)) 0 at texts.now) }
     ensures place { IfOk result (Stays at texts.now) }

@@ -7,7 +7,7 @@ ghost use Rattle.pli_base.specs.declared.token.Fault.{Fault};
 ghost use Rattle.pli_parse_fault.specs.FirstFaults.{IsFirstFault};
 ghost use Rattle.pli_parse_expression.specs.Expressions.{operators, SpellsOutermost, SpellsReferenceAlone, EndsExpression, EndsReference};
 ghost use Rattle.pli_parse_expression.specs.Ends.{ExpressionEnds, ReferenceEnds};
-ghost use Rattle.pli_parse_expression.specs.Reading.{Front, expression_at, reference_at};
+ghost use Rattle.pli_parse_expression.specs.Reading.{ExpressionFront, expression_at, reference_at};
 ghost use Rattle.pli_parse_expression.specs.laws.Laws.{FrontSpells};
 ghost use Rattle.pli_parse_expression.specs.Assignments.{IsAssignment, is_assignment};
 ghost use Rattle.pli_parse_expression.specs.examples.Examples.{SignAndSum, Differences, AllLevels, Comparisons, Alternatives, LocatedMember, NoArguments, InParentheses, TwoLists, TextEnds, NoOperand, NotClosed, NoListThere, NothingBehindComma, NoMember, NothingLocated, DeepestList, TooDeepList, TooDeepSign, LastOperator, TooManyOperators, Target};
@@ -43,7 +43,7 @@ pub fn worked_examples()
 /// A law: the front of the tokens spells the expression that is read there, within the limits.
 #[tactic(auto, using(crate::proofs::ReadIsSpelled::expression_spelled))]
 pub fn expressions_read_are_spelled()
-    ensures { (levels p : ℕ) (ts : Tokens) (x : Front Expression) →
+    ensures { (levels p : ℕ) (ts : Tokens) (x : ExpressionFront Expression) →
         expression_at levels 0 p ts ≡ Ok x → FrontSpells (SpellsOutermost levels) p ts x }
 {}
 
@@ -64,7 +64,7 @@ pub fn one_expression()
 /// A law: the front of the tokens spells the reference that is read there, within the limits.
 #[tactic(auto, using(crate::proofs::ReadIsSpelled::reference_spelled))]
 pub fn references_read_are_spelled()
-    ensures { (levels p : ℕ) (ts : Tokens) (x : Front Reference) →
+    ensures { (levels p : ℕ) (ts : Tokens) (x : ExpressionFront Reference) →
         reference_at levels p ts ≡ Ok x → FrontSpells (SpellsReferenceAlone levels) p ts x }
 {}
 
@@ -113,9 +113,9 @@ pub fn first_faults()
 /// A law: the tokens of the tree that is read rise in the order of the text, from the first that is read to the last.
 #[tactic(auto, using(crate::proofs::TokensRise::expression_read_rises, crate::proofs::TokensRise::reference_read_rises))]
 pub fn tokens_of_trees_rise()
-    ensures expressions { (levels p : ℕ) (ts : Tokens) (x : Front Expression) →
+    ensures expressions { (levels p : ℕ) (ts : Tokens) (x : ExpressionFront Expression) →
         expression_at levels 0 p ts ≡ Ok x → Rises p (expression_tokens x.value) x.next }
-    ensures references { (levels p : ℕ) (ts : Tokens) (x : Front Reference) →
+    ensures references { (levels p : ℕ) (ts : Tokens) (x : ExpressionFront Reference) →
         reference_at levels p ts ≡ Ok x → Rises p (reference_tokens x.value) x.next }
 {}
 
@@ -125,9 +125,9 @@ pub fn tokens_of_trees_rise()
 pub fn longest_expressions()
     ensures ended { (levels p : ℕ) (ts more : Tokens) (e : Expression) → SpellsOutermost levels p ts e → ExpressionEnds e more →
         expression_at levels 0 p (ts ++ more) ≡ Ok (record { value = e; count = operators e; next = p + length ts; rest = more }) }
-    ensures left { (levels p : ℕ) (ts : Tokens) (x : Front Expression) →
+    ensures left { (levels p : ℕ) (ts : Tokens) (x : ExpressionFront Expression) →
         expression_at levels 0 p ts ≡ Ok x → ExpressionEnds x.value x.rest }
-    ensures longest { (levels p : ℕ) (ts : Tokens) (x : Front Expression) → expression_at levels 0 p ts ≡ Ok x →
+    ensures longest { (levels p : ℕ) (ts : Tokens) (x : ExpressionFront Expression) → expression_at levels 0 p ts ≡ Ok x →
         (longer more : Tokens) (e : Expression) → ts ≡ longer ++ more → SpellsOutermost levels p longer e → p + length longer ≤ x.next }
 {}
 
@@ -136,8 +136,8 @@ pub fn longest_expressions()
 pub fn longest_references()
     ensures ended { (levels p : ℕ) (ts more : Tokens) (r : Reference) → SpellsReferenceAlone levels p ts r → ReferenceEnds r more →
         reference_at levels p (ts ++ more) ≡ Ok (record { value = r; count = 0; next = p + length ts; rest = more }) }
-    ensures left { (levels p : ℕ) (ts : Tokens) (x : Front Reference) →
+    ensures left { (levels p : ℕ) (ts : Tokens) (x : ExpressionFront Reference) →
         reference_at levels p ts ≡ Ok x → ReferenceEnds x.value x.rest }
-    ensures longest { (levels p : ℕ) (ts : Tokens) (x : Front Reference) → reference_at levels p ts ≡ Ok x →
+    ensures longest { (levels p : ℕ) (ts : Tokens) (x : ExpressionFront Reference) → reference_at levels p ts ≡ Ok x →
         (longer more : Tokens) (r : Reference) → ts ≡ longer ++ more → SpellsReferenceAlone levels p longer r → p + length longer ≤ x.next }
 {}

@@ -1,5 +1,5 @@
 pub mod Examples
 pub mod OnePlace
 pub mod ReadingStops
-pub mod Steps
+pub mod StepLemmas
 pub mod ToldFaults

@@ -25,9 +25,10 @@ use Rattle.pli_parse_statement.specs.StatementWords.{Context, standing, the_unit
 use Rattle.pli_parse_statement.specs.StatementWords.{condition_of}
 use Rattle.pli_parse_statement.specs.declared.keyword.Keyword.{Keyword}
 use Rattle.pli_parse_statement.specs.declared.keyword.Keyword.TheVariants as words
-use Rattle.pli_parse_statement.specs.declared.keyword.Standing.{Standing}
-use Rattle.pli_parse_statement.specs.declared.keyword.Standing.TheVariants.{InBlock, InGroup, AsClause}
-use Rattle.pli_parse_statement.specs.declared.keyword.Standing.TheVariants.{AsUnit}
+use Rattle.pli_parse_statement.specs.declared.keyword.StatementStanding.{StatementStanding}
+use Rattle.pli_parse_statement.specs.declared.keyword.StatementStanding.TheVariants.{InBlock, InGroup}
+use Rattle.pli_parse_statement.specs.declared.keyword.StatementStanding.TheVariants.{AsClause}
+use Rattle.pli_parse_statement.specs.declared.keyword.StatementStanding.TheVariants.{AsUnit}
 use Rattle.pli_base.specs.declared.statement.Condition.{Condition}
 use Rattle.pli_parse_declaration.specs.declared.list.Separator.TheVariants.{Commas}
 
@@ -204,7 +205,7 @@ IsUnitBody body = Unit {0}
 
 -- PROCEDURE stands directly in a block's list and has a label, DECLARE in any list and has none; behind THEN,
 -- ELSE and ON there are no labels
-abbrev pub StandsIn : Standing → (label : Option Identifier) → Body → Type 0
+abbrev pub StandsIn : StatementStanding → (label : Option Identifier) → Body → Type 0
 StandsIn InBlock label (Procedure heading statements end) = label ≡ Some heading.name
 StandsIn InBlock label (Declare items) = label ≡ None
 StandsIn InBlock label body = Unit {0}

@@ -32,23 +32,25 @@ use Rattle.pli_base.specs.Statements.{Statements, Ended, Before, Alternative, No
 use Rattle.pli_base.specs.Statements.{count}
 use Rattle.pli_base.specs.Statements as body
 use Rattle.pli_parse_statement.specs.StatementWords.{Context, standing, the_unit, a_procedure, condition_of}
-use Rattle.pli_parse_statement.specs.StatementWords.{behind_word, begins_assignment, Kind, Assigns, Empty}
+use Rattle.pli_parse_statement.specs.StatementWords.{behind_word, begins_assignment, StatementKind, Assigns}
+use Rattle.pli_parse_statement.specs.StatementWords.{Empty}
 use Rattle.pli_parse_statement.specs.StatementWords.{Keyed, Unknown, kind_of}
 use Rattle.pli_parse_statement.specs.declared.keyword.Keyword.{Keyword}
 use Rattle.pli_parse_statement.specs.declared.keyword.Keyword.TheVariants.{Procedure, Declare, End, Begin, Do}
 use Rattle.pli_parse_statement.specs.declared.keyword.Keyword.TheVariants.{If, On, Revert, Signal, Stop}
 use Rattle.pli_parse_statement.specs.declared.keyword.Keyword.TheVariants.{Allocate, Free, Call, Goto, GoTo}
 use Rattle.pli_parse_statement.specs.declared.keyword.Keyword.TheVariants.{Return, Put}
-use Rattle.pli_parse_statement.specs.declared.keyword.Standing.{Standing}
-use Rattle.pli_parse_statement.specs.declared.keyword.Standing.TheVariants.{InBlock, InGroup, AsClause}
-use Rattle.pli_parse_statement.specs.declared.keyword.Standing.TheVariants.{AsUnit}
+use Rattle.pli_parse_statement.specs.declared.keyword.StatementStanding.{StatementStanding}
+use Rattle.pli_parse_statement.specs.declared.keyword.StatementStanding.TheVariants.{InBlock, InGroup}
+use Rattle.pli_parse_statement.specs.declared.keyword.StatementStanding.TheVariants.{AsClause}
+use Rattle.pli_parse_statement.specs.declared.keyword.StatementStanding.TheVariants.{AsUnit}
 use Rattle.pli_base.specs.declared.statement.Condition.{Condition}
 use Rattle.pli_parse_declaration.specs.declared.list.Separator.TheVariants.{Commas}
 
 -- parts of statements; so many levels may still be opened in their expressions
 
 -- what a reader of expressions gives, without its count of operators
-abbrev pub uncounted : {A : Type 0} → Result (expressions.Front A) Fault → Result (Front A) Fault
+abbrev pub uncounted : {A : Type 0} → Result (expressions.ExpressionFront A) Fault → Result (Front A) Fault
 uncounted (Ok x) = read_as x.value x.next x.rest
 uncounted (Err e) = Err e
 
@@ -367,7 +369,7 @@ second_label p None = None
 second_label p (Some l) = Some p
 
 -- the token of a label that may not stand there: any label of a clause or ON-unit, and a second one
-abbrev pub bad_label : Standing → Front (Option Identifier) → Option Identifier → Option ℕ
+abbrev pub bad_label : StatementStanding → Front (Option Identifier) → Option Identifier → Option ℕ
 bad_label s x None = None
 bad_label AsClause x (Some l) = Some l.at
 bad_label AsUnit x (Some l) = Some l.at
@@ -392,7 +394,7 @@ unit_misplaced Stop = None
 unit_misplaced keyword = Some (AtStatement MisplacedStatement)
 
 -- what is wrong with a keyword by where the statement stands
-abbrev pub standing_misplaced : Standing → Keyword → (is_labelled : Bool) → Option Misplacement
+abbrev pub standing_misplaced : StatementStanding → Keyword → (is_labelled : Bool) → Option Misplacement
 standing_misplaced AsUnit keyword l = unit_misplaced keyword
 standing_misplaced AsClause Procedure l = Some (AtStatement MisplacedStatement)
 standing_misplaced AsClause Declare l = Some (AtStatement MisplacedStatement)
@@ -435,17 +437,17 @@ ending_at label p (Word n ∷ us) = named_end (is_label label n) p us
 ending_at label p ts = stopped tt p ts
 
 -- what comes next in a list: its END, or another statement
-pub data Next : Type 0 where
-  EndsHere : (behind : Tokens) → Next
-  Another : Next
+pub data NextStatement : Type 0 where
+  EndsHere : (behind : Tokens) → NextStatement
+  Another : NextStatement
 
 -- END that closes the list, or one more statement
-abbrev pub next_by : (has_semicolon : Bool) → Option Identifier → Kind → Next
+abbrev pub next_by : (has_semicolon : Bool) → Option Identifier → StatementKind → NextStatement
 next_by true None (Keyed End us) = EndsHere us
 next_by s label kind = Another
 
 -- what comes next in a list
-unfoldable pub next_of : Tokens → Next
+unfoldable pub next_of : Tokens → NextStatement
 next_of ts = next_by (has_semicolon ts) (label_at 0 ts).value (kind_of ts)
 
 -- a statement before those that follow
@@ -454,7 +456,7 @@ before s y = read_as (record { statements = Before s y.value.statements; end = y
 
 -- a list: END closes it, or a statement and the rest of the list
 abbrev pub list_by : StatementReader → Context → (label : Option Identifier)
-    → (more : (p k : ℕ) → Tokens → Result (Front Listing) Fault) → (p k : ℕ) → Tokens → Next
+    → (more : (p k : ℕ) → Tokens → Result (Front Listing) Fault) → (p k : ℕ) → Tokens → NextStatement
     → Result (Front Listing) Fault
 list_by one c label more p k ts (EndsHere us) =
     mapped (λ nothing. record { statements = Ended; end = k }) (ending_at label (p + 1) us)
@@ -569,7 +571,7 @@ unless_misplaced levels inside c label p k us keyword None = keyed_at levels ins
 
 -- a statement behind its label
 abbrev pub body_from : (levels : ℕ) → Option Inside → Context → (label : Option Identifier) → (p k : ℕ)
-    → Tokens → Kind → Result (Front Body) Fault
+    → Tokens → StatementKind → Result (Front Body) Fault
 body_from levels inside c label p k ts Assigns = assignment_at levels p ts
 body_from levels inside c label p k ts (Empty us) = read_as body.Null (p + 1) us
 body_from levels inside c label p k ts (Keyed keyword us) =

@@ -13,18 +13,18 @@ use Rattle.pli_parse_statement.specs.declared.keyword.Keyword.TheVariants.{Proce
 use Rattle.pli_parse_statement.specs.declared.keyword.Keyword.TheVariants.{If, On, Revert, Signal, Stop}
 use Rattle.pli_parse_statement.specs.declared.keyword.Keyword.TheVariants.{Allocate, Free, Call, Goto, GoTo}
 use Rattle.pli_parse_statement.specs.declared.keyword.Keyword.TheVariants.{Return, Put}
-use Rattle.pli_parse_statement.specs.declared.keyword.Standing.{Standing}
-use Rattle.pli_parse_statement.specs.declared.keyword.Standing.TheVariants.{InBlock, AsUnit}
+use Rattle.pli_parse_statement.specs.declared.keyword.StatementStanding.{StatementStanding}
+use Rattle.pli_parse_statement.specs.declared.keyword.StatementStanding.TheVariants.{InBlock, AsUnit}
 use Rattle.pli_base.specs.declared.statement.Condition.{Condition}
 use Rattle.pli_base.specs.declared.statement.Condition.TheVariants.{FixedOverflow, ZeroDivide, Area}
 
 -- where a statement stands, and whether it belongs to an ON-unit, in which there is no RETURN
 pub record Context : Type 0 where
-  pub standing : Standing
+  pub standing : StatementStanding
   pub in_unit : Bool
 
 -- the same place in the text, where a statement stands so
-abbrev pub standing : Standing → Context → Context
+abbrev pub standing : StatementStanding → Context → Context
 standing s c = record { standing = s; in_unit = c.in_unit }
 
 -- where an ON-unit stands
@@ -91,28 +91,28 @@ unfoldable pub begins_assignment : Tokens → Bool
 begins_assignment ts = is_assigned (up_to_semicolon ts)
 
 -- what a statement is, by its tokens behind the label
-pub data Kind : Type 0 where
-  Assigns : Kind
-  Empty : (behind : Tokens) → Kind
-  Keyed : (keyword : Keyword) (behind : Tokens) → Kind
-  Unknown : Kind
+pub data StatementKind : Type 0 where
+  Assigns : StatementKind
+  Empty : (behind : Tokens) → StatementKind
+  Keyed : (keyword : Keyword) (behind : Tokens) → StatementKind
+  Unknown : StatementKind
 
 -- GO with its TO behind it
-abbrev pub go_kind : Option Tokens → Kind
+abbrev pub go_kind : Option Tokens → StatementKind
 go_kind (Some us) = Keyed GoTo us
 go_kind None = Unknown
 
 -- GO is a keyword where TO stands behind it
-abbrev pub word_kind : Option Keyword → Name → Tokens → Kind
+abbrev pub word_kind : Option Keyword → Name → Tokens → StatementKind
 word_kind (Some k) n us = Keyed k us
 word_kind None n us = if same_name n (codes "GO") then go_kind (behind_word (codes "TO") us) else Unknown
 
 -- the kind of a statement by its first token, where it is no assignment
-unfoldable pub first_kind : Tokens → Kind
+unfoldable pub first_kind : Tokens → StatementKind
 first_kind (tokens.Sign signs.Semicolon ∷ us) = Empty us
 first_kind (tokens.Word n ∷ us) = word_kind (keyword_of n) n us
 first_kind ts = Unknown
 
 -- an assignment whatever the words are; otherwise the first keyword decides
-unfoldable pub kind_of : Tokens → Kind
+unfoldable pub kind_of : Tokens → StatementKind
 kind_of ts = if begins_assignment ts then Assigns else first_kind ts

@@ -20,7 +20,7 @@ use pli_base::{Code, Front, ParseError, Sign, TokenText};
 use std::alloc::Global;
 
 /// How a specification begins.
-enum Beginning<'a> {
+enum SpecificationStart<'a> {
     Unspecified,
     /// With the tokens behind WHILE, of which the first is `(`.
     Conditioned(&'a [TokenText]),
@@ -29,7 +29,7 @@ enum Beginning<'a> {
 
 /// How the specification begins: WHILE followed by `(` is the keyword, and any other word a variable's name.
 #[tactic(auto, unfolding(crate::specs::StatementReading::specified))]
-fn specified(texts: &[TokenText]) -> Beginning<'_>
+fn specified(texts: &[TokenText]) -> SpecificationStart<'_>
     ensures value { specified_view result ≡ specified texts.now }
     ensures place { BehindWhile texts.now result }
 {
@@ -40,13 +40,13 @@ fn specified(texts: &[TokenText]) -> Beginning<'_>
             ..
         ] => {
             if is_name(name, b"WHILE") {
-                Beginning::Conditioned(&texts[1..])
+                SpecificationStart::Conditioned(&texts[1..])
             } else {
-                Beginning::Iterated
+                SpecificationStart::Iterated
             }
         }
-        [TokenText::Word(_), ..] => Beginning::Iterated,
-        _ => Beginning::Unspecified,
+        [TokenText::Word(_), ..] => SpecificationStart::Iterated,
+        _ => SpecificationStart::Unspecified,
     }
 }
 
@@ -229,8 +229,8 @@ pub fn control_at<'a>(
     ensures place { IfOk result (Continues at texts.now) }
 {
     match specified(texts) {
-        Beginning::Unspecified => Ok(Front::new(None, at, texts)),
-        Beginning::Conditioned(behind) => {
+        SpecificationStart::Unspecified => Ok(Front::new(None, at, texts)),
+        SpecificationStart::Conditioned(behind) => {
             let condition = parenthesized(&EachExpression { alloc, levels }, at + 1, behind)?;
             Ok(Front::new(
                 Some(Control::While(condition.value)),
@@ -238,6 +238,6 @@ pub fn control_at<'a>(
                 condition.rest,
             ))
         }
-        Beginning::Iterated => iteration_at(alloc, levels, at, texts),
+        SpecificationStart::Iterated => iteration_at(alloc, levels, at, texts),
     }
 }

@@ -16,9 +16,9 @@ ghost use Rattle.pli_base.specs.Syntax as syntax;
 
 use pli_base::syntax::{Expression, Reference};
 use pli_base::{Code, Front, Name, ParseError, Sign, TokenText, close_taken, misfit, open_taken};
-use pli_parse_declaration::{ReadsOne, Separator, list_at};
+use pli_parse_declaration::{ListReader, Separator, list_at};
 use pli_parse_expression::{
-    Front as CountedFront, outermost_arguments_at, outermost_expression_at, reference_at,
+    ExpressionFront, outermost_arguments_at, outermost_expression_at, reference_at,
 };
 use std::alloc::Global;
 
@@ -58,7 +58,7 @@ pub fn equals_taken(code: Code, at: u32, texts: &[TokenText]) -> Result<&[TokenT
 }
 
 /// What was read, without the count of operators.
-fn uncounted<T>(read: CountedFront<'_, T>) -> Front<'_, T>
+fn uncounted<T>(read: ExpressionFront<'_, T>) -> Front<'_, T>
     ensures { result ≡ record { value = read.entry.value; next = read.entry.next; rest = read.entry.rest } }
 {
     Front::new(read.value, read.next, read.rest)
@@ -116,7 +116,7 @@ pub struct EachExpression {
     pub levels: u32,
 }
 
-impl ReadsOne for EachExpression {
+impl ListReader for EachExpression {
     type Value = Expression;
 
     ghost Tree = { syntax.Expression };
@@ -145,7 +145,7 @@ pub struct EachReference {
     pub levels: u32,
 }
 
-impl ReadsOne for EachReference {
+impl ListReader for EachReference {
     type Value = Reference;
 
     ghost Tree = { syntax.Reference };
@@ -169,7 +169,7 @@ impl ReadsOne for EachReference {
 
 /// A value in parentheses, which are no part of it.
 #[tactic(auto, unfolding(crate::specs::StatementReading::parenthesized))]
-pub fn parenthesized<'a, R: ReadsOne>(
+pub fn parenthesized<'a, R: ListReader>(
     reader: &R,
     at: u32,
     texts: &'a [TokenText],

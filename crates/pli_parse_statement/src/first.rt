@@ -8,7 +8,7 @@ ghost use Rattle.pli_parse_statement.specs.answers.StatementAnswers.{context_vie
 ghost use Rattle.pli_base.specs.answers.ReadingAnswers.{Continues, front_view};
 
 use crate::cursor::{behind_word, is_name};
-use crate::keyword::{Keyword, Standing, statement_keyword};
+use crate::keyword::{Keyword, StatementStanding, statement_keyword};
 use pli_base::syntax::Identifier;
 use pli_base::{Code, Front, Name, Sign, TokenText};
 use pli_parse_expression::is_assignment;
@@ -17,13 +17,13 @@ use std::alloc::{AllocError, Global};
 /// Where a statement stands, and whether it belongs to an ON-unit, in which there is no RETURN.
 #[derive(Clone, Copy)]
 pub struct Context {
-    pub standing: Standing,
+    pub standing: StatementStanding,
     pub in_unit: bool,
 }
 
 /// What a statement is, by its tokens behind the label. Keyed and Empty have the tokens behind the keyword and the `;`.
 #[derive(Clone, Copy)]
-pub enum Kind<'a> {
+pub enum StatementKind<'a> {
     Assigns,
     Empty(&'a [TokenText]),
     Keyed(Keyword, &'a [TokenText]),
@@ -39,7 +39,7 @@ pub enum Misplacement {
 
 /// What comes next in a list of statements: its END, with the tokens behind it, or another statement.
 #[derive(Clone, Copy)]
-pub enum Next<'a> {
+pub enum NextStatement<'a> {
     EndsHere(&'a [TokenText]),
     Another,
 }
@@ -88,20 +88,20 @@ fn begins_assignment(alloc: Global, texts: &[TokenText]) -> Result<bool, AllocEr
 
 /// What a statement is that begins with this name and is no assignment.
 #[tactic(auto)]
-fn word_kind<'a>(name: &Name, rest: &'a [TokenText]) -> Kind<'a>
+fn word_kind<'a>(name: &Name, rest: &'a [TokenText]) -> StatementKind<'a>
     ensures value { kind_view result ≡ word_kind (keyword_of name.now) name.now rest.now }
     ensures place { BehindKind (length rest.now + 1) result }
 {
     match statement_keyword(name) {
-        Some(keyword) => Kind::Keyed(keyword, rest),
+        Some(keyword) => StatementKind::Keyed(keyword, rest),
         None => {
             if is_name(name, b"GO") {
                 match behind_word(b"TO", rest) {
-                    Some(behind) => Kind::Keyed(Keyword::GoTo, behind),
-                    None => Kind::Unknown,
+                    Some(behind) => StatementKind::Keyed(Keyword::GoTo, behind),
+                    None => StatementKind::Unknown,
                 }
             } else {
-                Kind::Unknown
+                StatementKind::Unknown
             }
         }
     }
@@ -109,25 +109,25 @@ fn word_kind<'a>(name: &Name, rest: &'a [TokenText]) -> Kind<'a>
 
 /// What a statement is that is no assignment.
 #[tactic(auto, unfolding(crate::specs::StatementWords::first_kind))]
-fn first_kind(texts: &[TokenText]) -> Kind<'_>
+fn first_kind(texts: &[TokenText]) -> StatementKind<'_>
     ensures value { kind_view result ≡ first_kind texts.now }
     ensures place { BehindKind (length texts.now) result }
 {
     match texts {
-        [TokenText::Sign(Sign::Semicolon), rest @ ..] => Kind::Empty(rest),
+        [TokenText::Sign(Sign::Semicolon), rest @ ..] => StatementKind::Empty(rest),
         [TokenText::Word(name), rest @ ..] => word_kind(name, rest),
-        _ => Kind::Unknown,
+        _ => StatementKind::Unknown,
     }
 }
 
 /// What a statement is, by its tokens behind the label.
 #[tactic(auto, unfolding(crate::specs::StatementWords::kind_of))]
-pub fn kind_of(alloc: Global, texts: &[TokenText]) -> Result<Kind<'_>, AllocError>
+pub fn kind_of(alloc: Global, texts: &[TokenText]) -> Result<StatementKind<'_>, AllocError>
     ensures value { IfOk result (λ kind. kind_view kind ≡ kind_of texts.now) }
     ensures place { IfOk result (BehindKind (length texts.now)) }
 {
     if begins_assignment(alloc, texts)? {
-        Ok(Kind::Assigns)
+        Ok(StatementKind::Assigns)
     } else {
         Ok(first_kind(texts))
     }
@@ -152,15 +152,15 @@ pub fn label_at(at: u32, texts: &[TokenText]) -> Front<'_, Option<Identifier>>
 
 /// The place of a label that may not stand: behind THEN, ELSE and ON the first, elsewhere a second.
 #[tactic(auto)]
-pub fn bad_label(standing: Standing, at: u32, texts: &[TokenText]) -> Option<u32>
+pub fn bad_label(standing: StatementStanding, at: u32, texts: &[TokenText]) -> Option<u32>
     requires { at + length texts.now ≤ 200000 }
     ensures { bad_label standing (label_at at texts.now) (label_at at texts.now).value ≡ result }
 {
     let first = label_at(at, texts);
     match (first.value, standing) {
         (None, _) => None,
-        (Some(label), Standing::AsClause | Standing::AsUnit) => Some(label.at),
-        (Some(_), Standing::InBlock | Standing::InGroup) => {
+        (Some(label), StatementStanding::AsClause | StatementStanding::AsUnit) => Some(label.at),
+        (Some(_), StatementStanding::InBlock | StatementStanding::InGroup) => {
             match label_at(first.next, first.rest).value {
                 Some(_) => Some(first.next),
                 None => None,
@@ -191,21 +191,25 @@ fn unit_misplaced(keyword: Keyword) -> Option<Misplacement>
 
 /// Why a statement of this keyword, with a label or without, may not stand here.
 #[tactic(auto)]
-fn standing_misplaced(standing: Standing, keyword: Keyword, labelled: bool) -> Option<Misplacement>
+fn standing_misplaced(
+    standing: StatementStanding,
+    keyword: Keyword,
+    labelled: bool,
+) -> Option<Misplacement>
     ensures { option_map misplacement_view result ≡ standing_misplaced standing keyword labelled }
 {
     match (standing, keyword, labelled) {
-        (Standing::AsUnit, _, _) => unit_misplaced(keyword),
-        (Standing::AsClause, Keyword::Procedure | Keyword::Declare | Keyword::End, _) => {
+        (StatementStanding::AsUnit, _, _) => unit_misplaced(keyword),
+        (StatementStanding::AsClause, Keyword::Procedure | Keyword::Declare | Keyword::End, _) => {
             Some(Misplacement::AtStatement(Code::MisplacedStatement))
         }
-        (Standing::InBlock, Keyword::Procedure, false) => {
+        (StatementStanding::InBlock, Keyword::Procedure, false) => {
             Some(Misplacement::AtStatement(Code::BadLabel))
         }
-        (Standing::InGroup, Keyword::Procedure, false) => {
+        (StatementStanding::InGroup, Keyword::Procedure, false) => {
             Some(Misplacement::AtStatement(Code::MisplacedStatement))
         }
-        (Standing::InGroup, Keyword::Procedure, true) => {
+        (StatementStanding::InGroup, Keyword::Procedure, true) => {
             Some(Misplacement::AtLabel(Code::MisplacedStatement))
         }
         (_, Keyword::Declare | Keyword::End, true) => Some(Misplacement::AtLabel(Code::BadLabel)),
@@ -245,19 +249,19 @@ pub fn else_first(alloc: Global, texts: &[TokenText]) -> Result<Option<&[TokenTe
 
 /// What comes next in a list of statements.
 #[tactic(auto, unfolding(crate::specs::StatementReading::next_of))]
-pub fn next_of(alloc: Global, texts: &[TokenText]) -> Result<Next<'_>, AllocError>
+pub fn next_of(alloc: Global, texts: &[TokenText]) -> Result<NextStatement<'_>, AllocError>
     requires { length texts.now ≤ 200000 }
     ensures value { IfOk result (λ next. next_view next ≡ next_of texts.now) }
     ensures place { IfOk result (BehindNext (length texts.now)) }
 {
     if !has_semicolon(texts) {
-        return Ok(Next::Another);
+        return Ok(NextStatement::Another);
     }
     if label_at(0, texts).value.is_some() {
-        return Ok(Next::Another);
+        return Ok(NextStatement::Another);
     }
     match kind_of(alloc, texts)? {
-        Kind::Keyed(Keyword::End, behind) => Ok(Next::EndsHere(behind)),
-        _ => Ok(Next::Another),
+        StatementKind::Keyed(Keyword::End, behind) => Ok(NextStatement::EndsHere(behind)),
+        _ => Ok(NextStatement::Another),
     }
 }

@@ -32,7 +32,7 @@ pub enum Keyword {
 
 /// Where a statement stands. Not every statement may stand everywhere (X3.74).
 #[derive(Clone, Copy)]
-pub enum Standing {
+pub enum StatementStanding {
     /// Directly in the list of a procedure or a BEGIN block.
     InBlock,
     /// Directly in the list of a DO group.

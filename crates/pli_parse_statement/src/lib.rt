@@ -15,9 +15,9 @@ pub use control::control_at;
 pub use counted::{Counted, Listing};
 pub use cursor::{expression_in, is_name};
 pub use first::{
-    Context, Kind, Misplacement, Next, bad_label, else_first, has_semicolon, kind_of, label_at,
-    next_of, why_misplaced,
+    Context, Misplacement, NextStatement, StatementKind, bad_label, else_first, has_semicolon,
+    kind_of, label_at, next_of, why_misplaced,
 };
 pub use heading::{Heading, heading_at, word_taken};
-pub use keyword::{Keyword, Standing, named_condition, statement_keyword};
+pub use keyword::{Keyword, StatementStanding, named_condition, statement_keyword};
 pub use simple::{assignment_at, condition_at, simple_at};

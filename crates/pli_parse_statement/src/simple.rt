@@ -26,7 +26,7 @@ use pli_base::syntax::{Expression, Identifier, Reference};
 use pli_base::{
     Code, Front, ParseError, TokenText, behind_open, close_taken, fault, misfit, semicolon_taken,
 };
-use pli_parse_declaration::{ReadsOne, Separator, declaration_at, list_at};
+use pli_parse_declaration::{ListReader, Separator, declaration_at, list_at};
 use std::alloc::Global;
 
 /// The statement's `;`, behind all else.
@@ -175,7 +175,7 @@ struct EachAllocation {
     levels: u32,
 }
 
-impl ReadsOne for EachAllocation {
+impl ListReader for EachAllocation {
     type Value = Allocation;
 
     ghost Tree = { tree.Allocation };

@@ -5,7 +5,7 @@ use Rattle.std.proofs.lemmas.Bool.{cases_lt}
 use Rattle.std.proofs.lemmas.List.{get_or_past, length-map}
 use Rattle.pli_base.specs.Name.{Name}
 use Rattle.pli_base.specs.Statements.{Heading, Statement, Numbered, Body, Procedure, Begin, Do, If, On, Statements, Ended, Before, Alternative, NoElse, Else, ExternalProcedure}
-use Rattle.pli_declare_outline.specs.Outlines.{Region, Mark, Declared, Labelled, Entered, Used, Jumped, Placed, outline_of, regions_in, regions_of, regions_among, regions_else, statement_regions, body_regions, statements_regions, alternative_regions}
+use Rattle.pli_declare_outline.specs.Outlines.{Region, Mark, Declared, Labelled, Entered, Used, Jumped, PlacedMark, outline_of, regions_in, regions_of, regions_among, regions_else, statement_regions, body_regions, statements_regions, alternative_regions}
 use Rattle.pli_declare.specs.Resolved as declare
 use Rattle.pli_declare.specs.Resolved.{resolved_of, block_at}
 use Rattle.pli_declare.specs.Resolution.{headed}
@@ -202,7 +202,7 @@ of_mark n (Labelled label) ns hs e = e
 of_mark n (Used names) ns hs e = e
 of_mark n (Jumped label) ns hs e = e
 
-gathered_by : (n : ℕ) (ps : List Placed) → gathered ps n ≡ of_entered n (entered_in ps)
+gathered_by : (n : ℕ) (ps : List PlacedMark) → gathered ps n ≡ of_entered n (entered_in ps)
 gathered_by n [] = refl
 gathered_by n (p ∷ ps) = of_mark n p.mark (gathered ps n) (entered_in ps) (gathered_by n ps)
 
@@ -237,12 +237,12 @@ parameters_there : (u : ExternalProcedure) (n : ℕ) → length (region_block u 
 unfolding resolved_of outline_of
 parameters_there u n = elim (cases_lt n (length (outline_of u).regions)) [
   | inl inside ↦
-      ap (λ (b : declare.Block). length b.parameters) (made_at (block_at (outline_of u)) (length (outline_of u).regions) n no_block inside)
+      ap (λ (b : declare.BlockDeclarations). length b.parameters) (made_at (block_at (outline_of u)) (length (outline_of u).regions) n no_block inside)
       ∙ ap length (gathered_by n (outline_of u).marks)
       ∙ ap (λ hs. length (of_entered n ((u.heading, 0) ∷ hs))) (entered_among u.statements 0 1)
       ∙ entered_there (unit_headings u) n 0 n (omega arith)
   | inr outside ↦
-      ap (λ (b : declare.Block). length b.parameters)
+      ap (λ (b : declare.BlockDeclarations). length b.parameters)
       (get_or_past (resolved_of u).blocks n no_block (omega (arith, outside, made_length (block_at (outline_of u)) (length (outline_of u).regions))))
       ∙ ap count_of (sym (get_or_past (unit_headings u) n None
       (omega (arith, outside, list_headings_counted u.statements, list_regions_counted u.statements 0 1))))

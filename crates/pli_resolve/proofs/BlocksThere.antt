@@ -3,7 +3,7 @@ use Rattle.std.proofs.Common.{◌≡◌, ℕ, zero, suc, ◌+◌, ◌<◌, Bool,
 use Rattle.pli_base.specs.Statements.{Statement, Numbered, Body, Procedure, Begin, Do, If, On, Statements, Ended, Before, Alternative, NoElse, Else, ExternalProcedure}
 use Rattle.pli_declare_outline.specs.Outlines.{Region, outline_of, regions_in, regions_among, statement_regions, body_regions, statements_regions, alternative_regions}
 use Rattle.pli_declare_constructs.specs.Regions.{is_block, kind_at, outside, innermost, first_or_unit, block_of, blocks_round, blocks_from}
-use Rattle.pli_declare_constructs.proofs.Blocks.{next, next_before, innermost_step, finds}
+use Rattle.pli_declare_constructs.proofs.BlocksAround.{next, next_before, innermost_step, finds}
 use Rattle.pli_resolve.proofs.RegionWalks.{regions_counted, list_regions_counted}
 
 -- regions, the first of which has this number, stand each in one of a lesser number

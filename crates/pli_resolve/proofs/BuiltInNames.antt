@@ -15,8 +15,8 @@ use Rattle.pli_declare_attributes.specs.Types.{number_of, is_bad_precision, is_b
 use Rattle.pli_declare_attributes.specs.Extents.{is_array, are_bad_bounds}
 use Rattle.pli_declare_attributes.specs.Faults.{first_of, shape_fault, own_fault, attributes_fault, item_fault, entry_fault, parameters_in}
 use Rattle.pli_declare_attributes.specs.Completed.{Variable, OfVariable, OfEntry, OfBuiltIn, variable_of, completed_of}
-use Rattle.pli_declare_attributes.specs.declared.place.Place.{Place}
-use Rattle.pli_declare_attributes.proofs.Shapes.{or_none, parts_none}
+use Rattle.pli_declare_attributes.specs.declared.place.ItemPlace.{ItemPlace}
+use Rattle.pli_declare_attributes.proofs.ShapeLemmas.{or_none, parts_none}
 use Rattle.pli_declare_variables.specs.Places.{is_built_in}
 use Rattle.pli_resolve.specs.BuiltIns.{built_in_functions, function_among, function_named}
 use Rattle.pli_resolve.specs.declared.built_in.BuiltInFunction.{BuiltInFunction}
@@ -76,7 +76,7 @@ leading true b c d e f g h k = refl
 leading false b c d e f g h k = cc
 
 -- the attributes of an item without a fault agree
-pub agreed : (p : Place) (i : Item) → item_fault p i ≡ None → set_agrees p (is_array i.dimensions) (set_of (map outermost i.attributes)) ≡ true
+pub agreed : (p : ItemPlace) (i : Item) → item_fault p i ≡ None → set_agrees p (is_array i.dimensions) (set_of (map outermost i.attributes)) ≡ true
 unfolding item_fault own_fault shape_fault
 agreed p i h =
     let attributes = map outermost i.attributes in
@@ -88,7 +88,7 @@ agreed p i h =
     AttributesConflict AttributesMissing BadPrecision BadLength BadBounds (or_none _ _ own).0)
 
 -- the name is one
-pub named_so : (p : Place) (i : Item) → item_fault p i ≡ None → completed_of p i ≡ OfBuiltIn → p.built_in_name ≡ true
+pub named_so : (p : ItemPlace) (i : Item) → item_fault p i ≡ None → completed_of p i ≡ OfBuiltIn → p.built_in_name ≡ true
 unfolding completed_of set_agrees
 named_so p i h is =
     let s = set_of (map outermost i.attributes) in
@@ -124,7 +124,7 @@ variable_left true b ps r w h k = cc
 variable_left false true ps r w h k = cc
 variable_left false false ps r w h k = refl
 
-pub with_members : (p : Place) (i : Item) → item_fault p i ≡ None → p.has_members ≡ true
+pub with_members : (p : ItemPlace) (i : Item) → item_fault p i ≡ None → p.has_members ≡ true
     → (v : Variable) × (completed_of p i ≡ OfVariable v) × (none_of (set_of (map outermost i.attributes)) (entry + built_in) ≡ true)
 unfolding completed_of set_agrees
 with_members p i h many =
@@ -147,7 +147,7 @@ last_false true true c h = h
 last_false true false c h = refl
 last_false false b c h = refl
 
-pub agrees_so : (p : Place) (i : Item) → item_fault p i ≡ None → none_of (set_of (map outermost i.attributes)) (entry + built_in) ≡ true
+pub agrees_so : (p : ItemPlace) (i : Item) → item_fault p i ≡ None → none_of (set_of (map outermost i.attributes)) (entry + built_in) ≡ true
     → agrees_as_variable p (set_of (map outermost i.attributes)) ≡ true
 unfolding set_agrees
 agrees_so p i h none =
@@ -159,7 +159,7 @@ agrees_so p i h none =
     (no_middle (is_plain p array) (has s entry) _ (not_true (has s entry) (no_entry_beside s none)))
     (last_false (is_plain p array) p.built_in_name (s == built_in) alone)
 
-pub variable_so : (p : Place) (i : Item) → none_of (set_of (map outermost i.attributes)) (entry + built_in) ≡ true → completed_of p i ≡ OfVariable (variable_of p i)
+pub variable_so : (p : ItemPlace) (i : Item) → none_of (set_of (map outermost i.attributes)) (entry + built_in) ≡ true → completed_of p i ≡ OfVariable (variable_of p i)
 unfolding completed_of
 variable_so p i none =
     let s = set_of (map outermost i.attributes) in

@@ -9,7 +9,7 @@ use Rattle.pli_declare_outline.specs.Outlines.{Region}
 use Rattle.pli_declare_outline.specs.declared.region.RegionKind.{RegionKind}
 use Rattle.pli_declare_outline.specs.declared.region.RegionKind.TheVariants as regions
 use Rattle.pli_declare_constructs.specs.Regions.{is_block, kind_at, outside, blocks_round}
-use Rattle.pli_declare_constructs.proofs.Blocks.{beyond, blocks_step, blocks_past}
+use Rattle.pli_declare_constructs.proofs.BlocksAround.{beyond, blocks_step, blocks_past}
 use Rattle.pli_declare.specs.Resolved.{resolved_of}
 use Rattle.pli_declare_variables.specs.Declarations.{Declaration}
 use Rattle.pli_resolve.specs.BlockNumbers.{block_begun, block_kind, begun_by, number_with, blocks_after, numbers_after}

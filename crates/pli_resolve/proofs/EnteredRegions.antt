@@ -7,7 +7,7 @@ use Rattle.pli_base.specs.declared.syntax.Identifier.{Identifier}
 use Rattle.pli_base.specs.declared.syntax.Joining.TheVariants.{Member, Located}
 use Rattle.pli_base.specs.Statements as tree
 use Rattle.pli_base.specs.Statements.{Heading, Range, To, By, Repeat, Control, While, Iterate, Allocation, Statement, Numbered, Body, Procedure, Begin, Do, If, On, Statements, Ended, Before, Alternative, NoElse, Else, ExternalProcedure}
-use Rattle.pli_declare_outline.specs.Outlines.{Mark, Entered, Placed, reference_marks, joined_marks, argument_marks, list_marks, expression_marks, optional_marks, range_marks, control_marks, both_marks, allocation_marks, head_marks, label_marks, placed, regions_in, statement_marks, body_marks, statements_marks, alternative_marks}
+use Rattle.pli_declare_outline.specs.Outlines.{Mark, Entered, PlacedMark, reference_marks, joined_marks, argument_marks, list_marks, expression_marks, optional_marks, range_marks, control_marks, both_marks, allocation_marks, head_marks, label_marks, placed, regions_in, statement_marks, body_marks, statements_marks, alternative_marks}
 use Rattle.pli_resolve.proofs.RegionWalks.{statement_headings, body_headings, statements_headings, alternative_headings, headings_counted}
 
 -- the procedure that a mark enters, with its region
@@ -15,7 +15,7 @@ abbrev pub entered : Mark → List (Heading × ℕ)
 entered (Entered heading region) = (heading, region) ∷ []
 entered mark = []
 
-abbrev pub entered_in : List Placed → List (Heading × ℕ)
+abbrev pub entered_in : List PlacedMark → List (Heading × ℕ)
 entered_in ps = flat_map (λ p. entered p.mark) ps
 
 abbrev pub entered_by : List Mark → List (Heading × ℕ)
@@ -32,8 +32,8 @@ headed_both n k [] ys e = let same : n ≡ k = omega (arith, e) in ap (λ m. hea
 headed_both n k (Some heading ∷ xs) ys e = ap (λ hs. (heading, n) ∷ hs) (headed_both (n + 1) k xs ys (omega (arith, e)))
 headed_both n k (None ∷ xs) ys e = headed_both (n + 1) k xs ys (omega (arith, e))
 
-in_both : (ps qs : List Placed) → entered_in (ps ++ qs) ≡ entered_in ps ++ entered_in qs
-in_both ps qs = flat_map-append (λ (p : Placed). entered p.mark) ps qs
+in_both : (ps qs : List PlacedMark) → entered_in (ps ++ qs) ≡ entered_in ps ++ entered_in qs
+in_both ps qs = flat_map-append (λ (p : PlacedMark). entered p.mark) ps qs
 
 by_both : (xs ys : List Mark) → entered_by (xs ++ ys) ≡ entered_by xs ++ entered_by ys
 by_both xs ys = flat_map-append entered xs ys
@@ -128,10 +128,10 @@ placed_by here (m ∷ ms) = ap (λ hs. entered m ++ hs) (placed_by here ms)
 none_placed : (here : ℕ) (ms : List Mark) → entered_by ms ≡ [] → entered_in (placed here ms) ≡ []
 none_placed here ms e = placed_by here ms ∙ e
 
-past : (ps qs : List Placed) (hs : List (Heading × ℕ)) → entered_in ps ≡ [] → entered_in qs ≡ hs → entered_in (ps ++ qs) ≡ hs
+past : (ps qs : List PlacedMark) (hs : List (Heading × ℕ)) → entered_in ps ≡ [] → entered_in qs ≡ hs → entered_in (ps ++ qs) ≡ hs
 past ps qs hs e f = in_both ps qs ∙ ap (λ xs. xs ++ entered_in qs) e ∙ f
 
-two : (ps qs : List Placed) (next middle : ℕ) (xs ys : List (Option Heading)) → next + length xs ≡ middle
+two : (ps qs : List PlacedMark) (next middle : ℕ) (xs ys : List (Option Heading)) → next + length xs ≡ middle
     → entered_in ps ≡ headed_from next xs → entered_in qs ≡ headed_from middle ys → entered_in (ps ++ qs) ≡ headed_from next (xs ++ ys)
 two ps qs next middle xs ys l e f =
     in_both ps qs ∙ ap (λ hs. hs ++ entered_in qs) e ∙ ap (λ hs. headed_from next xs ++ hs) f ∙ sym (headed_both next middle xs ys l)

@@ -4,7 +4,7 @@ use Rattle.std.specs.List.{flat_map}
 use Rattle.std.proofs.lemmas.Bool.{eqb-true, eq-eqb}
 use Rattle.pli_base.specs.Statements.{ExternalProcedure}
 use Rattle.pli_base.specs.declared.syntax.Identifier.{Identifier}
-use Rattle.pli_declare_outline.specs.Outlines.{Mark, Declared, Labelled, Entered, Used, Jumped, Placed, outline_of}
+use Rattle.pli_declare_outline.specs.Outlines.{Mark, Declared, Labelled, Entered, Used, Jumped, PlacedMark, outline_of}
 use Rattle.pli_declare_tables.specs.Tables.{AsLabel, Entry, no_entry, entries_of, heading_entries, unit_entries}
 use Rattle.pli_resolve.specs.StatementPlaces.{unit_places}
 use Rattle.pli_resolve.specs.Symbols.{found_after}
@@ -67,7 +67,7 @@ heading_labels (Labelled label) n inner lt e = omega (arith, lt)
 heading_labels (Used names) n inner lt e = omega (arith, lt)
 heading_labels (Jumped label) n inner lt e = omega (arith, lt)
 
-unit_labels : (ps : List Placed) (n inner : ℕ) → n < length (unit_entries ps) → (get_or (unit_entries ps) n no_entry).entity ≡ AsLabel inner → ⊥
+unit_labels : (ps : List PlacedMark) (n inner : ℕ) → n < length (unit_entries ps) → (get_or (unit_entries ps) n no_entry).entity ≡ AsLabel inner → ⊥
 unit_labels [] n inner lt e = omega (arith, lt)
 unit_labels (p ∷ ps) n inner lt e = heading_labels p.mark n inner lt e
 

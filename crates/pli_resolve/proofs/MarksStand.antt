@@ -7,7 +7,7 @@ use Rattle.pli_base.specs.declared.syntax.Identifier.{Identifier}
 use Rattle.pli_base.specs.declared.syntax.Joining.TheVariants.{Member, Located}
 use Rattle.pli_base.specs.Statements as tree
 use Rattle.pli_base.specs.Statements.{Range, To, By, Repeat, Control, While, Iterate, Allocation, Statement, Numbered, Body, Procedure, Begin, Do, If, On, Statements, Ended, Before, Alternative, NoElse, Else, ExternalProcedure}
-use Rattle.pli_declare_outline.specs.Outlines.{Mark, Declared, Labelled, Entered, Used, Jumped, Placed, outline_of, regions_in, regions_of, regions_among, regions_else, reference_marks, joined_marks, argument_marks, list_marks, expression_marks, optional_marks, range_marks, control_marks, both_marks, allocation_marks, head_marks, label_marks, placed, statement_marks, body_marks, statements_marks, alternative_marks}
+use Rattle.pli_declare_outline.specs.Outlines.{Mark, Declared, Labelled, Entered, Used, Jumped, PlacedMark, outline_of, regions_in, regions_of, regions_among, regions_else, reference_marks, joined_marks, argument_marks, list_marks, expression_marks, optional_marks, range_marks, control_marks, both_marks, allocation_marks, head_marks, label_marks, placed, statement_marks, body_marks, statements_marks, alternative_marks}
 use Rattle.pli_declare_tables.specs.Tables.{inner_marks}
 use Rattle.pli_resolve.specs.StatementPlaces.{statement_places, body_places, statements_places, alternative_places, end_place, unit_places}
 use Rattle.pli_resolve.specs.declared.statement_places.StatementPlace.{StatementPlace}
@@ -125,25 +125,25 @@ IsLabelOf l (Used names) = Unit {0}
 IsLabelOf l (Jumped label) = Unit {0}
 
 -- a statement stands in the region of a mark, which has a number below the bound
-pub record StandsBy (bound : ℕ) (places : List StatementPlace) (p : Placed) : Type 0 where
+pub record StandsBy (bound : ℕ) (places : List StatementPlace) (p : PlacedMark) : Type 0 where
   pub place : StatementPlace
   pub stands : Contains places place
   pub region : place.region ≡ p.region
   pub label : IsLabelOf place.label p.mark
   pub within : p.region < bound
 
-abbrev AllStand : (bound : ℕ) → List StatementPlace → List Placed → Type 0
+abbrev AllStand : (bound : ℕ) → List StatementPlace → List PlacedMark → Type 0
 AllStand bound places ps = Each (StandsBy bound places) ps
 
-more_places : (bound : ℕ) (xs ys : List StatementPlace) → ((q : StatementPlace) → Contains xs q → Contains ys q) → (ps : List Placed) → AllStand bound xs ps → AllStand bound ys ps
+more_places : (bound : ℕ) (xs ys : List StatementPlace) → ((q : StatementPlace) → Contains xs q → Contains ys q) → (ps : List PlacedMark) → AllStand bound xs ps → AllStand bound ys ps
 more_places bound xs ys f ps h =
     each_weaker (StandsBy bound xs) (StandsBy bound ys) ps
     (λ p s. record { place = s.place; stands = f s.place s.stands; region = s.region; label = s.label; within = s.within }) h
 
-front : (bound : ℕ) (xs ys : List StatementPlace) (ps : List Placed) → AllStand bound xs ps → AllStand bound (xs ++ ys) ps
+front : (bound : ℕ) (xs ys : List StatementPlace) (ps : List PlacedMark) → AllStand bound xs ps → AllStand bound (xs ++ ys) ps
 front bound xs ys ps h = more_places bound xs (xs ++ ys) (λ q c. Contains-append_left xs ys q c) ps h
 
-back : (bound : ℕ) (xs ys : List StatementPlace) (ps : List Placed) → AllStand bound ys ps → AllStand bound (xs ++ ys) ps
+back : (bound : ℕ) (xs ys : List StatementPlace) (ps : List PlacedMark) → AllStand bound ys ps → AllStand bound (xs ++ ys) ps
 back bound xs ys ps h = more_places bound ys (xs ++ ys) (λ q c. Contains-append_right xs ys q c) ps h
 
 -- marks of a statement's own, without a label among them
@@ -232,7 +232,7 @@ mutual
   stand_else bound (Else statement) here next low high = stand bound statement here next low high
 
 -- the marks of a unit but the first
-pub marks_stand : (u : ExternalProcedure) (p : Placed) → Contains (inner_marks (outline_of u).marks) p → StandsBy (1 + regions_among u.statements) (unit_places u) p
+pub marks_stand : (u : ExternalProcedure) (p : PlacedMark) → Contains (inner_marks (outline_of u).marks) p → StandsBy (1 + regions_among u.statements) (unit_places u) p
 unfolding outline_of unit_places
 marks_stand u p c =
     let first : StatementPlace = record { number = u.heading.number; region = 0; label = None } in

@@ -6,11 +6,11 @@ use Rattle.pli_base.specs.Name.{Name}
 use Rattle.pli_base.specs.Statements.{ExternalProcedure}
 use Rattle.pli_declare_outline.specs.Outlines.{Outline, outline_of}
 use Rattle.pli_declare_constructs.specs.Regions.{blocks_round}
-use Rattle.pli_declare_scopes.specs.Scopes.{Block, Scope, declares_first, found_in, meant_there, meant_from, meant}
+use Rattle.pli_declare_scopes.specs.Scopes.{BlockItems, Scope, declares_first, found_in, meant_there, meant_from, meant}
 use Rattle.pli_declare_scopes.specs.declared.block.Declared.{Declared}
 use Rattle.pli_declare_scopes.specs.declared.found.Found.{Found}
 use Rattle.pli_declare_scopes.specs.declared.found.Found.TheVariants.{Nothing, One, Several}
-use Rattle.pli_declare_scopes.specs.declared.found.Meant.TheVariants.{Item}
+use Rattle.pli_declare_scopes.specs.declared.found.ReferenceMeaning.TheVariants.{Item}
 use Rattle.pli_declare_scopes.specs.declared.repeat.Verdict.{Verdict}
 use Rattle.pli_declare_tables.specs.Tables.{Entry, with_verdicts, entries_in, verdicts_in, block_in, unit_entries, unit_block, scope_of, tables_of}
 use Rattle.pli_declare_variables.specs.Declarations.{declaration_at, declared_in, AreGood}
@@ -27,7 +27,7 @@ use Rattle.pli_resolve.proofs.DeclaredBlocks.{IsRegion, each_is, round_are_block
 abbrev Within : (k : ℕ) → Scope → (number out : ℕ) → Type 0
 Within k scope number out = (j : ℕ) × (out ≡ k + j) × (j < length scope) × (number < length (get_or scope j []))
 
-within_found : (k : ℕ) (b : Block) (bs : Scope) (number out : ℕ) (f : Found) → IsBelow (length b) f → meant_there k f ≡ Item number out → Within k (b ∷ bs) number out
+within_found : (k : ℕ) (b : BlockItems) (bs : Scope) (number out : ℕ) (f : Found) → IsBelow (length b) f → meant_there k f ≡ Item number out → Within k (b ∷ bs) number out
 within_found k b bs number out Nothing low e = cc
 within_found k b bs number out (One n) low e =
     let same : n ≡ number = cc in
@@ -98,7 +98,7 @@ module _ (o : Outline) where
       let within : out < length (scope_of o here) = omega (arith, w.2, same) in
       let low : number < length (get_or (scope_of o here) out []) = subst (λ j. number < length (get_or (scope_of o here) j [])) same w.3 in
       let there : number < length (picked (block_in o) (unit_block o) (region_of here out)) =
-      subst (λ (b : Block). number < length b) (at_picked (block_in o) (unit_block o) [] bs out within) low in (
+      subst (λ (b : BlockItems). number < length b) (at_picked (block_in o) (unit_block o) [] bs out within) low in (
         region_good here out (region_of here out) refl,
         omega (arith, there, fewer (region_of here out)),
         at_picked (entries_in o) (unit_entries o.marks) [] bs out (omega (arith, within, same_lengths (block_in o) (entries_in o) (unit_block o) (unit_entries o.marks) bs)),
@@ -115,7 +115,7 @@ unfolding resolved_of
 declared_is u None h = refl
 declared_is u (Some b) h =
     let o = outline_of u in
-    ap (λ (x : declare.Block). x.declarations) (made_at (block_at o) (length o.regions) b no_block h.0)
+    ap (λ (x : declare.BlockDeclarations). x.declarations) (made_at (block_at o) (length o.regions) b no_block h.0)
 
 pub declared_there : (u : ExternalProcedure) (region : Option ℕ) (n : ℕ) → IsRegion (outline_of u).regions region → n < length (entries_at (outline_of u) region)
     → slice_get (declared_by (resolved_of u) region) n ≡ Some (declaration_at (entries_at (outline_of u) region) (parameters_at (outline_of u) region) n)

@@ -6,23 +6,23 @@ use Rattle.std.proofs.lemmas.List.{get_or_past}
 use Rattle.std.proofs.lemmas.Option.{slice_get_within, get_or_from_slice_get}
 use Rattle.pli_base.specs.Name.{Name}
 use Rattle.pli_base.specs.Statements.{ExternalProcedure}
-use Rattle.pli_base.specs.declared.declaration.Bounds.{Bounds}
+use Rattle.pli_base.specs.declared.declaration.WrittenBounds.{WrittenBounds}
 use Rattle.pli_base.specs.declared.declaration.InitialValue.{InitialValue}
 use Rattle.pli_base.specs.declared.syntax.Identifier.{Identifier}
 use Rattle.pli_map.specs.Description.{Description}
 use Rattle.pli_declare_attributes.specs.Completed.{Variable as AVariable, OfVariable, OfEntry, OfBuiltIn}
 use Rattle.pli_declare_attributes.specs.Extents.{is_array}
 use Rattle.pli_declare_attributes.specs.Faults.{item_fault}
-use Rattle.pli_declare_outline.specs.Outlines.{Mark, Declared, Labelled, Entered, Used, Jumped, Placed, outline_of}
+use Rattle.pli_declare_outline.specs.Outlines.{Mark, Declared, Labelled, Entered, Used, Jumped, PlacedMark, outline_of}
 use Rattle.pli_declare_tables.specs.Tables.{Entity, Entry, no_entry, entries_in, heading_entries, unit_entries}
 use Rattle.pli_declare_tables.specs.answers.Answers.{AreBehindOwners}
 use Rattle.pli_declare_tables.proofs.MembersStandBehind.{owners_stand_before}
 use Rattle.pli_declare_variables.specs.Places.{members_of, owners_of, place_in, item_in, item_of, own_code, is_variable, is_unsubscripted}
 use Rattle.pli_declare_variables.specs.Descriptions.{is_of_shape, own_codes, description_of}
-use Rattle.pli_declare_variables.specs.Declarations.{Declaration, Kind, OfItem, OfLabel, OfProcedure, IsGood, AreGood, declaration_at, declared_in, kind_of, whole_description}
+use Rattle.pli_declare_variables.specs.Declarations.{Declaration, DeclaredKind, OfItem, OfLabel, OfProcedure, IsGood, AreGood, declaration_at, declared_in, kind_of, whole_description}
 use Rattle.pli_declare_variables.proofs.MembersFound.{before}
-use Rattle.pli_declare_variables.proofs.Owners.{owners_next}
-use Rattle.pli_declare_variables.proofs.NumbersOn.{filtered}
+use Rattle.pli_declare_variables.proofs.OwnerLemmas.{owners_next}
+use Rattle.pli_declare_variables.proofs.NumberListLemmas.{filtered}
 use Rattle.pli_declare.specs.Resolution.{parameters_of, resolution_faults}
 use Rattle.pli_declare.specs.Resolved.{resolved_of, block_at}
 use Rattle.pli_declare.specs.Resolved as declare
@@ -62,7 +62,7 @@ only_one e = cc
 pub no_dimensions : (es : List Entry) (n : ℕ) → not (is_array (item_of es n).dimensions) ≡ true → (item_of es n).dimensions ≡ []
 no_dimensions es n h = by (item_of es n).dimensions h
   where
-    by : (bounds : List Bounds) → not (is_array bounds) ≡ true → bounds ≡ []
+    by : (bounds : List WrittenBounds) → not (is_array bounds) ≡ true → bounds ≡ []
     by [] f = refl
     by (b ∷ bs) f =
         let bad : false ≡ true = sym (ap not (lt-ltb 0 (length (b ∷ bs)) (omega arith))) ∙ f in
@@ -264,7 +264,7 @@ abbrev IsMember : Way → (owner : Option ℕ) → (root : ℕ) → (path : List
 IsMember w owner root path = (o : ℕ) × (owner ≡ Some o) × (w.root ≡ root) × (w.path ≡ path)
 
 -- only what has an owner is a member
-only_member : (f : SymbolFacts) (ps : List Name) (w : Way) (i : Identifier) (owner : Option ℕ) (kind : Kind) (root : ℕ) (path : List ℕ) (initial : List InitialValue) (area : Option SymbolKey)
+only_member : (f : SymbolFacts) (ps : List Name) (w : Way) (i : Identifier) (owner : Option ℕ) (kind : DeclaredKind) (root : ℕ) (path : List ℕ) (initial : List InitialValue) (area : Option SymbolKey)
     → symbol_kind f ps w i owner kind ≡ Member root path initial area → IsMember w owner root path
 only_member f ps w i None (OfItem (OfVariable v) d) root path initial area e = cc
 only_member f ps w i None (OfItem (OfEntry qs r) d) root path initial area e = cc
@@ -278,7 +278,7 @@ only_member f ps w i (Some o) (OfLabel region) root path initial area e = cc
 only_member f ps w i (Some o) (OfProcedure returned region) root path initial area e = cc
 
 -- a variable of its own
-pub own_kind : (f : SymbolFacts) (ps : List Name) (w : Way) (i : Identifier) (owner : Option ℕ) (kind : Kind) (v : AVariable) (d : Description) → owner ≡ None → kind ≡ OfItem (OfVariable v) (Some d)
+pub own_kind : (f : SymbolFacts) (ps : List Name) (w : Way) (i : Identifier) (owner : Option ℕ) (kind : DeclaredKind) (v : AVariable) (d : Description) → owner ≡ None → kind ≡ OfItem (OfVariable v) (Some d)
     → symbol_kind f ps w i owner kind ≡ Variable d (class_of v.storage (place_among ps i.name) (locator_of f i.at)) v.scope v.initial (area_of f i.at)
 own_kind f ps w i owner kind v d e k =
     ap (λ o. symbol_kind f ps w i o kind) e ∙ ap (symbol_kind f ps w i None) k
@@ -313,7 +313,7 @@ module _ (u : ExternalProcedure) (h : resolution_faults u ≡ []) (key : SymbolK
     pub symbol_there : (n : ℕ) → symbol_at (resolved_unit_of u) (record { block = key.block; number = n }) ≡ slice_get (symbols_with (facts_of u) names (ways_of (declared_in entries names)) (declared_in entries names)) n
     symbol_there n =
         symbol_inside u (record { block = key.block; number = n }) b found
-        ∙ ap (λ (x : declare.Block). slice_get (symbols_with (facts_of u) x.parameters (ways_of x.declarations) x.declarations) n) (declared_region lt)
+        ∙ ap (λ (x : declare.BlockDeclarations). slice_get (symbols_with (facts_of u) x.parameters (ways_of x.declarations) x.declarations) n) (declared_region lt)
 
     part_of : (n o root : ℕ) (path : List ℕ) → n < length entries → (get_or entries n no_entry).owner ≡ Some o
         → (get_or (ways_of (declared_in entries names)) n no_way).root ≡ root → (get_or (ways_of (declared_in entries names)) n no_way).path ≡ path
@@ -361,7 +361,7 @@ module _ (u : ExternalProcedure) (h : resolution_faults u ≡ []) (key : SymbolK
   pub symbol_nowhere : length (outline_of u).regions ≤ b.region → symbol_at (resolved_unit_of u) key ≡ None
   symbol_nowhere past =
       symbol_inside u key b found
-      ∙ ap (λ (x : declare.Block). slice_get (symbols_with (facts_of u) x.parameters (ways_of x.declarations) x.declarations) key.number) (declared_beyond past)
+      ∙ ap (λ (x : declare.BlockDeclarations). slice_get (symbols_with (facts_of u) x.parameters (ways_of x.declarations) x.declarations) key.number) (declared_beyond past)
 
   in_block : (s : Symbol) (root : ℕ) (path : List ℕ) (initial : List InitialValue) (area : Option SymbolKey)
       → symbol_at (resolved_unit_of u) key ≡ Some s → s.kind ≡ Member root path initial area → IsPart u key s root path
@@ -387,7 +387,7 @@ outermost_owner u n d e =
     of_heading (Used names) n = refl
     of_heading (Jumped label) n = refl
 
-    alone : (ps : List Placed) (n : ℕ) → (get_or (unit_entries ps) n no_entry).owner ≡ None
+    alone : (ps : List PlacedMark) (n : ℕ) → (get_or (unit_entries ps) n no_entry).owner ≡ None
     alone [] n = refl
     alone (p ∷ ps) n = of_heading p.mark n
 

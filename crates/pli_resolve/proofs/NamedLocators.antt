@@ -17,15 +17,15 @@ use Rattle.pli_declare_attributes.specs.Sets.{pointer, offset, area, based, buil
 use Rattle.pli_declare_attributes.specs.Types.{number_of}
 use Rattle.pli_declare_attributes.specs.Faults.{item_fault}
 use Rattle.pli_declare_attributes.specs.Completed.{Variable as AVariable, OfVariable, OfEntry, OfBuiltIn, storage_at, variable_of, completed_of}
-use Rattle.pli_declare_attributes.specs.declared.completed.Storage.{Storage}
-use Rattle.pli_declare_attributes.specs.declared.completed.Storage.TheVariants as storage
-use Rattle.pli_declare_outline.specs.Outlines.{Mark, Declared, Labelled, Entered, Used, Jumped, Placed, Outline, outline_of}
+use Rattle.pli_declare_attributes.specs.declared.completed.DeclaredStorage.{DeclaredStorage}
+use Rattle.pli_declare_attributes.specs.declared.completed.DeclaredStorage.TheVariants as storage
+use Rattle.pli_declare_outline.specs.Outlines.{Mark, Declared, Labelled, Entered, Used, Jumped, PlacedMark, Outline, outline_of}
 use Rattle.pli_declare_tables.specs.Tables.{Entity, AsItem, AsLabel, AsProcedure, Entry, no_entry, entries_in, heading_entries, unit_entries}
 use Rattle.pli_declare_tables.specs.answers.Answers.{AreBehindOwners}
 use Rattle.pli_declare_tables.proofs.MembersStandBehind.{owners_stand_before}
 use Rattle.pli_declare_variables.specs.Places.{members_of, owners_of, place_in, position_of, item_in, item_of, is_variable, stands_alone, is_bad_level, set_in, is_unsubscripted, is_locator, is_area}
 use Rattle.pli_declare_variables.specs.Descriptions.{scalar_at, own_codes, description_of}
-use Rattle.pli_declare_variables.specs.Declarations.{Declaration, Kind, OfItem, OfLabel, OfProcedure, IsGood, AreGood, returned_by, declaration_at, declared_in, kind_of, whole_description}
+use Rattle.pli_declare_variables.specs.Declarations.{Declaration, DeclaredKind, OfItem, OfLabel, OfProcedure, IsGood, AreGood, returned_by, declaration_at, declared_in, kind_of, whole_description}
 use Rattle.pli_declare.specs.Resolution.{names_nothing, returned_are, heading_code, parameters_of, resolution_faults}
 use Rattle.pli_declare.specs.Resolved.{resolved_of, meaning_at}
 use Rattle.pli_declare_variables.specs.AttributeNames.{plain_of, area_in}
@@ -286,7 +286,7 @@ heading_variable (Labelled label) n e = cc
 heading_variable (Used names) n e = cc
 heading_variable (Jumped label) n e = cc
 
-unit_variable : (ms : List Placed) (n : ℕ) → is_variable (get_or (unit_entries ms) n no_entry).entity ≡ true → ⊥
+unit_variable : (ms : List PlacedMark) (n : ℕ) → is_variable (get_or (unit_entries ms) n no_entry).entity ≡ true → ⊥
 unit_variable [] n e = cc
 unit_variable (p ∷ ps) n e = heading_variable p.mark n e
 
@@ -301,7 +301,7 @@ some_named : {n : Name} {ns : List Name} → [] ≡ n ∷ ns → ⊥
 some_named e = cc
 
 module _ (u : ExternalProcedure) (h : resolution_faults u ≡ []) where
-  abbrev all_marks : List Placed
+  abbrev all_marks : List PlacedMark
   all_marks = (outline_of u).marks
 
   no_fault : (f : Fault) → AtUnit all_marks f → ⊥
@@ -334,7 +334,7 @@ module _ (u : ExternalProcedure) (h : resolution_faults u ≡ []) where
       of_mark (Used names) n never = (refl, refl)
       of_mark (Jumped label) n never = (refl, refl)
 
-      of_marks : (ms : List Placed) → ((f : Fault) → AtUnit ms f → ⊥) → (locator_names (get_or (unit_entries ms) n no_entry).entity ≡ []) × (area_names (get_or (unit_entries ms) n no_entry).entity ≡ [])
+      of_marks : (ms : List PlacedMark) → ((f : Fault) → AtUnit ms f → ⊥) → (locator_names (get_or (unit_entries ms) n no_entry).entity ≡ []) × (area_names (get_or (unit_entries ms) n no_entry).entity ≡ [])
       of_marks [] never = (refl, refl)
       of_marks (p ∷ ps) never =
           of_mark p.mark n
@@ -383,14 +383,14 @@ module _ (u : ExternalProcedure) (h : resolution_faults u ≡ []) where
 
 -- the names of a symbol
 module _ (r : ResolvedUnit) (e : Entity) (f : SymbolFacts) (i : Identifier) (l : Means (IsLocator r) (locator_names e) (locator_of f i.at)) (a : Means (IsArea r) (area_names e) (area_of f i.at)) where
-  class_names : (from : Option Storage) (slot : ℕ) → ClassNames r (locator_names e) (class_of from slot (locator_of f i.at))
+  class_names : (from : Option DeclaredStorage) (slot : ℕ) → ClassNames r (locator_names e) (class_of from slot (locator_of f i.at))
   class_names None slot = tt
   class_names (Some storage.Automatic) slot = tt
   class_names (Some storage.Static) slot = tt
   class_names (Some storage.Controlled) slot = tt
   class_names (Some storage.Based) slot = l
 
-  kind_names : (ps : List Name) (w : Way) (owner : Option ℕ) (kind : Kind) → KindNames r e (symbol_kind f ps w i owner kind)
+  kind_names : (ps : List Name) (w : Way) (owner : Option ℕ) (kind : DeclaredKind) → KindNames r e (symbol_kind f ps w i owner kind)
   kind_names ps w None (OfItem (OfVariable v) d) = (class_names v.storage (place_among ps i.name), a)
   kind_names ps w None (OfItem (OfEntry qs x) d) = tt
   kind_names ps w None (OfItem OfBuiltIn d) = tt

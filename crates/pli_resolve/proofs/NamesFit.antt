@@ -14,10 +14,10 @@ use Rattle.pli_base.specs.declared.token.Fault.{Fault}
 use Rattle.pli_declare_attributes.specs.Faults.{first_of, lesser, result_fault}
 use Rattle.pli_declare_attributes.proofs.LeastFaults.{no_lesser}
 use Rattle.pli_declare_constructs.specs.Regions.{block_of}
-use Rattle.pli_declare_outline.specs.Outlines.{Mark, Declared, Labelled, Entered, Used, Jumped, Placed, Outline, outline_of, regions_among}
+use Rattle.pli_declare_outline.specs.Outlines.{Mark, Declared, Labelled, Entered, Used, Jumped, PlacedMark, Outline, outline_of, regions_among}
 use Rattle.pli_declare_scopes.specs.Scopes.{Scope, meant}
-use Rattle.pli_declare_scopes.specs.declared.found.Meant.{Meant}
-use Rattle.pli_declare_scopes.specs.declared.found.Meant.TheVariants.{Item as Means, Ambiguous, NotDeclared}
+use Rattle.pli_declare_scopes.specs.declared.found.ReferenceMeaning.{ReferenceMeaning}
+use Rattle.pli_declare_scopes.specs.declared.found.ReferenceMeaning.TheVariants.{Item as Means, Ambiguous, NotDeclared}
 use Rattle.pli_declare_scopes.specs.declared.repeat.Verdict.TheVariants.{Counts}
 use Rattle.pli_declare_tables.specs.Tables as tables
 use Rattle.pli_declare_tables.specs.Tables.{Entity, AsItem, AsProcedure, no_entry, named, entries_of, entries_in, block_in, inner_marks, unit_block, unit_entries, verdicts_in, scope_of, tables_of}
@@ -170,7 +170,7 @@ module _ (u : ExternalProcedure) (h : resolution_faults u ≡ []) where
   abbrev o : Outline
   o = outline_of u
 
-  abbrev marks : List Placed
+  abbrev marks : List PlacedMark
   marks = inner_marks o.marks
 
   abbrev bound : ℕ
@@ -241,7 +241,7 @@ module _ (u : ExternalProcedure) (h : resolution_faults u ≡ []) where
       good : names_fit o b fits names (meant (scope_of o here) names) ≡ true
       good = ap (λ (sc : Scope). names_fit o b fits names (meant sc names)) (sym scopes) ∙ g
 
-      by : (m : Meant) → meant (scope_of o here) names ≡ m → OneNamed fits i.at (named_at o here names i)
+      by : (m : ReferenceMeaning) → meant (scope_of o here) names ≡ m → OneNamed fits i.at (named_at o here names i)
       by (Means number out) m =
           let w = meant_in o here names number out m in
           let there : fits (get_or (tables_of o b) out []) number ≡ true = ap (names_fit o b fits names) (sym m) ∙ good in (
@@ -267,7 +267,7 @@ module _ (u : ExternalProcedure) (h : resolution_faults u ≡ []) where
       subst (AllNamed fits) (sym one.1) (one.2, tt)
 
   -- the names of a mark in its block
-  module _ (p : Placed) (c : Contains marks p) where
+  module _ (p : PlacedMark) (c : Contains marks p) where
     abbrev here : ℕ
     here = p.region
 
@@ -318,7 +318,7 @@ module _ (u : ExternalProcedure) (h : resolution_faults u ≡ []) where
 
   -- all uses of a unit
 
-  areas_good : (p : Placed) → Contains marks p → AllNamed is_area (areas_at o p.region p.mark)
+  areas_good : (p : PlacedMark) → Contains marks p → AllNamed is_area (areas_at o p.region p.mark)
   areas_good p c = by p.mark refl
     where
       by : (m : Mark) → p.mark ≡ m → AllNamed is_area (areas_at o p.region p.mark)
@@ -331,7 +331,7 @@ module _ (u : ExternalProcedure) (h : resolution_faults u ≡ []) where
       by (Used names) e = subst (λ m. AllNamed is_area (areas_at o p.region m)) (sym e) tt
       by (Jumped label) e = subst (λ m. AllNamed is_area (areas_at o p.region m)) (sym e) tt
 
-  locators_good : (p : Placed) → Contains marks p → AllNamed is_locator (locators_at o p.region p.mark)
+  locators_good : (p : PlacedMark) → Contains marks p → AllNamed is_locator (locators_at o p.region p.mark)
   locators_good p c = by p.mark refl
     where
       by : (m : Mark) → p.mark ≡ m → AllNamed is_locator (locators_at o p.region p.mark)
@@ -346,13 +346,13 @@ module _ (u : ExternalProcedure) (h : resolution_faults u ≡ []) where
   unfolding resolved_of
   area_meant at t e =
       found_good (IsNamed is_area) (of_marks (areas_at o) marks) at None
-      (each_of (λ (x : Use). IsNamed is_area x.target) (λ (p : Placed). areas_at o p.region p.mark) marks (λ k p lt is. areas_good p (k, lt, is))) (λ s f. cc) t e
+      (each_of (λ (x : Use). IsNamed is_area x.target) (λ (p : PlacedMark). areas_at o p.region p.mark) marks (λ k p lt is. areas_good p (k, lt, is))) (λ s f. cc) t e
 
   pub locator_meant : (at : ℕ) (t : Target) → meaning_at (resolved_of u).locators at ≡ Some t → IsNamed is_locator t
   unfolding resolved_of
   locator_meant at t e =
       found_good (IsNamed is_locator) (of_marks (locators_at o) marks) at None
-      (each_of (λ (x : Use). IsNamed is_locator x.target) (λ (p : Placed). locators_at o p.region p.mark) marks (λ k p lt is. locators_good p (k, lt, is))) (λ s f. cc) t e
+      (each_of (λ (x : Use). IsNamed is_locator x.target) (λ (p : PlacedMark). locators_at o p.region p.mark) marks (λ k p lt is. locators_good p (k, lt, is))) (λ s f. cc) t e
 
   -- where a declaration has names, something is meant
 
@@ -362,7 +362,7 @@ module _ (u : ExternalProcedure) (h : resolution_faults u ≡ []) where
   no_names_there : {n : Name} {ns : List Name} → [] ≡ n ∷ ns → ⊥
   no_names_there e = cc
 
-  area_use : (p : Placed) → Contains marks p → (m : Mark) → p.mark ≡ m → (base k : ℕ) → k < length (entries_of base p.region m) → (n : Name) (ns : List Name)
+  area_use : (p : PlacedMark) → Contains marks p → (m : Mark) → p.mark ≡ m → (base k : ℕ) → k < length (entries_of base p.region m) → (n : Name) (ns : List Name)
       → area_names (get_or (entries_of base p.region m) k no_entry).entity ≡ n ∷ ns → HasUseOf (areas_at o p.region m) (get_or (entries_of base p.region m) k no_entry).identifier.at
   area_use p c (Declared items) e base k lt n ns some =
       let x = item_of_entry base p.region items k lt in
@@ -381,7 +381,7 @@ module _ (u : ExternalProcedure) (h : resolution_faults u ≡ []) where
   area_use p c (Used names) e base k lt n ns some = absurd (omega (arith, lt))
   area_use p c (Jumped label) e base k lt n ns some = absurd (omega (arith, lt))
 
-  locator_use : (p : Placed) → Contains marks p → (m : Mark) → p.mark ≡ m → (base k : ℕ) → k < length (entries_of base p.region m) → (n : Name) (ns : List Name)
+  locator_use : (p : PlacedMark) → Contains marks p → (m : Mark) → p.mark ≡ m → (base k : ℕ) → k < length (entries_of base p.region m) → (n : Name) (ns : List Name)
       → locator_names (get_or (entries_of base p.region m) k no_entry).entity ≡ n ∷ ns → HasUseOf (locators_at o p.region m) (get_or (entries_of base p.region m) k no_entry).identifier.at
   locator_use p c (Declared items) e base k lt n ns some =
       let x = item_of_entry base p.region items k lt in
@@ -394,9 +394,9 @@ module _ (u : ExternalProcedure) (h : resolution_faults u ≡ []) where
   locator_use p c (Used names) e base k lt n ns some = absurd (omega (arith, lt))
   locator_use p c (Jumped label) e base k lt n ns some = absurd (omega (arith, lt))
 
-  used_there : (uses : ℕ → Mark → List Use) (p : Placed) (at : ℕ) → Contains marks p → HasUseOf (uses p.region p.mark) at → IsSome (meaning_at (of_marks uses marks) at)
+  used_there : (uses : ℕ → Mark → List Use) (p : PlacedMark) (at : ℕ) → Contains marks p → HasUseOf (uses p.region p.mark) at → IsSome (meaning_at (of_marks uses marks) at)
   used_there uses p at c used =
-      let there = in_flat (λ (q : Placed). uses q.region q.mark) marks c.0 p used.0 c.1 c.2 used.2 in
+      let there = in_flat (λ (q : PlacedMark). uses q.region q.mark) marks c.0 p used.0 c.1 c.2 used.2 in
       subst (λ k. IsSome (meaning_at (of_marks uses marks) k)) used.1 (found_some (of_marks uses marks) None there.0 used.0 there.1 there.2)
 
   entry_used : (uses : ℕ → Mark → List Use) (b k : ℕ) → k < length (entries_in o b)

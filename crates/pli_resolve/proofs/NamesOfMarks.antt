@@ -5,17 +5,17 @@ use Rattle.std.proofs.lemmas.Bool.{cases_lt, eqb-true, eq-eqb}
 use Rattle.std.proofs.lemmas.List.{get_or_append_left, get_or-append-add, length-append, length-map}
 use Rattle.pli_base.specs.Declarations.{Item}
 use Rattle.pli_base.specs.declared.syntax.Identifier.{Identifier}
-use Rattle.pli_declare_outline.specs.Outlines.{Region, Mark, Declared, Labelled, Entered, Used, Jumped, Placed, Outline}
+use Rattle.pli_declare_outline.specs.Outlines.{Region, Mark, Declared, Labelled, Entered, Used, Jumped, PlacedMark, Outline}
 use Rattle.pli_declare_constructs.specs.Regions.{block_of}
 use Rattle.pli_declare_scopes.specs.Levels.{standings_of, level_of}
-use Rattle.pli_declare_scopes.specs.declared.level.Standing.{Standing}
+use Rattle.pli_declare_scopes.specs.declared.level.ItemStanding.{ItemStanding}
 use Rattle.pli_declare_tables.specs.Tables.{AsItem, AsLabel, Entry, no_entry, entries_of, entries_after, entries_in, inner_marks, named, item_entries}
 use Rattle.pli_declare.proofs.MarkWalkLemmas.{entries_grow, length_standings}
 use Rattle.pli_resolve.proofs.OwnersAreItems.{item_there}
 
 -- a name that a mark of a block declares, the first of whose names has the number base there
-pub record IsOf (regions : List Region) (block : ℕ) (ps : List Placed) (e : Entry) : Type 0 where
-  pub placed : Placed
+pub record IsOf (regions : List Region) (block : ℕ) (ps : List PlacedMark) (e : Entry) : Type 0 where
+  pub placed : PlacedMark
   pub stands : Contains ps placed
   pub in_block : block_of regions placed.region ≡ block
   pub base : ℕ
@@ -24,15 +24,15 @@ pub record IsOf (regions : List Region) (block : ℕ) (ps : List Placed) (e : En
   pub same : get_or (entries_of base placed.region placed.mark) number no_entry ≡ e
 
 module _ (regions : List Region) (block : ℕ) where
-  abbrev new : List Entry → Placed → List Entry
+  abbrev new : List Entry → PlacedMark → List Entry
   new es p = if block_of regions p.region == block then entries_of (length es) p.region p.mark else []
 
-  keep : (es : List Entry) (ps : List Placed) (n : ℕ) → n < length es → get_or (entries_after regions block es ps) n no_entry ≡ get_or es n no_entry
+  keep : (es : List Entry) (ps : List PlacedMark) (n : ℕ) → n < length es → get_or (entries_after regions block es ps) n no_entry ≡ get_or es n no_entry
   keep es [] n lt = refl
   keep es (p ∷ ps) n lt = keep (es ++ new es p) ps n (omega (arith, lt, length-append es (new es p))) ∙ get_or_append_left es (new es p) no_entry n lt
 
   -- from a name to its mark
-  later : (p : Placed) (ps : List Placed) (e : Entry) → IsOf regions block ps e → IsOf regions block (p ∷ ps) e
+  later : (p : PlacedMark) (ps : List PlacedMark) (e : Entry) → IsOf regions block ps e → IsOf regions block (p ∷ ps) e
   later p ps e h = record {
     placed = h.placed;
     stands = (suc h.stands.0, omega (arith, h.stands.1), h.stands.2);
@@ -43,7 +43,7 @@ module _ (regions : List Region) (block : ℕ) where
     same = h.same;
   }
 
-  first : (p : Placed) (ps : List Placed) (base k : ℕ) (e : Entry) (b : Bool) → (block_of regions p.region == block) ≡ b
+  first : (p : PlacedMark) (ps : List PlacedMark) (base k : ℕ) (e : Entry) (b : Bool) → (block_of regions p.region == block) ≡ b
       → k < length (if b then entries_of base p.region p.mark else []) → get_or (if b then entries_of base p.region p.mark else []) k no_entry ≡ e → IsOf regions block (p ∷ ps) e
   first p ps base k e true t lt same = record {
     placed = p;
@@ -56,7 +56,7 @@ module _ (regions : List Region) (block : ℕ) where
   }
   first p ps base k e false t lt same = absurd (omega (arith, lt))
 
-  from_marks : (es : List Entry) (ps : List Placed) (n : ℕ) → length es ≤ n → n < length (entries_after regions block es ps)
+  from_marks : (es : List Entry) (ps : List PlacedMark) (n : ℕ) → length es ≤ n → n < length (entries_after regions block es ps)
       → IsOf regions block ps (get_or (entries_after regions block es ps) n no_entry)
   from_marks es [] n low high = absurd (omega (arith, low, high))
   from_marks es (p ∷ ps) n low high = elim (cases_lt n (length (es ++ new es p))) [
@@ -69,19 +69,19 @@ module _ (regions : List Region) (block : ℕ) where
   ]
 
   -- from a mark to its names
-  pub record AreNames (entries : List Entry) (p : Placed) : Type 0 where
+  pub record AreNames (entries : List Entry) (p : PlacedMark) : Type 0 where
     pub base : ℕ
     pub within : (k : ℕ) → k < length (entries_of base p.region p.mark) → base + k < length entries
     pub same : (k : ℕ) → k < length (entries_of base p.region p.mark) → get_or entries (base + k) no_entry ≡ get_or (entries_of base p.region p.mark) k no_entry
 
-  names_here : (es : List Entry) (p : Placed) (ps : List Placed) (added : List Entry) → added ≡ entries_of (length es) p.region p.mark → AreNames (entries_after regions block (es ++ added) ps) p
+  names_here : (es : List Entry) (p : PlacedMark) (ps : List PlacedMark) (added : List Entry) → added ≡ entries_of (length es) p.region p.mark → AreNames (entries_after regions block (es ++ added) ps) p
   names_here es p ps added e = record {
     base = length es;
     within = λ k lt. omega (arith, lt, ap length e, length-append es added, entries_grow regions block (es ++ added) ps);
     same = λ k lt. keep (es ++ added) ps (length es + k) (omega (arith, lt, ap length e, length-append es added)) ∙ get_or-append-add es added k no_entry ∙ ap (λ xs. get_or xs k no_entry) e;
   }
 
-  to_names : (es : List Entry) (ps : List Placed) (p : Placed) (i : ℕ) → i < length ps → get_or ps i p ≡ p → block_of regions p.region ≡ block → AreNames (entries_after regions block es ps) p
+  to_names : (es : List Entry) (ps : List PlacedMark) (p : PlacedMark) (i : ℕ) → i < length ps → get_or ps i p ≡ p → block_of regions p.region ≡ block → AreNames (entries_after regions block es ps) p
   to_names es [] p i lt is e = absurd (omega (arith, lt))
   to_names es (q ∷ qs) p zero lt is e =
       subst (λ r. AreNames (entries_after regions block (es ++ new es r) qs) p) (sym is)
@@ -91,7 +91,7 @@ module _ (regions : List Region) (block : ℕ) where
 pub mark_of : (o : Outline) (block n : ℕ) → n < length (entries_in o block) → IsOf o.regions block (inner_marks o.marks) (get_or (entries_in o block) n no_entry)
 mark_of o block n lt = from_marks o.regions block [] (inner_marks o.marks) n (omega arith) lt
 
-pub names_of_mark : (o : Outline) (p : Placed) → Contains (inner_marks o.marks) p → AreNames o.regions (block_of o.regions p.region) (entries_in o (block_of o.regions p.region)) p
+pub names_of_mark : (o : Outline) (p : PlacedMark) → Contains (inner_marks o.marks) p → AreNames o.regions (block_of o.regions p.region) (entries_in o (block_of o.regions p.region)) p
 names_of_mark o p c = to_names o.regions (block_of o.regions p.region) [] (inner_marks o.marks) p c.0 c.1 c.2 refl
 
 -- a label is that of its mark
@@ -117,7 +117,7 @@ same_count items =
     let levels = map (λ (x : Identifier × Item). x.1.level) names in
     length_standings [] 0 (map level_of levels) ∙ length-map levels level_of ∙ length-map names (λ (x : Identifier × Item). x.1.level)
 
-entry_of : (base : ℕ) (xs : List (Identifier × Item)) (ss : List Standing) (k : ℕ) (x : Identifier × Item) → length ss ≡ length xs → k < length xs → get_or xs k x ≡ x
+entry_of : (base : ℕ) (xs : List (Identifier × Item)) (ss : List ItemStanding) (k : ℕ) (x : Identifier × Item) → length ss ≡ length xs → k < length xs → get_or xs k x ≡ x
     → (k < length (item_entries base xs ss)) × (is_bad : Bool) × ((get_or (item_entries base xs ss) k no_entry).identifier ≡ x.0) × ((get_or (item_entries base xs ss) k no_entry).entity ≡ AsItem x.1 is_bad)
 entry_of base [] ss k x l lt e = absurd (omega (arith, lt))
 entry_of base (y ∷ ys) [] k x l lt e = absurd (omega (arith, l))
@@ -131,7 +131,7 @@ pub item_at : (base here : ℕ) (items : List Item) (k : ℕ) (x : Identifier ×
     × ((get_or (entries_of base here (Declared items)) k no_entry).entity ≡ AsItem x.1 is_bad)
 item_at base here items k x lt e = entry_of base (flat_map named items) (standings_of (map (λ x. x.1.level) (flat_map named items))) k x (same_count items) lt e
 
-item_from : (base : ℕ) (xs : List (Identifier × Item)) (ss : List Standing) (k : ℕ) → k < length (item_entries base xs ss)
+item_from : (base : ℕ) (xs : List (Identifier × Item)) (ss : List ItemStanding) (k : ℕ) → k < length (item_entries base xs ss)
     → (x : Identifier × Item) × (k < length xs) × (get_or xs k x ≡ x) × (is_bad : Bool) × ((get_or (item_entries base xs ss) k no_entry).identifier ≡ x.0)
     × ((get_or (item_entries base xs ss) k no_entry).entity ≡ AsItem x.1 is_bad)
 item_from base [] ss k lt = absurd (omega (arith, lt))

@@ -5,10 +5,10 @@ use Rattle.std.proofs.lemmas.List.{get_or_append_left, get_or-append-add, length
 use Rattle.std.specs.List.{flat_map}
 use Rattle.pli_base.specs.declared.syntax.Identifier.{Identifier}
 use Rattle.pli_base.specs.Declarations.{Item}
-use Rattle.pli_declare_outline.specs.Outlines.{Region, Mark, Declared, Labelled, Entered, Used, Jumped, Placed, Outline}
+use Rattle.pli_declare_outline.specs.Outlines.{Region, Mark, Declared, Labelled, Entered, Used, Jumped, PlacedMark, Outline}
 use Rattle.pli_declare_constructs.specs.Regions.{block_of}
 use Rattle.pli_declare_scopes.specs.Levels.{standings_of}
-use Rattle.pli_declare_scopes.specs.declared.level.Standing.{Standing}
+use Rattle.pli_declare_scopes.specs.declared.level.ItemStanding.{ItemStanding}
 use Rattle.pli_declare_tables.specs.Tables.{Entity, AsItem, Entry, no_entry, named, item_entries, entries_of, entries_after, entries_in, inner_marks}
 
 abbrev pub IsItem : Entity → Type 0
@@ -27,7 +27,7 @@ OwnersAreItems es = (k o : ℕ) → k < length es → (get_or es k no_entry).own
 abbrev OfMark : (base : ℕ) → List Entry → Type 0
 OfMark base es = (k o : ℕ) → k < length es → owner_at es k ≡ Some o → (base ≤ o) × ((j : ℕ) → j < length es → IsItem (entity_at es j))
 
-pub item_there : (base : ℕ) (xs : List (Identifier × Item)) (ss : List Standing) (j : ℕ) → j < length (item_entries base xs ss) → IsItem (entity_at (item_entries base xs ss) j)
+pub item_there : (base : ℕ) (xs : List (Identifier × Item)) (ss : List ItemStanding) (j : ℕ) → j < length (item_entries base xs ss) → IsItem (entity_at (item_entries base xs ss) j)
 item_there base [] ss j lt = absurd (omega (arith, lt))
 item_there base (x ∷ xs) [] j lt = absurd (omega (arith, lt))
 item_there base (x ∷ xs) (s ∷ ss) zero lt = (x.1, s.is_bad, refl)
@@ -37,7 +37,7 @@ moved : (base : ℕ) (owner : Option ℕ) (o : ℕ) → option_map (λ k. base +
 moved base None o e = cc
 moved base (Some k) o e = let same : base + k ≡ o = cc in omega (arith, same)
 
-owner_low : (base : ℕ) (xs : List (Identifier × Item)) (ss : List Standing) (k o : ℕ) → k < length (item_entries base xs ss) → owner_at (item_entries base xs ss) k ≡ Some o → base ≤ o
+owner_low : (base : ℕ) (xs : List (Identifier × Item)) (ss : List ItemStanding) (k o : ℕ) → k < length (item_entries base xs ss) → owner_at (item_entries base xs ss) k ≡ Some o → base ≤ o
 owner_low base [] ss k o lt e = absurd (omega (arith, lt))
 owner_low base (x ∷ xs) [] k o lt e = absurd (omega (arith, lt))
 owner_low base (x ∷ xs) (s ∷ ss) zero o lt e = moved base s.owner o e
@@ -81,7 +81,7 @@ one_more : (es : List Entry) (here : ℕ) (mark : Mark) (b : Bool) → OwnersAre
 one_more es here mark true h = both es (entries_of (length es) here mark) h (of_mark (length es) here mark)
 one_more es here mark false h = subst OwnersAreItems (sym (append-nil es)) h
 
-all_after : (regions : List Region) (block : ℕ) (es : List Entry) (ps : List Placed) → OwnersAreItems es → OwnersAreItems (entries_after regions block es ps)
+all_after : (regions : List Region) (block : ℕ) (es : List Entry) (ps : List PlacedMark) → OwnersAreItems es → OwnersAreItems (entries_after regions block es ps)
 all_after regions block es [] h = h
 all_after regions block es (p ∷ ps) h =
     all_after regions block (es ++ (if block_of regions p.region == block then entries_of (length es) p.region p.mark else [])) ps

@@ -13,11 +13,11 @@ use Rattle.pli_declare_attributes.specs.Types.{scalar_of}
 use Rattle.pli_declare_attributes.specs.Extents.{is_array}
 use Rattle.pli_declare_attributes.specs.Faults.{first_of, is_bad_area, area_fault, own_fault, attributes_fault, item_fault, entry_fault, parameters_in}
 use Rattle.pli_declare_attributes.specs.Completed.{Variable, OfVariable, OfEntry, OfBuiltIn, storage_at, variable_of, completed_of}
-use Rattle.pli_declare_attributes.specs.declared.completed.Storage.TheVariants as storage
-use Rattle.pli_declare_attributes.specs.declared.place.Place.{Place}
+use Rattle.pli_declare_attributes.specs.declared.completed.DeclaredStorage.TheVariants as storage
+use Rattle.pli_declare_attributes.specs.declared.place.ItemPlace.{ItemPlace}
 use Rattle.pli_declare_attributes.specs.declared.place.Position.{Position}
 use Rattle.pli_declare_attributes.specs.declared.place.Position.TheVariants.{AtLevelOne, Member, Parameter, Result}
-use Rattle.pli_declare_attributes.proofs.Shapes.{or_none, parts_none}
+use Rattle.pli_declare_attributes.proofs.ShapeLemmas.{or_none, parts_none}
 use Rattle.pli_resolve.specs.Symbols.{class_of}
 use Rattle.pli_resolve.specs.laws.LocatorLaws.{IsLocating, IsNotBased}
 use Rattle.pli_resolve.specs.declared.symbol.SymbolKey.{SymbolKey}
@@ -141,7 +141,7 @@ some_data s k e h z = not_all (none_of s data_attributes) (λ none.
     differ f = cc
 
 -- what agrees as a variable has one data type, and none beside members
-agrees_parts : (p : Place) (s : ℕ) → agrees_as_variable p s ≡ true
+agrees_parts : (p : ItemPlace) (s : ℕ) → agrees_as_variable p s ≡ true
     → (is_one_of (bit_and s data_attributes) data_types ≡ true) × ((not p.has_members || may_have_members p.position && none_of s data_attributes) ≡ true)
 agrees_parts p s h =
     types_one (none_of s (entry + built_in)) (is_one_of (bit_and s data_attributes) data_types)
@@ -149,11 +149,11 @@ agrees_parts p s h =
     (none_of s external || none_of s (automatic + based)) (none_of s returns || none_of s data_attributes && not p.has_members) (none_of s (excluded_at p.position))
     (not p.has_members || may_have_members p.position && none_of s data_attributes) h
 
-pub type_of : (p : Place) (i : Item) → item_fault p i ≡ None → none_of (set_of (map outermost i.attributes)) (entry + built_in) ≡ true
+pub type_of : (p : ItemPlace) (i : Item) → item_fault p i ≡ None → none_of (set_of (map outermost i.attributes)) (entry + built_in) ≡ true
     → is_one_of (bit_and (set_of (map outermost i.attributes)) data_attributes) data_types ≡ true
 type_of p i h none = (agrees_parts p (set_of (map outermost i.attributes)) (agrees_so p i h none)).0
 
-pub no_members : (p : Place) (i : Item) (k : ℕ) → item_fault p i ≡ None → none_of (set_of (map outermost i.attributes)) (entry + built_in) ≡ true
+pub no_members : (p : ItemPlace) (i : Item) (k : ℕ) → item_fault p i ≡ None → none_of (set_of (map outermost i.attributes)) (entry + built_in) ≡ true
     → bit_and data_attributes k ≡ k → has (set_of (map outermost i.attributes)) k ≡ true → has 0 k ≡ false → p.has_members ≡ false
 no_members p i k h none e there z =
     let s = set_of (map outermost i.attributes) in
@@ -165,7 +165,7 @@ bad_area true true c d e h k = cc
 bad_area true false c d e h k = refl
 bad_area false b c d e h k = cc
 
-pub area_alone : (p : Place) (i : Item) → item_fault p i ≡ None → has (set_of (map outermost i.attributes)) area ≡ true → is_member p.position ≡ false
+pub area_alone : (p : ItemPlace) (i : Item) → item_fault p i ≡ None → has (set_of (map outermost i.attributes)) area ≡ true → is_member p.position ≡ false
 unfolding item_fault own_fault is_bad_area
 area_alone p i h there =
     let s = set_of (map outermost i.attributes) in
@@ -179,7 +179,7 @@ variable_same true b ps r w v h = cc
 variable_same false true ps r w v h = cc
 variable_same false false ps r w v h = cc
 
-pub storage_so : (p : Place) (i : Item) (v : Variable) → completed_of p i ≡ OfVariable v → v.storage ≡ storage_at p.position (set_of (map outermost i.attributes))
+pub storage_so : (p : ItemPlace) (i : Item) (v : Variable) → completed_of p i ≡ OfVariable v → v.storage ≡ storage_at p.position (set_of (map outermost i.attributes))
 unfolding completed_of variable_of
 storage_so p i v h =
     let s = set_of (map outermost i.attributes) in

@@ -12,12 +12,12 @@ use Rattle.pli_base.specs.declared.token.Fault.{Fault}
 use Rattle.pli_map.specs.Description.{Description}
 use Rattle.pli_declare_attributes.specs.Completed.{Completed, OfVariable, OfEntry, OfBuiltIn, completed_of}
 use Rattle.pli_declare_attributes.specs.Faults.{item_fault}
-use Rattle.pli_declare_attributes.specs.declared.place.Place.{Place}
-use Rattle.pli_declare_outline.specs.Outlines.{Mark, Declared, Labelled, Entered, Used, Jumped, Placed, Outline, outline_of}
+use Rattle.pli_declare_attributes.specs.declared.place.ItemPlace.{ItemPlace}
+use Rattle.pli_declare_outline.specs.Outlines.{Mark, Declared, Labelled, Entered, Used, Jumped, PlacedMark, Outline, outline_of}
 use Rattle.pli_declare_constructs.specs.Reach.{reaches}
 use Rattle.pli_declare_scopes.specs.Scopes.{meant}
-use Rattle.pli_declare_scopes.specs.declared.found.Meant.{Meant}
-use Rattle.pli_declare_scopes.specs.declared.found.Meant.TheVariants.{Item, Ambiguous, NotDeclared}
+use Rattle.pli_declare_scopes.specs.declared.found.ReferenceMeaning.{ReferenceMeaning}
+use Rattle.pli_declare_scopes.specs.declared.found.ReferenceMeaning.TheVariants.{Item, Ambiguous, NotDeclared}
 use Rattle.pli_declare_tables.specs.Tables.{Entity, AsItem, AsLabel, AsProcedure, Entry, no_entry, inner_marks, scope_of}
 use Rattle.pli_declare_variables.specs.Places.{place_in, item_in, is_built_in}
 use Rattle.pli_declare_variables.specs.Declarations.{OfItem, OfLabel, Declaration, kind_of, declaration_at, whole_description, IsGood}
@@ -75,20 +75,20 @@ fit_both P at (x ∷ xs) ys f g = (f.0, fit_both P at xs ys f.1 g)
 
 -- a use, among those of marks
 module _ (P : Target → Type 0) (at : ℕ) (uses : ℕ → Mark → List Use) where
-  abbrev AllFit : List Placed → Type 0
-  AllFit ps = (k : ℕ) → k < length ps → (q : Placed) → get_or ps k q ≡ q → Fit P at (uses q.region q.mark)
+  abbrev AllFit : List PlacedMark → Type 0
+  AllFit ps = (k : ℕ) → k < length ps → (q : PlacedMark) → get_or ps k q ≡ q → Fit P at (uses q.region q.mark)
 
-  fit_marks : (ps : List Placed) → AllFit ps → Fit P at (of_marks uses ps)
+  fit_marks : (ps : List PlacedMark) → AllFit ps → Fit P at (of_marks uses ps)
   fit_marks [] all = tt
   fit_marks (q ∷ qs) all =
       fit_both P at (uses q.region q.mark) (of_marks uses qs) (all 0 (omega arith) q refl)
       (fit_marks qs (λ k lt r e. all (suc k) (omega (arith, lt)) r e))
 
-  pub used_last : (ps : List Placed) (found : Option Target) (k : ℕ) (p : Placed) (t : Target) → k < length ps → get_or ps k p ≡ p
+  pub used_last : (ps : List PlacedMark) (found : Option Target) (k : ℕ) (p : PlacedMark) (t : Target) → k < length ps → get_or ps k p ≡ p
       → uses p.region p.mark ≡ record { at = at; target = t } ∷ [] → P t → AllFit ps → IsOne P (meaning_after found (of_marks uses ps) at)
   used_last [] found k p t lt is e h all = absurd (omega (arith, lt))
   used_last (q ∷ qs) found zero p t lt is e h all =
-      let here : uses q.region q.mark ≡ record { at = at; target = t } ∷ [] = ap (λ (r : Placed). uses r.region r.mark) is ∙ e in
+      let here : uses q.region q.mark ≡ record { at = at; target = t } ∷ [] = ap (λ (r : PlacedMark). uses r.region r.mark) is ∙ e in
       let found_here : meaning_after found (uses q.region q.mark) at ≡ Some t =
       ap (λ us. meaning_after found us at) here ∙ ap (λ (b : Bool). if b then Some t else found) (eq-eqb at at refl) in
       subst (IsOne P) (sym (meaning_behind found (uses q.region q.mark) (of_marks uses qs) at))
@@ -108,11 +108,11 @@ stays f (p ∷ ps) at = by (nat_eq p.0 at) (λ g. stays g ps at)
     by true rest = rest p.1
     by false rest = rest f
 
-function_found : (ps : List Placed) (found : Option BuiltInFunction) (k : ℕ) (p : Placed) (at : ℕ) (f : BuiltInFunction) → k < length ps → get_or ps k p ≡ p
+function_found : (ps : List PlacedMark) (found : Option BuiltInFunction) (k : ℕ) (p : PlacedMark) (at : ℕ) (f : BuiltInFunction) → k < length ps → get_or ps k p ≡ p
     → functions_at p.mark ≡ (at, f) ∷ [] → (g : BuiltInFunction) × (found_after found (functions_in ps) at ≡ Some g)
 function_found [] found k p at f lt is e = absurd (omega (arith, lt))
 function_found (q ∷ qs) found zero p at f lt is e =
-    let here : functions_at q.mark ≡ (at, f) ∷ [] = ap (λ (r : Placed). functions_at r.mark) is ∙ e in
+    let here : functions_at q.mark ≡ (at, f) ∷ [] = ap (λ (r : PlacedMark). functions_at r.mark) is ∙ e in
     let first : found_after found (functions_at q.mark) at ≡ Some f =
     ap (λ fs. found_after found fs at) here ∙ ap (λ (b : Bool). if b then Some f else found) (eq-eqb at at refl) in
     let rest = stays f (functions_in qs) at in
@@ -146,7 +146,7 @@ module _ (u : ExternalProcedure) (h : resolution_faults u ≡ []) where
   abbrev o : Outline
   o = outline_of u
 
-  abbrev marks : List Placed
+  abbrev marks : List PlacedMark
   marks = inner_marks o.marks
 
   abbrev function_there : ℕ → Option BuiltInFunction
@@ -162,7 +162,7 @@ module _ (u : ExternalProcedure) (h : resolution_faults u ≡ []) where
   abbrev IsMeant : Option NameMeaning → Type 0
   IsMeant meaning = (m : NameMeaning) × (meaning ≡ Some m) × IsThere (resolved_unit_of u) m
 
-  item_meant : (key : SymbolKey) (name : Name) (p : Place) (item : tree.Item) (d : Option Description) → item_fault p item ≡ None → p.built_in_name ≡ is_built_in name
+  item_meant : (key : SymbolKey) (name : Name) (p : ItemPlace) (item : tree.Item) (d : Option Description) → item_fault p item ≡ None → p.built_in_name ≡ is_built_in name
       → IsFound key → IsMeant (kind_meaning key name (OfItem (completed_of p item) d))
   item_meant key name p item d none named s = by (completed_of p item) refl
     where
@@ -200,13 +200,13 @@ module _ (u : ExternalProcedure) (h : resolution_faults u ≡ []) where
       (m.0, ap (declared_meaning key) (declared_there u region number good lt) ∙ m.1, m.2)
 
   -- no mark has a fault
-  no_fault : (p : Placed) (f : Fault) → Contains marks p → HasUse o p.region p.mark f → ⊥
+  no_fault : (p : PlacedMark) (f : Fault) → Contains marks p → HasUse o p.region p.mark f → ⊥
   no_fault p f c has =
       let there : Contains (resolution_faults u) f = (faults_are_least_codes u f).1 (inr (inr (inr (record { placed = p; stands = c; has = has })))) in
       let none = subst (λ fs. Contains fs f) h there in
       omega (arith, none.1)
 
-  no_code : (p : Placed) (at : ℕ) (found : Option Code) → Contains marks p → ((code : Code) → found ≡ Some code → HasUse o p.region p.mark (record { code = code; at = at })) → found ≡ None
+  no_code : (p : PlacedMark) (at : ℕ) (found : Option Code) → Contains marks p → ((code : Code) → found ≡ Some code → HasUse o p.region p.mark (record { code = code; at = at })) → found ≡ None
   no_code p at None c has = refl
   no_code p at (Some code) c has = absurd (no_fault p (record { code = code; at = at }) c (has code refl))
 
@@ -214,7 +214,7 @@ module _ (u : ExternalProcedure) (h : resolution_faults u ≡ []) where
   abbrev OneUse : (here : ℕ) → Mark → (at : ℕ) → Type 0
   OneUse here mark at = (t : Target) × (uses_at o here mark ≡ record { at = at; target = t } ∷ []) × Good at t
 
-  used_one : (p : Placed) (i : Identifier) (is : List Identifier) → Contains marks p → p.mark ≡ Used (i ∷ is) → OneUse p.region (Used (i ∷ is)) i.at
+  used_one : (p : PlacedMark) (i : Identifier) (is : List Identifier) → Contains marks p → p.mark ≡ Used (i ∷ is) → OneUse p.region (Used (i ∷ is)) i.at
   used_one p i is c e = by (meant (scope_of o p.region) (names_of (i ∷ is))) refl
     where
       none : reference_code (i ∷ is) (meant (scope_of o p.region) (names_of (i ∷ is))) ≡ None
@@ -234,20 +234,20 @@ module _ (u : ExternalProcedure) (h : resolution_faults u ≡ []) where
           let some = sym (ap (λ (b : Bool). if b then None else Some NoName) t) ∙ ap (reference_code (i ∷ is)) (sym m) ∙ none in
           absurd (let bad : Some NoName ≡ None = some in cc)
 
-      by : (m : Meant) → meant (scope_of o p.region) (names_of (i ∷ is)) ≡ m → OneUse p.region (Used (i ∷ is)) i.at
+      by : (m : ReferenceMeaning) → meant (scope_of o p.region) (names_of (i ∷ is)) ≡ m → OneUse p.region (Used (i ∷ is)) i.at
       by (Item number out) m =
           let w = meant_in o p.region (names_of (i ∷ is)) number out m in
           (AName (region_of o p.region out) number, ap (used_as o p.region i.at (function_use i.at (i ∷ is))) m, name_good (region_of o p.region out) number i.at w.0 w.1)
       by Ambiguous m = absurd (let bad : Some Several ≡ None = ap (reference_code (i ∷ is)) (sym m) ∙ none in cc)
       by NotDeclared m = function (is_function (i ∷ is)) refl m
 
-  jumped_one : (p : Placed) (label : Identifier) → Contains marks p → p.mark ≡ Jumped label → OneUse p.region (Jumped label) label.at
+  jumped_one : (p : PlacedMark) (label : Identifier) → Contains marks p → p.mark ≡ Jumped label → OneUse p.region (Jumped label) label.at
   jumped_one p label c e = by (meant (scope_of o p.region) (label.name ∷ [])) refl
     where
       none : jump_code o p.region (meant (scope_of o p.region) (label.name ∷ [])) ≡ None
       none = no_code p label.at _ c (λ code f. subst (λ m. HasUse o p.region m (record { code = code; at = label.at })) (sym e) (refl, f))
 
-      by : (m : Meant) → meant (scope_of o p.region) (label.name ∷ []) ≡ m → OneUse p.region (Jumped label) label.at
+      by : (m : ReferenceMeaning) → meant (scope_of o p.region) (label.name ∷ []) ≡ m → OneUse p.region (Jumped label) label.at
       by (Item number out) m =
           let w = meant_in o p.region (label.name ∷ []) number out m in
           (AName (region_of o p.region out) number, ap (used_as o p.region label.at []) m, name_good (region_of o p.region out) number label.at w.0 w.1)
@@ -258,7 +258,7 @@ module _ (u : ExternalProcedure) (h : resolution_faults u ≡ []) where
   fits_one here at token mark one =
       subst (Fit (Good at) at) (sym one.1) ((λ e. subst (λ k. Good k one.0) e one.2), tt)
 
-  each_fits : (at : ℕ) (p : Placed) → Contains marks p → Fit (Good at) at (uses_at o p.region p.mark)
+  each_fits : (at : ℕ) (p : PlacedMark) → Contains marks p → Fit (Good at) at (uses_at o p.region p.mark)
   each_fits at p c = by p.mark refl
     where
       by : (m : Mark) → p.mark ≡ m → Fit (Good at) at (uses_at o p.region p.mark)
@@ -269,13 +269,13 @@ module _ (u : ExternalProcedure) (h : resolution_faults u ≡ []) where
       by (Labelled label) e = subst (λ m. Fit (Good at) at (uses_at o p.region m)) (sym e) tt
       by (Entered heading region) e = subst (λ m. Fit (Good at) at (uses_at o p.region m)) (sym e) tt
 
-  one_means : (p : Placed) (at : ℕ) → Contains marks p → OneUse p.region p.mark at → MeansSomething (resolved_unit_of u) at
+  one_means : (p : PlacedMark) (at : ℕ) → Contains marks p → OneUse p.region p.mark at → MeansSomething (resolved_unit_of u) at
   unfolding resolved_of
   one_means p at c one =
       let found = used_last (Good at) at (uses_at o) marks None c.0 p one.0 c.1 c.2 one.1 one.2 (λ k lt q e. each_fits at q (k, lt, e)) in
       (found.2.0, ap (option_and_then (target_meaning u (function_there at))) found.1 ∙ found.2.1, found.2.2)
 
-  mark_means : (p : Placed) → Contains marks p → (m : Mark) → p.mark ≡ m → HasMeaning (resolved_unit_of u) m
+  mark_means : (p : PlacedMark) → Contains marks p → (m : Mark) → p.mark ≡ m → HasMeaning (resolved_unit_of u) m
   mark_means p c (Used []) e = tt
   mark_means p c (Used (i ∷ is)) e = one_means p i.at c (subst (λ m. OneUse p.region m i.at) (sym e) (used_one p i is c e))
   mark_means p c (Jumped label) e = one_means p label.at c (subst (λ m. OneUse p.region m label.at) (sym e) (jumped_one p label c e))
@@ -325,13 +325,13 @@ module _ (u : ExternalProcedure) (h : resolution_faults u ≡ []) where
   abbrev OneLabel : (here : ℕ) → (label : Identifier) → Type 0
   OneLabel here label = (t : Target) × (uses_at o here (Jumped label) ≡ record { at = label.at; target = t } ∷ []) × IsLabel here label.at t
 
-  label_one : (p : Placed) (label : Identifier) → Contains marks p → p.mark ≡ Jumped label → OneLabel p.region label
+  label_one : (p : PlacedMark) (label : Identifier) → Contains marks p → p.mark ≡ Jumped label → OneLabel p.region label
   label_one p label c e = by (meant (scope_of o p.region) (label.name ∷ [])) refl
     where
       none : jump_code o p.region (meant (scope_of o p.region) (label.name ∷ [])) ≡ None
       none = no_code p label.at _ c (λ code f. subst (λ m. HasUse o p.region m (record { code = code; at = label.at })) (sym e) (refl, f))
 
-      by : (m : Meant) → meant (scope_of o p.region) (label.name ∷ []) ≡ m → OneLabel p.region label
+      by : (m : ReferenceMeaning) → meant (scope_of o p.region) (label.name ∷ []) ≡ m → OneLabel p.region label
       by (Item number out) m =
           let w = meant_in o p.region (label.name ∷ []) number out m in
           let region = region_of o p.region out in
@@ -343,30 +343,30 @@ module _ (u : ExternalProcedure) (h : resolution_faults u ≡ []) where
       by NotDeclared m = absurd (let bad : Some NoName ≡ None = ap (jump_code o p.region) (sym m) ∙ none in cc)
 
   -- another mark uses no name there
-  module _ (p : Placed) (label : Identifier) (c : Contains marks p) (e : p.mark ≡ Jumped label)
-      (alone : (q : Placed) → Contains marks q → IsUsedAt label.at q.mark → q ≡ p) where
+  module _ (p : PlacedMark) (label : Identifier) (c : Contains marks p) (e : p.mark ≡ Jumped label)
+      (alone : (q : PlacedMark) → Contains marks q → IsUsedAt label.at q.mark → q ≡ p) where
     one : OneLabel p.region label
     one = label_one p label c e
 
-    abbrev AllLabels : (q : Placed) → Mark → Type 0
+    abbrev AllLabels : (q : PlacedMark) → Mark → Type 0
     AllLabels q m = Fit (IsLabel p.region label.at) label.at (uses_at o q.region m)
 
-    same_one : (q : Placed) (l : Identifier) → Contains marks q → q.mark ≡ Jumped l → AllLabels q (Jumped l)
+    same_one : (q : PlacedMark) (l : Identifier) → Contains marks q → q.mark ≡ Jumped l → AllLabels q (Jumped l)
     same_one q l d f =
         let other = label_one q l d f in
         subst (Fit (IsLabel p.region label.at) label.at) (sym other.1) (
           (λ at. let same : q ≡ p = alone q d (subst (IsUsedAt label.at) (sym f) at) in
-              subst (λ (r : Placed). IsLabel r.region label.at other.0) same (subst (λ k. IsLabel q.region k other.0) at other.2)),
+              subst (λ (r : PlacedMark). IsLabel r.region label.at other.0) same (subst (λ k. IsLabel q.region k other.0) at other.2)),
           tt,
         )
 
-    no_other : (q : Placed) (i : Identifier) (is : List Identifier) → Contains marks q → q.mark ≡ Used (i ∷ is) → AllLabels q (Used (i ∷ is))
+    no_other : (q : PlacedMark) (i : Identifier) (is : List Identifier) → Contains marks q → q.mark ≡ Used (i ∷ is) → AllLabels q (Used (i ∷ is))
     no_other q i is d f =
         let other = used_one q i is d f in
         subst (Fit (IsLabel p.region label.at) label.at) (sym other.1)
-        ((λ at. absurd (differs (sym f ∙ ap (λ (r : Placed). r.mark) (alone q d (subst (IsUsedAt label.at) (sym f) at)) ∙ e))), tt)
+        ((λ at. absurd (differs (sym f ∙ ap (λ (r : PlacedMark). r.mark) (alone q d (subst (IsUsedAt label.at) (sym f) at)) ∙ e))), tt)
 
-    labels_fit : (q : Placed) → Contains marks q → AllLabels q q.mark
+    labels_fit : (q : PlacedMark) → Contains marks q → AllLabels q q.mark
     labels_fit q d = by q.mark refl
       where
         by : (m : Mark) → q.mark ≡ m → AllLabels q q.mark

@@ -6,10 +6,10 @@ use Rattle.std.specs.List.{flat_map}
 use Rattle.pli_base.specs.Name.{Name}
 use Rattle.pli_base.specs.Statements.{ExternalProcedure}
 use Rattle.pli_base.specs.declared.syntax.Identifier.{Identifier}
-use Rattle.pli_declare_outline.specs.Outlines.{Mark, Used, Placed, outline_of}
+use Rattle.pli_declare_outline.specs.Outlines.{Mark, Used, PlacedMark, outline_of}
 use Rattle.pli_declare_attributes.specs.Completed.{OfBuiltIn}
 use Rattle.pli_declare_tables.specs.Tables.{inner_marks}
-use Rattle.pli_declare_variables.specs.Declarations.{Declaration, Kind, OfItem, OfProcedure}
+use Rattle.pli_declare_variables.specs.Declarations.{Declaration, DeclaredKind, OfItem, OfProcedure}
 use Rattle.pli_declare.specs.Resolved as declare
 use Rattle.pli_declare.specs.Resolved.{resolved_of}
 use Rattle.pli_declare.specs.declared.block.Target.{Target}
@@ -84,11 +84,11 @@ functions_at (Used (i ∷ [])) = function_at i (function_named i.name)
 functions_at mark = []
 
 -- the built-in functions that marks name
-abbrev pub functions_in : List Placed → List (ℕ × BuiltInFunction)
+abbrev pub functions_in : List PlacedMark → List (ℕ × BuiltInFunction)
 functions_in ps = flat_map (λ p. functions_at p.mark) ps
 
 -- a procedure's region, with the symbol of its name
-abbrev pub procedure_at : SymbolKey → Kind → List (ℕ × SymbolKey)
+abbrev pub procedure_at : SymbolKey → DeclaredKind → List (ℕ × SymbolKey)
 procedure_at key (OfProcedure returned region) = (region, key) ∷ []
 procedure_at key other = []
 
@@ -99,17 +99,19 @@ procedures_from block number (d ∷ ds) =
     procedure_at (record { block = block; number = number }) d.kind ++ procedures_from block (number + 1) ds
 
 -- the procedures that a region declares
-abbrev pub block_procedures : (numbers : List ℕ) → (region : ℕ) → declare.Block → List (ℕ × SymbolKey)
+abbrev pub block_procedures : (numbers : List ℕ) → (region : ℕ) → declare.BlockDeclarations
+    → List (ℕ × SymbolKey)
 block_procedures numbers region b = procedures_from (get_or numbers region 0) 0 b.declarations
 
 -- the procedures that regions declare, from the region of this number on
-abbrev pub procedures_of : (numbers : List ℕ) → (region : ℕ) → List declare.Block → List (ℕ × SymbolKey)
+abbrev pub procedures_of : (numbers : List ℕ) → (region : ℕ) → List declare.BlockDeclarations
+    → List (ℕ × SymbolKey)
 procedures_of numbers region [] = []
 procedures_of numbers region (b ∷ bs) =
     block_procedures numbers region b ++ procedures_of numbers (region + 1) bs
 
 -- a block that declares nothing
-abbrev pub no_block : declare.Block
+abbrev pub no_block : declare.BlockDeclarations
 no_block = record { parameters = []; declarations = [] }
 
 -- what a region declares, or the outermost block
@@ -119,7 +121,7 @@ declared_by r (Some region) = (get_or r.blocks region no_block).declarations
 
 -- what a symbol means where its name is used: the symbol, but a name that is declared BUILTIN means the
 -- built-in function
-abbrev pub kind_meaning : SymbolKey → (name : Name) → Kind → Option NameMeaning
+abbrev pub kind_meaning : SymbolKey → (name : Name) → DeclaredKind → Option NameMeaning
 kind_meaning key name (OfItem OfBuiltIn description) = option_map meanings.BuiltIn (function_named name)
 kind_meaning key name other = Some (meanings.Symbol key)
 
@@ -159,7 +161,7 @@ facts_of u = record {
 }
 
 -- what a region of a unit declares
-abbrev pub region_block : ExternalProcedure → (region : ℕ) → declare.Block
+abbrev pub region_block : ExternalProcedure → (region : ℕ) → declare.BlockDeclarations
 region_block u region = get_or (resolved_of u).blocks region no_block
 
 -- a block of a unit

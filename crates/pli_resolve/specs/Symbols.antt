@@ -9,10 +9,10 @@ use Rattle.pli_base.specs.declared.syntax.Identifier.{Identifier}
 use Rattle.pli_map.specs.Description as described
 use Rattle.pli_map.specs.Description.{Description}
 use Rattle.pli_declare_attributes.specs.Completed.{OfVariable, OfEntry, OfBuiltIn}
-use Rattle.pli_declare_attributes.specs.declared.completed.Scope.{Scope}
-use Rattle.pli_declare_attributes.specs.declared.completed.Storage.{Storage}
-use Rattle.pli_declare_attributes.specs.declared.completed.Storage.TheVariants as storage
-use Rattle.pli_declare_variables.specs.Declarations.{Declaration, Kind, OfItem, OfLabel, OfProcedure}
+use Rattle.pli_declare_attributes.specs.declared.completed.ScopeAttribute.{ScopeAttribute}
+use Rattle.pli_declare_attributes.specs.declared.completed.DeclaredStorage.{DeclaredStorage}
+use Rattle.pli_declare_attributes.specs.declared.completed.DeclaredStorage.TheVariants as storage
+use Rattle.pli_declare_variables.specs.Declarations.{Declaration, DeclaredKind, OfItem, OfLabel, OfProcedure}
 use Rattle.pli_declare.specs.Resolved.{meaning_at}
 use Rattle.pli_declare.specs.declared.block.Use.{Use}
 use Rattle.pli_declare.specs.declared.block.Target.{Target}
@@ -25,7 +25,8 @@ use Rattle.pli_resolve.specs.declared.symbol.StorageClass.TheVariants as classes
 -- the way from it; a label, with its statement; a procedure, with its block, what it returns, and the area
 -- that OFFSET in its RETURNS names; an external procedure; a built-in function
 pub data SymbolKind : Type 0 where
-  Variable : (description : Description) (class : StorageClass) (scope : Scope) (initial : List InitialValue)
+  Variable : (description : Description) (class : StorageClass) (scope : ScopeAttribute)
+      (initial : List InitialValue)
       (area : Option SymbolKey) → SymbolKind
   Member : (root : ℕ) (path : List ℕ) (initial : List InitialValue) (area : Option SymbolKey) → SymbolKind
   Label : (statement : ℕ) → SymbolKind
@@ -129,7 +130,7 @@ abbrev pub locator_of : SymbolFacts → (at : ℕ) → Option SymbolKey
 locator_of f at = key_of f.numbers f.outermost (meaning_at f.locators at)
 
 -- where generations come from: without a storage class of its own, from the argument
-abbrev pub class_of : Option Storage → (slot : ℕ) → (locator : Option SymbolKey) → StorageClass
+abbrev pub class_of : Option DeclaredStorage → (slot : ℕ) → (locator : Option SymbolKey) → StorageClass
 class_of None slot locator = classes.Parameter slot
 class_of (Some storage.Automatic) slot locator = classes.Automatic
 class_of (Some storage.Static) slot locator = classes.Static
@@ -137,7 +138,8 @@ class_of (Some storage.Controlled) slot locator = classes.Controlled
 class_of (Some storage.Based) slot locator = classes.Based locator
 
 -- what a name is declared as, by the item that it is a member of; a variable of its own has a description
-abbrev pub symbol_kind : SymbolFacts → (parameters : List Name) → Way → Identifier → (owner : Option ℕ) → Kind
+abbrev pub symbol_kind : SymbolFacts → (parameters : List Name) → Way → Identifier → (owner : Option ℕ)
+    → DeclaredKind
     → SymbolKind
 symbol_kind f parameters w i None (OfItem (OfVariable v) description) =
     Variable (unwrap_or description described.Pointer)

@@ -13,9 +13,9 @@ use crate::built_in::{BuiltInFunction, function_named};
 use crate::statement_places::StatementPlace;
 use crate::symbol::SymbolKey;
 use indexmap::IndexMap;
-use pli_declare::Block;
-use pli_declare_outline::{Mark, Placed};
-use pli_declare_variables::{Declaration, Kind};
+use pli_declare::BlockDeclarations;
+use pli_declare_outline::{Mark, PlacedMark};
+use pli_declare_variables::{Declaration, DeclaredKind};
 use std::alloc::{AllocError, Global};
 
 /// Notes the built-in function that a mark names.
@@ -40,7 +40,7 @@ fn note_function(
 /// The built-in functions that marks name, by their tokens.
 pub(crate) fn functions(
     alloc: Global,
-    marks: &[Placed],
+    marks: &[PlacedMark],
 ) -> Result<IndexMap<u32, BuiltInFunction>, AllocError>
     ensures { IfOk result (λ functions. (at : ℕ) → get nat_eq functions at ≡ found_in (spec.functions_in (marks_view marks.now)) at) }
 {
@@ -94,11 +94,11 @@ pub(crate) fn statement_regions(
 fn note_procedure(
     procedures: &mut IndexMap<usize, SymbolKey>,
     key: SymbolKey,
-    kind: &Kind,
+    kind: &DeclaredKind,
 ) -> Result<(), AllocError>
     ensures { OnOk result ((region : ℕ) → get nat_eq procedures.new region ≡ found_after (get nat_eq procedures.old region) (spec.procedure_at key (kind_view kind.now)) region) }
 {
-    if let Kind::Procedure { region, .. } = kind {
+    if let DeclaredKind::Procedure { region, .. } = kind {
         procedures.insert(*region, key)?;
     }
     Ok(())
@@ -123,7 +123,7 @@ fn note_block(
     procedures: &mut IndexMap<usize, SymbolKey>,
     numbers: &[usize],
     region: usize,
-    block: &Block,
+    block: &BlockDeclarations,
 ) -> Result<(), AllocError>
     ensures { OnOk result ((k : ℕ) → get nat_eq procedures.new k ≡ found_after (get nat_eq procedures.old k) (spec.block_procedures numbers.now region (block_view block.now)) k) }
 {
@@ -138,7 +138,7 @@ pub(crate) fn procedures(
     numbers: &[usize],
     outermost: usize,
     unit: &[Declaration],
-    blocks: &[Block],
+    blocks: &[BlockDeclarations],
 ) -> Result<IndexMap<usize, SymbolKey>, AllocError>
     ensures { IfOk result (λ procedures. (region : ℕ) → get nat_eq procedures region
         ≡ found_in (spec.procedures_from outermost 0 (map declaration_view unit.now) ++ spec.procedures_of numbers.now 0 (map block_view blocks.now)) region) }

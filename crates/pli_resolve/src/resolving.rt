@@ -22,12 +22,12 @@ use crate::ways::ways;
 use indexmap::IndexMap;
 use pli_base::statement::Procedure;
 use pli_declare::{ResolveError, Resolved};
-use pli_declare_outline::{Outline, Placed};
+use pli_declare_outline::{Outline, PlacedMark};
 use pli_map::Description;
 use std::alloc::{AllocError, Global};
 
 /// The marks of an outline but the first.
-fn marks_behind<'a, 'b>(outline: &'a Outline<'b>) -> &'a [Placed<'b>]
+fn marks_behind<'a, 'b>(outline: &'a Outline<'b>) -> &'a [PlacedMark<'b>]
     ensures { marks_view result.now ≡ inner_marks (outline_view outline.now).marks }
 {
     let Some((_first, marks)) = outline.marks.split_first() else {
@@ -71,7 +71,7 @@ fn unit_maps(
     declared: &Resolved,
     regions: &RegionNumbers,
     places: &[StatementPlace],
-    marks: &[Placed],
+    marks: &[PlacedMark],
 ) -> Result<UnitMaps, AllocError>
     requires are_numbers { AreNumbersOf regions.now (unit_view declared.now) }
     requires are_marks { marks_view marks.now ≡ inner_marks (outline_of (unit_view declared.now)).marks }
@@ -90,7 +90,7 @@ fn unit_maps(
 fn unit_tables(
     alloc: Global,
     declared: &Resolved,
-    marks: &[Placed],
+    marks: &[PlacedMark],
 ) -> Result<UnitTables, AllocError>
     requires are_marks { marks_view marks.now ≡ inner_marks (outline_of (unit_view declared.now)).marks }
     ensures { IfOk result (λ tables. AreTablesOf tables (unit_view declared.now)) }

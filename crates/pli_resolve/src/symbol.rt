@@ -2,7 +2,7 @@
 use crate::built_in::BuiltInFunction;
 use pli_base::declaration::InitialValue;
 use pli_base::syntax::Identifier;
-use pli_declare_attributes::Scope;
+use pli_declare_attributes::ScopeAttribute;
 use pli_map::Description;
 
 /// Under which a symbol is found: its block, and its number there. The number behind that of the last block is the outermost
@@ -39,7 +39,7 @@ pub enum SymbolKind<'a> {
     Variable {
         description: &'a Description,
         class: StorageClass,
-        scope: Scope,
+        scope: ScopeAttribute,
         /// The values in INITIAL, none without it.
         initial: &'a [InitialValue],
         /// The area that OFFSET names.

@@ -7,7 +7,7 @@ ghost use Rattle.pli_resolve.specs.views.TableView.{way_view, block_table_view, 
 
 use crate::ways::{Way, ways};
 use pli_base::Name;
-use pli_declare::Block;
+use pli_declare::BlockDeclarations;
 use pli_declare_variables::Declaration;
 use std::alloc::{AllocError, Global};
 
@@ -59,7 +59,7 @@ fn parameter_numbers(
 }
 
 /// What is found once for what a region declares.
-fn block_table(alloc: Global, block: &Block) -> Result<BlockTable, AllocError>
+fn block_table(alloc: Global, block: &BlockDeclarations) -> Result<BlockTable, AllocError>
     ensures { IfOk result (λ table. block_table_view table ≡ block_table_of (block_view block.now)) }
 {
     Ok(BlockTable {
@@ -69,7 +69,10 @@ fn block_table(alloc: Global, block: &Block) -> Result<BlockTable, AllocError>
 }
 
 /// What is found once for what each region declares.
-pub(crate) fn block_tables(alloc: Global, blocks: &[Block]) -> Result<Vec<BlockTable>, AllocError>
+pub(crate) fn block_tables(
+    alloc: Global,
+    blocks: &[BlockDeclarations],
+) -> Result<Vec<BlockTable>, AllocError>
     ensures { IfOk result (λ tables. map block_table_view tables.items ≡ map block_table_of (map block_view blocks.now)) }
 {
     let mut tables = Vec::new(alloc);

@@ -23,9 +23,9 @@ use crate::ways::Way;
 use pli_base::Name;
 use pli_base::statement::Procedure;
 use pli_base::syntax::Identifier;
-use pli_declare::{Block, Resolved, Target};
-use pli_declare_attributes::{Completed, Storage, Variable};
-use pli_declare_variables::{Declaration, Kind};
+use pli_declare::{BlockDeclarations, Resolved, Target};
+use pli_declare_attributes::{Completed, DeclaredStorage, Variable};
+use pli_declare_variables::{Declaration, DeclaredKind};
 use pli_map::Description;
 use std::alloc::{AllocError, Global};
 use std::marker::Model;
@@ -130,14 +130,16 @@ impl<'a> ResolvedUnit<'a> {
     {
         let declaration = self.declaration(region, number)?;
         match &declaration.kind {
-            Kind::Item {
+            DeclaredKind::Item {
                 completed: Completed::BuiltIn,
                 ..
             } => {
                 let function = function_named(declaration.identifier.name)?;
                 Some(NameMeaning::BuiltIn(function))
             }
-            Kind::Item { .. } | Kind::Label { .. } | Kind::Procedure { .. } => {
+            DeclaredKind::Item { .. }
+            | DeclaredKind::Label { .. }
+            | DeclaredKind::Procedure { .. } => {
                 let block = self.block_under(region);
                 Some(NameMeaning::Symbol(SymbolKey { block, number }))
             }
@@ -183,16 +185,16 @@ impl<'a> ResolvedUnit<'a> {
         &self,
         parameters: &[Name],
         identifier: Identifier,
-        storage: Option<Storage>,
+        storage: Option<DeclaredStorage>,
     ) -> StorageClass
         ensures { result ≡ symbols.class_of storage (symbols.place_among parameters.now identifier.name) (symbols.locator_of (facts_of (unit_view self.now)) identifier.at) }
     {
         match storage {
             None => StorageClass::Parameter(place_among(parameters, identifier.name)),
-            Some(Storage::Automatic) => StorageClass::Automatic,
-            Some(Storage::Static) => StorageClass::Static,
-            Some(Storage::Controlled) => StorageClass::Controlled,
-            Some(Storage::Based) => {
+            Some(DeclaredStorage::Automatic) => StorageClass::Automatic,
+            Some(DeclaredStorage::Static) => StorageClass::Static,
+            Some(DeclaredStorage::Controlled) => StorageClass::Controlled,
+            Some(DeclaredStorage::Based) => {
                 StorageClass::Based(self.key_of(self.declared.locator_at(identifier.at)))
             }
         }
@@ -244,22 +246,22 @@ impl<'a> ResolvedUnit<'a> {
     {
         let identifier = declaration.identifier;
         match &declaration.kind {
-            Kind::Item {
+            DeclaredKind::Item {
                 completed: Completed::Variable(variable),
                 description,
             } => self.variable(parameters, way, declaration, variable, description),
-            Kind::Item {
+            DeclaredKind::Item {
                 completed: Completed::Entry { parameters, result },
                 ..
             } => SymbolKind::Entry {
                 parameters: parameters.as_slice(),
                 returned: result.as_ref(),
             },
-            Kind::Item {
+            DeclaredKind::Item {
                 completed: Completed::BuiltIn,
                 ..
             } => SymbolKind::BuiltIn,
-            Kind::Label { .. } => SymbolKind::Label {
+            DeclaredKind::Label { .. } => SymbolKind::Label {
                 statement: self
                     .tables
                     .maps
@@ -268,7 +270,7 @@ impl<'a> ResolvedUnit<'a> {
                     .copied()
                     .unwrap_or(0),
             },
-            Kind::Procedure { returned, region } => SymbolKind::Procedure {
+            DeclaredKind::Procedure { returned, region } => SymbolKind::Procedure {
                 block: self.number_of(*region),
                 returned: returned.as_ref(),
                 area: self.area_of(identifier.at),
@@ -333,7 +335,7 @@ impl<'a> ResolvedUnit<'a> {
     }
 
     /// What a region declares.
-    fn region_block(&self, region: usize) -> Option<&Block<'a>>
+    fn region_block(&self, region: usize) -> Option<&BlockDeclarations<'a>>
         ensures { option_map (λ b. declare_view b.now) result ≡ slice_get (resolved_of (unit_view self.now)).blocks region }
     {
         self.declared.blocks().get(region)

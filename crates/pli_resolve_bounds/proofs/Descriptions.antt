@@ -15,7 +15,7 @@ use Rattle.pli_base.specs.Name.{Name}
 use Rattle.pli_base.specs.Words.{same_name}
 use Rattle.pli_base.specs.declared.code.Code.{Code}
 use Rattle.pli_base.specs.declared.code.Code.TheVariants.{AttributesConflict, AttributesMissing, BadPrecision, BadLength, BadBounds}
-use Rattle.pli_base.specs.declared.declaration.Bounds as written
+use Rattle.pli_base.specs.declared.declaration.WrittenBounds as written
 use Rattle.pli_map.specs.Description.{Description, FixedBinary, Character, Varying, Bit, Pointer, Offset, Area, Array, Structure, Members, NoMembers, MemberThen}
 use Rattle.pli_map.specs.declared.description.Bounds.{Bounds}
 use Rattle.pli_declare_attributes.specs.Agreement.{agrees_as_entry, agrees_as_built_in, agrees_as_variable, is_at_level_one, is_missing, is_plain, set_agrees}
@@ -25,17 +25,17 @@ use Rattle.pli_declare_attributes.specs.Faults.{first_of, shape_fault, own_fault
 use Rattle.pli_declare_attributes.specs.Sets.{outermost, set_of, each_once, has, none_of, entry, returns, external, built_in, within}
 use Rattle.pli_declare_attributes.specs.Types.{number_of, number_or, is_bad_precision, is_bad_length, scalar_of}
 use Rattle.pli_declare_attributes.specs.laws.Laws.{IsScalar}
-use Rattle.pli_declare_attributes.specs.declared.place.Place.{Place}
+use Rattle.pli_declare_attributes.specs.declared.place.ItemPlace.{ItemPlace}
 use Rattle.pli_declare_attributes.specs.declared.place.Position.TheVariants.{Member}
-use Rattle.pli_declare_attributes.proofs.Limits.{variable_whole, scalar_whole}
-use Rattle.pli_declare_attributes.proofs.Shapes.{shape_sound, own_sound, parts_none, or_none, bounds_good}
+use Rattle.pli_declare_attributes.proofs.LimitLemmas.{variable_whole, scalar_whole}
+use Rattle.pli_declare_attributes.proofs.ShapeLemmas.{shape_sound, own_sound, parts_none, or_none, bounds_good}
 use Rattle.pli_declare_tables.specs.Tables.{Entity, AsItem, AsLabel, AsProcedure, Entry, no_entry}
 use Rattle.pli_declare.specs.Resolution.{is_item}
 use Rattle.pli_declare_variables.specs.Declarations.{IsGood, AreGood, whole_description}
 use Rattle.pli_declare_variables.specs.Descriptions.{is_of_shape, scalar_at, member_then, members_made, inside, described, own_codes, description_of}
 use Rattle.pli_declare_variables.specs.Places.{item_of, owner_is, members_of, place_in, own_code, position_of, item_in, set_in, is_variable, is_bad_level}
-use Rattle.pli_declare_variables.proofs.Numbers.{mapped_at}
-use Rattle.pli_declare_variables.proofs.NumbersOn.{filtered}
+use Rattle.pli_declare_variables.proofs.NumberLemmas.{mapped_at}
+use Rattle.pli_declare_variables.proofs.NumberListLemmas.{filtered}
 use Rattle.pli_deck_laws.specs.Limits.{IfThere, AreBounds, IsDescribed, AreDescribed, IsDescription}
 use Rattle.pli_resolve_bounds.proofs.LevelsOfEntries.{level_in, entry_level, IsLevel, AreRanked}
 
@@ -92,7 +92,7 @@ near low high h =
     let q = and_parts (int_le (negsuc 32766) low) (int_le low high) p.0 in
     (q.1, omega (arith, ints, p.1, q.0, q.1), omega (arith, ints, p.1, q.0, q.1))
 
-bounds_near : (bs : List written.Bounds) → list_all are_good bs ≡ true → AllByRecursion AreBounds (all_bounds bs)
+bounds_near : (bs : List written.WrittenBounds) → list_all are_good bs ≡ true → AllByRecursion AreBounds (all_bounds bs)
 bounds_near [] h = tt
 bounds_near (b ∷ bs) h =
     let p = and_parts (are_good b) (list_all are_good bs) h in
@@ -101,7 +101,7 @@ bounds_near (b ∷ bs) h =
 few : (n : ℕ) (b : Bool) → (nat_lt 8 n || b) ≡ false → n ≤ 8
 few n b h = grind (arith, nat_tests, h)
 
-bounds_few : (bs : List written.Bounds) → are_bad_bounds bs ≡ false → length (all_bounds bs) ≤ 8
+bounds_few : (bs : List written.WrittenBounds) → are_bad_bounds bs ≡ false → length (all_bounds bs) ≤ 8
 unfolding are_bad_bounds
 bounds_few bs h = omega (arith, few (length bs) (not (list_all are_good bs)) h, length-map bs bounds_of)
 
@@ -111,7 +111,7 @@ with_described [] d m least near h k = k
 with_described (b ∷ bs) d m least near h k = (omega arith, least, near, h)
 
 -- a type with bounds
-pub bounded : (bs : List written.Bounds) (d : Description) (m : ℕ) → are_bad_bounds bs ≡ false → IsDescribed m d → IsDescribed (suc m) d
+pub bounded : (bs : List written.WrittenBounds) (d : Description) (m : ℕ) → are_bad_bounds bs ≡ false → IsDescribed m d → IsDescribed (suc m) d
     → IsDescribed (suc m) (with_bounds (all_bounds bs) d)
 bounded bs d m good h k = with_described (all_bounds bs) d m (bounds_few bs good) (bounds_near bs (bounds_good bs good)) h k
 
@@ -122,7 +122,7 @@ first_pair false b c d e t u v w x h = cc
 first_pair true true c d e t u v w x h = cc
 first_pair true false c d e t u v w x h = (refl, refl)
 
-shape_agrees : (p : Place) (dimensions : List written.Bounds) (once : Bool) (s : ℕ) (n : Option ℕ) → shape_fault p dimensions once s n ≡ None
+shape_agrees : (p : ItemPlace) (dimensions : List written.WrittenBounds) (once : Bool) (s : ℕ) (n : Option ℕ) → shape_fault p dimensions once s n ≡ None
     → (set_agrees p (is_array dimensions) s ≡ true) × (is_missing p s ≡ false)
 unfolding shape_fault
 shape_agrees p dimensions once s n h =
@@ -132,10 +132,10 @@ shape_agrees p dimensions once s n h =
     ((and_parts once (set_agrees p (is_array dimensions) s) two.0).1, two.1)
 
 -- what agrees as a variable, where it agrees at all
-abbrev pub IsVariableSet : Place → (is_array : Bool) → (s : ℕ) → Type 0
+abbrev pub IsVariableSet : ItemPlace → (is_array : Bool) → (s : ℕ) → Type 0
 IsVariableSet p is_array s = set_agrees p is_array s ≡ true → agrees_as_variable p s ≡ true
 
-scalar_here : (p : Place) (i : tree.Item) → item_fault p i ≡ None → p.has_members ≡ false
+scalar_here : (p : ItemPlace) (i : tree.Item) → item_fault p i ≡ None → p.has_members ≡ false
     → IsVariableSet p (is_array i.dimensions) (set_of (map outermost i.attributes)) → IsScalar (described_scalar (map outermost i.attributes))
 unfolding item_fault own_fault
 scalar_here p i h alone agrees =
@@ -168,14 +168,14 @@ not_alone : (s : ℕ) (b : Bool) → (s == 32768) ≡ b → has s 32768 ≡ fals
 not_alone s true e h = let same : s ≡ 32768 = eqb-true s 32768 e in absurd (true≢false (subst (λ m. has m 32768 ≡ false) same h))
 not_alone s false e h = refl
 
-plainly_variable : (p : Place) (array : Bool) (s : ℕ) → none_of s (entry + built_in) ≡ true → IsVariableSet p array s
+plainly_variable : (p : ItemPlace) (array : Bool) (s : ℕ) → none_of s (entry + built_in) ≡ true → IsVariableSet p array s
 unfolding set_agrees
 plainly_variable p array s none agrees =
     third (agrees_as_entry p array s) (agrees_as_built_in p array s) (agrees_as_variable p s) agrees
     (middle_false (is_plain p array) (has s entry) _ (stands_not s 65536 none refl))
     (last_false (is_plain p array && p.built_in_name) (s == 32768) (not_alone s (s == 32768) refl (stands_not s 32768 none refl)))
 
-member_variable : (p : Place) (array : Bool) (s : ℕ) → p.position ≡ Member → IsVariableSet p array s
+member_variable : (p : ItemPlace) (array : Bool) (s : ℕ) → p.position ≡ Member → IsVariableSet p array s
 unfolding set_agrees
 member_variable p array s member agrees =
     third (agrees_as_entry p array s) (agrees_as_built_in p array s) (agrees_as_variable p s) agrees

@@ -14,7 +14,7 @@ use Rattle.pli_map.specs.Sizes.{size_of}
 use Rattle.pli_declare_attributes.specs.Faults.{first_of, lesser, result_fault}
 use Rattle.pli_declare_attributes.proofs.LeastFaults.{no_lesser}
 use Rattle.pli_declare_constructs.specs.Regions.{block_of}
-use Rattle.pli_declare_outline.specs.Outlines.{Mark, Declared, Labelled, Entered, Used, Jumped, Placed, Outline, outline_of}
+use Rattle.pli_declare_outline.specs.Outlines.{Mark, Declared, Labelled, Entered, Used, Jumped, PlacedMark, Outline, outline_of}
 use Rattle.pli_declare_scopes.specs.declared.repeat.Verdict.TheVariants.{Counts}
 use Rattle.pli_declare_tables.specs.Tables.{Entity, AsItem, AsLabel, AsProcedure, Entry, no_entry, entries_of, entries_in, inner_marks, numbers_from, heading_entries, unit_entries, verdicts_in}
 use Rattle.pli_declare_variables.specs.Declarations.{returned_by, whole_description}
@@ -85,7 +85,7 @@ heading_stored (Used names) n lt is = absurd (omega (arith, lt))
 heading_stored (Jumped label) n lt is = absurd (omega (arith, lt))
 
 -- the unit's own name is no variable
-pub unit_stored : (ps : List Placed) → AreStored (unit_entries ps) []
+pub unit_stored : (ps : List PlacedMark) → AreStored (unit_entries ps) []
 unit_stored [] n lt is = absurd (omega (arith, lt))
 unit_stored (p ∷ ps) n lt is = heading_stored p.mark n lt is
 
@@ -101,7 +101,7 @@ Few (Jumped label) = Unit {0}
 abbrev AllFew : List (Heading × ℕ) → Type 0
 AllFew hs = AllByRecursion (λ h. length h.0.parameters ≤ 64) hs
 
-few_entered : (ps : List Placed) → ((p : Placed) → Contains ps p → Few p.mark) → AllFew (entered_in ps)
+few_entered : (ps : List PlacedMark) → ((p : PlacedMark) → Contains ps p → Few p.mark) → AllFew (entered_in ps)
 few_entered [] h = tt
 few_entered (p ∷ ps) h =
     by p.mark (h p (0, omega arith, refl)) (few_entered ps (λ q c. h q (suc c.0, omega (arith, c.1), c.2)))
@@ -117,7 +117,7 @@ few_entered (p ∷ ps) h =
 abbrev names_entered : (region : ℕ) → List (Heading × ℕ) → List Name
 names_entered n hs = flat_map (λ h. headed n (Entered h.0 h.1)) hs
 
-gathered_by : (n : ℕ) (ps : List Placed) → gathered ps n ≡ names_entered n (entered_in ps)
+gathered_by : (n : ℕ) (ps : List PlacedMark) → gathered ps n ≡ names_entered n (entered_in ps)
 gathered_by n [] = refl
 gathered_by n (p ∷ ps) = by p.mark (gathered_by n ps)
   where
@@ -192,7 +192,7 @@ module _ (u : ExternalProcedure) (h : resolution_faults u ≡ []) where
       by (AsLabel region) is none = cc
       by (AsProcedure heading region) is none = cc
 
-  mark_few : (p : Placed) → Contains (inner_marks o.marks) p → Few p.mark
+  mark_few : (p : PlacedMark) → Contains (inner_marks o.marks) p → Few p.mark
   mark_few p c = by p.mark refl
     where
       by : (m : Mark) → p.mark ≡ m → Few m
@@ -237,10 +237,10 @@ module _ (u : ExternalProcedure) (h : resolution_faults u ≡ []) where
   unfolding resolved_of
   region_few n =
       elim (cases_lt n (length o.regions)) [
-        | inl lt ↦ omega (arith, names_few n, ap (λ (b : declare.Block). length b.parameters) (made_at (block_at o) (length o.regions) n no_block lt))
+        | inl lt ↦ omega (arith, names_few n, ap (λ (b : declare.BlockDeclarations). length b.parameters) (made_at (block_at o) (length o.regions) n no_block lt))
         | inr past ↦ omega (
           arith,
-          ap (λ (b : declare.Block). length b.parameters)
+          ap (λ (b : declare.BlockDeclarations). length b.parameters)
               (get_or_past (map (block_at o) (numbers_from 0 (length o.regions))) n no_block (omega (arith, past, made_length (block_at o) (length o.regions)))),
         )
       ]

@@ -5,11 +5,11 @@ use Rattle.std.proofs.lemmas.Bool.{cases_lt}
 use Rattle.std.proofs.lemmas.List.{get_or-map, length-map, get_or_append_left, get_or-append-add, get_or-append_right}
 use Rattle.pli_base.specs.Declarations.{Item}
 use Rattle.pli_base.specs.declared.syntax.Identifier.{Identifier}
-use Rattle.pli_declare_outline.specs.Outlines.{Region, Mark, Declared, Labelled, Entered, Used, Jumped, Placed, Outline}
+use Rattle.pli_declare_outline.specs.Outlines.{Region, Mark, Declared, Labelled, Entered, Used, Jumped, PlacedMark, Outline}
 use Rattle.pli_declare_constructs.specs.Regions.{block_of}
 use Rattle.pli_declare_scopes.specs.Levels.{level_of, standing, standings_of}
 use Rattle.pli_declare_scopes.specs.laws.LevelLaws.{level_at, stands_at}
-use Rattle.pli_declare_scopes.specs.declared.level.Standing.{Standing}
+use Rattle.pli_declare_scopes.specs.declared.level.ItemStanding.{ItemStanding}
 use Rattle.pli_declare_scopes.proofs.OwnersFound.{owners_are_nearest, bad_levels_are_found}
 use Rattle.pli_declare_tables.specs.Tables.{Entity, AsItem, AsLabel, AsProcedure, Entry, no_entry, named, item_entry, item_entries, declared_entries, entries_of, entries_after, inner_marks, entries_in, heading_entries, unit_entries}
 use Rattle.pli_declare_variables.specs.Places.{no_item}
@@ -61,7 +61,7 @@ ranked_more es new h more n lt =
 
 -- the items of a DECLARE
 
-item_at : (base : ℕ) (xs : List (Identifier × Item)) (ss : List Standing) (k : ℕ) (x : Identifier × Item) → k < length (item_entries base xs ss)
+item_at : (base : ℕ) (xs : List (Identifier × Item)) (ss : List ItemStanding) (k : ℕ) (x : Identifier × Item) → k < length (item_entries base xs ss)
     → (k < length xs) × (get_or (item_entries base xs ss) k no_entry ≡ item_entry base (get_or xs k x) (get_or ss k (standing 1 None)))
 item_at base [] ss k x lt = absurd (omega (arith, lt))
 item_at base (y ∷ ys) [] k x lt = absurd (omega (arith, lt))
@@ -134,7 +134,7 @@ marked_if : (es : List Entry) (here : ℕ) (mark : Mark) (b : Bool) → AreRanke
 marked_if es here mark true h = marked es here mark h
 marked_if es here mark false h = subst AreRanked (sym (append-nil es)) h
 
-ranked_after : (regions : List Region) (block : ℕ) (es : List Entry) (ps : List Placed) → AreRanked es → AreRanked (entries_after regions block es ps)
+ranked_after : (regions : List Region) (block : ℕ) (es : List Entry) (ps : List PlacedMark) → AreRanked es → AreRanked (entries_after regions block es ps)
 ranked_after regions block es [] h = h
 ranked_after regions block es (p ∷ ps) h =
     ranked_after regions block (es ++ (if block_of regions p.region == block then entries_of (length es) p.region p.mark else [])) ps
@@ -154,6 +154,6 @@ heading_ranked (Entered heading region) = one_ranked [] (record { identifier = h
 heading_ranked (Used names) = none_ranked
 heading_ranked (Jumped label) = none_ranked
 
-pub unit_ranked : (ps : List Placed) → AreRanked (unit_entries ps)
+pub unit_ranked : (ps : List PlacedMark) → AreRanked (unit_entries ps)
 unit_ranked [] = none_ranked
 unit_ranked (p ∷ ps) = heading_ranked p.mark

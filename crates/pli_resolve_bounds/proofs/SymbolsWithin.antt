@@ -19,9 +19,9 @@ use Rattle.pli_declare_attributes.specs.Faults.{first_of, is_too_large, item_fau
 use Rattle.pli_declare_attributes.specs.Sets.{set_of, outermost, has, entry, built_in}
 use Rattle.pli_declare_attributes.proofs.LeastFaults.{no_lesser}
 use Rattle.pli_declare_attributes.proofs.LimitsOfItems.{results_are_scalars, parameters_are_of_scalars}
-use Rattle.pli_declare_attributes.proofs.Shapes.{parts_none, or_none, description_sound}
+use Rattle.pli_declare_attributes.proofs.ShapeLemmas.{parts_none, or_none, description_sound}
 use Rattle.pli_declare_tables.specs.Tables.{Entity, AsItem, AsLabel, AsProcedure, Entry, no_entry, numbers_from, entries_in, unit_entries}
-use Rattle.pli_declare_variables.specs.Declarations.{Declaration, Kind, OfItem, OfLabel, OfProcedure, described_result, returned_by, whole_description, kind_of, declaration_at, declared_in, AreSound, IsGood, AreGood}
+use Rattle.pli_declare_variables.specs.Declarations.{Declaration, DeclaredKind, OfItem, OfLabel, OfProcedure, described_result, returned_by, whole_description, kind_of, declaration_at, declared_in, AreSound, IsGood, AreGood}
 use Rattle.pli_declare_variables.specs.Places.{place_in, item_in}
 use Rattle.pli_declare.specs.Resolution.{parameters_of, resolution_faults}
 use Rattle.pli_declare.specs.Resolved as declare
@@ -89,7 +89,7 @@ IsCompletedWithin (OfEntry parameters returned) description =
     (length parameters ≤ 64) × AllByRecursion IsMade parameters × IfThere IsDescription returned
 IsCompletedWithin OfBuiltIn description = Unit {0}
 
-abbrev IsKindWithin : Kind → Type 0
+abbrev IsKindWithin : DeclaredKind → Type 0
 IsKindWithin (OfItem completed description) = IsCompletedWithin completed description
 IsKindWithin (OfLabel region) = Unit {0}
 IsKindWithin (OfProcedure returned region) = IfThere IsDescription returned
@@ -156,7 +156,7 @@ variable_within : (description : Option Description) → IfThere IsMade descript
 variable_within None h = (tt, omega arith)
 variable_within (Some d) h = h
 
-symbol_within : (f : SymbolFacts) (parameters : List Name) (w : Way) (i : Identifier) (owner : Option ℕ) (k : Kind) → IsKindWithin k
+symbol_within : (f : SymbolFacts) (parameters : List Name) (w : Way) (i : Identifier) (owner : Option ℕ) (k : DeclaredKind) → IsKindWithin k
     → IsLimited (symbol_kind f parameters w i owner k)
 symbol_within f parameters w i None (OfItem (OfVariable v) description) h = variable_within description h
 symbol_within f parameters w i (Some owner) (OfItem (OfVariable v) description) h = tt
@@ -184,10 +184,10 @@ block_declared : (o : Outline) → ((b : ℕ) → AreGood (entries_in o b) (para
 block_declared o good stored n =
     elim (cases_lt n (length o.regions)) [
       | inl lt ↦
-          subst (λ (b : declare.Block). AllByRecursion Within b.declarations) (sym (made_at (block_at o) (length o.regions) n no_block lt))
+          subst (λ (b : declare.BlockDeclarations). AllByRecursion Within b.declarations) (sym (made_at (block_at o) (length o.regions) n no_block lt))
           (declarations_within (entries_in o n) (parameters_of o n) (good n) (entries_ranked o n) (stored n))
       | inr past ↦
-          subst (λ (b : declare.Block). AllByRecursion Within b.declarations)
+          subst (λ (b : declare.BlockDeclarations). AllByRecursion Within b.declarations)
           (sym (get_or_past (map (block_at o) (numbers_from 0 (length o.regions))) n no_block (omega (arith, past, made_length (block_at o) (length o.regions))))) tt
     ]
 

@@ -1,3 +1,3 @@
-pub mod Corresponding
-pub mod Sorted
+pub mod CorrespondLemmas
+pub mod SortedLemmas
 pub mod SortedOnce

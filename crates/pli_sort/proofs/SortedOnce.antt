@@ -6,8 +6,8 @@ use Rattle.std.specs.List.Sorted.{IsStableByKey}
 use Rattle.std.specs.Ordering.{ordering_reverse}
 use Rattle.std.proofs.lemmas.List.Sorted.{sorted_far, ranks_by}
 use Rattle.pli_sort.specs.Sorting.{in_order}
-use Rattle.pli_sort.proofs.Sorted as order
-use Rattle.pli_sort.proofs.Sorted.{items_are_sorted}
+use Rattle.pli_sort.proofs.SortedLemmas as order
+use Rattle.pli_sort.proofs.SortedLemmas.{items_are_sorted}
 
 module _ {X K : Type 0} (key : X → K) (cmp : K → K → Ordering) (total : IsTotalOrder cmp) where
   abbrev by_key : X → X → Ordering

@@ -1,8 +1,8 @@
-pub mod Copies
-pub mod Endings
-pub mod Leading
-pub mod Lengthening
-pub mod Makings
+pub mod CopyLemmas
+pub mod EndingLemmas
+pub mod PlaceLemmas
+pub mod AppendLemmas
+pub mod MakingLemmas
 pub mod PartAnswers
 pub mod PutsSaid
 pub mod RisingNumbers

@@ -19,7 +19,7 @@ use Rattle.pli_store.specs.answers.Puts.{ValuesPut}
 use Rattle.pli_store.specs.declared.fault.StoreFault.{StoreFault}
 use Rattle.pli_store.specs.declared.fault.StoreFault.TheVariants.{Raised, NoRule, OutOfMemory}
 use Rattle.pli_store.specs.declared.generation.Generation as code_generation
-use Rattle.pli_store.specs.declared.part.Part.{Part}
+use Rattle.pli_store.specs.declared.part.GenerationPart.{GenerationPart}
 use Rattle.pli_store.specs.views.GenerationView.{generation_view}
 use Rattle.pli_store.proofs.RisingNumbers.{changed_at, rise_changed, live_changed}
 use Rattle.pli_store.proofs.Searches.{slice_get_within_view, stands_in_view, stands_in_store}
@@ -120,7 +120,7 @@ stored_nowhere p v w l = rw l.found (wrong_both (holds p.description v) _ (rw l.
 
 -- ---- a place that leads to a scalar
 
-module _ (p : Place) (w : World) (part : Part) (l : LeadsTo w.storage p part) where
+module _ (p : Place) (w : World) (part : GenerationPart) (l : LeadsTo w.storage p part) where
   pub parts_held_there : parts_held p w ≡ Yields (values_from l.scalar (scalars_in p.description) l.generation.values) w
   unfolding parts_held
   parts_held_there = rw l.found (rw l.first refl)
@@ -174,7 +174,7 @@ few g =
     let same_length = length-map g.values.items value_view in
     omega (arith, whole, small, same_length)
 
-module _ (items : List code_generation.Generation) (p : Place) (w : World) (e : w.storage ≡ map generation_view items) (part : Part) (l : LeadsTo w.storage p part) where
+module _ (items : List code_generation.Generation) (p : Place) (w : World) (e : w.storage ≡ map generation_view items) (part : GenerationPart) (l : LeadsTo w.storage p part) where
   pub read_there : (g : code_generation.Generation) → g ≡ get_or items part.at g
       → slice_get items part.at ≡ Some g
   read_there g read =
@@ -211,7 +211,7 @@ number_found (x ∷ gs) number g h = by (nat_eq x.number number) refl h (number_
     by true e found rest = ap (λ (y : Generation). y.number) (sym (same_Some x g found)) ∙ eqb-true x.number number e
     by false e found rest = rest found
 
-module _ (p : Place) (w : World) (part : Part) (l : LeadsTo w.storage p part) where
+module _ (p : Place) (w : World) (part : GenerationPart) (l : LeadsTo w.storage p part) where
   pub put_there : (vs : List Value) (new : List Generation) (to : ℕ) → rise 0 w.storage to ≡ true → length l.generation.values ≤ 18446744073709551615 → ValuesPut w.storage new part vs → with_values w.storage p.generation (with_values_at l.scalar vs l.generation.values) ≡ new
   put_there vs new to r small put =
       let same_one : put.generation ≡ l.generation = same_Some put.generation l.generation (sym put.stands ∙ l.stands) in
@@ -223,11 +223,11 @@ module _ (p : Place) (w : World) (part : Part) (l : LeadsTo w.storage p part) wh
 
 -- ---- what is kept
 
-pub rise_put : (old new : List Generation) (part : Part) (vs : List Value) (to : ℕ) → rise 0 old to ≡ true → ValuesPut old new part vs → rise 0 new to ≡ true
+pub rise_put : (old new : List Generation) (part : GenerationPart) (vs : List Value) (to : ℕ) → rise 0 old to ≡ true → ValuesPut old new part vs → rise 0 new to ≡ true
 rise_put old new part vs to r put =
     subst (λ l. rise 0 l to ≡ true) (sym put.changed) (rise_changed 0 old to part.at put.generation (with_values_at part.first vs put.generation.values) put.stands r)
 
-pub live_put : (old new : List Generation) (part : Part) (vs : List Value) → ValuesPut old new part vs → live_bytes new ≡ live_bytes old
+pub live_put : (old new : List Generation) (part : GenerationPart) (vs : List Value) → ValuesPut old new part vs → live_bytes new ≡ live_bytes old
 live_put old new part vs put =
     ap live_bytes put.changed ∙ live_changed old part.at put.generation (with_values_at part.first vs put.generation.values) put.stands
 
@@ -235,11 +235,11 @@ pub record Kept (old new : List Generation) (to : ℕ) : Type 0 where
   pub rising : rise 0 new to ≡ true
   pub counted : live_bytes new ≡ live_bytes old
 
-pub kept_after : {T E : Type 0} (r : Result T E) (old new : List Generation) (part : Part) (vs : List Value) (to : ℕ) → rise 0 old to ≡ true → OnOk r (ValuesPut old new part vs) → OnErr r (new ≡ old) → Kept old new to
+pub kept_after : {T E : Type 0} (r : Result T E) (old new : List Generation) (part : GenerationPart) (vs : List Value) (to : ℕ) → rise 0 old to ≡ true → OnOk r (ValuesPut old new part vs) → OnErr r (new ≡ old) → Kept old new to
 kept_after (Ok x) old new part vs to r put same_lists = record { rising = rise_put old new part vs to r put; counted = live_put old new part vs put }
 kept_after (Err x) old new part vs to r put same_lists = record { rising = subst (λ l. rise 0 l to ≡ true) (sym same_lists) r; counted = ap live_bytes same_lists }
 
-module _ (items : List code_generation.Generation) (p : Place) (w : World) (e : w.storage ≡ map generation_view items) (part : Part) (l : LeadsTo w.storage p part) where
+module _ (items : List code_generation.Generation) (p : Place) (w : World) (e : w.storage ≡ map generation_view items) (part : GenerationPart) (l : LeadsTo w.storage p part) where
   pub few_there : length l.generation.values ≤ 18446744073709551615
   few_there =
       let found = stands_in_store items part.at l.generation (ap (λ s. slice_get s part.at) (sym e) ∙ l.stands) in

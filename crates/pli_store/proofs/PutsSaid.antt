@@ -8,7 +8,7 @@ use Rattle.pli_value.specs.declared.value.Value as code
 use Rattle.pli_store.specs.Storage.{with_values_at}
 use Rattle.pli_store.specs.answers.Puts.{ValuesPut}
 use Rattle.pli_store.specs.declared.generation.Generation.{Generation}
-use Rattle.pli_store.specs.declared.part.Part.{Part}
+use Rattle.pli_store.specs.declared.part.GenerationPart.{GenerationPart}
 use Rattle.pli_store.specs.views.GenerationView.{generation_view}
 use Rattle.pli_store.proofs.Searches.{stands_in_view}
 
@@ -26,7 +26,7 @@ put_says old new first now e =
 pub set_same : {X : Type 0} (xs : List X) (i : ℕ) (x : X) → slice_get xs i ≡ Some x → set xs i x ≡ xs
 set_same xs i x h = ap (set xs i) (sym (get_or_from_slice_get xs i x x h)) ∙ set-get_or xs i x
 
-module _ (items : List Generation) (part : Part) (g changed : Generation) (here : slice_get items part.at ≡ Some g) where
+module _ (items : List Generation) (part : GenerationPart) (g changed : Generation) (here : slice_get items part.at ≡ Some g) where
   pub values_put : (vs : List Value) → generation_view changed ≡ record (generation_view g) { values = with_values_at part.first vs (generation_view g).values } → ValuesPut (map generation_view items) (map generation_view (set items part.at changed)) part vs
   values_put vs e = record {
     generation = generation_view g;
@@ -40,7 +40,7 @@ module _ (items : List Generation) (part : Part) (g changed : Generation) (here 
       ∙ set_same (map generation_view items) part.at (generation_view g) (stands_in_view items part.at g here)
 
 -- values are put into the generation that was read there, or it stays as it was
-module _ (items : List Generation) (part : Part) (g : Generation) (now : Vec code.Value Global)
+module _ (items : List Generation) (part : GenerationPart) (g : Generation) (now : Vec code.Value Global)
     (inside : part.at < length items) (read : g ≡ get_or items part.at g) where
   abbrev with_now : Generation
   with_now = record g { values = now }

@@ -7,7 +7,7 @@ ghost use Rattle.pli_store.specs.views.GenerationView.{generation_view};
 ghost use Rattle.pli_value.specs.Value.{value_view};
 
 use crate::generation::Generation;
-use crate::part::Part;
+use crate::part::GenerationPart;
 use pli_map::Description;
 use pli_value::Value;
 
@@ -51,7 +51,7 @@ fn lengthen_in(values: &mut Vec<Value>, first: usize, more: &[u8], room: usize) 
 #[inline]
 pub fn lengthen_at(
     generations: &mut Vec<Generation<'_>>,
-    part: Part,
+    part: GenerationPart,
     more: &[u8],
     room: usize,
 ) -> bool

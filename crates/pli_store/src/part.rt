@@ -9,7 +9,7 @@ use pli_map::{Bounds, Description, first_scalar};
 /// The number of a generation among those that live, and the first of its scalars that a place means; `usize::MAX`
 /// stands for every greater number.
 #[derive(Clone, Copy)]
-pub struct Part {
+pub struct GenerationPart {
     pub at: usize,
     pub first: usize,
 }

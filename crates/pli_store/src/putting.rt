@@ -5,7 +5,7 @@ ghost use Rattle.pli_store.specs.views.GenerationView.{generation_view};
 ghost use Rattle.pli_value.specs.Value.{value_view};
 
 use crate::generation::Generation;
-use crate::part::Part;
+use crate::part::GenerationPart;
 use crate::values::{put_value, put_values};
 use pli_value::Value;
 use std::alloc::AllocError;
@@ -14,7 +14,7 @@ use std::alloc::AllocError;
 #[inline(always)]
 pub fn put_one(
     generations: &mut Vec<Generation<'_>>,
-    part: Part,
+    part: GenerationPart,
     value: Value,
 ) -> Result<(), AllocError>
     requires { part.at < length generations.old.items }
@@ -29,7 +29,7 @@ pub fn put_one(
 /// Puts values in the place of those from this scalar of a generation on.
 pub fn put_many(
     generations: &mut Vec<Generation<'_>>,
-    part: Part,
+    part: GenerationPart,
     values: Vec<Value>,
 ) -> Result<(), AllocError>
     requires { part.at < length generations.old.items }

@@ -13,7 +13,7 @@ ghost use Rattle.pli_value.specs.Value.{value_view, Number, Characters};
 use crate::appending::{lengthen_at, varying_size};
 use crate::fault::StoreFault;
 use crate::generation::{Generation, Made};
-use crate::part::{Part, are_same_numbers, scalar_of};
+use crate::part::{GenerationPart, are_same_numbers, scalar_of};
 use crate::place::Place;
 use crate::putting::{put_many, put_one};
 use crate::spare::SpareValues;
@@ -76,7 +76,7 @@ impl<'m> Storage<'m> {
 
     /// The generation and the scalar to which a place leads.
     #[inline(always)]
-    fn part(&self, place: Place<'_>) -> Result<Part, StoreFault>
+    fn part(&self, place: Place<'_>) -> Result<GenerationPart, StoreFault>
         ensures { Leads (storage_view self.now) (place_view place.entry) result }
     {
         let Some(at) = self.find(place.generation, place.hint) else {
@@ -86,7 +86,7 @@ impl<'m> Storage<'m> {
             return Err(StoreFault::NoRule);
         };
         match scalar_of(self.generations[at].description, offset, place.description) {
-            Some(first) => Ok(Part { at, first }),
+            Some(first) => Ok(GenerationPart { at, first }),
             None => Err(StoreFault::NoRule),
         }
     }
@@ -208,7 +208,7 @@ impl<'m> Storage<'m> {
 
     /// A number put at the scalar to which a place leads.
     #[inline(always)]
-    fn put_number_in(&mut self, place: Place<'_>, part: Part, number: i64) -> bool
+    fn put_number_in(&mut self, place: Place<'_>, part: GenerationPart, number: i64) -> bool
         requires { LeadsTo (storage_view self.old) (place_view place) part }
         ensures { NumberPut result self.old self.new (place_view place.entry) number }
     {
@@ -239,7 +239,7 @@ impl<'m> Storage<'m> {
         ensures { NumberPut result self.old self.new (place_view place.entry) number }
     {
         match self.lone(place) {
-            Some(at) => self.put_number_in(place, Part { at, first: 0 }, number),
+            Some(at) => self.put_number_in(place, GenerationPart { at, first: 0 }, number),
             None => self.put_far_number(place, number),
         }
     }

@@ -9,8 +9,8 @@ use Rattle.std.proofs.lemmas.Option.{none-some, same_Some}
 use Rattle.std.specs.List.Sorted.{IsPermutation}
 use Rattle.std.specs.Ordering.{nat_cmp}
 use Rattle.std.proofs.lemmas.Cmp.{nat_cmp_total}
-use Rattle.pli_sort.proofs.Corresponding.{AllBoth, both_in_order}
-use Rattle.pli_sort.proofs.Sorted.{items_are_sorted}
+use Rattle.pli_sort.proofs.CorrespondLemmas.{AllBoth, both_in_order}
+use Rattle.pli_sort.proofs.SortedLemmas.{items_are_sorted}
 use Rattle.pli_type.specs.TextOrder.{in_order, numbers_from, place_from, text_order, text_places}
 
 -- ---- numbers

@@ -7,8 +7,8 @@ use Rattle.std.specs.Prelude.{◌++◌, get_or, replicate, take, slice_get, Resu
 use Rattle.std.specs.List.{flat_map}
 use Rattle.pli_base.specs.Name.{Name}
 use Rattle.pli_base.specs.declared.token.Fault.{Fault}
-use Rattle.pli_declare_attributes.specs.declared.completed.Scope.{Scope}
-use Rattle.pli_declare_attributes.specs.declared.completed.Scope.TheVariants as scopes
+use Rattle.pli_declare_attributes.specs.declared.completed.ScopeAttribute.{ScopeAttribute}
+use Rattle.pli_declare_attributes.specs.declared.completed.ScopeAttribute.TheVariants as scopes
 use Rattle.pli_map.specs.Description as described
 use Rattle.pli_map.specs.Description.{Description, FixedBinary, Character, Varying, Bit, Array, Structure}
 use Rattle.pli_map.specs.Description.{Members, NoMembers, MemberThen}
@@ -348,7 +348,7 @@ templates_of is_such symbols = templates_from is_such symbols 0 symbols
 -- the unit
 
 -- a variable by its scope
-abbrev pub global_of : Scope → Name → Template → Global
+abbrev pub global_of : ScopeAttribute → Name → Template → Global
 global_of scopes.Internal name template = OwnVariable template
 global_of scopes.External name template = ExternalVariable name template
 

@@ -9,8 +9,8 @@ use Rattle.std.proofs.lemmas.List.{length-replicate}
 use Rattle.std.proofs.lemmas.List.Elements.{All-from_recursion, recursion_from_All}
 use Rattle.std.proofs.lemmas.List.Sorted.{All-permutation}
 use Rattle.pli_base.specs.Name.{Name}
-use Rattle.pli_declare_attributes.specs.declared.completed.Scope.{Scope}
-use Rattle.pli_declare_attributes.specs.declared.completed.Scope.TheVariants as scopes
+use Rattle.pli_declare_attributes.specs.declared.completed.ScopeAttribute.{ScopeAttribute}
+use Rattle.pli_declare_attributes.specs.declared.completed.ScopeAttribute.TheVariants as scopes
 use Rattle.pli_map.specs.Description.{Description, FixedBinary, Character, Varying, Bit, Array, Structure, Members, NoMembers, MemberThen}
 use Rattle.pli_map.specs.Scalars.{is_scalar, scalars_in}
 use Rattle.pli_map.specs.Sizes.{count_of, size_of}
@@ -230,7 +230,7 @@ pub all_described : (ds : List Description) → AllByRecursion IsMade ds → All
 all_described [] h = tt
 all_described (d ∷ ds) h = (h.0.0, all_described ds h.1)
 
-scoped_fit : (scope : Scope) (name : Name) (ts : List Template) → AllByRecursion IsTemplate ts
+scoped_fit : (scope : ScopeAttribute) (name : Name) (ts : List Template) → AllByRecursion IsTemplate ts
     → AllByRecursion IsGlobal (map (global_of scope name) ts)
 scoped_fit scope name [] h = tt
 scoped_fit scopes.Internal name (t ∷ ts) h = (h.0, scoped_fit scopes.Internal name ts h.1)

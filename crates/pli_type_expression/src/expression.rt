@@ -15,15 +15,15 @@ use crate::answer::TypeError;
 use crate::argument::{Argument, number_written};
 use crate::constant::constant;
 use crate::function::{function_called, roles_of};
-use crate::meaning::{Denoted, Meant};
+use crate::meaning::{Denoted, ExpressionMeaning};
 use crate::names::greatest;
 use crate::operator::{infix, prefix};
 use crate::procedure::procedure_called;
 use crate::role::{Role, role_at};
 use crate::segment::{Segment, is_call};
 use crate::subscripts::subscript;
-use pli_base::{Code, fault};
 use pli_base::syntax::{Expression, JoinedPart, Joining, Part, Reference};
+use pli_base::{Code, fault};
 use pli_resolve::BuiltInFunction;
 use pli_type::TypedValue;
 use pli_type_names::{NamedAs, Naming};
@@ -37,7 +37,7 @@ pub fn meant<'a>(
     naming: &Naming<'a>,
     role: Role,
     expression: &Expression,
-) -> Result<Meant<'a>, TypeError>
+) -> Result<ExpressionMeaning<'a>, TypeError>
     requires { later_expression (compiled_in naming.now) (syntax.expression_view expression.now) ≡ false }
     ensures { Gives meant_view result (typing.meant (naming_in naming.now) (role_view role) (syntax.expression_view expression.now)) }
 {

@@ -11,7 +11,7 @@ ghost use Rattle.pli_type_expression.specs.views.TypingView.{argument_view, deno
 
 use crate::answer::TypeError;
 use crate::argument::Argument;
-use crate::meaning::{Denoted, Meant};
+use crate::meaning::{Denoted, ExpressionMeaning};
 use crate::role::Role;
 use pli_base::{Code, fault};
 use pli_map::{Bounds, Description};
@@ -49,12 +49,12 @@ pub(crate) fn roles_of(function: BuiltInFunction, given: usize) -> Option<&'stat
 }
 
 /// The one value that an argument is.
-fn value_in(meant: Meant<'_>) -> Option<TypedValue>
+fn value_in(meant: ExpressionMeaning<'_>) -> Option<TypedValue>
     ensures { option_map value_view result ≡ spec.value_in (meant_view meant.entry) }
 {
     match meant {
-        Meant::Value(value) => Some(value),
-        Meant::Aggregate(_) => None,
+        ExpressionMeaning::Value(value) => Some(value),
+        ExpressionMeaning::Aggregate(_) => None,
     }
 }
 
@@ -156,7 +156,7 @@ fn bounds_in(description: &Description, number: u32) -> Option<Bounds>
 }
 
 /// The bounds of the dimension whose number is written, of an array that is meant as a whole.
-#[tactic(auto, using(crate::proofs::Calls::bound_of_variable))]
+#[tactic(auto, using(crate::proofs::CallLemmas::bound_of_variable))]
 fn bounds_of(denoted: &Denoted<'_>, written: Option<u32>) -> Option<Bounds>
     ensures { (which : Bounds → ℤ) → option_map (λ b. spec.bound_value (which b)) result
         ≡ spec.the_bound which (spec.meant_as (denoted_view denoted.now)) written }

@@ -20,7 +20,7 @@ mod variable;
 pub use answer::TypeError;
 pub use argument::Argument;
 pub use expression::{arguments, denoted, meant, referred, value_of};
-pub use meaning::{Denoted, Meant, Referent};
+pub use meaning::{Denoted, ExpressionMeaning, Referent};
 pub use procedure::pass;
 pub use role::Role;
 pub use token::first_token;

@@ -9,8 +9,8 @@ ghost use Rattle.pli_type_expression.specs.views.TypingView.{denoted_view, meant
 
 use crate::answer::TypeError;
 use crate::token::first_token;
-use pli_base::{Code, fault};
 use pli_base::syntax::Expression;
+use pli_base::{Code, fault};
 use pli_map::Description;
 use pli_type::{ExpressionType, TypedValue};
 use pli_type_tree::{TypedExpression, TypedReference};
@@ -24,7 +24,7 @@ pub struct Referent<'a> {
 
 /// What an expression is.
 #[derive(Drop)]
-pub enum Meant<'a> {
+pub enum ExpressionMeaning<'a> {
     /// One value.
     Value(TypedValue),
     /// A whole aggregate.
@@ -42,12 +42,12 @@ pub enum Denoted<'a> {
 
 impl<'a> Referent<'a> {
     /// What a variable or a part of one is as an expression: a scalar has a value.
-    pub(crate) fn as_expression(self) -> Meant<'a>
+    pub(crate) fn as_expression(self) -> ExpressionMeaning<'a>
         ensures { meant_view result ≡ meant_by (referent_view self.entry) }
     {
         match ExpressionType::of(self.description) {
-            None => Meant::Aggregate(self),
-            Some(kind) => Meant::Value(TypedValue {
+            None => ExpressionMeaning::Aggregate(self),
+            Some(kind) => ExpressionMeaning::Value(TypedValue {
                 expression: TypedExpression::Held(self.reference),
                 kind,
             }),
@@ -57,24 +57,24 @@ impl<'a> Referent<'a> {
 
 impl<'a> Denoted<'a> {
     /// What it is: one value, or a whole aggregate.
-    pub fn as_expression(self) -> Meant<'a>
+    pub fn as_expression(self) -> ExpressionMeaning<'a>
         ensures { meant_view result ≡ meant_as (denoted_view self.entry) }
     {
         match self {
             Denoted::Variable(referent) => referent.as_expression(),
-            Denoted::Result(value) => Meant::Value(value),
+            Denoted::Result(value) => ExpressionMeaning::Value(value),
         }
     }
 }
 
-impl<'a> Meant<'a> {
+impl<'a> ExpressionMeaning<'a> {
     /// The one value that an expression is: an aggregate in its place is T2 at the expression's first token.
     pub fn one_value(self, expression: &Expression) -> Result<TypedValue, TypeError>
         ensures { Gives value_view result (one_value (first_token (expression_view expression.now)) (meant_view self.entry)) }
     {
         match self {
-            Meant::Value(value) => Ok(value),
-            Meant::Aggregate(_) => {
+            ExpressionMeaning::Value(value) => Ok(value),
+            ExpressionMeaning::Aggregate(_) => {
                 Err(fault(Code::AggregateNotAllowedHere, first_token(expression)))
             }
         }

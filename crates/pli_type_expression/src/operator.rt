@@ -7,8 +7,8 @@ ghost use Rattle.pli_type.specs.views.ValueView.{value_view};
 ghost use Rattle.pli_base.specs.answers.FailureAnswers.{Gives};
 
 use crate::answer::TypeError;
-use pli_base::{Code, fault};
 use pli_base::syntax::{InfixOperator, PrefixOperator};
+use pli_base::{Code, fault};
 use pli_type::{TypedValue, infix_value, prefix_value};
 use std::alloc::Global;
 

@@ -8,13 +8,13 @@ ghost use Rattle.pli_type.specs.Typing as typing;
 ghost use Rattle.pli_type.specs.views.ValueView.{value_view};
 ghost use Rattle.pli_base.specs.answers.FailureAnswers.{Gives};
 ghost use Rattle.pli_type_expression.specs.views.TypingView.{argument_view, denoted_view, meant_view, segment_view};
-ghost use Rattle.pli_type_names.specs.Meant.{IsProcedure};
+ghost use Rattle.pli_type_names.specs.SymbolMeaning.{IsProcedure};
 ghost use Rattle.pli_type_tree.specs.TypedTree as tree;
 ghost use Rattle.pli_type_tree.specs.views.TypedView.{argument_before, arguments_view, callee_view};
 
 use crate::answer::TypeError;
 use crate::argument::Argument;
-use crate::meaning::{Denoted, Meant};
+use crate::meaning::{Denoted, ExpressionMeaning};
 use crate::segment::Segment;
 use pli_base::{Code, fault};
 use pli_map::Description;
@@ -28,13 +28,13 @@ fn dummy(
     alloc: Global,
     greatest: u8,
     description: &Description,
-    meant: Meant<'_>,
+    meant: ExpressionMeaning<'_>,
 ) -> Result<Option<TypedArgument>, AllocError>
     ensures { IfOk result (λ passed. (more : tree.TypedArguments) → option_map (λ a. argument_before a more) passed
         ≡ spec.passed (description_view description.now) None
         (spec.passed_value greatest (description_view description.now) (meant_view meant.entry)) more) }
 {
-    let Meant::Value(value) = meant else {
+    let ExpressionMeaning::Value(value) = meant else {
         return Ok(None);
     };
     match converted(alloc, greatest, description, value)? {
@@ -72,7 +72,12 @@ fn passed(
             }
             dummy(alloc, greatest, description, referent.as_expression())
         }
-        Denoted::Result(value) => dummy(alloc, greatest, description, Meant::Value(value)),
+        Denoted::Result(value) => dummy(
+            alloc,
+            greatest,
+            description,
+            ExpressionMeaning::Value(value),
+        ),
     }
 }
 

@@ -12,8 +12,8 @@ use crate::answer::TypeError;
 use crate::meaning::Denoted;
 use crate::role::Role;
 use crate::variable::variable_meant;
-use pli_base::{Code, fault};
 use pli_base::syntax::JoinedPart;
+use pli_base::{Code, fault};
 use pli_type::TypedValue;
 use pli_type_names::{NamedAs, Naming};
 use pli_type_tree::TypedExpression;
@@ -35,7 +35,7 @@ pub(crate) enum Segment {
 
 /// Whether parentheses behind a reference's first name are those of a call: where it stands alone, and a value is
 /// wanted.
-#[tactic(auto, using(crate::proofs::Meanings::call_of_value, crate::proofs::Meanings::call_of_argument))]
+#[tactic(auto, using(crate::proofs::MeaningLemmas::call_of_value, crate::proofs::MeaningLemmas::call_of_argument))]
 pub(crate) fn is_call(role: Role, joined: &[JoinedPart]) -> bool
     ensures { result ≡ typing.is_call (role_view role) false (joined_view joined.now) }
 {

@@ -8,8 +8,8 @@ ghost use Rattle.pli_type_tree.specs.views.TypedView.{expression_view};
 
 use crate::answer::TypeError;
 use crate::token::first_token;
-use pli_base::{Code, fault};
 use pli_base::syntax::Expression;
+use pli_base::{Code, fault};
 use pli_type::TypedValue;
 use pli_type_tree::TypedExpression;
 

@@ -4,7 +4,7 @@ ghost use Rattle.pli_type.specs.Names as names;
 ghost use Rattle.pli_type.specs.References as spec;
 ghost use Rattle.pli_base.specs.answers.FailureAnswers.{Gives};
 ghost use Rattle.pli_type_expression.specs.views.TypingView.{referent_view, role_view};
-ghost use Rattle.pli_type_names.specs.Meant.{IsVariable, is_way};
+ghost use Rattle.pli_type_names.specs.SymbolMeaning.{IsVariable, is_way};
 ghost use Rattle.pli_type_names.specs.views.NameView.{part_view};
 ghost use Rattle.pli_type_tree.specs.views.TypedView.{expression_view, reference_view, root_view, stride_view, subscripts_view};
 

@@ -10,8 +10,8 @@ use Rattle.std.proofs.lemmas.List.Elements.{All-from_recursion, recursion_from_A
 use Rattle.std.proofs.lemmas.List.Sorted.{All-permutation, IsPermutation-map}
 use Rattle.std.proofs.lemmas.Option.{same_Some, none-some}
 use Rattle.pli_base.specs.Name.{Name}
-use Rattle.pli_declare_attributes.specs.declared.completed.Scope.{Scope}
-use Rattle.pli_declare_attributes.specs.declared.completed.Scope.TheVariants as scopes
+use Rattle.pli_declare_attributes.specs.declared.completed.ScopeAttribute.{ScopeAttribute}
+use Rattle.pli_declare_attributes.specs.declared.completed.ScopeAttribute.TheVariants as scopes
 use Rattle.pli_map.specs.Description.{Description, FixedBinary, Character, Varying, Bit, Array, Structure, Members, NoMembers, MemberThen}
 use Rattle.pli_map.specs.Scalars.{is_scalar, scalars_in, scalars_among}
 use Rattle.pli_map.specs.Sizes.{count_of}
@@ -251,7 +251,7 @@ module _ (n : ℕ) (is_such : StorageClass → Description → Bool) (plain : (c
 
 -- ---- globals
 
-scoped_made : (scope : Scope) (name : Name) (ts : List Template) (rest : List Global) → AreMade (map variable_of ts)
+scoped_made : (scope : ScopeAttribute) (name : Name) (ts : List Template) (rest : List Global) → AreMade (map variable_of ts)
     → AreMade (map variable_of (templates_in rest)) → AreMade (map variable_of (templates_in (map (global_of scope name) ts ++ rest)))
 scoped_made scope name [] rest h g = g
 scoped_made scopes.Internal name (t ∷ ts) rest h g = (h.0, scoped_made scopes.Internal name ts rest h.1 g)

@@ -10,8 +10,8 @@ use Rattle.pli_parse_expression.specs.Operators.{nesting_limit}
 use Rattle.pli_parse_statement.specs.StatementGrammar.{SpellsStatement, SpellsBody, SpellsStatements, SpellsAlternative, StandsIn}
 use Rattle.pli_parse_statement.specs.StatementReading.{unit_of}
 use Rattle.pli_parse_statement.specs.StatementWords.{Context, standing, the_unit, a_procedure}
-use Rattle.pli_parse_statement.specs.declared.keyword.Standing.{Standing}
-use Rattle.pli_parse_statement.specs.declared.keyword.Standing.TheVariants.{InBlock, InGroup, AsClause, AsUnit}
+use Rattle.pli_parse_statement.specs.declared.keyword.StatementStanding.{StatementStanding}
+use Rattle.pli_parse_statement.specs.declared.keyword.StatementStanding.TheVariants.{InBlock, InGroup, AsClause, AsUnit}
 use Rattle.pli_type_name_laws.specs.Nesting.{NestsWithin, BodyNests, ListNests, ElseNests}
 
 -- what holds a level deeper makes something else hold there
@@ -19,11 +19,11 @@ deeper : (F G : ℕ → Type 0) (levels : ℕ) → ((m : ℕ) → F m → G m) �
 deeper F G zero g h = absurd h
 deeper F G (suc m) g h = g m h
 
-abbrev is_direct : Standing → Bool
+abbrev is_direct : StatementStanding → Bool
 is_direct InBlock = true
 is_direct other = false
 
-directly : (standing : Standing) (label : Option Identifier) (heading : Heading) (statements : Statements) (end : ℕ)
+directly : (standing : StatementStanding) (label : Option Identifier) (heading : Heading) (statements : Statements) (end : ℕ)
     → StandsIn standing label (Procedure heading statements end) → IsTrue (is_direct standing)
 directly InBlock label heading statements end s = refl
 directly InGroup label heading statements end s = absurd s

@@ -11,7 +11,7 @@ use Rattle.pli_parse_expression.specs.Operators.{nesting_limit}
 use Rattle.pli_parse_statement.specs.StatementGrammar.{SpellsStatement, SpellsBody, SpellsStatements, SpellsAlternative}
 use Rattle.pli_parse_statement.specs.StatementReading.{unit_of}
 use Rattle.pli_parse_statement.specs.StatementWords.{Context, standing, the_unit, a_procedure}
-use Rattle.pli_parse_statement.specs.declared.keyword.Standing.TheVariants.{InBlock, InGroup, AsClause}
+use Rattle.pli_parse_statement.specs.declared.keyword.StatementStanding.TheVariants.{InBlock, InGroup, AsClause}
 use Rattle.pli_type_name_laws.specs.Numbering.{IsNumbered, IsNumberedBody, AreNumbered, IsNumberedElse}
 
 -- what holds at each level holds where one is opened

@@ -7,8 +7,8 @@ use Rattle.std.proofs.lemmas.List.{map-append}
 use Rattle.std.proofs.lemmas.Bool.{and_parts, eqb-true}
 use Rattle.std.proofs.lemmas.Option.{same_Some, none-some}
 use Rattle.pli_base.specs.Name.{Name}
-use Rattle.pli_declare_attributes.specs.declared.completed.Scope.{Scope}
-use Rattle.pli_declare_attributes.specs.declared.completed.Scope.TheVariants as scopes
+use Rattle.pli_declare_attributes.specs.declared.completed.ScopeAttribute.{ScopeAttribute}
+use Rattle.pli_declare_attributes.specs.declared.completed.ScopeAttribute.TheVariants as scopes
 use Rattle.pli_map.specs.Description.{Description}
 use Rattle.pli_resolve.specs.ResolvedUnits.{ResolvedUnit, all_symbols}
 use Rattle.pli_resolve.specs.Symbols.{Symbol, SymbolKind, Variable, Member, Label, Procedure, Entry, BuiltIn}
@@ -213,7 +213,7 @@ module _ (n : ℕ) where
       ∙ stands_in_text token (block_globals n all) inner p found)
 
 -- a variable, by its scope
-global_described : (scope : Scope) (name : Name) (t : Template) → description_of (Some (global_of scope name t)) ≡ Some t.description
+global_described : (scope : ScopeAttribute) (name : Name) (t : Template) → description_of (Some (global_of scope name t)) ≡ Some t.description
 global_described scopes.Internal name t = refl
 global_described scopes.External name t = refl
 

@@ -6,12 +6,12 @@ use Rattle.pli_map.specs.Description as tree
 use Rattle.pli_map.specs.Description.{Description, Members, Structure}
 use Rattle.pli_map.specs.Parts.{PlacedPart, Member, member_behind, part_at}
 use Rattle.pli_type.specs.NamedUnits.{is_plain}
-use Rattle.pli_type_names.proofs.Plain.{PlainMember, plain_step}
+use Rattle.pli_type_names.proofs.PlainLemmas.{PlainMember, plain_step}
 use Rattle.pli_type.specs.References.{StridedPart, element_of, member_of, part_on}
 use Rattle.pli_type_tree.specs.TypedTree.{Stride}
 use Rattle.pli_map.specs.views.DescriptionView.{members_view}
 use Rattle.pli_type_names.specs.OnWays.{IsLevel, SameStructure, part_in, placed_in}
-use Rattle.pli_type_names.specs.declared.level.Level.{Level}
+use Rattle.pli_type_names.specs.declared.level.StructureLevel.{StructureLevel}
 use Rattle.pli_type_names.specs.OwnVariables.{OwnVariable}
 
 -- the way with one member more
@@ -71,7 +71,7 @@ member_on_way variables root way i e ms is s =
     part_in_more (get_or variables root None) way i ∙ in_element (part_in variables root way) e ms i is s
 
 -- where members are passed, a structure stays what it is
-pub same_level : (variables : List (Option OwnVariable)) (k l : Level) → SameStructure k l → IsLevel variables l → IsLevel variables k
+pub same_level : (variables : List (Option OwnVariable)) (k l : StructureLevel) → SameStructure k l → IsLevel variables l → IsLevel variables k
 same_level variables k l same is = record {
   element = ap (λ root. option_map element_of (part_in variables root k.way.now)) same.root
       ∙ ap (λ way. option_map element_of (part_in variables l.root way)) same.way

@@ -18,21 +18,21 @@ use Rattle.pli_type.specs.NamedUnits.{symbol_meant, variable_at, variable_from}
 use Rattle.pli_type.specs.References.{StridedPart, part_on}
 use Rattle.pli_type_names.specs.BlockEntries.{BlockEntry, entry_at}
 use Rattle.pli_type_names.specs.BlockFacts.{BlockFacts, facts_of}
-use Rattle.pli_type_names.specs.Meant.{IsMeantAs, is_way}
+use Rattle.pli_type_names.specs.SymbolMeaning.{IsMeantAs, is_way}
 use Rattle.pli_type_names.specs.OwnVariables.{OwnVariable, begun, global_at, own_at, own_variables, place_at}
 use Rattle.pli_type_names.specs.Seen.{Seen, SeenVariable, SeenFunction, SeenProcedure, SeenLabel, SeenUntyped, seen}
 use Rattle.pli_type_names.specs.Seen.{Kept, KeptEntry, KeptNothing, kept_seen, kept_symbols, kind_kept, on_way, procedure_seen, root_from, variable_seen}
 use Rattle.pli_type_names.specs.declared.naming.NamedAs.{NamedAs}
 use Rattle.pli_type_names.specs.declared.naming.NamedAs.TheVariants as answers
-use Rattle.pli_type_names.specs.declared.place.Place.{Place}
-use Rattle.pli_type_names.specs.declared.place.Place.TheVariants.{InBlock}
+use Rattle.pli_type_names.specs.declared.place.Location.{Location}
+use Rattle.pli_type_names.specs.declared.place.Location.TheVariants.{InBlock}
 use Rattle.pli_type_names.specs.views.MeaningView.{answer_view, procedure_view}
-use Rattle.pli_type_names.proofs.Lists.{each_get}
+use Rattle.pli_type_names.proofs.ListLemmas.{each_get}
 use Rattle.pli_type_tree.specs.TypedTree.{OfEntry, Root}
 
 -- ---- where variables begin
 
-if_placed : (from : Place → Option Root) (b : Bool) (p : Place)
+if_placed : (from : Location → Option Root) (b : Bool) (p : Location)
     → (if b then from p else None) ≡ option_and_then from (if b then Some p else None)
 if_placed from true p = refl
 if_placed from false p = refl
@@ -56,7 +56,7 @@ from_root None d path = refl
 from_root (Some root) d path = refl
 
 module _ (blocks : List ℕ) (entries : List BlockEntry) where
-  way_seen : (block : ℕ) (o : Option Place) (d : Description) (path : List ℕ)
+  way_seen : (block : ℕ) (o : Option Location) (d : Description) (path : List ℕ)
       → kept_seen blocks entries block (on_way (begun o d) path) ≡ seen (variable_from (option_and_then (root_from blocks block) o) d path)
   way_seen block None d path = refl
   way_seen block (Some p) d path = from_root (root_from blocks block p) d path

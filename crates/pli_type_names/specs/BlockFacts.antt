@@ -6,7 +6,8 @@ use Rattle.pli_type.specs.NamedUnits.{all_tokens, block_symbols, globals_in, par
 use Rattle.pli_type.specs.TextOrder.{text_places}
 
 -- the numbers of its parameters among its symbols, each under its slot; for each global of the unit, block
--- after block, its number in the order of the text; how many globals the blocks before it have; and its symbols
+-- after block, its number in the order of the text; how many globals the blocks before it have; and its
+-- symbols
 pub record BlockFacts : Type 0 where
   pub parameters : List ℕ
   pub places : List ℕ

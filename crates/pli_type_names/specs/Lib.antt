@@ -1,6 +1,6 @@
 pub mod BlockEntries
 pub mod BlockFacts
-pub mod Meant
+pub mod SymbolMeaning
 pub mod Numbered
 pub mod OnWays
 pub mod OwnVariables

@@ -5,7 +5,7 @@ use Rattle.pli_map.specs.Parts.{PlacedPart}
 use Rattle.pli_map.specs.views.DescriptionView.{description_view, members_view}
 use Rattle.pli_type.specs.References.{StridedPart, element_of, part_on}
 use Rattle.pli_type_names.specs.OwnVariables.{OwnVariable}
-use Rattle.pli_type_names.specs.declared.level.Level.{Level}
+use Rattle.pli_type_names.specs.declared.level.StructureLevel.{StructureLevel}
 use Rattle.pli_type_names.specs.views.NameView.{part_view}
 
 -- the part on a way from the variable that is the symbol of this number
@@ -15,7 +15,7 @@ part_in variables root path =
     (get_or variables root None)
 
 -- the way leads to a structure, or to an array of such, with these members
-pub record IsLevel (variables : List (Option OwnVariable)) (l : Level) : Type 0 where
+pub record IsLevel (variables : List (Option OwnVariable)) (l : StructureLevel) : Type 0 where
   pub element : option_map element_of (part_in variables l.root l.way.now) ≡ Some (part_view l.element)
   pub members : description_view l.element.description.now
       ≡ Structure (members_view l.passed.members.now.items)
@@ -26,7 +26,7 @@ placed_in e m =
     record { offset = e.offset + m.offset; description = m.description; strides = e.strides }
 
 -- the same structure, whichever of its members are passed
-pub record SameStructure (k l : Level) : Type 0 where
+pub record SameStructure (k l : StructureLevel) : Type 0 where
   pub root : k.root ≡ l.root
   pub way : k.way.now ≡ l.way.now
   pub element : part_view k.element ≡ part_view l.element

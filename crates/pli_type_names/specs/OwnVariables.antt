@@ -7,16 +7,16 @@ use Rattle.pli_resolve.specs.declared.symbol.StorageClass.TheVariants as classes
 use Rattle.pli_type.specs.NamedUnits.{globals_before, is_automatic, is_parameter, is_stored, such_before}
 use Rattle.pli_type_names.specs.BlockFacts.{BlockFacts}
 use Rattle.pli_type_names.specs.Numbered.{each_from}
-use Rattle.pli_type_names.specs.declared.place.Place.{Place}
-use Rattle.pli_type_names.specs.declared.place.Place.TheVariants.{InBlock, BeforeProgram}
+use Rattle.pli_type_names.specs.declared.place.Location.{Location}
+use Rattle.pli_type_names.specs.declared.place.Location.TheVariants.{InBlock, BeforeProgram}
 
 -- where it begins, seen from its own block, and the description of the whole variable
 pub record OwnVariable : Type 0 where
-  pub begins : Place
+  pub begins : Location
   pub whole : Description
 
 -- one that begins here, or nowhere
-abbrev pub begun : Option Place → Description → Option OwnVariable
+abbrev pub begun : Option Location → Description → Option OwnVariable
 begun None description = None
 begun (Some place) description = Some (record { begins = place; whole = description })
 
@@ -26,7 +26,7 @@ global_at f number = get_or f.places (f.globals + globals_before 31 f.symbols nu
 
 -- where a variable of a block begins: parameters have slots of their own, AUTOMATIC variables those behind
 -- them, and STATIC variables are globals
-abbrev pub place_at : BlockFacts → (number : ℕ) → StorageClass → Description → Option Place
+abbrev pub place_at : BlockFacts → (number : ℕ) → StorageClass → Description → Option Location
 place_at f number classes.Automatic d =
     if is_stored 31 d
     then Some (InBlock (length f.parameters + such_before (is_automatic 31) f.symbols number)) else None
@@ -50,7 +50,7 @@ own_variables f = each_from (λ number s. own_at f number s.kind) 0 f.symbols
 
 -- where one of this class begins, which has this number, where so many slots are taken and the next global
 -- has this number
-abbrev pub place_behind : (parameters : List ℕ) → (slots global number : ℕ) → StorageClass → Option Place
+abbrev pub place_behind : (parameters : List ℕ) → (slots global number : ℕ) → StorageClass → Option Location
 place_behind parameters slots global number classes.Automatic = Some (InBlock slots)
 place_behind parameters slots global number (classes.Parameter slot) =
     if is_parameter parameters slot number then Some (InBlock slot) else None

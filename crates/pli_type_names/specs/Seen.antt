@@ -8,11 +8,11 @@ use Rattle.pli_type.specs.NamedUnits.{gives_stored, in_slot, outward_to, stands_
 use Rattle.pli_type.specs.References.{StridedPart, part_of, part_on}
 use Rattle.pli_type_names.specs.BlockEntries.{BlockEntry}
 use Rattle.pli_type_names.specs.BlockFacts.{BlockFacts}
-use Rattle.pli_type_names.specs.Meant.{is_way}
+use Rattle.pli_type_names.specs.SymbolMeaning.{is_way}
 use Rattle.pli_type_names.specs.Numbered.{each_from}
 use Rattle.pli_type_names.specs.OwnVariables.{OwnVariable, global_at, own_variables}
-use Rattle.pli_type_names.specs.declared.place.Place.{Place}
-use Rattle.pli_type_names.specs.declared.place.Place.TheVariants.{InBlock, BeforeProgram}
+use Rattle.pli_type_names.specs.declared.place.Location.{Location}
+use Rattle.pli_type_names.specs.declared.place.Location.TheVariants.{InBlock, BeforeProgram}
 use Rattle.pli_type_tree.specs.TypedTree.{OfBlock, OfEntry, Root, OfProgram}
 
 -- where a name is used
@@ -39,7 +39,7 @@ seen Untyped = SeenUntyped
 -- a variable, by where it begins in its own block; a procedure, by its block; an external one, by the number
 -- of its entry; a label; or what has no type
 pub data Kept : Type 0 where
-  KeptVariable : (begins : Place) (is_member : Bool) (part : Option StridedPart) → Kept
+  KeptVariable : (begins : Location) (is_member : Bool) (part : Option StridedPart) → Kept
   KeptProcedure : (block : ℕ) → Kept
   KeptEntry : (number : ℕ) (parameters : List Description) (returned : Option Description) → Kept
   KeptLabel : (statement : ℕ) → Kept
@@ -75,7 +75,7 @@ kept_symbols f =
 -- from there to here
 
 -- where a variable of a block begins where these blocks stand around
-abbrev pub root_from : (blocks : List ℕ) → (block : ℕ) → Place → Option Root
+abbrev pub root_from : (blocks : List ℕ) → (block : ℕ) → Location → Option Root
 root_from blocks block (InBlock slot) = in_slot (outward_to blocks block) slot
 root_from blocks block (BeforeProgram number) = Some (OfProgram number)
 

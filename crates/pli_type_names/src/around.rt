@@ -4,7 +4,7 @@ ghost use Rattle.pli_type.specs.NamedUnits.{outward_to, stands_around};
 ghost use Rattle.pli_type_names.specs.Seen.{root_from};
 ghost use Rattle.pli_type_tree.specs.views.TypedView.{root_view};
 
-use crate::place::Place;
+use crate::place::Location;
 use pli_type_tree::Root;
 
 /// How many static links outward a block is, if it stands around.
@@ -32,15 +32,15 @@ pub(crate) fn stands_around(around: &[usize], outer: Option<usize>) -> bool
 }
 
 /// Where a variable of a block begins, if the block stands around or it is one that is made before the program begins.
-pub(crate) fn root_from(around: &[usize], block: usize, begins: Place) -> Option<Root>
+pub(crate) fn root_from(around: &[usize], block: usize, begins: Location) -> Option<Root>
     requires { length around.now ≤ 4294967295 }
     ensures { option_map root_view result ≡ root_from (reverse around.now) block begins }
 {
     match begins {
-        Place::InBlock { slot } => {
+        Location::InBlock { slot } => {
             let outward = outward_to(around, block)?;
             Some(Root::InSlot { outward, slot })
         }
-        Place::BeforeProgram { number } => Some(Root::OfProgram { number }),
+        Location::BeforeProgram { number } => Some(Root::OfProgram { number }),
     }
 }

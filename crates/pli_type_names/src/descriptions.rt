@@ -23,7 +23,7 @@ fn is_length(length: u16) -> bool
 }
 
 /// Whether an array of these bounds has elements.
-#[tactic(auto, using(crate::proofs::Plain::with_subscripts, crate::proofs::Plain::without_subscripts))]
+#[tactic(auto, using(crate::proofs::PlainLemmas::with_subscripts, crate::proofs::PlainLemmas::without_subscripts))]
 fn has_elements(bounds: &[Bounds]) -> bool
     ensures { result ≡ nat_lt 0 (count_of bounds.now) }
 {
@@ -52,7 +52,7 @@ fn are_bounds(bounds: &[Bounds]) -> bool
 /// Whether a description is of numbers and strings alone, within the limits: numbers of 31 binary digits at most,
 /// strings of 1 to 32,767 elements, arrays with elements, and structures with members (own).
 #[cycle(is_plain)]
-#[tactic(auto, using(crate::proofs::Plain::structure_plain, crate::proofs::Plain::structure_empty, crate::proofs::Plain::array_plain, crate::proofs::Plain::array_empty))]
+#[tactic(auto, using(crate::proofs::PlainLemmas::structure_plain, crate::proofs::PlainLemmas::structure_empty, crate::proofs::PlainLemmas::array_plain, crate::proofs::PlainLemmas::array_empty))]
 pub fn is_plain(description: &Description) -> bool
     ensures { result ≡ spec.is_plain 31 (description_view description.now) }
 {

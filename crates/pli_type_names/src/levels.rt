@@ -9,7 +9,7 @@ ghost use Rattle.pli_type_names.specs.OwnVariables as spec;
 ghost use Rattle.pli_type_names.specs.views.NameView.{part_view};
 ghost use Rattle.pli_type_names.specs.views.VariableView.{own_view};
 
-use crate::level::Level;
+use crate::level::StructureLevel;
 use crate::own_variable::OwnVariable;
 use crate::part::StridedPart;
 use crate::passed_members::PassedMembers;
@@ -33,7 +33,7 @@ pub(crate) fn variable_at<'a>(
 /// members between the one that was found last and this one alone.
 fn member<'a>(
     alloc: Global,
-    level: &mut Level<'a>,
+    level: &mut StructureLevel<'a>,
     number: usize,
 ) -> Result<Option<StridedPart<'a>>, AllocError>
     requires { description_view level.old.element.description.now ≡ Structure (members_view level.old.passed.members.now.items) }
@@ -71,7 +71,7 @@ fn part_behind<'a>(
     variables: &[Option<OwnVariable<'a>>],
     root: usize,
     path: &[usize],
-    levels: &mut Vec<Level<'a>>,
+    levels: &mut Vec<StructureLevel<'a>>,
 ) -> Result<Option<StridedPart<'a>>, AllocError>
     requires { All (IsLevel (map (option_map own_view) variables.now)) levels.old.items }
     ensures part { IfOk result (λ part. option_map part_view part ≡ part_in (map (option_map own_view) variables.now) root path.now) }
@@ -97,7 +97,7 @@ fn note<'a>(
     root: usize,
     way: &'a [usize],
     part: &Option<StridedPart<'a>>,
-    levels: &mut Vec<Level<'a>>,
+    levels: &mut Vec<StructureLevel<'a>>,
 ) -> Result<(), AllocError>
     ensures { IfOk result (λ _. (variables : List (Option spec.OwnVariable)) → option_map part_view part.now ≡ part_in variables root way.now
         → All (IsLevel variables) levels.old.items → All (IsLevel variables) levels.new.items) }
@@ -109,7 +109,7 @@ fn note<'a>(
     let Description::Structure(members) = element.description else {
         return Ok(());
     };
-    levels.push(Level {
+    levels.push(StructureLevel {
         root,
         way,
         element,
@@ -125,7 +125,7 @@ pub(crate) fn part_on_way<'a>(
     variables: &[Option<OwnVariable<'a>>],
     root: usize,
     path: &'a [usize],
-    levels: &mut Vec<Level<'a>>,
+    levels: &mut Vec<StructureLevel<'a>>,
 ) -> Result<Option<StridedPart<'a>>, AllocError>
     requires { All (IsLevel (map (option_map own_view) variables.now)) levels.old.items }
     ensures part { IfOk result (λ part. option_map part_view part ≡ part_in (map (option_map own_view) variables.now) root path.now) }

@@ -10,14 +10,14 @@ ghost use Rattle.pli_type_names.specs.views.MeaningView.{AreMeanings, meant_view
 ghost use Rattle.pli_type_names.specs.views.VariableView.{own_view};
 
 use crate::entries::gives_stored;
-use crate::level::Level;
+use crate::level::StructureLevel;
 use crate::levels::{part_on_way, variable_at};
 use crate::order::global_places;
 use crate::own_variable::OwnVariable;
 use crate::own_variables::own_variables;
 use crate::parameters::parameter_numbers;
 use crate::part::StridedPart;
-use crate::place::Place;
+use crate::place::Location;
 use crate::unit_symbols::symbols;
 use pli_map::Description;
 use pli_resolve::{ResolvedUnit, Symbol, SymbolKind};
@@ -25,9 +25,9 @@ use std::alloc::{AllocError, Global};
 
 /// What a symbol means, wherever its name is used.
 #[derive(Drop)]
-pub(crate) enum Meant<'a> {
+pub(crate) enum SymbolMeaning<'a> {
     Variable {
-        begins: Place,
+        begins: Location,
         /// Whether it is a member, and not a variable of its own.
         is_member: bool,
         /// Which part of the variable it is; none where the way leads nowhere.
@@ -53,18 +53,18 @@ fn entry_meaning<'a>(
     number: u32,
     described: &'a [Description],
     returned: Option<&'a Description>,
-) -> Result<Meant<'a>, AllocError>
+) -> Result<SymbolMeaning<'a>, AllocError>
     ensures { IfOk result (λ meant. meant_view meant ≡ entry_kept number (map description_view described.now)
         (option_map (λ d. description_view d.now) returned.entry)) }
 {
     if !gives_stored(returned) {
-        return Ok(Meant::Untyped);
+        return Ok(SymbolMeaning::Untyped);
     }
     let mut parameters = Vec::new(alloc);
     for description in described {
         parameters.push(description)?;
     }
-    Ok(Meant::Entry {
+    Ok(SymbolMeaning::Entry {
         number,
         parameters,
         returned,
@@ -77,17 +77,17 @@ fn meant_on_way<'a>(
     variables: &[Option<OwnVariable<'a>>],
     root: usize,
     path: &'a [usize],
-    levels: &mut Vec<Level<'a>>,
-) -> Result<Meant<'a>, AllocError>
+    levels: &mut Vec<StructureLevel<'a>>,
+) -> Result<SymbolMeaning<'a>, AllocError>
     requires { All (IsLevel (map (option_map own_view) variables.now)) levels.old.items }
     ensures meaning { IfOk result (λ meant. meant_view meant ≡ on_way (get_or (map (option_map own_view) variables.now) root None) path.now) }
     ensures levels { IfOk result (λ _. All (IsLevel (map (option_map own_view) variables.now)) levels.new.items) }
 {
     let Some(variable) = variable_at(variables, root) else {
-        return Ok(Meant::Untyped);
+        return Ok(SymbolMeaning::Untyped);
     };
     let part = part_on_way(alloc, variables, root, path, levels)?;
-    Ok(Meant::Variable {
+    Ok(SymbolMeaning::Variable {
         begins: variable.begins,
         is_member: !path.is_empty(),
         part,
@@ -102,8 +102,8 @@ fn symbol_meaning<'a>(
     number: usize,
     global: u32,
     kind: SymbolKind<'a>,
-    levels: &mut Vec<Level<'a>>,
-) -> Result<Meant<'a>, AllocError>
+    levels: &mut Vec<StructureLevel<'a>>,
+) -> Result<SymbolMeaning<'a>, AllocError>
     requires { All (IsLevel (map (option_map own_view) variables.now)) levels.old.items }
     ensures meaning { IfOk result (λ meant. meant_view meant ≡ kind_kept (map (option_map own_view) variables.now) number global (symbol_kind_view kind.entry)) }
     ensures levels { IfOk result (λ _. All (IsLevel (map (option_map own_view) variables.now)) levels.new.items) }
@@ -115,14 +115,14 @@ fn symbol_meaning<'a>(
             let Ok(block) = u32::try_from(block) else {
                 return Err(AllocError);
             };
-            Ok(Meant::Procedure(block))
+            Ok(SymbolMeaning::Procedure(block))
         }
-        SymbolKind::Label { statement } => Ok(Meant::Label(statement)),
+        SymbolKind::Label { statement } => Ok(SymbolMeaning::Label(statement)),
         SymbolKind::Entry {
             parameters,
             returned,
         } => entry_meaning(alloc, global, parameters, returned),
-        SymbolKind::BuiltIn => Ok(Meant::Untyped),
+        SymbolKind::BuiltIn => Ok(SymbolMeaning::Untyped),
     }
 }
 
@@ -134,7 +134,7 @@ fn symbol_meanings<'a>(
     parameters: &[usize],
     places: &[u32],
     globals: &mut u32,
-) -> Result<Vec<Meant<'a>>, AllocError>
+) -> Result<Vec<SymbolMeaning<'a>>, AllocError>
     ensures meanings { IfOk result (λ meanings. map meant_view meanings.items
         ≡ kept_symbols (record { parameters = parameters.now; places = places.now; globals = globals.old; symbols = map symbol_view symbols.now })) }
     ensures counted { IfOk result (λ _. globals.new
@@ -156,7 +156,7 @@ fn symbol_meanings<'a>(
 pub(crate) fn unit_meanings<'r>(
     alloc: Global,
     resolved: &'r ResolvedUnit<'r>,
-) -> Result<Vec<Vec<Meant<'r>>>, AllocError>
+) -> Result<Vec<Vec<SymbolMeaning<'r>>>, AllocError>
     ensures { IfOk result (λ made. AreMeanings made.items resolved.now) }
 {
     let Some(blocks) = resolved.block_count().checked_add(1) else {

@@ -3,14 +3,14 @@ ghost use Rattle.std.specs.Prelude.{◌≡◌, [], IfOk, OnErr, OnOk};
 ghost use Rattle.pli_type.specs.NamedUnits.{declared_as};
 ghost use Rattle.pli_base.specs.views.StatementView.{unit_view};
 ghost use Rattle.pli_resolve.specs.ResolvedUnits.{resolved_unit_of};
-ghost use Rattle.pli_type_names.specs.Meant.{IsMeantAs, IsProcedure};
+ghost use Rattle.pli_type_names.specs.SymbolMeaning.{IsMeantAs, IsProcedure};
 ghost use Rattle.pli_type_names.specs.Seen.{seen};
 ghost use Rattle.pli_type_names.specs.UnitNaming.{compiled_in, inside, naming_in, outside, procedure_in};
 ghost use Rattle.pli_type_names.specs.views.MeaningView.{answer_view};
 
 use crate::descriptions::GREATEST;
 use crate::entries::{BlockEntry, block_entries, parameters_at, returned_at};
-use crate::meanings::{Meant, unit_meanings};
+use crate::meanings::{SymbolMeaning, unit_meanings};
 use crate::part::StridedPart;
 use crate::seen::symbol_seen;
 use pli_base::statement::Procedure;
@@ -64,7 +64,7 @@ pub enum NamedAs<'n, 'a> {
 pub struct Naming<'a> {
     resolved: &'a ResolvedUnit<'a>,
     /// What each symbol of each block means, under the block's number.
-    meanings: Vec<Vec<Meant<'a>>>,
+    meanings: Vec<Vec<SymbolMeaning<'a>>>,
     /// What is found once for each block, under its number.
     entries: Vec<BlockEntry<'a>>,
     /// The parameters of what is no block.

@@ -11,7 +11,7 @@ ghost use Rattle.pli_type_names.specs.views.VariableView.{own_view};
 use crate::descriptions::is_stored;
 use crate::order::under;
 use crate::own_variable::OwnVariable;
-use crate::place::Place;
+use crate::place::Location;
 use pli_resolve::{StorageClass, Symbol, SymbolKind};
 use std::alloc::{AllocError, Global};
 
@@ -47,7 +47,7 @@ fn parameter_place(
     parameters: &[usize],
     slot: usize,
     number: usize,
-) -> Result<Option<Place>, AllocError>
+) -> Result<Option<Location>, AllocError>
     ensures { IfOk result (λ place. place ≡ place_behind parameters.now 0 0 number (StorageClass.Parameter slot)) }
 {
     if !is_parameter(parameters, slot, number) {
@@ -56,7 +56,7 @@ fn parameter_place(
     let Ok(slot) = u32::try_from(slot) else {
         return Err(AllocError);
     };
-    Ok(Some(Place::InBlock { slot }))
+    Ok(Some(Location::InBlock { slot }))
 }
 
 /// Where a variable of this class and number begins, if it is of a class that is compiled: parameters and AUTOMATIC
@@ -67,7 +67,7 @@ fn place(
     parameters: &[usize],
     places: &[u32],
     free: &mut Free,
-) -> Result<Option<Place>, AllocError>
+) -> Result<Option<Location>, AllocError>
     ensures begins { IfOk result (λ place. place
         ≡ place_behind parameters.now free.old.slot (get_or places.now free.old.globals 0) number class) }
     ensures slots { IfOk result (λ _. free.new.slot ≡ free.old.slot + slots_of class) }
@@ -76,12 +76,12 @@ fn place(
     match class {
         StorageClass::Automatic => {
             let slot = take(&mut free.slot)?;
-            Ok(Some(Place::InBlock { slot }))
+            Ok(Some(Location::InBlock { slot }))
         }
         StorageClass::Static => {
             let global = take(&mut free.globals)?;
             let number = under(places, global);
-            Ok(Some(Place::BeforeProgram { number }))
+            Ok(Some(Location::BeforeProgram { number }))
         }
         StorageClass::Parameter(slot) => parameter_place(parameters, slot, number),
         StorageClass::Controlled | StorageClass::Based(_) => Ok(None),

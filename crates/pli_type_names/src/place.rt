@@ -2,7 +2,7 @@
 
 /// Where a variable begins, seen from its own block.
 #[derive(Clone, Copy)]
-pub(crate) enum Place {
+pub(crate) enum Location {
     /// In a slot of the block's activation, counted from 0: parameters first, and then AUTOMATIC variables.
     InBlock { slot: u32 },
     /// Under this number among the globals of the unit, in the order of the text; it is made before the program begins.

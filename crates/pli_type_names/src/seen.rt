@@ -6,7 +6,7 @@ ghost use Rattle.pli_type_names.specs.views.MeaningView.{answer_view, meant_view
 
 use crate::around::{root_from, stands_around};
 use crate::entries::BlockEntry;
-use crate::meanings::Meant;
+use crate::meanings::SymbolMeaning;
 use crate::naming::{NamedAs, NamedProcedure, NamedVariable};
 use pli_resolve::SymbolKey;
 use pli_type_tree::Callee;
@@ -38,13 +38,13 @@ fn meant_seen<'n, 'a>(
     around: &[usize],
     entries: &'n [BlockEntry<'a>],
     block: usize,
-    meant: &'n Meant<'a>,
+    meant: &'n SymbolMeaning<'a>,
 ) -> NamedAs<'n, 'a>
     requires { length around.now ≤ 4294967295 }
     ensures { answer_view result ≡ kept_seen (reverse around.now) (map entry_view entries.now) block (meant_view meant.now) }
 {
     match meant {
-        Meant::Variable {
+        SymbolMeaning::Variable {
             begins,
             is_member,
             part,
@@ -58,8 +58,8 @@ fn meant_seen<'n, 'a>(
                 part,
             })
         }
-        Meant::Procedure(procedure) => procedure_seen(around, entries, *procedure),
-        Meant::Entry {
+        SymbolMeaning::Procedure(procedure) => procedure_seen(around, entries, *procedure),
+        SymbolMeaning::Entry {
             number,
             parameters,
             returned,
@@ -68,8 +68,8 @@ fn meant_seen<'n, 'a>(
             parameters,
             returned: *returned,
         }),
-        Meant::Label(statement) => NamedAs::Label(*statement),
-        Meant::Untyped => NamedAs::Untyped,
+        SymbolMeaning::Label(statement) => NamedAs::Label(*statement),
+        SymbolMeaning::Untyped => NamedAs::Untyped,
     }
 }
 
@@ -77,7 +77,7 @@ fn meant_seen<'n, 'a>(
 pub(crate) fn symbol_seen<'n, 'a>(
     around: &[usize],
     entries: &'n [BlockEntry<'a>],
-    meanings: &'n [Vec<Meant<'a>>],
+    meanings: &'n [Vec<SymbolMeaning<'a>>],
     key: SymbolKey,
 ) -> NamedAs<'n, 'a>
     requires { length around.now ≤ 4294967295 }

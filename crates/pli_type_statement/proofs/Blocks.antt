@@ -22,11 +22,11 @@ use Rattle.pli_type_statement.specs.Parts.{unit_named, given, told, Adds, behind
 use Rattle.pli_type_statement.specs.Walking.{IsPlaced, IsBack, Walks, WalksBody, WalksList, WalksBlock, Enters, Leaves, Finishes, Ends, ended_as, in_list, in_block, unit_at, around, next_at, finished}
 use Rattle.pli_type_statement.specs.declared.walk.OpenBlock.{OpenBlock}
 use Rattle.pli_type_statement.specs.declared.surroundings.Surroundings.{Surroundings as Surrounded}
-use Rattle.pli_type_statement.specs.declared.walk.Walk.{Walk}
-use Rattle.pli_type_names.specs.Meant.{IsProcedure}
+use Rattle.pli_type_statement.specs.declared.walk.TypingWalk.{TypingWalk}
+use Rattle.pli_type_names.specs.SymbolMeaning.{IsProcedure}
 use Rattle.pli_type_names.specs.declared.naming.NamedProcedure as program
 use Rattle.pli_type_statement.specs.views.AroundView.{around_view, lists_view}
-use Rattle.pli_type_statement.proofs.Walked.{as_typed, made_walked}
+use Rattle.pli_type_statement.proofs.WalkLemmas.{as_typed, made_walked}
 
 -- lists
 
@@ -59,7 +59,7 @@ back_around a d n l begins value is lists begun given =
 
 -- groups
 
-pub group_placed : (old e : Walk) (labels : List ℕ) → IsPlaced old → e.naming ≡ old.naming
+pub group_placed : (old e : TypingWalk) (labels : List ℕ) → IsPlaced old → e.naming ≡ old.naming
     → around_view e.surroundings ≡ in_list (around_view old.surroundings) (record { block = None; labels = labels }) (around_view old.surroundings).begins (around_view old.surroundings).value
     → e.next ≡ old.next → e.templates ≡ old.templates → IsPlaced e
 group_placed old e labels placed same is next templates = record {
@@ -71,7 +71,7 @@ group_placed old e labels placed same is next templates = record {
       ∙ sym (ap (λ (n : Names). (unit_named n.unit).automatic k) same);
 }
 
-pub group_walked : (old e d new : Walk) (ss : tree.Statements) (list : Option TypedStatements)
+pub group_walked : (old e d new : TypingWalk) (ss : tree.Statements) (list : Option TypedStatements)
     → IsPlaced old → e.naming ≡ old.naming
     → around_view e.surroundings ≡ in_list (around_view old.surroundings) (record { block = None; labels = spec.labels_of ss }) (around_view old.surroundings).begins (around_view old.surroundings).value
     → e.next ≡ old.next → e.templates ≡ old.templates → e.faults ≡ old.faults → e.procedures ≡ old.procedures
@@ -119,7 +119,7 @@ group_walked old e d new ss list placed same is next templates faults procedures
 
 -- blocks
 
-pub block_placed : (old e : Walk) (block : OpenBlock) (begins : ℕ) (value : Option Description) (labels : List ℕ)
+pub block_placed : (old e : TypingWalk) (block : OpenBlock) (begins : ℕ) (value : Option Description) (labels : List ℕ)
     → IsPlaced old → Enters old e block begins value labels → IsPlaced e
 block_placed old e block begins value labels placed in_it = record {
   blocks = ap (λ (n : Names). n.blocks) in_it.naming ∙ ap (λ bs. old.next.block ∷ bs) placed.blocks
@@ -146,7 +146,7 @@ same_head a b a' b' s v v' e f g =
     ∙ ap (λ x. record { number = a'; statement = s; variables = x; temporaries = b }) f
     ∙ ap (λ x. record { number = a'; statement = s; variables = v'; temporaries = x }) g
 
-pub block_walked : (old e d new : Walk) (block : OpenBlock) (begins : ℕ) (value : Option Description) (number : ℕ)
+pub block_walked : (old e d new : TypingWalk) (block : OpenBlock) (begins : ℕ) (value : Option Description) (number : ℕ)
     (ss : tree.Statements) (list : Option TypedStatements) (head : BlockHead)
     → IsPlaced old → Enters old e block begins value (spec.labels_of ss) → WalksList e d (around e) ss list
     → Leaves d new block number head → WalksBlock old new (in_block old begins value ss) number ss head list
@@ -203,7 +203,7 @@ behind_begin : (x : Next) (count : ℕ)
     → next_of (suc x.block + count) (x.temporary) ≡ next_of (x.block + suc count) (x.temporary + 0)
 behind_begin x count = same_next _ _ _ _ (omega arith) (omega arith)
 
-pub begin_walked : (old new : Walk) (number at : ℕ) (ss : tree.Statements) (end : ℕ) (begins : ℕ) (head : BlockHead)
+pub begin_walked : (old new : TypingWalk) (number at : ℕ) (ss : tree.Statements) (end : ℕ) (begins : ℕ) (head : BlockHead)
     (list : Option TypedStatements) → begins ≡ suc old.surroundings.begins
     → WalksBlock old new (in_block old begins (around_view old.surroundings).value ss) number ss head list
     → WalksBody old new number at (tree.Begin ss end) (option_map (typed.Begin (head_view head)) list)
@@ -219,7 +219,7 @@ begin_walked old new number at ss end begins head list is w =
     (made_walked (typed.Begin (head_of (unit_at old) old.next.block number ss)) old new _ _ list w.walked)
 
 procedure_ends : (r : Result (WithProcedures TypedStatements) (List Fault)) (make : TypedStatements → TypedProcedure)
-    (old mid new : List TypedProcedure) (list : Option TypedStatements) (w : Walk) (end : ℕ) (head : BlockHead) (form : Option Form)
+    (old mid new : List TypedProcedure) (list : Option TypedStatements) (w : TypingWalk) (end : ℕ) (head : BlockHead) (form : Option Form)
     → list ≡ given r → Adds r old (finished w) → ((x : TypedStatements) → ended_as w end head x ≡ make x)
     → Ends w end head list new form
     → (form ≡ given (spec.as_procedure make r)) × Adds (spec.as_procedure make r) old new
@@ -237,7 +237,7 @@ told_procedure : (r : Result (WithProcedures TypedStatements) (List Fault)) (mak
 told_procedure (Ok x) make = refl
 told_procedure (Err fs) make = refl
 
-pub procedure_walked : (old mid new : Walk) (number at end : ℕ) (heading : tree.Heading) (ss : tree.Statements) (value : Option Description)
+pub procedure_walked : (old mid new : TypingWalk) (number at end : ℕ) (heading : tree.Heading) (ss : tree.Statements) (value : Option Description)
     (head : BlockHead) (list : Option TypedStatements) (form : Option Form) → value ≡ (unit_at old).returned old.next.block
     → WalksBlock old mid (in_block old 0 value ss) number ss head list → Finishes mid new end head list form
     → WalksBody old new number at (tree.Procedure heading ss end) form
@@ -281,7 +281,7 @@ procedure_walked old mid new number at end heading ss value head list form gives
       procedures = both.1;
     }
 
-pub procedure_answer : {X E : Type 0} (view : X → Form) (result : Result (Option X) E) (old mid new : Walk) (number at end : ℕ) (heading : tree.Heading) (ss : tree.Statements)
+pub procedure_answer : {X E : Type 0} (view : X → Form) (result : Result (Option X) E) (old mid new : TypingWalk) (number at end : ℕ) (heading : tree.Heading) (ss : tree.Statements)
     (value : Option Description) (head : BlockHead) (list : Option TypedStatements) → value ≡ (unit_at old).returned old.next.block
     → WalksBlock old mid (in_block old 0 value ss) number ss head list
     → IfOk result (λ form. Finishes mid new end head list (option_map view form))
@@ -291,12 +291,12 @@ procedure_answer view (Ok form) old mid new number at end heading ss value head 
 procedure_answer view (Err e) old mid new number at end heading ss value head list gives w ended = tt
 
 -- what a procedure gives, and what its parameters are
-pub returned_is : (w : Walk) (block : ℕ) (p : program.NamedProcedure) → IsProcedure p (procedure_in w.naming.unit block)
+pub returned_is : (w : TypingWalk) (block : ℕ) (p : program.NamedProcedure) → IsProcedure p (procedure_in w.naming.unit block)
     → option_map (λ d. description_view d.now) p.returned ≡ (unit_at w).returned block
 unfolding procedure_in unit_named
 returned_is w block p is = is.returned
 
-pub parameters_are : (w : Walk) (block : ℕ) (p : program.NamedProcedure) → IsProcedure p (procedure_in w.naming.unit block)
+pub parameters_are : (w : TypingWalk) (block : ℕ) (p : program.NamedProcedure) → IsProcedure p (procedure_in w.naming.unit block)
     → length p.parameters.now ≡ length ((unit_at w).parameters block)
 unfolding procedure_in unit_named
 parameters_are w block p is = sym (length-map p.parameters.now (λ d. description_view d.now)) ∙ ap length is.parameters

@@ -14,8 +14,8 @@ use Rattle.pli_base.specs.answers.FailureAnswers.{Fails}
 use Rattle.pli_base.specs.declared.failure.Failure.{Failure}
 use Rattle.pli_base.specs.declared.failure.Failure.TheVariants as errors
 use Rattle.pli_type_tree.specs.TypedTree.{TypedExpression}
-use Rattle.pli_type_statement.proofs.Built.{both_false}
-use Rattle.pli_type_statement.proofs.Searches.{past_lists}
+use Rattle.pli_type_statement.proofs.NothingLater.{both_false}
+use Rattle.pli_type_statement.proofs.SearchLemmas.{past_lists}
 
 -- items in front of those that are left, unless one of these has a fault
 abbrev pub behind : List TypedExpression → Result (List TypedExpression) Fault → Result (List TypedExpression) Fault

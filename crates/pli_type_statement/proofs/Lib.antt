@@ -1,10 +1,10 @@
-pub mod Beginnings
+pub mod WalkEndLemmas
 pub mod Blocks
-pub mod Built
-pub mod Called
+pub mod NothingLater
+pub mod CallLemmas
 pub mod ItemLists
-pub mod Searches
-pub mod Sizes
-pub mod Turns
+pub mod SearchLemmas
+pub mod SizeLemmas
+pub mod TurnLemmas
 pub mod Units
-pub mod Walked
+pub mod WalkLemmas

@@ -22,34 +22,34 @@ use Rattle.pli_type_tree.specs.views.TypedView.{head_view, procedure_view}
 use Rattle.pli_type_statement.specs.Around.{Around, Listing, surroundings_of}
 use Rattle.pli_type_statement.specs.Parts.{unit_named, given, told, Adds, behind_body, behind_list}
 use Rattle.pli_type_statement.specs.declared.walk.OpenBlock.{OpenBlock}
-use Rattle.pli_type_statement.specs.declared.walk.Walk.{Walk}
+use Rattle.pli_type_statement.specs.declared.walk.TypingWalk.{TypingWalk}
 use Rattle.pli_type_statement.specs.views.AroundView.{around_view, lists_view}
 
 -- the unit that it walks over
-abbrev pub unit_at : Walk → NamedUnit
+abbrev pub unit_at : TypingWalk → NamedUnit
 unit_at w = unit_named w.naming.unit
 
 -- where it is
-abbrev pub around : Walk → Surroundings
+abbrev pub around : TypingWalk → Surroundings
 around w = surroundings_of (around_view w.surroundings)
 
 -- the next block and temporary
-abbrev pub next_at : Walk → Next
+abbrev pub next_at : TypingWalk → Next
 next_at w = record { block = w.next.block; temporary = w.next.temporary }
 
 -- the procedures that it has walked over
-abbrev pub finished : Walk → List TypedProcedure
+abbrev pub finished : TypingWalk → List TypedProcedure
 finished w = map procedure_view w.procedures.items
 
 -- names are looked at from the blocks round the place, and what the variables of the blocks that begin from
 -- here on are made from is still there
-pub record IsPlaced (w : Walk) : Type 0 where
+pub record IsPlaced (w : TypingWalk) : Type 0 where
   pub blocks : w.naming.blocks ≡ map (λ (b : Enclosing). b.number) (around w).blocks
   pub templates : (block : ℕ) → w.next.block ≤ block
       → automatic_at w.templates block ≡ (unit_at w).automatic block
 
 -- it is where it was
-pub record IsBack (old new : Walk) : Type 0 where
+pub record IsBack (old new : TypingWalk) : Type 0 where
   pub naming : new.naming ≡ old.naming
   pub around : around_view new.surroundings ≡ around_view old.surroundings
   pub globals : new.templates.globals ≡ old.templates.globals
@@ -57,7 +57,7 @@ pub record IsBack (old new : Walk) : Type 0 where
 
 -- it has walked over a part: that part, if it has no fault; its faults behind the others; and its procedures
 -- behind the others
-pub record Walks (A : Type 0) (old new : Walk) (after : Next)
+pub record Walks (A : Type 0) (old new : TypingWalk) (after : Next)
     (typed : Result (WithProcedures A) (List Fault)) (answer : Option A) : Type 0 where
   pub back : IsBack old new
   pub next : next_at new ≡ after
@@ -66,13 +66,13 @@ pub record Walks (A : Type 0) (old new : Walk) (after : Next)
   pub procedures : Adds typed (finished old) (finished new)
 
 -- over what a statement says
-abbrev pub WalksBody : (old new : Walk) → (number at : ℕ) → Body → Option Form → Type 0
+abbrev pub WalksBody : (old new : TypingWalk) → (number at : ℕ) → Body → Option Form → Type 0
 WalksBody old new number at b form =
     Walks Form old new (behind_body (next_at old) b)
     (spec.body_typed (unit_at old) (around old) (next_at old) number at b) form
 
 -- over a list in other surroundings than those of the place
-abbrev pub WalksList : (old new : Walk) → Surroundings → Statements → Option TypedStatements → Type 0
+abbrev pub WalksList : (old new : TypingWalk) → Surroundings → Statements → Option TypedStatements → Type 0
 WalksList old new s ss list =
     Walks TypedStatements old new (behind_list (next_at old) ss)
     (spec.statements_typed (unit_at old) s (next_at old) ss) list
@@ -82,7 +82,7 @@ abbrev pub in_list : Around → Listing → (begins : ℕ) → Option Descriptio
 in_list a l begins value = record { lists = a.lists ++ l ∷ []; begins = begins; value = value }
 
 -- it has gone into the next block
-pub record Enters (old new : Walk) (block : OpenBlock) (inner : ℕ) (gives : Option Description)
+pub record Enters (old new : TypingWalk) (block : OpenBlock) (inner : ℕ) (gives : Option Description)
     (labels : List ℕ) : Type 0 where
   pub naming : new.naming ≡ inside old.naming old.next.block
   pub around : around_view new.surroundings
@@ -101,7 +101,7 @@ pub record Enters (old new : Walk) (block : OpenBlock) (inner : ℕ) (gives : Op
   pub temporary : block.temporary ≡ old.next.temporary
 
 -- it has gone out of that block
-pub record Leaves (old new : Walk) (block : OpenBlock) (statement : ℕ) (made : BlockHead) : Type 0 where
+pub record Leaves (old new : TypingWalk) (block : OpenBlock) (statement : ℕ) (made : BlockHead) : Type 0 where
   pub naming : new.naming ≡ outside old.naming
   pub lists : lists_view new.surroundings.lists.items
       ≡ take (length (lists_view old.surroundings.lists.items) - 1) (lists_view old.surroundings.lists.items)
@@ -120,7 +120,8 @@ pub record Leaves (old new : Walk) (block : OpenBlock) (statement : ℕ) (made :
       }
 
 -- the whole block
-pub record WalksBlock (old new : Walk) (s : Surroundings) (statement : ℕ) (ss : Statements) (made : BlockHead)
+pub record WalksBlock (old new : TypingWalk) (s : Surroundings) (statement : ℕ) (ss : Statements)
+    (made : BlockHead)
     (list : Option TypedStatements) : Type 0 where
   pub walked : Walks TypedStatements old new
       (record { block = suc old.next.block + blocks_among ss; temporary = old.next.temporary })
@@ -128,13 +129,13 @@ pub record WalksBlock (old new : Walk) (s : Surroundings) (statement : ℕ) (ss 
   pub head : head_view made ≡ head_of (unit_at old) old.next.block statement ss
 
 -- where the statements of the next block stand
-abbrev pub in_block : Walk → (begins : ℕ) → Option Description → Statements → Surroundings
+abbrev pub in_block : TypingWalk → (begins : ℕ) → Option Description → Statements → Surroundings
 in_block w begins value ss =
     surroundings_of (in_list (around_view w.surroundings)
     (record { block = Some w.next.block; labels = spec.labels_of ss }) begins value)
 
 -- a procedure of this list
-abbrev pub ended_as : Walk → (end : ℕ) → BlockHead → TypedStatements → TypedProcedure
+abbrev pub ended_as : TypingWalk → (end : ℕ) → BlockHead → TypedStatements → TypedProcedure
 ended_as w end head list = record {
   head = head_view head;
   parent = Some (spec.block_at (around w));
@@ -144,14 +145,14 @@ ended_as w end head list = record {
 }
 
 -- it is put behind the others, if the list has no fault
-abbrev pub Ends : Walk → (end : ℕ) → BlockHead → Option TypedStatements → (new : List TypedProcedure)
+abbrev pub Ends : TypingWalk → (end : ℕ) → BlockHead → Option TypedStatements → (new : List TypedProcedure)
     → Option Form → Type 0
 Ends w end head None new form = form ≡ None
 Ends w end head (Some list) new form =
     (form ≡ Some typed.Null) × (new ≡ finished w ++ ended_as w end head list ∷ [])
 
 -- it has walked over a procedure, whose list it has left: nothing else has changed
-pub record Finishes (old new : Walk) (end : ℕ) (head : BlockHead) (list : Option TypedStatements)
+pub record Finishes (old new : TypingWalk) (end : ℕ) (head : BlockHead) (list : Option TypedStatements)
     (form : Option Form) : Type 0 where
   pub naming : new.naming ≡ old.naming
   pub surroundings : new.surroundings ≡ old.surroundings

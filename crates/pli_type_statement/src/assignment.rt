@@ -8,11 +8,13 @@ ghost use Rattle.pli_type_expression.specs.views.TypingView.{denoted_view, meant
 ghost use Rattle.pli_type_names.specs.UnitNaming.{compiled_in, naming_in};
 ghost use Rattle.pli_type_tree.specs.views.TypedView.{form_view};
 
-use pli_base::{Code, fault};
 use pli_base::syntax::{Expression, Reference};
+use pli_base::{Code, fault};
 use pli_map::is_scalar;
 use pli_type::converted;
-use pli_type_expression::{Denoted, Meant, Referent, Role, TypeError, meant, referred, value_of};
+use pli_type_expression::{
+    Denoted, ExpressionMeaning, Referent, Role, TypeError, meant, referred, value_of,
+};
 use pli_type_names::Naming;
 use pli_type_tree::Form;
 use std::alloc::Global;
@@ -22,12 +24,12 @@ use std::alloc::Global;
 fn aggregate_assigned(
     equals: u32,
     target: Box<Referent<'_>>,
-    source: Meant<'_>,
+    source: ExpressionMeaning<'_>,
 ) -> Result<Form, TypeError>
     ensures { Gives form_view result
         (spec.aggregate_assigned equals (referent_view target.entry.value) (meant_view source.entry)) }
 {
-    let Meant::Aggregate(source) = source else {
+    let ExpressionMeaning::Aggregate(source) = source else {
         drop(source);
         return Err(fault(Code::CannotAssign, equals));
     };

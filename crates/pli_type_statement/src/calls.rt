@@ -8,8 +8,8 @@ ghost use Rattle.pli_type_expression.specs.views.TypingView.{argument_view};
 ghost use Rattle.pli_type_names.specs.UnitNaming.{compiled_in, naming_in};
 ghost use Rattle.pli_type_tree.specs.views.TypedView.{form_view};
 
-use pli_base::{Code, fault};
 use pli_base::syntax::{Expression, Identifier};
+use pli_base::{Code, fault};
 use pli_type_expression::{Argument, TypeError, arguments, pass};
 use pli_type_names::{NamedAs, Naming};
 use pli_type_tree::Form;

@@ -22,7 +22,7 @@ use crate::labels::{ListLabels, labels_of};
 use crate::outer::{outer_signature, takes_nothing};
 use crate::statement::type_statements;
 use crate::surroundings::Surroundings;
-use crate::walk::{Next, Walk};
+use crate::walk::{Next, TypingWalk};
 use pli_base::statement::{Procedure, Statement};
 use pli_base::{Code, Failure, Fault};
 use pli_map::Description;
@@ -101,7 +101,7 @@ fn may_begin(tree: &Procedure, signature: &Signature) -> bool
 }
 
 /// The external procedure of a unit, which is block 0.
-#[tactic(auto, using(crate::proofs::Beginnings::unit_named_so))]
+#[tactic(auto, using(crate::proofs::WalkEndLemmas::unit_named_so))]
 fn external_procedure(
     tree: &Procedure,
     signature: &Signature,
@@ -131,19 +131,19 @@ fn external_procedure(
 
 /// The typed unit of its tree, what its external procedure takes and gives, what the variables of block 0 are made
 /// from, its typed statements, and what the walk over these has found.
-#[tactic(auto, using(crate::proofs::Beginnings::unit_named_so))]
+#[tactic(auto, using(crate::proofs::WalkEndLemmas::unit_named_so))]
 fn typed_unit(
     tree: &Procedure,
     signature: Signature,
     variables: Vec<VariableGroup>,
     statements: Vec<TypedStatement>,
-    walk: Walk<'_>,
+    walk: TypingWalk<'_>,
 ) -> Result<TypedUnit, AllocError>
     ensures { IfOk result (λ made. typed.unit_view made
         ≡ unit_with (unit_view tree.now) (signature_view signature) (globals_view walk.entry.templates.globals.items)
         (groups_view variables.items) walk.entry.next.temporary (typed.statements_view statements.items) (finished walk.entry)) }
 {
-    let Walk {
+    let TypingWalk {
         next,
         templates,
         mut procedures,
@@ -180,7 +180,7 @@ fn built<'a>(
     let variables = templates.take(alloc, 0);
     let value = naming.procedure(0).returned;
     let surroundings = in_unit(alloc, statements, value)?;
-    let mut walk = Walk {
+    let mut walk = TypingWalk {
         naming,
         surroundings,
         next: Next {
@@ -197,7 +197,7 @@ fn built<'a>(
             Ok(typed_unit(tree, signature, variables, list, walk)?)
         }
         None => {
-            let Walk { faults, .. } = walk;
+            let TypingWalk { faults, .. } = walk;
             Err(CheckError::Fault(faults))
         }
     }

@@ -47,7 +47,7 @@ pub(crate) fn kept_by(control: &Option<Control>) -> u32
 }
 
 /// What controls a group, whose temporaries begin with this one.
-#[tactic(auto, using(crate::proofs::Built::iteration_built))]
+#[tactic(auto, using(crate::proofs::NothingLater::iteration_built))]
 pub(crate) fn specified(
     alloc: Global,
     naming: &Naming<'_>,

@@ -9,8 +9,8 @@ ghost use Rattle.pli_base.specs.answers.FailureAnswers.{Gives};
 ghost use Rattle.pli_type_names.specs.UnitNaming.{compiled_in, naming_in};
 ghost use Rattle.pli_type_tree.specs.views.TypedView.{expression_view};
 
-use pli_base::{Code, fault};
 use pli_base::syntax::Expression;
+use pli_base::{Code, fault};
 use pli_type::{ExpressionType, printed};
 use pli_type_expression::{TypeError, first_token, value_of};
 use pli_type_names::Naming;

@@ -14,9 +14,9 @@ ghost use Rattle.pli_type_statement.specs.Iterations.{iteration_of, iteration_wi
 ghost use Rattle.pli_type_tree.specs.views.TypedView as typed;
 
 use crate::items::condition;
-use pli_base::{Code, fault};
 use pli_base::statement::Range;
 use pli_base::syntax::{Expression, Reference};
+use pli_base::{Code, fault};
 use pli_map::Description;
 use pli_operation::Operation;
 use pli_type::{TypedValue, conversions, converted};

@@ -12,8 +12,8 @@ ghost use Rattle.pli_type_tree.specs.views.TypedView.{form_view};
 
 use crate::labels::outward_to;
 use crate::surroundings::Surroundings;
-use pli_base::{Code, fault};
 use pli_base::syntax::{Expression, Identifier};
+use pli_base::{Code, fault};
 use pli_type::{TypedValue, converted};
 use pli_type_expression::{TypeError, first_token, value_of};
 use pli_type_names::{NamedAs, Naming};
@@ -69,7 +69,7 @@ fn returned_value(
 }
 
 /// A RETURN at the token `at`: T9 there where a function returns nothing or another procedure a value (X3.74).
-#[tactic(auto, using(crate::proofs::Called::greatest_is))]
+#[tactic(auto, using(crate::proofs::CallLemmas::greatest_is))]
 pub(crate) fn returned(
     alloc: Global,
     naming: &Naming<'_>,

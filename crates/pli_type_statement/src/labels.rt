@@ -18,7 +18,7 @@ pub(crate) struct ListLabels {
 }
 
 /// Whether a statement leaves nothing among the typed ones: DECLARE, and a procedure.
-#[tactic(auto, using(crate::proofs::Searches::procedure_leaves))]
+#[tactic(auto, using(crate::proofs::SearchLemmas::procedure_leaves))]
 pub(crate) fn leaves_nothing(body: &Body) -> bool
     ensures { result ≡ spec.leaves_nothing (source.body_view body.now) }
 {

@@ -16,9 +16,9 @@ use crate::calls::call;
 use crate::items::items;
 use crate::jumps::{jump, returned};
 use crate::surroundings::Surroundings;
-use pli_base::{Code, fault};
 use pli_base::statement::Body;
 use pli_base::syntax::Expression;
+use pli_base::{Code, fault};
 use pli_type_expression::TypeError;
 use pli_type_names::Naming;
 use pli_type_tree::Form;
@@ -40,7 +40,7 @@ fn put(
 }
 
 /// A statement without statements in it, which begins at the token `at`. What is not compiled yet is Z1 there.
-#[tactic(auto, using(crate::proofs::Built::assignment_built, crate::proofs::Built::call_built, crate::proofs::Built::return_built, crate::proofs::Built::put_built))]
+#[tactic(auto, using(crate::proofs::NothingLater::assignment_built, crate::proofs::NothingLater::call_built, crate::proofs::NothingLater::return_built, crate::proofs::NothingLater::put_built))]
 pub(crate) fn simple(
     alloc: Global,
     naming: &Naming<'_>,

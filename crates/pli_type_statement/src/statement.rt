@@ -22,7 +22,7 @@ use crate::items::condition;
 use crate::labels::{labels_of, leaves_nothing};
 use crate::simple::simple;
 use crate::surroundings::innermost;
-use crate::walk::{Walk, enter_block, leave_block};
+use crate::walk::{TypingWalk, enter_block, leave_block};
 use pli_base::statement::{Body, Control, Statement};
 use pli_base::syntax::Expression;
 use pli_map::Description;
@@ -49,7 +49,7 @@ fn end_of(returned: Option<&Description>, end: u32) -> Option<u32>
 /// A statement without statements in it, whose fault is put behind the others.
 fn type_simple(
     alloc: Global,
-    walk: &mut Walk<'_>,
+    walk: &mut TypingWalk<'_>,
     at: u32,
     body: &Body,
 ) -> Result<Option<Form>, AllocError>
@@ -68,7 +68,7 @@ fn type_simple(
 /// A condition, whose fault is put behind the others.
 fn type_condition(
     alloc: Global,
-    walk: &mut Walk<'_>,
+    walk: &mut TypingWalk<'_>,
     expression: &Expression,
 ) -> Result<Option<Box<TypedExpression>>, AllocError>
     requires placed { IsPlaced walk.old }
@@ -98,7 +98,7 @@ fn how_many(parameters: &[&Description]) -> Result<u32, AllocError>
 /// What controls a group, whose fault is put behind the others; its temporaries are counted.
 fn type_header(
     alloc: Global,
-    walk: &mut Walk<'_>,
+    walk: &mut TypingWalk<'_>,
     control: &Option<Control>,
 ) -> Result<Option<Header>, AllocError>
     requires placed { IsPlaced walk.old }
@@ -118,7 +118,7 @@ fn type_header(
 /// Puts a procedure behind those that have ended, if its list has no fault; it leaves nothing where it stands. The
 /// statement of the number `end` is its END.
 fn finish(
-    walk: &mut Walk<'_>,
+    walk: &mut TypingWalk<'_>,
     end: u32,
     head: BlockHead,
     list: Option<Vec<TypedStatement>>,
@@ -148,7 +148,7 @@ fn finish(
 #[cycle(typed)]
 fn type_statement(
     alloc: Global,
-    walk: &mut Walk<'_>,
+    walk: &mut TypingWalk<'_>,
     statement: &Statement,
 ) -> Result<Option<TypedStatement>, AllocError>
     requires placed { IsPlaced walk.old }
@@ -166,7 +166,7 @@ fn type_statement(
 #[cycle(typed)]
 fn type_body<'a>(
     alloc: Global,
-    walk: &mut Walk<'a>,
+    walk: &mut TypingWalk<'a>,
     number: u32,
     at: u32,
     body: &Body,
@@ -223,7 +223,7 @@ fn type_body<'a>(
 #[cycle(typed)]
 fn type_block<'a>(
     alloc: Global,
-    walk: &mut Walk<'a>,
+    walk: &mut TypingWalk<'a>,
     begins: u32,
     value: Option<&'a Description>,
     number: u32,
@@ -245,7 +245,7 @@ fn type_block<'a>(
 #[cycle(typed)]
 fn type_group(
     alloc: Global,
-    walk: &mut Walk<'_>,
+    walk: &mut TypingWalk<'_>,
     statements: &[Statement],
 ) -> Result<Option<Vec<TypedStatement>>, AllocError>
     requires placed { IsPlaced walk.old }
@@ -266,7 +266,7 @@ fn type_group(
 #[cycle(typed)]
 pub(crate) fn type_statements(
     alloc: Global,
-    walk: &mut Walk<'_>,
+    walk: &mut TypingWalk<'_>,
     statements: &[Statement],
 ) -> Result<Option<Vec<TypedStatement>>, AllocError>
     requires placed { IsPlaced walk.old }

@@ -25,7 +25,7 @@ pub(crate) struct Next {
 /// Where the walk is, and what it has found: faults, and the procedures that have ended, in the order in which they
 /// end.
 #[derive(Drop)]
-pub(crate) struct Walk<'a> {
+pub(crate) struct TypingWalk<'a> {
     pub naming: Naming<'a>,
     pub surroundings: Surroundings<'a>,
     pub next: Next,
@@ -49,7 +49,7 @@ pub(crate) struct OpenBlock<'a> {
 /// this.
 pub(crate) fn enter_block<'a>(
     alloc: Global,
-    walk: &mut Walk<'a>,
+    walk: &mut TypingWalk<'a>,
     begins: u32,
     value: Option<&'a Description>,
     statements: &[Statement],
@@ -80,7 +80,7 @@ pub(crate) fn enter_block<'a>(
 
 /// Goes out of a block, whose PROCEDURE or BEGIN is this statement; gives what its activations begin with.
 pub(crate) fn leave_block<'a>(
-    walk: &mut Walk<'a>,
+    walk: &mut TypingWalk<'a>,
     block: OpenBlock<'a>,
     statement: u32,
 ) -> BlockHead

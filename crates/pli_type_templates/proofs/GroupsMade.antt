@@ -7,9 +7,9 @@ use Rattle.pli_resolve.specs.declared.symbol.StorageClass.{StorageClass}
 use Rattle.pli_resolve.specs.declared.symbol.StorageClass.TheVariants as classes
 use Rattle.pli_type.specs.InitialScalars.{InitialItem}
 use Rattle.pli_type.specs.NamedUnits.{member_items, template_at, templates_from, global_of, global_with, globals_from, PlacedGlobal, placed}
-use Rattle.pli_type_templates.specs.Groups.{Made, global_made, is_such, made_in, templates_with}
+use Rattle.pli_type_templates.specs.Groups.{MadeVariable, global_made, is_such, made_in, templates_with}
 
-if_made : (all : List Symbol) (number : ℕ) (m : Made) (b : Bool)
+if_made : (all : List Symbol) (number : ℕ) (m : MadeVariable) (b : Bool)
     → (if b then templates_with (Some m) (member_items number all) else []) ≡ templates_with (if b then Some m else None) (member_items number all)
 if_made all number m true = refl
 if_made all number m false = refl

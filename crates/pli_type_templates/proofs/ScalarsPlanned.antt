@@ -11,7 +11,7 @@ use Rattle.pli_type.specs.InitialScalars.{InitialItem, NumberedScalar, counted_f
 use Rattle.pli_type_templates.specs.Items.{item_scalars}
 use Rattle.pli_type_templates.proofs.ValuesWritten.{wanted_are_enough}
 use Rattle.pli_type_templates.specs.Plans.{Leaf, Plan, leaf_in, leaf_in_member, levels_in, levels_in_member, numbered, numbered_as, plan_from, plans_from, scalars_planned, spread}
-use Rattle.pli_type_templates.specs.declared.plan.Level.{Level}
+use Rattle.pli_type_templates.specs.declared.plan.ArrayLevel.{ArrayLevel}
 
 -- what stands for each element, the numbers of all being so much greater
 spread_out : (d : Description) (f : ℕ → List NumberedScalar) (g : ℕ → List ℕ) (n m distance count base : ℕ)
@@ -38,7 +38,7 @@ nothing_spread f n distance (suc count) base h =
     ∙ nothing_spread f n distance count (base + distance) h
 
 -- those of an array, by those of its element
-of_array : (leaf : Option Leaf) (levels : List Level) (f : ℕ → List NumberedScalar) (n distance count base : ℕ)
+of_array : (leaf : Option Leaf) (levels : List ArrayLevel) (f : ℕ → List NumberedScalar) (n distance count base : ℕ)
     → ((b : ℕ) → f (b + n) ≡ numbered leaf levels b)
     → flat_map f (counted_from (base + n) distance count) ≡ numbered leaf (record { count = count; distance = distance } ∷ levels) base
 of_array None levels f n distance count base h = nothing_spread f n distance count base h
@@ -70,7 +70,7 @@ mutual
       ap (λ k. scalars_in_member ds i path k) next ∙ scalars_of_member ds i path (n + scalars_in d) base
 
 -- what an item gives, by no more numbers than values are wanted
-pub item_made : (p : Plan) (path : List ℕ) (values : List InitialValue) (leaf : Leaf) (levels : List Level) (numbers : List ℕ) (wanted : ℕ)
+pub item_made : (p : Plan) (path : List ℕ) (values : List InitialValue) (leaf : Leaf) (levels : List ArrayLevel) (numbers : List ℕ) (wanted : ℕ)
     → leaf_in p path ≡ Some leaf → levels_in p path ≡ levels → wanted ≡ length (values_written values) → numbers ≡ take wanted (spread levels leaf.first)
     → each_with (numbered_as leaf.description numbers) (values_written values) ≡ each_with (scalars_planned p path) (values_written values)
 item_made p path values leaf levels numbers wanted leaf_is levels_are counted made =

@@ -6,7 +6,7 @@ use Rattle.std.proofs.lemmas.Option.{slice_get-map}
 use Rattle.pli_resolve.specs.ResolvedUnits.{ResolvedUnit, all_symbols}
 use Rattle.pli_type.specs.NamedUnits as units
 use Rattle.pli_type.specs.NamedUnits.{block_symbols, is_automatic, templates_of}
-use Rattle.pli_type_names.proofs.Blocks.{all_counted, symbols_there}
+use Rattle.pli_type_names.proofs.BlockLemmas.{all_counted, symbols_there}
 use Rattle.pli_type_templates.specs.declared.placed_globals.PlacedGlobal.{PlacedGlobal}
 use Rattle.pli_type_templates.specs.views.PlacedView.{placed_view, unit_global_view}
 use Rattle.pli_type_tree.specs.Templates.{Template}

@@ -20,12 +20,12 @@ is_such classes.Static class d = is_static 31 class d
 is_such other class d = false
 
 -- a variable that is made, with the values in its INITIAL
-pub record Made : Type 0 where
+pub record MadeVariable : Type 0 where
   pub description : Description
   pub values : List InitialValue
 
 -- the variable of this class that a symbol is, if it is made
-abbrev pub made_in : (wanted : StorageClass) → SymbolKind → Option Made
+abbrev pub made_in : (wanted : StorageClass) → SymbolKind → Option MadeVariable
 made_in wanted (Variable description class scope initial area) =
     if is_such wanted class description then Some (record { description = description; values = initial })
     else None
@@ -48,7 +48,7 @@ with_member rows None = rows
 with_member rows (Some o) = slice_set rows o.root (get_or rows o.root [] ++ o.item ∷ [])
 
 -- what a variable is made from that has these members, if it is made
-abbrev pub templates_with : Option Made → (members : List InitialItem) → List Template
+abbrev pub templates_with : Option MadeVariable → (members : List InitialItem) → List Template
 templates_with None members = []
 templates_with (Some m) members =
     template_of m.description (record { path = []; values = m.values } ∷ members) ∷ []

@@ -6,7 +6,7 @@ use Rattle.pli_map.specs.Description.{Description, Array, Structure, Members, No
 use Rattle.pli_map.specs.Scalars.{scalars_in}
 use Rattle.pli_map.specs.Sizes.{count_of}
 use Rattle.pli_type.specs.InitialScalars.{NumberedScalar, counted_from}
-use Rattle.pli_type_templates.specs.declared.plan.Level.{Level}
+use Rattle.pli_type_templates.specs.declared.plan.ArrayLevel.{ArrayLevel}
 
 -- a scalar, and its number where all subscripts above it are the lowest
 pub record Leaf : Type 0 where
@@ -17,7 +17,7 @@ pub record Leaf : Type 0 where
 mutual
   pub data Plan : Type 0 where
     OfScalar : (leaf : Leaf) → Plan
-    OfArray : (level : Level) (element : Plan) → Plan
+    OfArray : (level : ArrayLevel) (element : Plan) → Plan
     OfStructure : (members : Plans) → Plan
 
   -- the plans of the members of a structure
@@ -54,20 +54,20 @@ abbrev mutual
 
 -- the arrays on this way, the outermost first
 abbrev mutual
-  pub levels_in : Plan → (path : List ℕ) → List Level
+  pub levels_in : Plan → (path : List ℕ) → List ArrayLevel
   levels_in (OfScalar leaf) path = []
   levels_in (OfArray level element) path = level ∷ levels_in element path
   levels_in (OfStructure ps) [] = []
   levels_in (OfStructure ps) (i ∷ path) = levels_in_member ps i path
 
   -- the same from the member of this number on
-  pub levels_in_member : Plans → (number : ℕ) → (path : List ℕ) → List Level
+  pub levels_in_member : Plans → (number : ℕ) → (path : List ℕ) → List ArrayLevel
   levels_in_member NoPlans i path = []
   levels_in_member (PlanThen p ps) zero path = levels_in p path
   levels_in_member (PlanThen p ps) (suc i) path = levels_in_member ps i path
 
 -- the number of a scalar for each element of the arrays above it, in row-major order
-abbrev pub spread : List Level → (first : ℕ) → List ℕ
+abbrev pub spread : List ArrayLevel → (first : ℕ) → List ℕ
 spread [] first = first ∷ []
 spread (l ∷ ls) first = flat_map (spread ls) (counted_from first l.distance l.count)
 
@@ -76,7 +76,7 @@ abbrev pub numbered_as : Description → List ℕ → List NumberedScalar
 numbered_as d ns = map (λ n. record { scalar = n; description = d }) ns
 
 -- the scalars of a leaf under these arrays, the numbers of all being so much greater
-abbrev pub numbered : Option Leaf → List Level → (base : ℕ) → List NumberedScalar
+abbrev pub numbered : Option Leaf → List ArrayLevel → (base : ℕ) → List NumberedScalar
 numbered None levels base = []
 numbered (Some leaf) levels base = numbered_as leaf.description (spread levels (base + leaf.first))
 

@@ -11,23 +11,23 @@ ghost use Rattle.pli_type_tree.specs.views.GlobalView.{signature_view};
 ghost use Rattle.pli_type_tree.specs.views.TemplateView.{template_view};
 
 use crate::groups::{made_in, variable_template};
-use crate::items::Item;
+use crate::items::ValuedItem;
 use crate::placed_globals::{PlacedGlobal, UnitGlobal};
 use pli_base::Name;
 use pli_base::syntax::Identifier;
-use pli_declare_attributes::Scope;
+use pli_declare_attributes::ScopeAttribute;
 use pli_map::Description;
 use pli_resolve::{StorageClass, Symbol, SymbolKind};
 use pli_type_tree::{Signature, Template};
 use std::alloc::{AllocError, Global};
 
 /// A variable of this name, by its scope.
-fn variable_global(scope: Scope, name: Name, template: Template) -> UnitGlobal
+fn variable_global(scope: ScopeAttribute, name: Name, template: Template) -> UnitGlobal
     ensures { unit_global_view result ≡ global_of scope name (template_view template) }
 {
     match scope {
-        Scope::Internal => UnitGlobal::OwnVariable(template),
-        Scope::External => UnitGlobal::ExternalVariable { name, template },
+        ScopeAttribute::Internal => UnitGlobal::OwnVariable(template),
+        ScopeAttribute::External => UnitGlobal::ExternalVariable { name, template },
     }
 }
 
@@ -64,9 +64,9 @@ fn entry_signature(
 /// Puts the variable that a symbol is, if it is STATIC and compiled.
 fn put_variable(
     alloc: Global,
-    scope: Scope,
+    scope: ScopeAttribute,
     symbol: &Symbol<'_>,
-    members: &[Item<'_>],
+    members: &[ValuedItem<'_>],
     globals: &mut Vec<PlacedGlobal>,
 ) -> Result<(), AllocError>
     ensures { OnOk result (map placed_view globals.new.items ≡ map placed_view globals.old.items
@@ -115,7 +115,7 @@ fn put_entry(
 fn put_global(
     alloc: Global,
     symbol: &Symbol<'_>,
-    members: &[Item<'_>],
+    members: &[ValuedItem<'_>],
     globals: &mut Vec<PlacedGlobal>,
 ) -> Result<(), AllocError>
     ensures { OnOk result (map placed_view globals.new.items ≡ map placed_view globals.old.items
@@ -136,7 +136,7 @@ fn put_global(
 pub(crate) fn put_globals(
     alloc: Global,
     symbols: &[Symbol<'_>],
-    members: &[Vec<Item<'_>>],
+    members: &[Vec<ValuedItem<'_>>],
     globals: &mut Vec<PlacedGlobal>,
 ) -> Result<(), AllocError>
     requires { AreMembers (rows_view members.now) (map symbol_view symbols.now) }

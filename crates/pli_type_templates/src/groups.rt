@@ -8,7 +8,7 @@ ghost use Rattle.pli_type_templates.specs.Groups.{AreMembers, is_such, made_in, 
 ghost use Rattle.pli_type_templates.specs.views.ItemView.{items_view, made_view, rows_view};
 ghost use Rattle.pli_type_tree.specs.views.TemplateView.{group_view, groups_view, template_view};
 
-use crate::items::{Item, put_item};
+use crate::items::{ValuedItem, put_item};
 use crate::plan::plan_from;
 use pli_base::declaration::InitialValue;
 use pli_map::Description;
@@ -19,7 +19,7 @@ use std::alloc::{AllocError, Global};
 
 /// A variable that is made, with the values in its INITIAL.
 #[derive(Clone, Copy)]
-pub(crate) struct Made<'a> {
+pub(crate) struct MadeVariable<'a> {
     pub description: &'a Description,
     pub values: &'a [InitialValue],
 }
@@ -36,7 +36,7 @@ fn is_such(wanted: StorageClass, class: StorageClass, description: &Description)
 }
 
 /// A variable of the wanted class that is compiled; none of anything else.
-pub(crate) fn made_in<'a>(wanted: StorageClass, symbol: &Symbol<'a>) -> Option<Made<'a>>
+pub(crate) fn made_in<'a>(wanted: StorageClass, symbol: &Symbol<'a>) -> Option<MadeVariable<'a>>
     ensures { option_map made_view result ≡ made_in wanted (symbol_kind_view symbol.now.kind) }
 {
     match symbol.kind {
@@ -49,7 +49,7 @@ pub(crate) fn made_in<'a>(wanted: StorageClass, symbol: &Symbol<'a>) -> Option<M
             if !is_such(wanted, class, description) {
                 return None;
             }
-            Some(Made {
+            Some(MadeVariable {
                 description,
                 values: initial,
             })
@@ -61,15 +61,15 @@ pub(crate) fn made_in<'a>(wanted: StorageClass, symbol: &Symbol<'a>) -> Option<M
 /// What one variable is made from, by its own INITIAL and by those of its members.
 pub(crate) fn variable_template(
     alloc: Global,
-    made: Made<'_>,
-    members: &[Item<'_>],
+    made: MadeVariable<'_>,
+    members: &[ValuedItem<'_>],
 ) -> Result<Template, AllocError>
     ensures { IfOk result (λ template. template_view template
         ≡ template_of (made_view made.entry).description (record { path = []; values = (made_view made.entry).values } ∷ items_view members.now)) }
 {
     let planned = plan_from(alloc, made.description, 0)?;
     let mut scalars = Vec::new(alloc);
-    let own = Item {
+    let own = ValuedItem {
         path: &[],
         values: made.values,
     };
@@ -97,7 +97,7 @@ fn put_group(
     alloc: Global,
     wanted: StorageClass,
     symbol: &Symbol<'_>,
-    members: &[Item<'_>],
+    members: &[ValuedItem<'_>],
     groups: &mut Vec<VariableGroup>,
 ) -> Result<(), AllocError>
     ensures { OnOk result (groups_view groups.new.items
@@ -116,7 +116,7 @@ pub(crate) fn put_groups(
     alloc: Global,
     wanted: StorageClass,
     symbols: &[Symbol<'_>],
-    members: &[Vec<Item<'_>>],
+    members: &[Vec<ValuedItem<'_>>],
     groups: &mut Vec<VariableGroup>,
 ) -> Result<(), AllocError>
     requires { AreMembers (rows_view members.now) (map symbol_view symbols.now) }

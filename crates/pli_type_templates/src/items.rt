@@ -20,7 +20,7 @@ use std::alloc::{AllocError, Global};
 
 /// A variable or a member of one: the members on the way to it, each counted from 0, and the values in its INITIAL.
 #[derive(Clone, Copy)]
-pub(crate) struct Item<'a> {
+pub(crate) struct ValuedItem<'a> {
     pub path: &'a [usize],
     pub values: &'a [InitialValue],
 }
@@ -91,7 +91,7 @@ fn put_values(
 pub(crate) fn put_item(
     alloc: Global,
     plan: &Plan<'_>,
-    item: Item<'_>,
+    item: ValuedItem<'_>,
     scalars: &mut Vec<InitialScalar>,
 ) -> Result<(), AllocError>
     ensures { IfOk result (λ _. map initial_view scalars.new.items

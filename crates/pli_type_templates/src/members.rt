@@ -4,7 +4,7 @@ ghost use Rattle.pli_resolve.specs.views.SymbolView.{symbol_view, symbol_kind_vi
 ghost use Rattle.pli_type_templates.specs.Groups.{AreMembers, member_in, with_member};
 ghost use Rattle.pli_type_templates.specs.views.ItemView.{item_view, owned_view, rows_view};
 
-use crate::items::Item;
+use crate::items::ValuedItem;
 use pli_resolve::{Symbol, SymbolKind};
 use std::alloc::{AllocError, Global};
 
@@ -12,7 +12,7 @@ use std::alloc::{AllocError, Global};
 #[derive(Clone, Copy)]
 pub(crate) struct Owned<'a> {
     pub root: usize,
-    pub item: Item<'a>,
+    pub item: ValuedItem<'a>,
 }
 
 /// A member, with the values in its INITIAL; none of anything else.
@@ -26,7 +26,7 @@ fn member_in<'a>(symbol: &Symbol<'a>) -> Option<Owned<'a>>
             initial,
             ..
         } => {
-            let item = Item {
+            let item = ValuedItem {
                 path,
                 values: initial,
             };
@@ -37,7 +37,11 @@ fn member_in<'a>(symbol: &Symbol<'a>) -> Option<Owned<'a>>
 }
 
 /// Adds an item to those of its root.
-fn add<'a>(members: &mut Vec<Vec<Item<'a>>>, root: usize, item: Item<'a>) -> Result<(), AllocError>
+fn add<'a>(
+    members: &mut Vec<Vec<ValuedItem<'a>>>,
+    root: usize,
+    item: ValuedItem<'a>,
+) -> Result<(), AllocError>
     requires { root < length members.old.items }
     ensures { OnOk result (rows_view members.new.items
         ≡ slice_set (rows_view members.old.items) root
@@ -48,7 +52,10 @@ fn add<'a>(members: &mut Vec<Vec<Item<'a>>>, root: usize, item: Item<'a>) -> Res
 }
 
 /// Adds a symbol that is a member to those of its root, if there is one of that number.
-fn add_symbol<'a>(members: &mut Vec<Vec<Item<'a>>>, symbol: &Symbol<'a>) -> Result<(), AllocError>
+fn add_symbol<'a>(
+    members: &mut Vec<Vec<ValuedItem<'a>>>,
+    symbol: &Symbol<'a>,
+) -> Result<(), AllocError>
     ensures { OnOk result (rows_view members.new.items
         ≡ with_member (rows_view members.old.items) (member_in (symbol_kind_view symbol.now.kind))) }
 {
@@ -66,7 +73,7 @@ fn add_symbol<'a>(members: &mut Vec<Vec<Item<'a>>>, symbol: &Symbol<'a>) -> Resu
 pub(crate) fn members_by_root<'a>(
     alloc: Global,
     symbols: &[Symbol<'a>],
-) -> Result<Vec<Vec<Item<'a>>>, AllocError>
+) -> Result<Vec<Vec<ValuedItem<'a>>>, AllocError>
     ensures { IfOk result (λ made. AreMembers (rows_view made.items) (map symbol_view symbols.now)) }
 {
     let mut members = Vec::with_capacity(alloc, symbols.len())?;

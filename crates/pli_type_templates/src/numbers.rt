@@ -2,14 +2,14 @@
 ghost use Rattle.std.specs.Prelude.{◌≡◌, ◌≤◌, ◌++◌, length, take, IfOk};
 ghost use Rattle.pli_type_templates.specs.Plans.{spread};
 
-use crate::plan::Level;
+use crate::plan::ArrayLevel;
 use std::alloc::{AllocError, Global};
 
 /// Puts the numbers of a scalar for each element of the arrays above it, in row-major order, until there are as many as
 /// wanted. Want of memory where a number is over `u32::MAX`, which none of a variable of 1,000,000 bytes is.
 #[cycle(put_numbers)]
 pub(crate) fn put_numbers(
-    levels: &[Level],
+    levels: &[ArrayLevel],
     first: u32,
     wanted: usize,
     numbers: &mut Vec<u32>,

@@ -13,7 +13,7 @@ use std::alloc::{AllocError, Global};
 
 /// An array above a scalar: how many elements it has, and how many scalars each of them.
 #[derive(Clone, Copy)]
-pub(crate) struct Level {
+pub(crate) struct ArrayLevel {
     pub count: u32,
     pub distance: u32,
 }
@@ -31,7 +31,7 @@ pub(crate) struct Leaf<'a> {
 pub(crate) enum Plan<'a> {
     Scalar(Leaf<'a>),
     Array {
-        level: Level,
+        level: ArrayLevel,
         element: Box<Plan<'a>>,
     },
     Structure(Vec<Plan<'a>>),
@@ -96,7 +96,7 @@ fn array_from<'a>(
     let element = Box::new(alloc, planned.plan)?;
     let scalars = count.checked_mul(distance).ok_or(AllocError)?;
     let end = first.checked_add(scalars).ok_or(AllocError)?;
-    let level = Level { count, distance };
+    let level = ArrayLevel { count, distance };
     Ok(Planned {
         plan: Plan::Array { level, element },
         end,
@@ -138,7 +138,7 @@ fn member_at<'p, 'a>(members: &'p [Plan<'a>], number: usize) -> Option<&'p Plan<
 pub(crate) fn find_leaf<'a>(
     plan: &Plan<'a>,
     path: &[usize],
-    levels: &mut Vec<Level>,
+    levels: &mut Vec<ArrayLevel>,
 ) -> Result<Option<Leaf<'a>>, AllocError>
     ensures leaf { IfOk result (λ found. option_map leaf_view found ≡ leaf_in (plan_view plan.now) path.now) }
     ensures levels { IfOk result (λ _. levels.new.items ≡ levels.old.items ++ levels_in (plan_view plan.now) path.now) }

@@ -11,7 +11,7 @@ const DECIMAL_DIGITS: u8 = 10;
 const STRING_LIMIT: usize = 32_767;
 
 /// Whether a decimal constant is one that a text can have.
-#[tactic(auto, using(crate::proofs::Digits::enough_digits, crate::proofs::Digits::few_digits, crate::proofs::Digits::many_digits))]
+#[tactic(auto, using(crate::proofs::DigitLemmas::enough_digits, crate::proofs::DigitLemmas::few_digits, crate::proofs::DigitLemmas::many_digits))]
 fn is_decimal(greatest: u8, value: u32, digits: u8) -> bool
     requires { greatest ≤ 31 }
     ensures { result ≡ (nat_lt value (2 ^ greatest) && nat_lt value (10 ^ digits) && nat_le digits 10) }
@@ -22,7 +22,7 @@ fn is_decimal(greatest: u8, value: u32, digits: u8) -> bool
 }
 
 /// Whether a binary constant is one that a text can have.
-#[tactic(auto, using(crate::proofs::Digits::many_digits))]
+#[tactic(auto, using(crate::proofs::DigitLemmas::many_digits))]
 fn is_binary(greatest: u8, value: u32, digits: u8) -> bool
     requires { greatest ≤ 31 }
     ensures { result ≡ (nat_lt value (2 ^ digits) && nat_le digits greatest) }

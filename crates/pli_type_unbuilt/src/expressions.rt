@@ -34,7 +34,7 @@ pub(crate) fn later_expression(naming: &Naming<'_>, expression: &Expression) -> 
 
 /// Whether a reference has a part that is not compiled yet, or means a function that is not.
 #[cycle(later)]
-#[tactic(auto, using(crate::proofs::Parts::reference_later))]
+#[tactic(auto, using(crate::proofs::PartLemmas::reference_later))]
 pub(crate) fn later_reference(naming: &Naming<'_>, reference: &Reference) -> bool
     ensures { result ≡ spec.later_reference (compiled_in naming.now) (reference_view reference.now) }
 {

@@ -28,7 +28,7 @@ fn any_main(options: &[ProcedureOption]) -> bool
 }
 
 /// Whether a unit has OPTIONS(MAIN).
-#[tactic(auto, using(crate::proofs::Parts::main_unit))]
+#[tactic(auto, using(crate::proofs::PartLemmas::main_unit))]
 pub fn is_main(unit: &Procedure) -> bool
     ensures { result ≡ spec.is_main (unit_view unit.now) }
 {
@@ -43,7 +43,7 @@ fn token_if(later: bool, at: u32) -> Option<u32>
 }
 
 /// Whether one of the items of PUT has a part that is not compiled yet.
-#[tactic(auto, using(crate::proofs::Parts::items_later))]
+#[tactic(auto, using(crate::proofs::PartLemmas::items_later))]
 fn later_printed(naming: &Naming<'_>, items: &[Expression]) -> bool
     ensures { result ≡ list_any (spec.later_expression (compiled_in naming.now)) (map expression_view items.now) }
 {
@@ -72,7 +72,7 @@ fn later_statement(naming: &Naming<'_>, statement: &Statement) -> Option<u32>
 
 /// The same of what a statement says, whose first token is `at`.
 #[cycle(later_statement)]
-#[tactic(auto, using(crate::proofs::Parts::later_procedure, crate::proofs::Parts::later_begin, crate::proofs::Parts::later_do))]
+#[tactic(auto, using(crate::proofs::PartLemmas::later_procedure, crate::proofs::PartLemmas::later_begin, crate::proofs::PartLemmas::later_do))]
 fn later_body(naming: &Naming<'_>, at: u32, body: &Body) -> Option<u32>
     ensures { result ≡ spec.later_body (compiled_in naming.now) at (body_view body.now) }
 {
@@ -139,7 +139,7 @@ fn later_statements(naming: &Naming<'_>, statements: &[Statement]) -> Option<u32
 
 /// The token of the first form of a unit that is not compiled yet, counted from 0, at which Z1 stands; none where all
 /// of it is compiled. It calls itself as deep as statements and parentheses nest and operators stand in a row (own).
-#[tactic(auto, using(crate::proofs::Parts::later_unit, crate::proofs::Parts::unit_later))]
+#[tactic(auto, using(crate::proofs::PartLemmas::later_unit, crate::proofs::PartLemmas::unit_later))]
 pub fn first_unbuilt(naming: &Naming<'_>) -> Option<u32>
     ensures { result ≡ spec.first_unbuilt (compiled_in naming.now) (unit_view naming.now.unit) }
 {

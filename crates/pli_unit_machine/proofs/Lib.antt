@@ -1,8 +1,8 @@
 pub mod CallLemmas
 pub mod DecodedLemmas
-pub mod MovingOn
+pub mod MoveLemmas
 pub mod NumbersPut
-pub mod Passing
+pub mod PassLemmas
 pub mod RunLemmas
 pub mod SlotLemmas
 pub mod StepsEnd

@@ -1,3 +1,3 @@
-pub mod Quotients
-pub mod Stack
-pub mod Wide
+pub mod QuotientLemmas
+pub mod StackLemmas
+pub mod WidthLemmas

@@ -1,6 +1,6 @@
-pub mod Loops
-pub mod Orders
+pub mod BitLoopLemmas
+pub mod OrderLemmas
 pub mod PackedLaws
 pub mod PackingLaws
-pub mod Places
+pub mod PlaceLemmas
 pub mod RemainderLaws

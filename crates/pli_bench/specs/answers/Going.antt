@@ -5,7 +5,7 @@ use Rattle.pli_bench.specs.answers.Kept.{kept_limit}
 use Rattle.pli_bench.specs.Exchanges.{Exchange}
 use Rattle.pli_bench.specs.Lines.{complete_from, pending_from}
 use Rattle.pli_bench.specs.Runs.{Answers}
-use Rattle.pli_bench.specs.declared.serving.Next.TheVariants.{End}
+use Rattle.pli_bench.specs.declared.serving.AfterCommand.TheVariants.{End}
 
 -- the lines that end among these bytes were answered, none of them quits, and what is kept begins the line
 -- that has begun

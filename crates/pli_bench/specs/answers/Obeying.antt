@@ -5,8 +5,8 @@ use Rattle.pli_members.specs.declared.refusal.EditError.TheVariants.{Refused, Ou
 use Rattle.pli_members.specs.declared.refusal.Refusal.{Refusal}
 use Rattle.pli_code.specs.declared.ending.Ending.{Ending}
 use Rattle.pli_bench.specs.answers.Answering.{Writes}
-use Rattle.pli_bench.specs.declared.serving.Next.{Next}
-use Rattle.pli_bench.specs.declared.serving.Next.TheVariants.{Go}
+use Rattle.pli_bench.specs.declared.serving.AfterCommand.{AfterCommand}
+use Rattle.pli_bench.specs.declared.serving.AfterCommand.TheVariants.{Go}
 use Rattle.pli_bench.specs.declared.serving.WriteFailed.{WriteFailed}
 use Rattle.pli_bench.specs.Exchanges.{Exchange, exchange}
 use Rattle.pli_bench.specs.Session.{State, ending_line, no_memory, okay, refused}
@@ -37,6 +37,6 @@ abbrev pub end_answer : (column : ℕ) → Ending → List ℕ
 end_answer column ending = (if nat_eq column 1 then [] else 10 ∷ []) ++ ending_line ending
 
 -- a command that was answered goes on; a writer that failed is told
-abbrev pub gone : {A E : Type 0} → Result A E → Result Next WriteFailed
+abbrev pub gone : {A E : Type 0} → Result A E → Result AfterCommand WriteFailed
 gone (Ok x) = Ok Go
 gone (Err e) = Err (record {})

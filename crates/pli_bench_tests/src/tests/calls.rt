@@ -4,7 +4,7 @@ ghost use Rattle.std.specs.Prelude.{None};
 use crate::tests::at_row;
 use crate::tests::devices::fill;
 use pli_base::{Device, Failed, Sink, Source};
-use pli_bench::{Bench, Next, ServeFault};
+use pli_bench::{AfterCommand, Bench, ServeFault};
 use std::alloc::Global;
 use std::io::{self, ErrorKind, Read, Write};
 use std::test::*;
@@ -130,7 +130,7 @@ fn one_read_and_one_write(rt: HostRuntime) {
 }
 
 /// Outcomes of reads, with what serving them answers, what is written, and how many calls are made.
-static SERVED: [(&[Outcome], Result<Next, ServeFault>, &[u8], usize); 4] = [
+static SERVED: [(&[Outcome], Result<AfterCommand, ServeFault>, &[u8], usize); 4] = [
     (
         &[
             Outcome::Interrupted,
@@ -141,7 +141,7 @@ static SERVED: [(&[Outcome], Result<Next, ServeFault>, &[u8], usize); 4] = [
             NOTHING,
             Outcome::Moves(b"RUN\n"),
         ],
-        Ok(Next::End),
+        Ok(AfterCommand::End),
         b"OK\nM SOURCE 0\nOK\nB2 NOT BUILT\n",
         6,
     ),
@@ -151,13 +151,13 @@ static SERVED: [(&[Outcome], Result<Next, ServeFault>, &[u8], usize); 4] = [
             Outcome::Moves(b"IT\nRUN\n"),
             Outcome::Moves(b"RUN\n"),
         ],
-        Ok(Next::Quit),
+        Ok(AfterCommand::Quit),
         b"B2 NOT BUILT\nOK\n",
         2,
     ),
     (
         &[Outcome::Moves(b"QUIT"), NOTHING, Outcome::Moves(b"\nRUN\n")],
-        Ok(Next::Quit),
+        Ok(AfterCommand::Quit),
         b"OK\n",
         2,
     ),
@@ -178,7 +178,7 @@ static SERVED: [(&[Outcome], Result<Next, ServeFault>, &[u8], usize); 4] = [
 fn serves_so(
     alloc: Global,
     outcomes: &'static [Outcome],
-    wanted: Result<Next, ServeFault>,
+    wanted: Result<AfterCommand, ServeFault>,
     answers: &[u8],
     calls: usize,
 ) -> bool {

@@ -1,6 +1,6 @@
 //! Sessions over devices that fail, move pieces, or look at each other.
 use crate::tests::devices::{Asking, Kept, Pieces, Told, Turn};
-use pli_bench::{Bench, Next, ServeFault};
+use pli_bench::{AfterCommand, Bench, ServeFault};
 use std::alloc::Global;
 use std::cell::Cell;
 use std::process::Abort;
@@ -40,7 +40,11 @@ const AMPLE: Limits = Limits {
 };
 
 /// What serving a session within limits answers, and what is written.
-fn served(alloc: Global, session: &[u8], limits: Limits) -> (Result<Next, ServeFault>, Vec<u8>) {
+fn served(
+    alloc: Global,
+    session: &[u8],
+    limits: Limits,
+) -> (Result<AfterCommand, ServeFault>, Vec<u8>) {
     let mut bench = Bench::new(alloc, 1_000_000);
     let mut reader = Pieces {
         left: session,
@@ -63,7 +67,7 @@ fn fails_so(alloc: Global, (session, wanted): Row, limits: Limits, fault: ServeF
 /// Whether a session within limits comes to its end, and gives its answers.
 fn ends_so(alloc: Global, (session, wanted): Row, limits: Limits) -> bool {
     let (result, bytes) = served(alloc, session, limits);
-    result == Ok(Next::End) && bytes.as_slice() == wanted
+    result == Ok(AfterCommand::End) && bytes.as_slice() == wanted
 }
 
 /// Whether the first run fails where so many calls of the writer, of the reader or so many reads are made.
@@ -151,5 +155,5 @@ fn answers_before_more_is_read(rt: HostRuntime) {
     let mut writer = Told::new(rt.alloc(), &written);
     let mut bench = Bench::new(rt.alloc(), 1_000_000);
     let result = bench.serve(&mut reader, &mut writer, 99);
-    assert!(rt; result == Ok(Next::End) && writer.bytes.as_slice() == wanted.as_slice());
+    assert!(rt; result == Ok(AfterCommand::End) && writer.bytes.as_slice() == wanted.as_slice());
 }

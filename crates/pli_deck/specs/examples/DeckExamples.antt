@@ -1,21 +1,21 @@
 -- Worked examples: decks, each with its bytes.
 use Rattle.std.specs.Prelude.{◌≡◌, ℕ, true, false, List, [], ◌∷◌, None, Ok, Err, take, ◌++◌}
 use Rattle.pli_map.specs.Description.{Bit}
-use Rattle.pli_deck.specs.declared.fault.Fault.TheVariants.{BadMagic, Truncated, Trailing}
-use Rattle.pli_deck.specs.declared.instruction.Instruction.TheVariants as op
-use Rattle.pli_deck.specs.Decks.{Template, Signature, ExternalStatic, ExternalEntry, Block, Deck}
+use Rattle.pli_deck.specs.declared.fault.DeckFault.TheVariants.{BadMagic, Truncated, Trailing}
+use Rattle.pli_deck.specs.declared.instruction.DeckInstruction.TheVariants as op
+use Rattle.pli_deck.specs.Decks.{DeckTemplate, DeckSignature, ExternalStatic, ExternalEntry, DeckBlock, Deck}
 use Rattle.pli_deck.specs.Spelling.{deck_bytes, deck_read}
 
 -- no parameters and no result
-abbrev pub without_parameters : Signature
+abbrev pub without_parameters : DeckSignature
 without_parameters = record { parameters = []; result = None }
 
 -- one parameter, of the first description
-abbrev pub with_parameter : Signature
+abbrev pub with_parameter : DeckSignature
 with_parameter = record { parameters = 0 ∷ []; result = None }
 
 -- the block of an external procedure that declares no AUTOMATIC variable
-abbrev pub outermost : (parameters : ℕ) → Block
+abbrev pub outermost : (parameters : ℕ) → DeckBlock
 outermost n = record {
   kind = 0;
   parent = None;
@@ -47,7 +47,7 @@ smallest_bytes =
     255 ∷ 255 ∷ 0 ∷ 0 ∷ 0 ∷ 0 ∷ 0 ∷ 0 ∷ 0 ∷ 0 ∷ 0 ∷ 0 ∷ 1 ∷ 0 ∷ 1 ∷ 9 ∷ 0 ∷ []
 
 -- what a BIT variable is made from
-abbrev pub bit_template : Template
+abbrev pub bit_template : DeckTemplate
 bit_template = record { description = 0; initial = [] }
 
 -- M: PROC OPTIONS(MAIN); DCL X BIT EXT, Q ENTRY(BIT); CALL Q(X); END;

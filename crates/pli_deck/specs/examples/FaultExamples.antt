@@ -2,19 +2,19 @@
 use Rattle.std.specs.Prelude.{◌≡◌, ℕ, List, [], ◌∷◌, Some, None, pos, negsuc}
 use Rattle.pli_map.specs.declared.description.Bounds.{Bounds}
 use Rattle.pli_map.specs.Description.{Description, Character, Array, FixedBinary}
-use Rattle.pli_deck.specs.declared.fault.Fault.TheVariants.{BadJump, BadNumber, OverLimit}
-use Rattle.pli_deck.specs.declared.instruction.Instruction.{Instruction}
-use Rattle.pli_deck.specs.declared.instruction.Instruction.TheVariants as op
-use Rattle.pli_deck.specs.Decks.{Template, Number, NullPointer, Constant, Deck}
+use Rattle.pli_deck.specs.declared.fault.DeckFault.TheVariants.{BadJump, BadNumber, OverLimit}
+use Rattle.pli_deck.specs.declared.instruction.DeckInstruction.{DeckInstruction}
+use Rattle.pli_deck.specs.declared.instruction.DeckInstruction.TheVariants as op
+use Rattle.pli_deck.specs.Decks.{DeckTemplate, Number, NullPointer, Constant, Deck}
 use Rattle.pli_deck.specs.DeckFaults.{fault_of}
 use Rattle.pli_deck.specs.examples.DeckExamples.{smallest}
 
 -- the smallest deck with other instructions
-abbrev pub with_code : List Instruction → Deck
+abbrev pub with_code : List DeckInstruction → Deck
 with_code code = record smallest { instructions = code }
 
 -- the smallest deck with a variable of a description
-abbrev pub with_variable : Description → Template → Deck
+abbrev pub with_variable : Description → DeckTemplate → Deck
 with_variable d t = record smallest { descriptions = d ∷ []; templates = t ∷ [] }
 
 -- -32,767 to 32,767
@@ -22,11 +22,11 @@ abbrev pub widest : Bounds
 widest = record { low = negsuc 32766; high = pos 32767 }
 
 -- a template without initial values
-abbrev pub plain : Template
+abbrev pub plain : DeckTemplate
 plain = record { description = 0; initial = [] }
 
 -- a template with one initial value, on this byte
-abbrev pub begins_as : (offset : ℕ) → Constant → Template
+abbrev pub begins_as : (offset : ℕ) → Constant → DeckTemplate
 begins_as offset c =
     record { description = 0; initial = record { offset = offset; value = c } ∷ [] }
 

@@ -2,7 +2,7 @@
 -- out.
 use Rattle.std.specs.Prelude.{◌≡◌, Option, Some, None, Result, Ok, Err}
 use Rattle.pli_base.specs.declared.failure.Failure.{Failure}
-use Rattle.pli_deck.specs.declared.fault.Fault.{Fault}
+use Rattle.pli_deck.specs.declared.fault.DeckFault.{DeckFault}
 use Rattle.pli_base.specs.declared.failure.Failure.TheVariants as reading
 use Rattle.pli_deck_load.specs.declared.error.LoadError.{LoadError}
 use Rattle.pli_deck_load.specs.declared.error.LoadError.TheVariants as errors
@@ -19,6 +19,6 @@ Makes view (Ok x) made = made ≡ Some (view x)
 Makes view (Err e) made = Lacks e made
 
 -- what reading lacks
-abbrev pub load_error : Failure Fault → LoadError
+abbrev pub load_error : Failure DeckFault → LoadError
 load_error reading.OutOfMemory = errors.Memory
 load_error (reading.Fault f) = errors.Fault f

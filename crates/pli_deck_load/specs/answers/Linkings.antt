@@ -1,6 +1,6 @@
 -- How the decks of a module are linked: what their code does not say.
 use Rattle.std.specs.Prelude.{◌≡◌, ℕ, Bool, true, false, List, map}
-use Rattle.pli_deck.specs.ModuleFields.{External, Member, Module}
+use Rattle.pli_deck.specs.ModuleFields.{External, Member, DeckModule}
 use Rattle.pli_unit_code.specs.CodeTables.{CodedGlobal}
 use Rattle.pli_unit_code.specs.Modules.{LinkedUnit}
 
@@ -17,7 +17,7 @@ abbrev pub Linking : Type 0
 Linking = List External × List Mark
 
 -- how the decks of a module are linked
-abbrev pub linking_of : Module → Linking
+abbrev pub linking_of : DeckModule → Linking
 linking_of m = (m.externals, map mark_of m.units)
 
 -- an answer tells whether two are the same

@@ -5,8 +5,9 @@ use Rattle.pli_base.specs.Name.{Name}
 use Rattle.pli_declare_outline.specs.Outlines.{Outline}
 use Rattle.pli_declare_constructs.specs.Regions.{blocks_round}
 use Rattle.pli_declare_scopes.specs.Scopes.{meant}
-use Rattle.pli_declare_scopes.specs.declared.found.Meant.TheVariants.{Item as Means, Ambiguous as Several}
-use Rattle.pli_declare_scopes.specs.declared.found.Meant.TheVariants.{NotDeclared as Nothing}
+use Rattle.pli_declare_scopes.specs.declared.found.ReferenceMeaning.TheVariants.{Item as Means}
+use Rattle.pli_declare_scopes.specs.declared.found.ReferenceMeaning.TheVariants.{Ambiguous as Several}
+use Rattle.pli_declare_scopes.specs.declared.found.ReferenceMeaning.TheVariants.{NotDeclared as Nothing}
 use Rattle.pli_declare_tables.specs.Tables.{Entry, entries_in, unit_entries, scope_of, tables_of}
 use Rattle.pli_declare_tables.specs.Tables.{numbers_from}
 use Rattle.pli_declare_variables.specs.Judging.{all_judged}

@@ -11,11 +11,11 @@ use Rattle.pli_base.specs.declared.syntax.Identifier.{Identifier}
 use Rattle.pli_base.specs.declared.token.Fault.{Fault}
 use Rattle.pli_base.specs.Declarations.{Fixed, Binary, Character, Bit, Pointer, Offset, Area, Based, Initial}
 use Rattle.pli_base.specs.Declarations.{Attribute, Simple, Plain, Item}
-use Rattle.pli_base.specs.declared.declaration.Bounds.{Bounds}
+use Rattle.pli_base.specs.declared.declaration.WrittenBounds.{WrittenBounds}
 use Rattle.pli_base.specs.declared.declaration.InitialValue.TheVariants as initial
 use Rattle.pli_base.specs.Statements.{ProcedureOption, Returns, Heading}
 use Rattle.pli_declare_outline.specs.Outlines.{Region, Mark, Declared, Labelled, Entered, Used, Jumped}
-use Rattle.pli_declare_outline.specs.Outlines.{Placed, Outline}
+use Rattle.pli_declare_outline.specs.Outlines.{PlacedMark, Outline}
 use Rattle.pli_declare_outline.specs.declared.region.RegionKind.{RegionKind}
 use Rattle.pli_declare_outline.specs.declared.region.RegionKind.TheVariants as kinds
 use Rattle.pli_declare.specs.Resolution.{outline_faults}
@@ -30,7 +30,7 @@ heading name token parameters options =
     record { name = at name token; number = 1; parameters = parameters; options = options }
 
 -- an item of one name
-abbrev pub item : Option ℕ → Identifier → List Bounds → List Attribute → Item
+abbrev pub item : Option ℕ → Identifier → List WrittenBounds → List Attribute → Item
 item level name dimensions attributes =
     record { level = level; names = name ∷ []; dimensions = dimensions; attributes = attributes }
 
@@ -47,7 +47,7 @@ abbrev pub binary : ℕ → List Attribute
 binary p = Simple (Fixed None) ∷ Simple (Binary (Some p)) ∷ []
 
 -- the bounds of a dimension from 1 to n, as `n` is written
-abbrev pub up_to : ℕ → Bounds
+abbrev pub up_to : ℕ → WrittenBounds
 up_to n = record { low = None; high = record { negative = false; value = n } }
 
 -- a region of a kind within another
@@ -55,11 +55,11 @@ abbrev pub region : RegionKind → ℕ → Region
 region kind outer = record { kind = kind; outer = Some outer }
 
 -- a mark in a region
-abbrev pub in_region : ℕ → Mark → Placed
+abbrev pub in_region : ℕ → Mark → PlacedMark
 in_region r m = record { region = r; mark = m }
 
 -- the procedure M, with these regions inside it and these marks behind its heading
-abbrev pub unit : List Region → List Placed → Outline
+abbrev pub unit : List Region → List PlacedMark → Outline
 unit regions marks =
     record {
       regions = record { kind = kinds.Procedure; outer = None }
@@ -76,7 +76,7 @@ abbrev pub Answers : Outline → List Fault → Type 0
 Answers o faults = outline_faults o o.marks ≡ faults
 
 -- the marks of one DECLARE in region 0
-abbrev pub declares : List Item → List Placed
+abbrev pub declares : List Item → List PlacedMark
 declares items = in_region 0 (Declared items) ∷ []
 
 -- `DCL X BIT, X BIT;`; `DCL X FIXED BIN(32);`; `DCL C CHAR(0);`; `DCL X FIXED BIN(15) INIT(40000);`

@@ -8,12 +8,12 @@ use Rattle.pli_base.specs.declared.syntax.Identifier.{Identifier}
 use Rattle.pli_map.specs.Description as described
 use Rattle.pli_map.specs.Description.{Description, Members, NoMembers, MemberThen}
 use Rattle.pli_declare_attributes.specs.Completed.{OfVariable}
-use Rattle.pli_declare_attributes.specs.declared.completed.Storage.TheVariants.{Automatic}
-use Rattle.pli_declare_attributes.specs.declared.completed.Scope.TheVariants.{Internal}
-use Rattle.pli_declare_attributes.specs.declared.completed.Storage.{Storage}
+use Rattle.pli_declare_attributes.specs.declared.completed.DeclaredStorage.TheVariants.{Automatic}
+use Rattle.pli_declare_attributes.specs.declared.completed.ScopeAttribute.TheVariants.{Internal}
+use Rattle.pli_declare_attributes.specs.declared.completed.DeclaredStorage.{DeclaredStorage}
 use Rattle.pli_declare_outline.specs.Outlines.{Declared, Labelled, Entered, Used, Jumped, Outline}
 use Rattle.pli_declare_outline.specs.declared.region.RegionKind.TheVariants as kinds
-use Rattle.pli_declare_variables.specs.Declarations.{Kind, OfItem, OfLabel, OfProcedure, Declaration}
+use Rattle.pli_declare_variables.specs.Declarations.{DeclaredKind, OfItem, OfLabel, OfProcedure, Declaration}
 use Rattle.pli_declare.specs.examples.ResolutionExamples.{at, heading, item, plain, bit, binary, region}
 use Rattle.pli_declare.specs.examples.ResolutionExamples.{in_region, unit, Answers}
 use Rattle.pli_declare.specs.Resolution.{resolution_faults}
@@ -34,11 +34,12 @@ abbrev pub function : (at : ℕ) → Use
 function at = record { at = at; target = Function }
 
 -- a declared name with its owner and what it is declared as
-abbrev pub declared : Identifier → (owner : Option ℕ) → Kind → Declaration
+abbrev pub declared : Identifier → (owner : Option ℕ) → DeclaredKind → Declaration
 declared name owner kind = record { identifier = name; owner = owner; kind = kind }
 
 -- an item that is a variable of this type and storage, with its description where it is one of its own
-abbrev pub variable : (type : Option Description) → Option Storage → (whole : Option Description) → Kind
+abbrev pub variable : (type : Option Description) → Option DeclaredStorage
+    → (whole : Option Description) → DeclaredKind
 variable type storage whole =
     OfItem (OfVariable (record {
       description = type;

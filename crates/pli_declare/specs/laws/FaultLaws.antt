@@ -4,7 +4,7 @@ use Rattle.std.specs.List.{Contains, list_all}
 use Rattle.pli_base.specs.declared.syntax.Identifier.{Identifier}
 use Rattle.pli_base.specs.declared.token.Fault.{Fault}
 use Rattle.pli_base.specs.Statements.{ExternalProcedure}
-use Rattle.pli_declare_outline.specs.Outlines.{Mark, Declared, Labelled, Entered, Used, Jumped, Placed}
+use Rattle.pli_declare_outline.specs.Outlines.{Mark, Declared, Labelled, Entered, Used, Jumped, PlacedMark}
 use Rattle.pli_declare_outline.specs.Outlines.{Outline, outline_of}
 use Rattle.pli_declare_scopes.specs.Scopes.{meant}
 use Rattle.pli_declare_tables.specs.Tables.{no_entry, entries_in, inner_marks, scope_of}
@@ -36,7 +36,7 @@ HasParameter o (Jumped label) n f = ⊥
 
 -- a parameter in the text has them
 pub record AtParameter (o : Outline) (f : Fault) : Type 0 where
-  pub placed : Placed
+  pub placed : PlacedMark
   pub stands : Contains o.marks placed
   pub number : ℕ
   pub has : HasParameter o placed.mark number f
@@ -54,7 +54,7 @@ HasUse o here (Entered heading region) f = ⊥
 
 -- something in the text that uses a name has them
 pub record AtUse (o : Outline) (f : Fault) : Type 0 where
-  pub placed : Placed
+  pub placed : PlacedMark
   pub stands : Contains (inner_marks o.marks) placed
   pub has : HasUse o placed.region placed.mark f
 
@@ -69,7 +69,7 @@ HasHeading (Used names) f = ⊥
 HasHeading (Jumped label) f = ⊥
 
 -- the first mark, which declares the unit's own name, has them
-abbrev pub AtUnit : List Placed → Fault → Type 0
+abbrev pub AtUnit : List PlacedMark → Fault → Type 0
 AtUnit [] f = ⊥
 AtUnit (p ∷ ps) f = HasHeading p.mark f
 

@@ -9,12 +9,12 @@ use Rattle.pli_declare_variables.specs.declared.declaration.Declaration.{Declara
 use Rattle.pli_declare_variables.specs.views.DeclarationView.{declaration_view}
 use Rattle.pli_declare.specs.Resolved as plain
 use Rattle.pli_declare.specs.Resolved.{resolved_of, meaning_at}
-use Rattle.pli_declare.specs.declared.block.Block.{Block}
+use Rattle.pli_declare.specs.declared.block.BlockDeclarations.{BlockDeclarations}
 use Rattle.pli_declare.specs.declared.block.Target.{Target}
 use Rattle.pli_declare.specs.declared.block.Use.{Use}
 
 -- a block, with its parameters and what it declares
-abbrev pub block_view : Block → plain.Block
+abbrev pub block_view : BlockDeclarations → plain.BlockDeclarations
 block_view b =
     record { parameters = b.parameters.items; declarations = map declaration_view b.declarations.items }
 
@@ -24,7 +24,8 @@ AreMeanings meanings uses = (at : ℕ) → get nat_eq meanings at ≡ meaning_at
 
 -- what a resolved unit keeps is what the tree says: each declared name, and each use by its token
 pub record IsResolvedOf {S : Type 0} (u : ExternalProcedure) (regions : List Region)
-    (outermost : List Declaration) (blocks : List Block) (meanings areas locators : IndexMap ℕ Target S)
+    (outermost : List Declaration) (blocks : List BlockDeclarations)
+    (meanings areas locators : IndexMap ℕ Target S)
     : Type 0
   where
     pub regions_are : regions_view regions ≡ (resolved_of u).regions

@@ -1,6 +1,6 @@
 -- Counts of elements as the program has them: up to a limit that no list of values exceeds.
 use Rattle.std.specs.Prelude.{ℕ, ◌^◌, min, Option, option_map}
-use Rattle.pli_declare_attributes.specs.declared.place.Place.{Place}
+use Rattle.pli_declare_attributes.specs.declared.place.ItemPlace.{ItemPlace}
 
 -- the values of one INITIAL are for no more elements
 abbrev pub most_elements : ℕ
@@ -11,7 +11,7 @@ abbrev pub cut : Option ℕ → Option ℕ
 cut = option_map (λ count. min count most_elements)
 
 -- a place with its count of elements up to the limit
-abbrev pub cut_place : Place → Place
+abbrev pub cut_place : ItemPlace → ItemPlace
 cut_place p =
     record {
       position = p.position;

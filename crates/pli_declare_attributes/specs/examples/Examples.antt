@@ -8,21 +8,21 @@ use Rattle.pli_base.specs.Declarations.{SimpleAttribute, Fixed, Binary, Characte
 use Rattle.pli_base.specs.Declarations.{Offset, Area, Based, Controlled, Static, Automatic, External}
 use Rattle.pli_base.specs.Declarations.{Internal, Builtin, Initial, Attribute, Simple, Entry, Returns, Plain}
 use Rattle.pli_base.specs.Declarations.{AnyEntry, Item}
-use Rattle.pli_base.specs.declared.declaration.Bounds.{Bounds}
+use Rattle.pli_base.specs.declared.declaration.WrittenBounds.{WrittenBounds}
 use Rattle.pli_base.specs.declared.declaration.InitialValue.{InitialValue}
 use Rattle.pli_base.specs.declared.declaration.InitialValue.TheVariants as initial
 use Rattle.pli_map.specs.Description as type
 use Rattle.pli_declare_attributes.specs.Completed.{Completed, OfVariable, OfEntry, OfBuiltIn, completed_of}
 use Rattle.pli_declare_attributes.specs.Faults.{item_fault, result_fault}
-use Rattle.pli_declare_attributes.specs.declared.place.Place.{Place}
+use Rattle.pli_declare_attributes.specs.declared.place.ItemPlace.{ItemPlace}
 use Rattle.pli_declare_attributes.specs.declared.place.Position.TheVariants as position
-use Rattle.pli_declare_attributes.specs.declared.completed.Storage.{Storage}
-use Rattle.pli_declare_attributes.specs.declared.completed.Scope.{Scope}
-use Rattle.pli_declare_attributes.specs.declared.completed.Storage.TheVariants as storage
-use Rattle.pli_declare_attributes.specs.declared.completed.Scope.TheVariants as scope
+use Rattle.pli_declare_attributes.specs.declared.completed.DeclaredStorage.{DeclaredStorage}
+use Rattle.pli_declare_attributes.specs.declared.completed.ScopeAttribute.{ScopeAttribute}
+use Rattle.pli_declare_attributes.specs.declared.completed.DeclaredStorage.TheVariants as storage
+use Rattle.pli_declare_attributes.specs.declared.completed.ScopeAttribute.TheVariants as scope
 
 -- at level 1, without members
-abbrev pub alone : Place
+abbrev pub alone : ItemPlace
 alone =
     record {
       position = position.AtLevelOne;
@@ -33,7 +33,7 @@ alone =
     }
 
 -- the place of a level 1 that has members
-abbrev pub above_members : Place
+abbrev pub above_members : ItemPlace
 above_members =
     record {
       position = position.AtLevelOne;
@@ -44,7 +44,7 @@ above_members =
     }
 
 -- the place of a member that has none
-abbrev pub member : Place
+abbrev pub member : ItemPlace
 member =
     record {
       position = position.Member;
@@ -55,7 +55,7 @@ member =
     }
 
 -- the place of a parameter
-abbrev pub parameter : Place
+abbrev pub parameter : ItemPlace
 parameter =
     record {
       position = position.Parameter;
@@ -66,7 +66,7 @@ parameter =
     }
 
 -- BUILTIN
-abbrev pub built_in : Place
+abbrev pub built_in : ItemPlace
 built_in =
     record {
       position = position.AtLevelOne;
@@ -77,7 +77,7 @@ built_in =
     }
 
 -- an item of these dimensions and attributes
-abbrev pub item : List Bounds → List Attribute → Item
+abbrev pub item : List WrittenBounds → List Attribute → Item
 item dimensions attributes =
     record { level = None; names = []; dimensions = dimensions; attributes = attributes }
 
@@ -86,15 +86,15 @@ abbrev pub simple : List SimpleAttribute → Item
 simple attributes = item [] (map Simple attributes)
 
 -- from 1 to n
-abbrev pub up_to : ℕ → Bounds
+abbrev pub up_to : ℕ → WrittenBounds
 up_to n = record { low = None; high = record { negative = false; value = n } }
 
 -- an item at a place has this fault
-abbrev pub Faulty : Place → Item → Code → Type 0
+abbrev pub Faulty : ItemPlace → Item → Code → Type 0
 Faulty p i code = item_fault p i ≡ Some code
 
 -- an item at a place has no fault, and is completed to this
-abbrev pub Is : Place → Item → Completed → Type 0
+abbrev pub Is : ItemPlace → Item → Completed → Type 0
 Is p i completed = (item_fault p i ≡ None) × (completed_of p i ≡ completed)
 
 -- a number n, this often
@@ -102,7 +102,7 @@ abbrev pub times : Option ℕ → ℕ → InitialValue
 times factor n = initial.Integer factor (record { negative = false; value = n })
 
 -- a variable of this type without dimensions and first values, with a storage class and a scope
-abbrev pub variable : type.Description → Option Storage → Scope → Completed
+abbrev pub variable : type.Description → Option DeclaredStorage → ScopeAttribute → Completed
 variable d where_from known =
     OfVariable (record {
       description = Some d;

@@ -7,7 +7,7 @@ use Rattle.pli_map.specs.Description.{Area, Array, Structure}
 use Rattle.pli_declare_attributes.specs.Sets.{has, kind_of, set_of}
 use Rattle.pli_declare_attributes.specs.Faults.{item_fault, result_fault, parameter_fault, described_scalar}
 use Rattle.pli_declare_attributes.specs.Completed.{Variable, OfVariable, completed_of}
-use Rattle.pli_declare_attributes.specs.declared.place.Place.{Place}
+use Rattle.pli_declare_attributes.specs.declared.place.ItemPlace.{ItemPlace}
 
 -- an attribute is in the set exactly where it stands
 abbrev pub SetsAreOfWhatStands : Type 0
@@ -41,5 +41,6 @@ ParametersAreOfScalars =
 -- and a variable, apart from its dimensions
 abbrev pub VariablesAreOfScalars : Type 0
 VariablesAreOfScalars =
-    (p : Place) (i : tree.Item) (v : Variable) (d : Description) → item_fault p i ≡ None → completed_of p i
+    (p : ItemPlace) (i : tree.Item) (v : Variable) (d : Description) → item_fault p i ≡ None
+    → completed_of p i
     ≡ OfVariable v → v.description ≡ Some d → IsScalar d

@@ -7,7 +7,7 @@ use Rattle.pli_map.specs.views.DescriptionView.{description_view}
 use Rattle.pli_map.specs.declared.description.Description.{Description}
 use Rattle.pli_declare_attributes.specs.Completed as complete
 use Rattle.pli_declare_attributes.specs.Faults.{item_fault, result_fault, described_scalar}
-use Rattle.pli_declare_attributes.specs.declared.place.Place.{Place}
+use Rattle.pli_declare_attributes.specs.declared.place.ItemPlace.{ItemPlace}
 use Rattle.pli_base.specs.declared.failure.Failure.{Failure}
 use Rattle.pli_base.specs.declared.failure.Failure.TheVariants as errors
 use Rattle.pli_declare_attributes.specs.declared.completed.Completed.{Completed}
@@ -33,7 +33,7 @@ completed_view (variants.Entry parameters result) =
 completed_view variants.BuiltIn = complete.OfBuiltIn
 
 -- the completed item, or its least fault; want of memory is possible anywhere
-abbrev pub IsCompleted : Result Completed (Failure Code) → Place → tree.Item → Type 0
+abbrev pub IsCompleted : Result Completed (Failure Code) → ItemPlace → tree.Item → Type 0
 IsCompleted (Ok completed) p i =
     (item_fault p i ≡ None) × (completed_view completed ≡ complete.completed_of p i)
 IsCompleted (Err (errors.Fault code)) p i = item_fault p i ≡ Some code

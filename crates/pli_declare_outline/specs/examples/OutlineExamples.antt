@@ -8,7 +8,7 @@ use Rattle.pli_base.specs.Statements.{Heading, Statement, Numbered, Body, Statem
 use Rattle.pli_base.specs.Statements.{ExternalProcedure}
 use Rattle.pli_base.specs.Statements as body
 use Rattle.pli_base.specs.declared.statement.Condition.TheVariants.{Area}
-use Rattle.pli_declare_outline.specs.Outlines.{Region, Mark, Labelled, Entered, Used, Jumped, Placed}
+use Rattle.pli_declare_outline.specs.Outlines.{Region, Mark, Labelled, Entered, Used, Jumped, PlacedMark}
 use Rattle.pli_declare_outline.specs.Outlines.{outline_of}
 use Rattle.pli_declare_outline.specs.declared.region.RegionKind.{RegionKind}
 use Rattle.pli_declare_outline.specs.declared.region.RegionKind.TheVariants as kinds
@@ -34,7 +34,7 @@ abbrev pub region : RegionKind → Option ℕ → Region
 region kind outer = record { kind = kind; outer = outer }
 
 -- a mark in a region
-abbrev pub marked : ℕ → Mark → Placed
+abbrev pub marked : ℕ → Mark → PlacedMark
 marked r m = record { region = r; mark = m }
 
 -- `L: X = P -> S.A(I);`

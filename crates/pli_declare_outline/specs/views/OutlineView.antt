@@ -6,7 +6,7 @@ use Rattle.pli_declare_outline.specs.Outlines as plain
 use Rattle.pli_declare_outline.specs.declared.region.Region.{Region}
 use Rattle.pli_declare_outline.specs.declared.region.Mark.{Mark}
 use Rattle.pli_declare_outline.specs.declared.region.Mark.TheVariants as marks
-use Rattle.pli_declare_outline.specs.declared.region.Placed.{Placed}
+use Rattle.pli_declare_outline.specs.declared.region.PlacedMark.{PlacedMark}
 use Rattle.pli_declare_outline.specs.declared.region.Outline.{Outline}
 
 -- a region
@@ -22,7 +22,7 @@ mark_view (marks.Used names) = plain.Used names.items
 mark_view (marks.Jumped label) = plain.Jumped label
 
 -- a mark with its region
-abbrev pub placed_view : Placed → plain.Placed
+abbrev pub placed_view : PlacedMark → plain.PlacedMark
 placed_view p = record { region = p.region; mark = mark_view p.mark }
 
 -- the regions
@@ -30,7 +30,7 @@ abbrev pub regions_view : List Region → List plain.Region
 regions_view rs = map region_view rs
 
 -- the marks
-abbrev pub marks_view : List Placed → List plain.Placed
+abbrev pub marks_view : List PlacedMark → List plain.PlacedMark
 marks_view ps = map placed_view ps
 
 -- an outline

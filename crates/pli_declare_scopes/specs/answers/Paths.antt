@@ -2,7 +2,7 @@
 use Rattle.std.specs.Prelude.{◌≡◌, ℕ, ◌<◌, ◌&&◌, Bool, nat_eq, List, [], ◌∷◌, length, get_or, Option, None}
 use Rattle.std.specs.Prelude.{Some}
 use Rattle.pli_base.specs.Name.{Name}
-use Rattle.pli_declare_scopes.specs.Scopes.{Block, item_at, chain_at, found_below}
+use Rattle.pli_declare_scopes.specs.Scopes.{BlockItems, item_at, chain_at, found_below}
 use Rattle.pli_declare_scopes.specs.declared.found.Found.{Found}
 use Rattle.pli_declare_scopes.specs.declared.found.Found.TheVariants.{Nothing}
 use Rattle.pli_declare_scopes.specs.declared.path.Step.{Step}
@@ -24,12 +24,13 @@ Spells steps (Some p) (n ∷ ns) =
     (p < length steps) × ((step_at steps p).name ≡ n) × Spells steps (step_at steps p).above ns
 
 -- an item that counts has this path
-abbrev pub ends_at : Block → List ℕ → ℕ → ℕ → Bool
+abbrev pub ends_at : BlockItems → List ℕ → ℕ → ℕ → Bool
 ends_at items paths p n = (item_at items n).counts && nat_eq (get_or paths n 0) p
 
 -- the path of each item spells its chain, no two paths are the same, and for each it is known which items
 -- have it
-pub record ArePaths (items : Block) (steps : List Step) (paths : List ℕ) (ended : List Found) : Type 0 where
+pub record ArePaths (items : BlockItems) (steps : List Step) (paths : List ℕ)
+    (ended : List Found) : Type 0 where
   pub spelled : (n : ℕ) → n < length items → Spells steps (Some (get_or paths n 0)) (chain_at items n)
   pub once : (p q : ℕ) → p < length steps → q < length steps → step_at steps p ≡ step_at steps q → p ≡ q
   pub ends : (p : ℕ) → get_or ended p Nothing ≡ found_below (ends_at items paths p) (length items) Nothing

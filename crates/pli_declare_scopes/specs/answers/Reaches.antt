@@ -5,17 +5,17 @@ use Rattle.std.specs.Prelude.{reverse}
 use Rattle.std.specs.Prelude.{Option, None, Some, IfSome, [], ◌∷◌, if◌then◌else◌}
 use Rattle.std.specs.Option.{is_none, is_some}
 use Rattle.pli_base.specs.Name.{Name}
-use Rattle.pli_declare_scopes.specs.Scopes.{Block, item_at, is_named, chain_over, is_part, fits}
+use Rattle.pli_declare_scopes.specs.Scopes.{BlockItems, item_at, is_named, chain_over, is_part, fits}
 use Rattle.pli_declare_scopes.specs.answers.Leaps.{rank}
 
 -- an item belongs to another through so many levels
-abbrev pub Climbs : Block → ℕ → (above below : ℕ) → Type 0
+abbrev pub Climbs : BlockItems → ℕ → (above below : ℕ) → Type 0
 Climbs items zero above below = above ≡ below
 Climbs items (suc k) above below =
     (owner : ℕ) × ((item_at items below).owner ≡ Some owner) × Climbs items k above owner
 
 -- an item belongs to another through any number of levels, or is it
-abbrev pub IsWithin : Block → (above below : ℕ) → Type 0
+abbrev pub IsWithin : BlockItems → (above below : ℕ) → Type 0
 IsWithin items above below = (k : ℕ) × Climbs items k above below
 
 -- the last number within an item is known where no more will come
@@ -35,7 +35,7 @@ pub record IsStillOpen (lasts : List (Option ℕ)) (tops : List ℕ) (above n : 
 
 -- where items stand in order, all that is within an item of a name reaches no further than the outermost that
 -- each later item of that name is within, and all behind an item up to its last number is within it
-pub record AreReaching (items : Block) (lasts : List (Option ℕ)) (tops : List ℕ) (is_ordered : Bool) :
+pub record AreReaching (items : BlockItems) (lasts : List (Option ℕ)) (tops : List ℕ) (is_ordered : Bool) :
     Type 0 where
   pub reach : is_ordered ≡ true → (above below n : ℕ) → below < length items
       → (item_at items below).counts ≡ true
@@ -61,7 +61,8 @@ pub record AreReaching (items : Block) (lasts : List (Option ℕ)) (tops : List 
   pub tops_all : length tops ≡ length items
 
 -- the items that the last one is within are closed up to the owner of a new one, which it is within
-pub record AreClosed (items : Block) (before : List (Option ℕ)) (owner : Option ℕ) (after : List (Option ℕ))
+pub record AreClosed (items : BlockItems) (before : List (Option ℕ)) (owner : Option ℕ)
+    (after : List (Option ℕ))
     (is_ordered : Bool) : Type 0 where
   pub all : length after ≡ length before
   pub kept : IfSome owner (λ o. (n : ℕ) → n ≤ o → last_of after n ≡ last_of before n)
@@ -73,7 +74,7 @@ pub record AreClosed (items : Block) (before : List (Option ℕ)) (owner : Optio
       → IfSome owner (λ o. (last : ℕ) → suc last ≡ length items → IsWithin items o last)
 
 -- no item up to a number, but behind the bound, has the names before the last of a reference above it
-abbrev pub IsReach : Block → List Name → ℕ → Option ℕ → Type 0
+abbrev pub IsReach : BlockItems → List Name → ℕ → Option ℕ → Type 0
 IsReach items names number bound =
     (n : ℕ) → n < length items → n ≤ number → (item_at items n).counts ≡ true
     → is_part (reverse (take (length names - 1) names)) (chain_over items (item_at items n).owner) ≡ true
@@ -81,7 +82,7 @@ IsReach items names number bound =
 
 -- where a search from a place upwards for an item of a name may begin: the names above it have the same parts
 -- that begin with that name
-pub record IsNearest (items : Block) (name : Name) (place : ℕ) (result : Option ℕ) : Type 0 where
+pub record IsNearest (items : BlockItems) (name : Name) (place : ℕ) (result : Option ℕ) : Type 0 where
   pub bounded : IfSome result (λ n. n ≤ place)
   pub counts : IfSome result (λ n. (item_at items n).counts ≡ true)
   pub one : is_some result ≡ is_part (name ∷ []) (chain_over items (Some place))
@@ -89,7 +90,8 @@ pub record IsNearest (items : Block) (name : Name) (place : ℕ) (result : Optio
       ≡ is_part (name ∷ rest) (chain_over items (Some place))
 
 -- the last item up to a number that a reference may fit
-pub record IsCandidate (items : Block) (names : List Name) (number : ℕ) (result : Option ℕ) : Type 0 where
+pub record IsCandidate (items : BlockItems) (names : List Name) (number : ℕ)
+    (result : Option ℕ) : Type 0 where
   pub within : IfSome result (λ n. n < length items)
   pub bounded : IfSome result (λ n. n ≤ number)
   pub named : IfSome result (λ n. is_named items (get_or names (length names - 1) []) n ≡ true)

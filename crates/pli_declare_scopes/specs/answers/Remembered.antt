@@ -2,12 +2,12 @@
 use Rattle.std.specs.Prelude.{◌≡◌, List, [], ◌∷◌, length}
 use Rattle.std.specs.Global.{Vec}
 use Rattle.pli_base.specs.Name.{Name}
-use Rattle.pli_declare_scopes.specs.Scopes.{Block, fits, found_below}
+use Rattle.pli_declare_scopes.specs.Scopes.{BlockItems, fits, found_below}
 use Rattle.pli_declare_scopes.specs.declared.found.Found.{Found}
 use Rattle.pli_declare_scopes.specs.declared.found.Found.TheVariants.{Nothing}
 
 -- what items names qualify, in part or fully
-abbrev pub found_fitting : Block → List Name → Found
+abbrev pub found_fitting : BlockItems → List Name → Found
 found_fitting items names = found_below (fits items names) (length items) Nothing
 
 -- of each of these names it is what is found

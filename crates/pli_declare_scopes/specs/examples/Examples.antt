@@ -1,17 +1,17 @@
 -- Worked examples of levels and of references.
 use Rattle.std.specs.Prelude.{◌≡◌, ℕ, Bool, true, false, [], ◌∷◌, Option, None, Some, codes}
 use Rattle.pli_base.specs.Name.{Name}
-use Rattle.pli_declare_scopes.specs.declared.level.Standing.{Standing}
+use Rattle.pli_declare_scopes.specs.declared.level.ItemStanding.{ItemStanding}
 use Rattle.pli_declare_scopes.specs.declared.block.Declared.{Declared}
-use Rattle.pli_declare_scopes.specs.declared.found.Meant.TheVariants.{Item, Ambiguous, NotDeclared}
+use Rattle.pli_declare_scopes.specs.declared.found.ReferenceMeaning.TheVariants.{Item, Ambiguous, NotDeclared}
 use Rattle.pli_declare_scopes.specs.declared.repeat.Written.{Written}
 use Rattle.pli_declare_scopes.specs.declared.repeat.Verdict.TheVariants.{Counts, Twice, Beneath}
 use Rattle.pli_declare_scopes.specs.Repeats.{verdicts_of}
 use Rattle.pli_declare_scopes.specs.Levels.{standings_of}
-use Rattle.pli_declare_scopes.specs.Scopes.{Block, meant}
+use Rattle.pli_declare_scopes.specs.Scopes.{BlockItems, meant}
 
 -- how an item stands that has this owner
-abbrev pub at : Option ℕ → Bool → Standing
+abbrev pub at : Option ℕ → Bool → ItemStanding
 at owner is_bad = record { owner = owner; is_bad = is_bad }
 
 -- 1, 2, 3, 2, 5, 4, none: an item belongs to the nearest before it with a lesser level, and an item without a
@@ -51,7 +51,7 @@ abbrev pub uncounted : Name → Option ℕ → Declared
 uncounted name owner = record { name = name; owner = owner; counts = false }
 
 -- S has the members A and B, each with a member X; C is a variable
-abbrev pub twins : Block
+abbrev pub twins : BlockItems
 twins =
     item (codes "S") None ∷ item (codes "A") (Some 0) ∷ item (codes "X") (Some 1) ∷ item (codes "B") (Some 0)
     ∷ item (codes "X") (Some 3) ∷ item (codes "C") None ∷ []
@@ -67,7 +67,7 @@ PartialQualification = (meant (twins ∷ []) (codes "A" ∷ codes "X" ∷ []) �
     × (meant (twins ∷ []) (codes "D" ∷ []) ≡ NotDeclared)
 
 -- S has a member T with a member X, and a member X of its own; T is a structure with a member X too
-abbrev pub shades : Block
+abbrev pub shades : BlockItems
 shades =
     item (codes "S") None ∷ item (codes "T") (Some 0) ∷ item (codes "X") (Some 1) ∷ item (codes "X") (Some 0)
     ∷ item (codes "T") None ∷ item (codes "X") (Some 4) ∷ []
@@ -82,7 +82,7 @@ FullBeforePartial = (meant (shades ∷ []) (codes "S" ∷ codes "X" ∷ []) ≡ 
 
 -- a name belongs to the innermost block that declares it, and no search goes outwards from there
 abbrev pub InnermostBlock : Type 0
-InnermostBlock = let inner : Block = item (codes "C") None ∷ item (codes "S") None ∷ [] in
+InnermostBlock = let inner : BlockItems = item (codes "C") None ∷ item (codes "S") None ∷ [] in
     (meant (inner ∷ twins ∷ []) (codes "C" ∷ []) ≡ Item 0 0)
     × (meant (inner ∷ twins ∷ []) (codes "B" ∷ codes "X" ∷ []) ≡ Item 4 1)
     × (meant (inner ∷ twins ∷ []) (codes "S" ∷ codes "B" ∷ codes "X" ∷ []) ≡ NotDeclared)
@@ -92,7 +92,7 @@ InnermostBlock = let inner : Block = item (codes "C") None ∷ item (codes "S") 
 -- no reference means an item that does not count
 abbrev pub ItemsThatCount : Type 0
 ItemsThatCount =
-    let block : Block =
+    let block : BlockItems =
     item (codes "S") None ∷ item (codes "X") (Some 0) ∷ uncounted (codes "S") None
     ∷ uncounted (codes "Y") (Some 2) ∷ [] in
     (meant (block ∷ []) (codes "S" ∷ []) ≡ Item 0 0)

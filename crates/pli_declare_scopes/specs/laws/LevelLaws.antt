@@ -2,7 +2,7 @@
 use Rattle.std.specs.Prelude.{◌≡◌, ℕ, zero, suc, ◌<◌, ◌≤◌, ◌⊎◌, ◌↔◌, false, IsTrue, List, length, get_or}
 use Rattle.std.specs.Prelude.{Option, None}
 use Rattle.std.specs.Prelude.{Some}
-use Rattle.pli_declare_scopes.specs.declared.level.Standing.{Standing}
+use Rattle.pli_declare_scopes.specs.declared.level.ItemStanding.{ItemStanding}
 use Rattle.pli_declare_scopes.specs.Levels.{level_of, standing, standings_of}
 
 -- the level of the item of a number
@@ -10,7 +10,7 @@ abbrev pub level_at : List (Option ℕ) → ℕ → ℕ
 level_at levels n = level_of (get_or levels n None)
 
 -- how the item of a number stands
-abbrev pub stands_at : List (Option ℕ) → ℕ → Standing
+abbrev pub stands_at : List (Option ℕ) → ℕ → ItemStanding
 stands_at levels n = get_or (standings_of levels) n (standing 1 None)
 
 -- an item of a level over 1 is a member of another: of the nearest before it that has a lesser level

@@ -4,7 +4,7 @@ use Rattle.pli_declare_outline.specs.Outlines.{Outline}
 use Rattle.pli_declare_scopes.specs.Levels.{standing}
 use Rattle.pli_declare_scopes.specs.Repeats.{verdicts_of}
 use Rattle.pli_declare_scopes.specs.laws.RepeatLaws.{OwnersFirst}
-use Rattle.pli_declare_scopes.specs.declared.level.Standing.{Standing}
+use Rattle.pli_declare_scopes.specs.declared.level.ItemStanding.{ItemStanding}
 use Rattle.pli_declare_tables.specs.Tables.{Entry, written, unit_entries, unit_block, all_tables}
 use Rattle.pli_declare_tables.specs.views.TableView.{entries_view, table_view}
 use Rattle.pli_declare_tables.specs.declared.table.Tables.{Tables}
@@ -18,7 +18,7 @@ abbrev pub AllBehindOwners : List (List Entry) → Type 0
 AllBehindOwners blocks = (n : ℕ) → n < length blocks → AreBehindOwners (get_or blocks n [])
 
 -- each item of a DECLARE stands behind the one that it is a member of
-abbrev pub StandBehindOwners : List Standing → Type 0
+abbrev pub StandBehindOwners : List ItemStanding → Type 0
 StandBehindOwners stands =
     (n : ℕ) → n < length stands → IfSome (get_or stands n (standing 1 None)).owner (λ o. o < n)
 

@@ -8,13 +8,13 @@ use Rattle.pli_declare_attributes.specs.Extents.{is_array}
 use Rattle.pli_declare_attributes.specs.Initials.{elements_inside}
 use Rattle.pli_declare_attributes.specs.answers.Cuts.{cut, cut_place}
 use Rattle.pli_declare_attributes.specs.Sets.{none_of, based, set_of, outermost}
-use Rattle.pli_declare_attributes.specs.declared.place.Place.{Place}
+use Rattle.pli_declare_attributes.specs.declared.place.ItemPlace.{ItemPlace}
 use Rattle.pli_base.specs.Declarations.{Item}
 use Rattle.pli_declare_tables.specs.Tables.{Entry}
 use Rattle.pli_declare_variables.specs.Places.{owners_of, members_of, item_of, is_bad_level, stands_alone}
 use Rattle.pli_declare_variables.specs.Places.{position_of, elements_through, is_built_in, set_in, is_locator}
 use Rattle.pli_declare_variables.specs.Places.{is_area, place_in}
-use Rattle.pli_declare_variables.specs.declared.places.Surroundings.{Surroundings}
+use Rattle.pli_declare_variables.specs.declared.places.LevelsAbove.{LevelsAbove}
 use Rattle.pli_declare_variables.specs.declared.locators.Chain.{Chain}
 use Rattle.pli_declare_variables.specs.declared.locators.Nameable.{Nameable}
 
@@ -23,7 +23,7 @@ abbrev pub has_members_at : List Entry → ℕ → Bool
 has_members_at entries n = not (length (members_of entries n) == 0)
 
 -- what levels make, the nearest first; elements are counted up to a limit
-abbrev pub made_by : List Entry → List ℕ → Surroundings
+abbrev pub made_by : List Entry → List ℕ → LevelsAbove
 made_by entries ns =
     record {
       in_array = list_any (λ k. is_array (item_of entries k).dimensions) ns;
@@ -31,15 +31,15 @@ made_by entries ns =
     }
 
 -- what the items make that an item is a member of, the nearest first
-abbrev pub above_at : List Entry → ℕ → Surroundings
+abbrev pub above_at : List Entry → ℕ → LevelsAbove
 above_at entries n = made_by entries (owners_of entries n)
 
 -- of an item that is a member of none
-abbrev pub nothing_above : Surroundings
+abbrev pub nothing_above : LevelsAbove
 nothing_above = record { in_array = false; elements = Some 1 }
 
 -- what is above a member of this owner, where it is known of each item before
-abbrev pub above_owner : List Surroundings → List Entry → Option ℕ → Surroundings
+abbrev pub above_owner : List LevelsAbove → List Entry → Option ℕ → LevelsAbove
 above_owner aboves entries None = nothing_above
 above_owner aboves entries (Some o) =
     let dimensions = (item_of entries o).dimensions in
@@ -51,7 +51,7 @@ above_owner aboves entries (Some o) =
     }
 
 -- where an item stands
-abbrev pub placed : Entry → (parameters : List Name) → (has_members : Bool) → Surroundings → Place
+abbrev pub placed : Entry → (parameters : List Name) → (has_members : Bool) → LevelsAbove → ItemPlace
 placed entry parameters has_members above =
     record {
       position =
@@ -64,7 +64,7 @@ placed entry parameters has_members above =
     }
 
 -- where an item stands, with its count of elements up to the limit
-abbrev pub cut_place_in : List Entry → (parameters : List Name) → ℕ → Place
+abbrev pub cut_place_in : List Entry → (parameters : List Name) → ℕ → ItemPlace
 cut_place_in entries parameters n = cut_place (place_in entries parameters n)
 
 -- what all of these items are

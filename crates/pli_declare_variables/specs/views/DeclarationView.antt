@@ -3,12 +3,12 @@ use Rattle.std.specs.Prelude.{option_map}
 use Rattle.pli_map.specs.views.DescriptionView.{description_view}
 use Rattle.pli_declare_attributes.specs.views.CompletedView.{completed_view}
 use Rattle.pli_declare_variables.specs.Declarations as plain
-use Rattle.pli_declare_variables.specs.declared.declaration.Kind.{Kind}
-use Rattle.pli_declare_variables.specs.declared.declaration.Kind.TheVariants as kinds
+use Rattle.pli_declare_variables.specs.declared.declaration.DeclaredKind.{DeclaredKind}
+use Rattle.pli_declare_variables.specs.declared.declaration.DeclaredKind.TheVariants as kinds
 use Rattle.pli_declare_variables.specs.declared.declaration.Declaration.{Declaration}
 
 -- what a name is declared as
-abbrev pub kind_view : Kind → plain.Kind
+abbrev pub kind_view : DeclaredKind → plain.DeclaredKind
 kind_view (kinds.Item completed description) =
     plain.OfItem (completed_view completed) (option_map description_view description)
 kind_view (kinds.Label region) = plain.OfLabel region

@@ -6,11 +6,11 @@ use Rattle.pli_type_tree.specs.Templates.{Template}
 use Rattle.pli_value.specs.Value.{Value}
 use Rattle.pli_gen_tree.specs.Encoding.{numbered}
 use Rattle.pli_type_keys.specs.Same.{same_template, same_value}
-use Rattle.pli_gen_tree.specs.declared.table.Tables.{Tables}
+use Rattle.pli_gen_tree.specs.declared.table.NumberedTables.{NumberedTables}
 use Rattle.pli_gen_tree.specs.views.TableView.{tables_view}
 
 -- entries were put at the ends of tables that lacked them, unless memory was wanting for them or before
-pub record Numbers (old new : Tables) (ds : List Description) (ts : List Template) (vs : List Value)
+pub record Numbers (old new : NumberedTables) (ds : List Description) (ts : List Template) (vs : List Value)
     : Type 0 where
   pub memory : new.lacks_memory ≡ false → old.lacks_memory ≡ false
   pub descriptions : new.lacks_memory ≡ false

@@ -9,7 +9,7 @@ use Rattle.pli_machine_step.specs.Program as op
 use Rattle.pli_type_tree.specs.Templates.{Template}
 use Rattle.pli_unit_code.specs.CodeTables.{CodedBlock, Code}
 use Rattle.pli_gen_emit.specs.TreeTranslation.{BlockTree}
-use Rattle.pli_gen_tree.specs.Encoding.{Tables, coded_block}
+use Rattle.pli_gen_tree.specs.Encoding.{NumberedTables, coded_block}
 use Rattle.pli_gen_tree.specs.Limits.{entry_limit}
 
 -- where the first step of a statement stands in code; another place if there is none
@@ -32,7 +32,7 @@ Fits n (op.CallExternal global arguments) = arguments ≤ n
 Fits n i = Unit {0}
 
 -- blocks, each with its first instruction
-abbrev pub blocks_with_entries : Tables → List BlockTree → (entries : List ℕ) → List CodedBlock
+abbrev pub blocks_with_entries : NumberedTables → List BlockTree → (entries : List ℕ) → List CodedBlock
 blocks_with_entries tables [] ps = []
 blocks_with_entries tables (b ∷ bs) [] = []
 blocks_with_entries tables (b ∷ bs) (p ∷ ps) = coded_block tables b p ∷ blocks_with_entries tables bs ps
@@ -50,7 +50,7 @@ template_bytes t = bytes_if t.initial
     bytes_if (i ∷ is) = size_of t.description
 
 -- the description of each template is in its table
-abbrev pub HaveDescriptions : Tables → Type 0
+abbrev pub HaveDescriptions : NumberedTables → Type 0
 HaveDescriptions tables =
     AllByRecursion (λ t. list_any (same t.description) tables.descriptions ≡ true) tables.templates
 
@@ -67,5 +67,5 @@ no_code = record {
 }
 
 -- tables without entries
-abbrev pub no_tables : Tables
+abbrev pub no_tables : NumberedTables
 no_tables = record { descriptions = []; templates = []; values = [] }

@@ -1,11 +1,11 @@
 -- What the tables of a unit's code are, apart from where they lie in memory.
 use Rattle.std.specs.Prelude.{map}
 use Rattle.pli_gen_tree.specs.Encoding as plain
-use Rattle.pli_gen_tree.specs.declared.table.Tables.{Tables}
+use Rattle.pli_gen_tree.specs.declared.table.NumberedTables.{NumberedTables}
 use Rattle.pli_type_keys.specs.views.KeyView.{described, templated, valued}
 
 -- the entries of tables
-abbrev pub tables_view : Tables → plain.Tables
+abbrev pub tables_view : NumberedTables → plain.NumberedTables
 tables_view t = record {
   descriptions = map described t.descriptions.keys;
   templates = map templated t.templates.keys;

@@ -9,7 +9,7 @@ use Rattle.pli_include.specs.declared.expansion.ExpansionFault.{ExpansionFault}
 use Rattle.pli_include.specs.declared.library.Membership.{Membership}
 use Rattle.pli_include.specs.declared.library.Membership.TheVariants.{Absent, Faulty, At}
 use Rattle.pli_include.specs.declared.walk.OpenMember.{OpenMember}
-use Rattle.pli_include.specs.declared.walk.Walk.{Walk}
+use Rattle.pli_include.specs.declared.walk.ExpansionWalk.{ExpansionWalk}
 use Rattle.pli_include.specs.Pieces.{pieces_of}
 use Rattle.pli_include.specs.Expansion.{Look, Progress, Outcome, Include, included, read_pieces, started}
 use Rattle.pli_include.specs.Expansion.{◌then◌}
@@ -65,7 +65,7 @@ pub record IsUnderWay (look : Look) (looked : List Name) (texts : List (List Tok
   pub slots : All (λ f. slice_get looked f.slot ≡ Some f.name) frames
 
 -- no member is open, and none was looked up
-pub record IsFresh (w : Walk) : Type 0 where
+pub record IsFresh (w : ExpansionWalk) : Type 0 where
   pub progress : w.progress ≡ started
   pub texts : w.texts.items ≡ []
   pub path : w.path.keys ≡ []

@@ -9,7 +9,7 @@ use Rattle.pli_unit_code.specs.CodeTables.{Code, template_at}
 use Rattle.pli_type_keys.specs.Same.{same_template}
 use Rattle.pli_type_keys.specs.views.KeyView.{templated}
 use Rattle.pli_type_keys.specs.declared.key.TemplateKey.{TemplateKey}
-use Rattle.pli_link.specs.declared.names.External.{External}
+use Rattle.pli_link.specs.declared.names.KnownExternal.{KnownExternal}
 
 -- where the first template stands that is equal to one
 abbrev pub place_of : Template → (known : List Template) → Option ℕ
@@ -47,10 +47,10 @@ AreClasses known code classes =
     (number : ℕ) → IsClass known (template_at code number) (class_at classes number)
 
 -- external variables have the classes of their templates
-abbrev pub AreClassed : (known : List Template) → List (Name × External) → Type 0
+abbrev pub AreClassed : (known : List Template) → List (Name × KnownExternal) → Type 0
 AreClassed known es = AllByRecursion (λ e. IsClass known (option_map templated e.1.template) e.1.class) es
 
 -- so has a first one that was found
-abbrev pub IsFirstClassed : (known : List Template) → Option (Bor External) → Type 0
+abbrev pub IsFirstClassed : (known : List Template) → Option (Bor KnownExternal) → Type 0
 IsFirstClassed known None = Unit {0}
 IsFirstClassed known (Some e) = IsClass known (option_map templated e.now.template) e.now.class

@@ -20,7 +20,7 @@ use Rattle.pli_base.specs.Statements.{Body, Statements, Ended, Before, NoElse, E
 use Rattle.pli_base.specs.Statements as body
 use Rattle.pli_parse_statement.specs.StatementReading.{statement_at, unit_of}
 use Rattle.pli_parse_statement.specs.StatementWords.{standing, a_procedure}
-use Rattle.pli_parse_statement.specs.declared.keyword.Standing.TheVariants.{InGroup}
+use Rattle.pli_parse_statement.specs.declared.keyword.StatementStanding.TheVariants.{InGroup}
 use Rattle.pli_base.specs.declared.statement.Condition.TheVariants as conditions
 
 -- the token of a name

@@ -8,8 +8,10 @@ use Rattle.pli_base.specs.declared.token.Fault.{Fault}
 use Rattle.pli_parse_statement.specs.StatementReading.{expression_in, optional_at, parenthesized, range_at}
 
 -- an iteration whose variable and first value were read
-abbrev pub limited : (levels : ℕ) → Reference → (equals : ℕ) → Front Expression → Result (Front (Option Control)) Fault
+abbrev pub limited : (levels : ℕ) → Reference → (equals : ℕ) → Front Expression
+    → Result (Front (Option Control)) Fault
 limited levels variable equals first = do
   range ← range_at levels first.next first.rest
   condition ← optional_at (codes "WHILE") (parenthesized (expression_in levels)) range.next range.rest
-  read_as (Some (Iterate variable equals first.value range.value condition.value)) condition.next condition.rest
+  read_as (Some (Iterate variable equals first.value range.value condition.value)) condition.next
+      condition.rest

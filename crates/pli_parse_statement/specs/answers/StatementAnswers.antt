@@ -10,18 +10,18 @@ use Rattle.pli_base.specs.views.StatementView as views
 use Rattle.pli_parse_statement.specs.StatementWords.{Context}
 use Rattle.pli_parse_statement.specs.StatementWords as grammar
 use Rattle.pli_parse_statement.specs.declared.first.Context as first
-use Rattle.pli_parse_statement.specs.declared.first.Kind.{Kind}
-use Rattle.pli_parse_statement.specs.declared.first.Kind.TheVariants as kinds
+use Rattle.pli_parse_statement.specs.declared.first.StatementKind.{StatementKind}
+use Rattle.pli_parse_statement.specs.declared.first.StatementKind.TheVariants as kinds
 use Rattle.pli_parse_statement.specs.declared.first.Misplacement.{Misplacement}
 use Rattle.pli_parse_statement.specs.declared.first.Misplacement.TheVariants as misplacements
-use Rattle.pli_parse_statement.specs.declared.first.Next.{Next}
-use Rattle.pli_parse_statement.specs.declared.first.Next.TheVariants as nexts
+use Rattle.pli_parse_statement.specs.declared.first.NextStatement.{NextStatement}
+use Rattle.pli_parse_statement.specs.declared.first.NextStatement.TheVariants as nexts
 use Rattle.pli_parse_statement.specs.declared.heading.Heading.{Heading}
 use Rattle.pli_parse_statement.specs.StatementReading as reading
 use Rattle.pli_parse_statement.specs.declared.keyword.Keyword.{Keyword}
 use Rattle.pli_parse_statement.specs.declared.keyword.Keyword.TheVariants.{GoTo}
-use Rattle.pli_parse_statement.specs.declared.control.Beginning.{Beginning}
-use Rattle.pli_parse_statement.specs.declared.control.Beginning.TheVariants as specifieds
+use Rattle.pli_parse_statement.specs.declared.control.SpecificationStart.{SpecificationStart}
+use Rattle.pli_parse_statement.specs.declared.control.SpecificationStart.TheVariants as specifieds
 use Rattle.pli_parse_statement.specs.declared.counted.Counted.{Counted}
 use Rattle.pli_parse_statement.specs.declared.counted.Listing.{Listing}
 use Rattle.pli_parse_statement.specs.declared.word.PlaceWord.{PlaceWord}
@@ -61,13 +61,13 @@ option_view options.Returns = reading.ReturnsWord
 option_view options.Recursive = reading.RecursiveWord
 
 -- how a specification begins
-abbrev pub specified_view : Beginning → reading.Specified
+abbrev pub specified_view : SpecificationStart → reading.Specified
 specified_view specifieds.Unspecified = reading.Unspecified
 specified_view (specifieds.Conditioned behind) = reading.Conditioned behind.now
 specified_view specifieds.Iterated = reading.Iterated
 
 -- behind WHILE there is a token less
-abbrev pub BehindWhile : Tokens → Beginning → Type 0
+abbrev pub BehindWhile : Tokens → SpecificationStart → Type 0
 BehindWhile ts (specifieds.Conditioned behind) = length behind.now + 1 ≡ length ts
 BehindWhile ts x = Unit {0}
 
@@ -92,14 +92,14 @@ abbrev pub context_view : first.Context → Context
 context_view c = record { standing = c.standing; in_unit = c.in_unit }
 
 -- what a statement is
-abbrev pub kind_view : Kind → grammar.Kind
+abbrev pub kind_view : StatementKind → grammar.StatementKind
 kind_view kinds.Assigns = grammar.Assigns
 kind_view (kinds.Empty rest) = grammar.Empty rest.now
 kind_view (kinds.Keyed keyword rest) = grammar.Keyed keyword rest.now
 kind_view kinds.Unknown = grammar.Unknown
 
 -- of so many tokens those of the keyword, or the `;`, are passed over
-abbrev pub BehindKind : ℕ → Kind → Type 0
+abbrev pub BehindKind : ℕ → StatementKind → Type 0
 BehindKind n (kinds.Empty rest) = length rest.now + 1 ≡ n
 BehindKind n (kinds.Keyed keyword rest) = length rest.now + words keyword ≡ n
 BehindKind n kind = Unit {0}
@@ -110,12 +110,12 @@ misplacement_view (misplacements.AtLabel code) = reading.AtLabel code
 misplacement_view (misplacements.AtStatement code) = reading.AtStatement code
 
 -- what comes next in a list
-abbrev pub next_view : Next → reading.Next
+abbrev pub next_view : NextStatement → reading.NextStatement
 next_view (nexts.EndsHere rest) = reading.EndsHere rest.now
 next_view nexts.Another = reading.Another
 
 -- of so many tokens END is passed over
-abbrev pub BehindNext : ℕ → Next → Type 0
+abbrev pub BehindNext : ℕ → NextStatement → Type 0
 BehindNext n (nexts.EndsHere rest) = length rest.now + 1 ≡ n
 BehindNext n nexts.Another = Unit {0}
 

@@ -8,7 +8,7 @@ use Rattle.pli_base.specs.declared.declaration.InitialValue.{InitialValue}
 use Rattle.pli_map.specs.Description.{Description, Pointer, Offset, Area, Structure}
 use Rattle.pli_declare.specs.Resolution.{resolution_faults}
 use Rattle.pli_declare_variables.specs.AttributeNames.{plain_of, simple_of, area_in, locator_in}
-use Rattle.pli_declare_attributes.specs.declared.completed.Scope.{Scope}
+use Rattle.pli_declare_attributes.specs.declared.completed.ScopeAttribute.{ScopeAttribute}
 use Rattle.pli_declare_outline.specs.Outlines.{Outline, outline_of}
 use Rattle.pli_declare_tables.specs.Tables.{Entity, AsItem, AsLabel, AsProcedure, Entry, no_entry}
 use Rattle.pli_declare_tables.specs.Tables.{entries_in, unit_entries}
@@ -36,7 +36,7 @@ plain_part d (number ∷ path) = option_and_then (λ member. plain_part member p
 pub record IsVariable (r : ResolvedUnit) (key : SymbolKey) (class : StorageClass) (d : Description) : Type 0
   where
     pub symbol : Symbol
-    pub scope : Scope
+    pub scope : ScopeAttribute
     pub initial : List InitialValue
     pub area : Option SymbolKey
     pub there : symbol_at r key ≡ Some symbol

@@ -5,7 +5,7 @@ use Rattle.pli_base.specs.Statements.{ExternalProcedure}
 use Rattle.pli_base.specs.declared.declaration.InitialValue.{InitialValue}
 use Rattle.pli_map.specs.Description.{Description, Array, Structure, Members, NoMembers, MemberThen}
 use Rattle.pli_declare.specs.Resolution.{parameters_of, resolution_faults}
-use Rattle.pli_declare_attributes.specs.declared.completed.Scope.{Scope}
+use Rattle.pli_declare_attributes.specs.declared.completed.ScopeAttribute.{ScopeAttribute}
 use Rattle.pli_declare_outline.specs.Outlines.{outline_of}
 use Rattle.pli_declare_tables.specs.Tables.{no_entry, entries_in}
 use Rattle.pli_declare_variables.specs.Descriptions.{description_of}
@@ -39,7 +39,7 @@ pub record IsPart (u : ExternalProcedure) (key : SymbolKey) (s : Symbol) (root :
     pub symbol : Symbol
     pub description : Description
     pub class : StorageClass
-    pub scope : Scope
+    pub scope : ScopeAttribute
     pub initial : List InitialValue
     pub area : Option SymbolKey
     pub there : symbol_at (resolved_unit_of u) (record { block = key.block; number = root }) ≡ Some symbol

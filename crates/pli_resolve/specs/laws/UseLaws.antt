@@ -3,7 +3,7 @@ use Rattle.std.specs.Prelude.{◌≡◌, ℕ, true, Option, Some, None, [], ◌�
 use Rattle.pli_base.specs.Statements.{ExternalProcedure}
 use Rattle.pli_base.specs.declared.syntax.Identifier.{Identifier}
 use Rattle.pli_declare.specs.Resolution.{resolution_faults}
-use Rattle.pli_declare_outline.specs.Outlines.{Mark, Used, Jumped, Placed, outline_of}
+use Rattle.pli_declare_outline.specs.Outlines.{Mark, Used, Jumped, PlacedMark, outline_of}
 use Rattle.pli_declare_constructs.specs.Reach.{reaches}
 use Rattle.pli_declare_tables.specs.Tables.{inner_marks}
 use Rattle.pli_resolve.specs.ResolvedUnits.{ResolvedUnit, resolved_unit_of, meaning_at, symbol_at}
@@ -31,7 +31,7 @@ HasMeaning r mark = Unit {0}
 
 -- each name that is used means something that is there
 abbrev pub UsesHaveMeanings : Type 0
-UsesHaveMeanings = (u : ExternalProcedure) → resolution_faults u ≡ [] → (p : Placed)
+UsesHaveMeanings = (u : ExternalProcedure) → resolution_faults u ≡ [] → (p : PlacedMark)
     → Contains (inner_marks (outline_of u).marks) p → HasMeaning (resolved_unit_of u) p.mark
 
 -- a name is used at a token
@@ -64,7 +64,7 @@ pub record MeansLabel (u : ExternalProcedure) (here at : ℕ) : Type 0 where
 
 -- so does the name in a GOTO, where nothing else is used at its token
 abbrev pub JumpsMeanLabels : Type 0
-JumpsMeanLabels = (u : ExternalProcedure) → resolution_faults u ≡ [] → (p : Placed) (label : Identifier)
+JumpsMeanLabels = (u : ExternalProcedure) → resolution_faults u ≡ [] → (p : PlacedMark) (label : Identifier)
     → Contains (inner_marks (outline_of u).marks) p → p.mark ≡ Jumped label
-    → ((q : Placed) → Contains (inner_marks (outline_of u).marks) q → IsUsedAt label.at q.mark → q ≡ p)
+    → ((q : PlacedMark) → Contains (inner_marks (outline_of u).marks) q → IsUsedAt label.at q.mark → q ≡ p)
     → MeansLabel u p.region label.at

@@ -20,7 +20,7 @@ abbrev pub block_table_view : BlockTable → TableParts
 block_table_view t = record { ways = map way_view t.ways.items; parameters = t.parameters.items }
 
 -- what is found for a block
-abbrev pub block_table_of : declare.Block → TableParts
+abbrev pub block_table_of : declare.BlockDeclarations → TableParts
 block_table_of b =
     record {
       ways = ways_of b.declarations;

@@ -5,9 +5,10 @@ use crate::tests::words::tokens_between;
 use pli_base::declaration::{DescribedAttribute, InitialValue, Item, SimpleAttribute};
 use pli_base::{Code, TokenText};
 use pli_declare_attributes::{
-    AttributeError, Completed, ItemFacts, Named, Place, Position, Scope, Storage, Variable,
-    array_layout, completed_item, completed_result, elements_within, item_fault, lesser,
-    result_fault, scalar_layout, sets_are_of_what_stands, types_are_within_limits, worked_examples,
+    AttributeError, Completed, DeclaredStorage, ItemFacts, ItemPlace, Named, Position,
+    ScopeAttribute, Variable, array_layout, completed_item, completed_result, elements_within,
+    item_fault, lesser, result_fault, scalar_layout, sets_are_of_what_stands,
+    types_are_within_limits, worked_examples,
 };
 use pli_map::{Bounds, Description};
 use pli_parse_declaration::{declaration_at, returned_at};
@@ -34,8 +35,8 @@ enum Asked {
 
 /// A place by a letter: L at level 1, S a structure there, B the name of a built-in function, M a member, N a structure
 /// within one, A a member of an array of 10, U one of an array of bad bounds, P a parameter, Q a parameter with members.
-fn place_of(letter: char) -> Place {
-    Place {
+fn place_of(letter: char) -> ItemPlace {
+    ItemPlace {
         position: match letter {
             'M' | 'N' | 'A' | 'U' => Position::Member,
             'P' | 'Q' => Position::Parameter,
@@ -102,15 +103,15 @@ fn show_values(shown: &mut Shown, values: &[InitialValue]) {
 
 fn show_variable(shown: &mut Shown, variable: &Variable) {
     shown.put(match variable.storage {
-        Some(Storage::Automatic) => "AUTO",
-        Some(Storage::Static) => "STATIC",
-        Some(Storage::Based) => "BASED",
-        Some(Storage::Controlled) => "CTL",
+        Some(DeclaredStorage::Automatic) => "AUTO",
+        Some(DeclaredStorage::Static) => "STATIC",
+        Some(DeclaredStorage::Based) => "BASED",
+        Some(DeclaredStorage::Controlled) => "CTL",
         None => "-",
     });
     shown.put(match variable.scope {
-        Scope::Internal => "",
-        Scope::External => " EXT",
+        ScopeAttribute::Internal => "",
+        ScopeAttribute::External => " EXT",
     });
     show_bounds(shown, &variable.bounds);
     match &variable.description {
@@ -139,7 +140,7 @@ fn show_completed(shown: &mut Shown, completed: &Completed) {
 }
 
 /// Puts what an item is at a place, or its least fault, as `A3`.
-fn put_completed(shown: &mut Shown, alloc: Global, place: Place, facts: &ItemFacts) {
+fn put_completed(shown: &mut Shown, alloc: Global, place: ItemPlace, facts: &ItemFacts) {
     match completed_item(alloc, place, facts) {
         Ok(completed) => show_completed(shown, &completed),
         Err(AttributeError::Fault(code)) => shown.put(code.label()),
@@ -148,7 +149,7 @@ fn put_completed(shown: &mut Shown, alloc: Global, place: Place, facts: &ItemFac
 }
 
 /// Puts what a copy of that is, or the fault.
-fn put_copied(shown: &mut Shown, alloc: Global, place: Place, facts: &ItemFacts) {
+fn put_copied(shown: &mut Shown, alloc: Global, place: ItemPlace, facts: &ItemFacts) {
     match completed_item(alloc, place, facts) {
         Ok(completed) => match completed.copy(alloc) {
             Ok(copy) => show_completed(shown, &copy),
@@ -203,7 +204,7 @@ fn show_elements(shown: &mut Shown, above: Option<u128>, item: &Item) {
 }
 
 /// Puts what is asked of an item at a place.
-fn put_item(shown: &mut Shown, alloc: Global, asked: Asked, place: Place, item: &Item) {
+fn put_item(shown: &mut Shown, alloc: Global, asked: Asked, place: ItemPlace, item: &Item) {
     let Ok(facts) = ItemFacts::of(alloc, item) else {
         return shown.refuse();
     };
@@ -218,7 +219,13 @@ fn put_item(shown: &mut Shown, alloc: Global, asked: Asked, place: Place, item: 
 }
 
 /// Puts what is asked of the first item of a declaration.
-fn put_declared(shown: &mut Shown, alloc: Global, asked: Asked, place: Place, tokens: &[TokenText])
+fn put_declared(
+    shown: &mut Shown,
+    alloc: Global,
+    asked: Asked,
+    place: ItemPlace,
+    tokens: &[TokenText],
+)
     requires { length tokens.now ≤ 200000 }
 {
     match declaration_at(alloc, 0, tokens) {

@@ -11,10 +11,10 @@ use crate::tests::asked::Asked;
 use crate::tests::showing::description::{show_bounds, show_description, show_descriptions};
 use pli_base::Name;
 use pli_base::declaration::{InitialValue, Integer};
-use pli_declare::{Block, Resolved, Target, resolved_examples};
-use pli_declare_attributes::{Completed, Scope, Storage, Variable};
+use pli_declare::{BlockDeclarations, Resolved, Target, resolved_examples};
+use pli_declare_attributes::{Completed, DeclaredStorage, ScopeAttribute, Variable};
 use pli_declare_outline::{Region, RegionKind};
-use pli_declare_variables::{Declaration, Kind};
+use pli_declare_variables::{Declaration, DeclaredKind};
 use pli_map::Description;
 use pli_text_tests::{Shown, all};
 use std::test::Fail;
@@ -60,12 +60,12 @@ fn show_variable(shown: &mut Shown, variable: &Variable) {
     show_optional(shown, "", &variable.description);
     shown.put(match variable.storage {
         None => "",
-        Some(Storage::Automatic) => "a",
-        Some(Storage::Static) => "s",
-        Some(Storage::Based) => "b",
-        Some(Storage::Controlled) => "c",
+        Some(DeclaredStorage::Automatic) => "a",
+        Some(DeclaredStorage::Static) => "s",
+        Some(DeclaredStorage::Based) => "b",
+        Some(DeclaredStorage::Controlled) => "c",
     });
-    shown.put(if variable.scope == Scope::External {
+    shown.put(if variable.scope == ScopeAttribute::External {
         "x"
     } else {
         ""
@@ -89,9 +89,9 @@ fn show_completed(shown: &mut Shown, completed: &Completed) {
 
 /// `=F15a~F15`: what an item is, and the description of a variable of its own; `:0`, the region of a label; `#1=F15`,
 /// the region of a procedure and its result.
-fn show_kind(shown: &mut Shown, kind: &Kind) {
+fn show_kind(shown: &mut Shown, kind: &DeclaredKind) {
     match kind {
-        Kind::Item {
+        DeclaredKind::Item {
             completed,
             description,
         } => {
@@ -99,8 +99,8 @@ fn show_kind(shown: &mut Shown, kind: &Kind) {
             show_completed(shown, completed);
             show_optional(shown, "~", description);
         }
-        Kind::Label { region } => shown.put_number(":", *region as u64),
-        Kind::Procedure { returned, region } => {
+        DeclaredKind::Label { region } => shown.put_number(":", *region as u64),
+        DeclaredKind::Procedure { returned, region } => {
             shown.put_number("#", *region as u64);
             show_optional(shown, "=", returned);
         }
@@ -130,7 +130,7 @@ fn show_parameters(shown: &mut Shown, parameters: &[Name]) {
 }
 
 /// ` |P0(A,B)`: the kind of a region, the one that it stands in, and its parameters; then what it declares.
-fn show_block(shown: &mut Shown, region: &Region, block: &Block) {
+fn show_block(shown: &mut Shown, region: &Region, block: &BlockDeclarations) {
     shown.put(match region.kind {
         RegionKind::Procedure => " |P",
         RegionKind::Begin => " |B",

@@ -10,7 +10,7 @@
 use crate::tests::asked::Asked;
 use crate::tests::showing::description::{show_description, show_descriptions};
 use pli_base::declaration::InitialValue;
-use pli_declare_attributes::Scope;
+use pli_declare_attributes::ScopeAttribute;
 use pli_map::Description;
 use pli_resolve::{
     BuiltInFunction, NameMeaning, ResolvedBlock, ResolvedBlockKind, ResolvedUnit, StorageClass,
@@ -82,7 +82,11 @@ fn show_variable(shown: &mut Shown, kind: &SymbolKind) {
             area,
         } => {
             show_class(shown, *class);
-            shown.put(if *scope == Scope::External { "x~" } else { "~" });
+            shown.put(if *scope == ScopeAttribute::External {
+                "x~"
+            } else {
+                "~"
+            });
             show_description(shown, description);
             show_count(shown, initial);
             show_optional(shown, "&", *area);

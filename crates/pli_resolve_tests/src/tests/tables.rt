@@ -2,7 +2,7 @@
 
 use crate::tests::asked::Asked;
 use crate::tests::words::names_of;
-use pli_declare_scopes::{Block, Found, Verdict};
+use pli_declare_scopes::{BlockItems, Found, Verdict};
 use pli_declare_tables::{Entity, Entry, Table, Tables, owners_stand_before};
 use pli_text_tests::{Shown, all};
 use std::alloc::Global;
@@ -48,7 +48,7 @@ pub(crate) fn show_tables(shown: &mut Shown, tables: &Tables<'_>) {
 static REFERENCES: &str = "S A,T A,T B,S B,A,M";
 
 /// ` 4`: the number of what a reference means in a block, ` -` for nothing, ` *` for several.
-fn show_found(shown: &mut Shown, alloc: Global, block: &Block, reference: &str) {
+fn show_found(shown: &mut Shown, alloc: Global, block: &BlockItems, reference: &str) {
     let Ok(names) = names_of(alloc, reference) else {
         return shown.refuse();
     };
@@ -60,7 +60,7 @@ fn show_found(shown: &mut Shown, alloc: Global, block: &Block, reference: &str) 
 }
 
 /// What those references mean in a block.
-fn show_all_found(shown: &mut Shown, alloc: Global, block: &Block) {
+fn show_all_found(shown: &mut Shown, alloc: Global, block: &BlockItems) {
     for reference in REFERENCES.split(',') {
         show_found(shown, alloc, block, reference);
     }

@@ -1,7 +1,7 @@
 ghost use Rattle.std.specs.Prelude.{◌≡◌, ◌<◌, true, map, IfSome, IfOk};
 ghost use Rattle.pli_base.specs.views.StatementView.{option_view, unit_view};
 ghost use Rattle.pli_declare_attributes.specs.Faults.{item_fault};
-ghost use Rattle.pli_declare_attributes.specs.declared.place.Place.{Place};
+ghost use Rattle.pli_declare_attributes.specs.declared.place.ItemPlace.{ItemPlace};
 ghost use Rattle.pli_declare_tables.specs.views.TableView.{entry_view, entries_view};
 ghost use Rattle.pli_declare_tables.specs.answers.Answers.{AreBehindOwners};
 ghost use Rattle.pli_declare_variables.specs.Places.{item_in};
@@ -14,9 +14,9 @@ use pli_base::statement::{Procedure, ProcedureOption};
 use pli_base::syntax::Identifier;
 use pli_base::{Code, Name};
 use pli_declare_attributes::{Completed, ItemFacts, result_fault};
-use pli_declare_scopes::{Standing, standings};
+use pli_declare_scopes::{ItemStanding, standings};
 use pli_declare_tables::{Entity, Entry};
-use pli_declare_variables::{Declaration, Judged, Kind, declare, is_built_in, judge};
+use pli_declare_variables::{Declaration, DeclaredKind, Judged, declare, is_built_in, judge};
 use pli_map::{Description, size};
 use pli_parse_declaration::declaration_at;
 use pli_text_tests::{Answers, Shown, agree, all};
@@ -46,7 +46,7 @@ fn add_item<'a>(
     entries: &mut Vec<Entry<'a>>,
     alloc: Global,
     item: &'a Item,
-    stand: &[Standing],
+    stand: &[ItemStanding],
 ) -> Result<(), AllocError> {
     let facts = ItemFacts::of(alloc, item)?;
     for identifier in item.names.as_slice() {
@@ -75,7 +75,7 @@ fn levels_of(alloc: Global, items: &[Item]) -> Result<Vec<Option<u32>>, AllocErr
 }
 
 /// How each name of items stands.
-fn standings_of(alloc: Global, items: &[Item]) -> Result<Vec<Standing>, AllocError> {
+fn standings_of(alloc: Global, items: &[Item]) -> Result<Vec<ItemStanding>, AllocError> {
     let levels = levels_of(alloc, items)?;
     standings(alloc, &levels)
 }
@@ -309,7 +309,7 @@ fn are_sound(options: &[ProcedureOption]) -> bool
 }
 
 /// Whether no RETURNS of a procedure has a fault.
-#[tactic(auto, using(pli_declare_variables::proofs::Options::options_out))]
+#[tactic(auto, using(pli_declare_variables::proofs::OptionLemmas::options_out))]
 fn is_sound(procedure: &Procedure) -> bool
     ensures { result ≡ true → AreSound (returned_by (unit_view procedure.now).heading.options) }
 {
@@ -318,7 +318,7 @@ fn is_sound(procedure: &Procedure) -> bool
 
 /// Whether a name has no fault of its own, where the fault of an item is known.
 fn is_good(entry: &Entry, code: Option<Code>) -> bool
-    ensures { result ≡ true → (place : Place) → code ≡ item_fault place (item_in (entry_view entry.now).entity) → IsFaultless place (entry_view entry.now).entity }
+    ensures { result ≡ true → (place : ItemPlace) → code ≡ item_fault place (item_in (entry_view entry.now).entity) → IsFaultless place (entry_view entry.now).entity }
 {
     match entry.entity {
         Entity::Item {
@@ -371,17 +371,17 @@ fn show_completed(shown: &mut Shown, completed: &Completed) {
 }
 
 /// What a name is; of an item the size of an element and that of the whole variable.
-fn show_declared(shown: &mut Shown, kind: &Kind) {
+fn show_declared(shown: &mut Shown, kind: &DeclaredKind) {
     match kind {
-        Kind::Item {
+        DeclaredKind::Item {
             completed,
             description,
         } => {
             show_completed(shown, completed);
             show_size(shown, description)
         }
-        Kind::Label { region } => shown.put_number(" label in ", *region as u64),
-        Kind::Procedure { returned, region } => {
+        DeclaredKind::Label { region } => shown.put_number(" label in ", *region as u64),
+        DeclaredKind::Procedure { returned, region } => {
             show_size(shown, returned);
             shown.put_number(" procedure of ", *region as u64)
         }

@@ -4,7 +4,7 @@ use Rattle.pli_code.specs.declared.ending.RunError.TheVariants.{DeadLocator}
 use Rattle.pli_store.specs.Storage.{Generation, Place, generation_in, scalar_at}
 use Rattle.pli_store.specs.declared.fault.StoreFault.{StoreFault}
 use Rattle.pli_store.specs.declared.fault.StoreFault.TheVariants.{Raised, NoRule, OutOfMemory}
-use Rattle.pli_store.specs.declared.part.Part.{Part}
+use Rattle.pli_store.specs.declared.part.GenerationPart.{GenerationPart}
 
 -- the generation of a number stands at this place in the list
 pub record StandsAt (gs : List Generation) (number at : ℕ) : Type 0 where
@@ -13,7 +13,7 @@ pub record StandsAt (gs : List Generation) (number at : ℕ) : Type 0 where
   pub found : generation_in gs number ≡ Some generation
 
 -- a place leads to this generation, there to this scalar; 2^64 - 1 stands for every greater number
-pub record LeadsTo (gs : List Generation) (p : Place) (part : Part) : Type 0 where
+pub record LeadsTo (gs : List Generation) (p : Place) (part : GenerationPart) : Type 0 where
   pub generation : Generation
   pub scalar : ℕ
   pub stands : slice_get gs part.at ≡ Some generation
@@ -28,7 +28,7 @@ pub record LeadsNowhere (gs : List Generation) (p : Place) : Type 0 where
   pub nowhere : scalar_at generation p ≡ None
 
 -- what is answered of a place: where it leads, that it is dead, or that it leads to no part
-abbrev pub Leads : List Generation → Place → Result Part StoreFault → Type 0
+abbrev pub Leads : List Generation → Place → Result GenerationPart StoreFault → Type 0
 Leads gs p (Ok part) = LeadsTo gs p part
 Leads gs p (Err (Raised e)) = (e ≡ DeadLocator) × (generation_in gs p.generation ≡ None)
 Leads gs p (Err NoRule) = LeadsNowhere gs p

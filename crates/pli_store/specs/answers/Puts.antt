@@ -2,11 +2,11 @@
 use Rattle.std.specs.Prelude.{◌≡◌, ◌≤◌, ℕ, Bool, true, false, Some, List, [], ◌∷◌, ◌++◌, length}
 use Rattle.std.specs.Prelude.{slice_get, slice_set}
 use Rattle.pli_store.specs.Storage.{Generation, with_values_at}
-use Rattle.pli_store.specs.declared.part.Part.{Part}
+use Rattle.pli_store.specs.declared.part.GenerationPart.{GenerationPart}
 use Rattle.pli_value.specs.Value.{Value, Characters}
 
 -- the generation that stands there has these values from this scalar on; nothing else has changed
-pub record ValuesPut (old new : List Generation) (part : Part) (vs : List Value) : Type 0 where
+pub record ValuesPut (old new : List Generation) (part : GenerationPart) (vs : List Value) : Type 0 where
   pub generation : Generation
   pub stands : slice_get old part.at ≡ Some generation
   pub changed : new ≡ slice_set old part.at (record generation {
@@ -39,7 +39,7 @@ LengthenedIn true old new first more room = IsLengthenedIn old new first more ro
 LengthenedIn false old new first more room = new ≡ old
 
 -- and of one of the values of a generation
-pub record IsLengthenedAt (old new : List Generation) (part : Part) (more : List ℕ) (room : ℕ)
+pub record IsLengthenedAt (old new : List Generation) (part : GenerationPart) (more : List ℕ) (room : ℕ)
     : Type 0 where
   pub generation : Generation
   pub stands : slice_get old part.at ≡ Some generation
@@ -49,7 +49,7 @@ pub record IsLengthenedAt (old new : List Generation) (part : Part) (more : List
   pub fits : length (text ++ more) ≤ room
 
 -- one of the values of a generation is lengthened, or nothing has changed
-abbrev pub LengthenedAt : Bool → (old new : List Generation) → Part → (more : List ℕ) → (room : ℕ)
+abbrev pub LengthenedAt : Bool → (old new : List Generation) → GenerationPart → (more : List ℕ) → (room : ℕ)
     → Type 0
 LengthenedAt true old new part more room = IsLengthenedAt old new part more room
 LengthenedAt false old new part more room = new ≡ old

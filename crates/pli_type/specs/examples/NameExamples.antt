@@ -10,7 +10,7 @@ use Rattle.pli_base.specs.Name.{Name}
 use Rattle.pli_base.specs.Statements.{Main, Ended}
 use Rattle.pli_base.specs.declared.declaration.InitialValue.{InitialValue}
 use Rattle.pli_base.specs.declared.declaration.InitialValue.TheVariants as initial
-use Rattle.pli_declare_attributes.specs.declared.completed.Scope.TheVariants as scopes
+use Rattle.pli_declare_attributes.specs.declared.completed.ScopeAttribute.TheVariants as scopes
 use Rattle.pli_map.specs.Description.{Description, FixedBinary, Bit, Structure, NoMembers, MemberThen}
 use Rattle.pli_resolve.specs.ResolvedUnits.{ResolvedUnit}
 use Rattle.pli_resolve.specs.Symbols.{Symbol, SymbolKind, Variable, Member, Procedure, Entry}

@@ -5,7 +5,7 @@
 -- The inner Z stands at token 11, and the outer one at token 18. The tree leaves out what is declared.
 use Rattle.std.specs.Prelude.{◌≡◌, ℕ, Some, None, [], ◌∷◌, codes}
 use Rattle.pli_base.specs.Statements.{Main, Numbered, Declare, Begin, Ended, Before}
-use Rattle.pli_declare_attributes.specs.declared.completed.Scope.TheVariants as scopes
+use Rattle.pli_declare_attributes.specs.declared.completed.ScopeAttribute.TheVariants as scopes
 use Rattle.pli_map.specs.Description.{Description, Character, Bit}
 use Rattle.pli_resolve.specs.ResolvedUnits.{ResolvedUnit}
 use Rattle.pli_resolve.specs.Symbols.{Symbol, Variable, Procedure}

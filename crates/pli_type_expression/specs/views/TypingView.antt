@@ -11,8 +11,8 @@ use Rattle.pli_type_tree.specs.views.TypedView.{expression_view, reference_view}
 use Rattle.pli_type_expression.specs.declared.argument.Argument.{Argument}
 use Rattle.pli_type_expression.specs.declared.meaning.Denoted.{Denoted}
 use Rattle.pli_type_expression.specs.declared.meaning.Denoted.TheVariants as denoted
-use Rattle.pli_type_expression.specs.declared.meaning.Meant.{Meant}
-use Rattle.pli_type_expression.specs.declared.meaning.Meant.TheVariants as meant
+use Rattle.pli_type_expression.specs.declared.meaning.ExpressionMeaning.{ExpressionMeaning}
+use Rattle.pli_type_expression.specs.declared.meaning.ExpressionMeaning.TheVariants as meant
 use Rattle.pli_type_expression.specs.declared.meaning.Referent.{Referent}
 use Rattle.pli_type_expression.specs.declared.role.Role.{Role}
 use Rattle.pli_type_expression.specs.declared.role.Role.TheVariants as roles
@@ -32,7 +32,7 @@ referent_view r =
     record { reference = reference_view r.reference; description = description_view r.description.now }
 
 -- one value or a whole aggregate
-abbrev pub meant_view : Meant → calls.Meant
+abbrev pub meant_view : ExpressionMeaning → calls.Meant
 meant_view (meant.Value v) = calls.OneValue (value_view v)
 meant_view (meant.Aggregate r) = calls.WholeAggregate (referent_view r)
 

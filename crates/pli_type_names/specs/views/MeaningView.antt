@@ -10,8 +10,8 @@ use Rattle.pli_type_names.specs.BlockFacts.{facts_of}
 use Rattle.pli_type_names.specs.Seen.{Seen, SeenVariable, SeenFunction, SeenProcedure, SeenLabel, SeenUntyped}
 use Rattle.pli_type_names.specs.Seen.{Kept, KeptVariable, KeptProcedure, KeptEntry, KeptLabel, KeptNothing}
 use Rattle.pli_type_names.specs.Seen.{kept_symbols}
-use Rattle.pli_type_names.specs.declared.meanings.Meant.{Meant}
-use Rattle.pli_type_names.specs.declared.meanings.Meant.TheVariants as meanings
+use Rattle.pli_type_names.specs.declared.meanings.SymbolMeaning.{SymbolMeaning}
+use Rattle.pli_type_names.specs.declared.meanings.SymbolMeaning.TheVariants as meanings
 use Rattle.pli_type_names.specs.declared.naming.NamedAs.{NamedAs}
 use Rattle.pli_type_names.specs.declared.naming.NamedAs.TheVariants as answers
 use Rattle.pli_type_names.specs.declared.naming.NamedProcedure.{NamedProcedure}
@@ -36,7 +36,7 @@ answer_view (answers.Label statement) = SeenLabel statement
 answer_view answers.Untyped = SeenUntyped
 
 -- what a name means wherever it is used
-abbrev pub meant_view : Meant → Kept
+abbrev pub meant_view : SymbolMeaning → Kept
 meant_view (meanings.Variable begins is_member part) =
     KeptVariable begins is_member (option_map part_view part)
 meant_view (meanings.Procedure block) = KeptProcedure block
@@ -47,10 +47,10 @@ meant_view (meanings.Label statement) = KeptLabel statement
 meant_view meanings.Untyped = KeptNothing
 
 -- what the names of a block mean
-abbrev pub row_view : Vec Meant Global → List Kept
+abbrev pub row_view : Vec SymbolMeaning Global → List Kept
 row_view v = map meant_view v.items
 
 -- under each block's number what its symbols mean
-pub record AreMeanings (rows : List (Vec Meant Global)) (u : Procedure) : Type 0 where
+pub record AreMeanings (rows : List (Vec SymbolMeaning Global)) (u : Procedure) : Type 0 where
   pub found : (block : ℕ) → get_or (map row_view rows) block []
       ≡ kept_symbols (facts_of (resolved_unit_of (unit_view u)) block)

@@ -4,20 +4,20 @@ use Rattle.std.specs.Prelude.{List, Vec, map}
 use Rattle.pli_map.specs.views.DescriptionView.{description_view}
 use Rattle.pli_type.specs.InitialScalars.{InitialItem}
 use Rattle.pli_type_templates.specs.Groups as plain
-use Rattle.pli_type_templates.specs.declared.groups.Made.{Made}
-use Rattle.pli_type_templates.specs.declared.items.Item.{Item}
+use Rattle.pli_type_templates.specs.declared.groups.MadeVariable.{MadeVariable}
+use Rattle.pli_type_templates.specs.declared.items.ValuedItem.{ValuedItem}
 use Rattle.pli_type_templates.specs.declared.members.Owned.{Owned}
 
 -- an item with INITIAL
-abbrev pub item_view : Item → InitialItem
+abbrev pub item_view : ValuedItem → InitialItem
 item_view i = record { path = i.path.now; values = i.values.now }
 
 -- such items
-abbrev pub items_view : List Item → List InitialItem
+abbrev pub items_view : List ValuedItem → List InitialItem
 items_view is = map item_view is
 
 -- the items of each of many
-abbrev pub rows_view : List (Vec Item Global) → List (List InitialItem)
+abbrev pub rows_view : List (Vec ValuedItem Global) → List (List InitialItem)
 rows_view rows = map (λ v. items_view v.items) rows
 
 -- a member, and the variable that it is a member of
@@ -25,5 +25,5 @@ abbrev pub owned_view : Owned → plain.Owned
 owned_view o = record { root = o.root; item = item_view o.item }
 
 -- a variable that is made
-abbrev pub made_view : Made → plain.Made
+abbrev pub made_view : MadeVariable → plain.MadeVariable
 made_view m = record { description = description_view m.description.now; values = m.values.now }

@@ -1,9 +1,9 @@
 use crate::tests::at_row;
 use pli_base::Name;
 use pli_declare_scopes::{
-    Block, Declared, Found, Meant, Scope, Standing, Verdict, Written, bad_levels_are_found,
-    examples_of_levels, examples_of_references, examples_of_repeats, later_is_fault,
-    meant_is_means, owners_are_nearest, standings, verdicts,
+    BlockItems, Declared, Found, ItemStanding, ReferenceMeaning, Scope, Verdict, Written,
+    bad_levels_are_found, examples_of_levels, examples_of_references, examples_of_repeats,
+    later_is_fault, meant_is_means, owners_are_nearest, standings, verdicts,
 };
 use std::alloc::Global;
 use std::process::Abort;
@@ -26,7 +26,7 @@ fn levels(rt: &impl Abort, alloc: Global, rows: &[Row]) -> Vec<Option<u32>> {
 }
 
 /// How items stand.
-fn stand(rt: &impl Abort, alloc: Global, rows: &[Row]) -> Vec<Standing> {
+fn stand(rt: &impl Abort, alloc: Global, rows: &[Row]) -> Vec<ItemStanding> {
     let levels = levels(rt, alloc, rows);
     standings(alloc, &levels).expect(rt, "memory")
 }
@@ -45,7 +45,7 @@ fn written(rt: &impl Abort, alloc: Global, rows: &[Row]) -> Vec<Written> {
 }
 
 /// Declares an item in a block, whose owner stands there already.
-fn declare(rt: &impl Abort, block: &mut Block, item: &Written, counts: bool) {
+fn declare(rt: &impl Abort, block: &mut BlockItems, item: &Written, counts: bool) {
     if let Some(owner) = item.owner {
         assert!(rt; owner < block.len());
     }
@@ -63,10 +63,10 @@ fn judged(rt: &impl Abort, alloc: Global, items: &[Written]) -> Vec<Verdict> {
 }
 
 /// The block that declares these items, those that count and those that do not.
-fn block(rt: &impl Abort, alloc: Global, rows: &[Row]) -> Block {
+fn block(rt: &impl Abort, alloc: Global, rows: &[Row]) -> BlockItems {
     let items = written(rt, alloc, rows);
     let judged = judged(rt, alloc, &items);
-    let mut block = Block::new(alloc);
+    let mut block = BlockItems::new(alloc);
     for number in 0..items.len() {
         let counts = judged.get(number) == Some(&Verdict::Counts);
         declare(rt, &mut block, &items[number], counts);
@@ -92,7 +92,7 @@ fn names(rt: &impl Abort, alloc: Global, reference: &str) -> Vec<Name> {
 }
 
 /// Fails with a reference, unless it means this.
-fn means(rt: &impl Abort, alloc: Global, scope: &Scope, reference: &str, want: Meant) {
+fn means(rt: &impl Abort, alloc: Global, scope: &Scope, reference: &str, want: ReferenceMeaning) {
     let names = names(rt, alloc, reference);
     let meant = scope.look_up(&names);
     drop(names);
@@ -107,13 +107,19 @@ fn mean_here(rt: &impl Abort, alloc: Global, scope: &Scope, rows: &[(&str, usize
             alloc,
             scope,
             reference,
-            Meant::Item { number, block: 0 },
+            ReferenceMeaning::Item { number, block: 0 },
         );
     }
 }
 
 /// Fails at the first reference that does not mean this.
-fn all_mean(rt: &impl Abort, alloc: Global, scope: &Scope, references: &[&str], want: Meant) {
+fn all_mean(
+    rt: &impl Abort,
+    alloc: Global,
+    scope: &Scope,
+    references: &[&str],
+    want: ReferenceMeaning,
+) {
     for reference in references {
         means(rt, alloc, scope, reference, want);
     }
@@ -171,9 +177,9 @@ fn names_of_one_block(rt: HostRuntime) {
     let alloc = rt.alloc();
     let scope = scope(&rt, alloc, &ONE_TO_FIVE);
     mean_here(&rt, alloc, &scope, &PARTLY_QUALIFIED);
-    all_mean(&rt, alloc, &scope, &TIED, Meant::Ambiguous);
-    all_mean(&rt, alloc, &scope, &UNFIT, Meant::NotDeclared);
-    assert!(rt; scope.look_up(&[]) == Meant::NotDeclared);
+    all_mean(&rt, alloc, &scope, &TIED, ReferenceMeaning::Ambiguous);
+    all_mean(&rt, alloc, &scope, &UNFIT, ReferenceMeaning::NotDeclared);
+    assert!(rt; scope.look_up(&[]) == ReferenceMeaning::NotDeclared);
 }
 
 /// Five nested blocks, from the outermost.
@@ -217,8 +223,8 @@ static WITHIN: [(usize, &str, Option<(usize, usize)>); 24] = [
 fn mean_within(rt: &impl Abort, alloc: Global, scope: &Scope, depth: usize) {
     for &(within, reference, wanted) in &WITHIN {
         let want = match wanted {
-            Some((number, block)) => Meant::Item { number, block },
-            None => Meant::NotDeclared,
+            Some((number, block)) => ReferenceMeaning::Item { number, block },
+            None => ReferenceMeaning::NotDeclared,
         };
         if within == depth {
             means(rt, alloc, scope, reference, want);
@@ -247,11 +253,11 @@ fn closed(scope: &mut Scope) -> Option<usize> {
 fn nested_blocks(rt: HostRuntime) {
     let alloc = rt.alloc();
     let mut scope = Scope::new(alloc);
-    assert!(rt; scope.look_up(&[]) == Meant::NotDeclared);
-    means(&rt, alloc, &scope, "V", Meant::NotDeclared);
+    assert!(rt; scope.look_up(&[]) == ReferenceMeaning::NotDeclared);
+    means(&rt, alloc, &scope, "V", ReferenceMeaning::NotDeclared);
     mean_in_each(&rt, alloc, &mut scope);
     assert!(rt; closed(&mut scope) == Some(4));
-    let outer = Meant::Item {
+    let outer = ReferenceMeaning::Item {
         number: 0,
         block: 2,
     };
@@ -260,7 +266,7 @@ fn nested_blocks(rt: HostRuntime) {
         assert!(rt; closed(&mut scope) == Some(4));
     }
     assert!(rt; closed(&mut scope).is_none());
-    means(&rt, alloc, &scope, "A", Meant::NotDeclared);
+    means(&rt, alloc, &scope, "A", ReferenceMeaning::NotDeclared);
 }
 
 /// References in the block of five levels, and what each fits.
@@ -271,7 +277,7 @@ static FITTED: [(&str, Found); 3] = [
 ];
 
 /// What a reference fits in a block.
-fn found(rt: &impl Abort, alloc: Global, block: &Block, reference: &str) -> Found {
+fn found(rt: &impl Abort, alloc: Global, block: &BlockItems, reference: &str) -> Found {
     let names = names(rt, alloc, reference);
     block.find(&names)
 }
@@ -283,7 +289,7 @@ fn blocks(rt: HostRuntime) {
     for &(reference, want) in &FITTED {
         assert!(rt; found(&rt, rt.alloc(), &block, reference) == want);
     }
-    let meant = Meant::Item {
+    let meant = ReferenceMeaning::Item {
         number: 2,
         block: 4,
     };
@@ -344,7 +350,7 @@ static LEVELS: [(&[Option<u32>], &[(Option<usize>, bool)]); 7] = [
 ];
 
 /// Whether items stand so.
-fn stand_so(stand: &[Standing], wanted: &[(Option<usize>, bool)]) -> bool {
+fn stand_so(stand: &[ItemStanding], wanted: &[(Option<usize>, bool)]) -> bool {
     for (standing, (owner, is_bad)) in stand.iter().zip(wanted) {
         if standing.owner != *owner || standing.is_bad != *is_bad {
             return false;
@@ -410,8 +416,14 @@ fn names_declared_twice(rt: HostRuntime) {
     let alloc = rt.alloc();
     let scope = scope(&rt, alloc, &REPEATED);
     mean_here(&rt, alloc, &scope, &[("S.A.X", 2), ("A", 9), ("S", 0)]);
-    all_mean(&rt, alloc, &scope, &["X"], Meant::Ambiguous);
-    all_mean(&rt, alloc, &scope, &["N", "A.Y"], Meant::NotDeclared);
+    all_mean(&rt, alloc, &scope, &["X"], ReferenceMeaning::Ambiguous);
+    all_mean(
+        &rt,
+        alloc,
+        &scope,
+        &["N", "A.Y"],
+        ReferenceMeaning::NotDeclared,
+    );
 }
 
 /// The name with this number in it.
@@ -421,8 +433,8 @@ fn numbered(rt: &impl Abort, alloc: Global, number: usize) -> Name {
 }
 
 /// The block of 65,000 names with numbers.
-fn many(rt: &impl Abort, alloc: Global) -> Block {
-    let mut block = Block::new(alloc);
+fn many(rt: &impl Abort, alloc: Global) -> BlockItems {
+    let mut block = BlockItems::new(alloc);
     for number in 0..65_000 {
         let declared = Declared {
             name: numbered(rt, alloc, number),
@@ -440,7 +452,9 @@ fn many_nested(rt: &impl Abort, alloc: Global) -> Scope {
     let outermost = many(rt, alloc);
     scope.open_block(outermost).expect(rt, "memory");
     for _ in 0..4 {
-        scope.open_block(Block::new(alloc)).expect(rt, "memory");
+        scope
+            .open_block(BlockItems::new(alloc))
+            .expect(rt, "memory");
     }
     scope
 }
@@ -452,7 +466,7 @@ fn many_names(rt: HostRuntime) {
     for step in 0..100_000 {
         let number = step % 65_000;
         let meant = scope.look_up(&[numbered(&rt, rt.alloc(), number)]);
-        assert!(rt; meant == Meant::Item { number, block: 4 });
+        assert!(rt; meant == ReferenceMeaning::Item { number, block: 4 });
     }
 }
 

@@ -5,7 +5,7 @@ use Rattle.pli_bench.specs.Lines.{is_line_feed, without_return, complete_from, p
 use Rattle.pli_bench.specs.answers.Kept.{kept_limit}
 use Rattle.pli_bench.specs.Exchanges.{span}
 use Rattle.pli_bench.specs.Runs.{Broken, Answers, QuitsWithin}
-use Rattle.pli_bench.specs.declared.serving.Next.TheVariants.{End}
+use Rattle.pli_bench.specs.declared.serving.AfterCommand.TheVariants.{End}
 use Rattle.pli_bench.proofs.LinesAnswered.{Going-none, Going-other, Going-line, quit_line, quits_within, broken_line, quits_from, goes_from}
 use Rattle.pli_bench.proofs.serving.answer_piece.Goals as goal
 use Rattle.pli_bench.proofs.serving.answer_piece.Goals.{then-byte-eq10+in_ok-command+in_default, else-byte-eq10}

@@ -6,9 +6,9 @@ use Rattle.pli_base.specs.laws.DeviceLaws.{Consumes-none, Consumes-then, Consume
 use Rattle.pli_bench.specs.Lines.{pending_line, complete_lines, complete_from}
 use Rattle.pli_bench.specs.Exchanges.{span}
 use Rattle.pli_bench.specs.Runs.{Answered, Bytes, Service, Stops, Takes}
-use Rattle.pli_bench.specs.declared.serving.Next.{Next}
+use Rattle.pli_bench.specs.declared.serving.AfterCommand.{AfterCommand}
 use Rattle.pli_bench.specs.declared.serving.ServeFault.{ServeFault}
-use Rattle.pli_bench.specs.declared.serving.Next.TheVariants.{Quit}
+use Rattle.pli_bench.specs.declared.serving.AfterCommand.TheVariants.{Quit}
 use Rattle.pli_bench.proofs.LinesAnswered.{Going-none, Going-then, Answered-quit, Broken-more, Answers-go_on, QuitsWithin-then, served_part, served_end, stops_at_end, end_from}
 use Rattle.pli_bench.proofs.serving.serve_pieces.Goals as goal
 
@@ -26,7 +26,7 @@ few_reads : (taken : List ℕ) (read reads size : ℕ) → length taken ≤ read
 few_reads taken read reads size few h = omega (arith, mul-le-mul_left size h)
 
 -- what was taken with one read more
-module _ {S : Type 0} (quits : List ℕ → Bool) (service : Service S) (between : Bytes) (taken buffer : List ℕ) (count read size : ℕ) (r : Result Next ServeFault) where
+module _ {S : Type 0} (quits : List ℕ → Bool) (service : Service S) (between : Bytes) (taken buffer : List ℕ) (count read size : ℕ) (r : Result AfterCommand ServeFault) where
   takes_piece : Consumes service.reader.before between taken → Consumes between service.reader.after (take count buffer) → length taken ≤ read * size → count ≤ length buffer → length buffer ≡ size → read < service.reads
       → Stops quits size (taken ++ take count buffer) service.reader.after r → Takes quits size service r
   takes_piece before behind few within sized h stops =

@@ -1,4 +1,4 @@
-use Rattle.pli_copy.proofs.Alike.{one_more}
+use Rattle.pli_copy.proofs.AlikeLemmas.{one_more}
 use Rattle.pli_copy.proofs.copied.copied_list.Goals as goal
 
 pub loop-item-preserved : goal.loop-item-preserved

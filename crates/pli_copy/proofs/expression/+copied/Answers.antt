@@ -3,7 +3,7 @@ use Rattle.pli_base.specs.Syntax.{Named}
 use Rattle.pli_base.specs.views.SyntaxView.{expression_view, arguments_view, joined_view}
 use Rattle.pli_base.specs.laws.SyntaxLaws.{reference_joined, reference_out}
 use Rattle.pli_base.specs.declared.syntax.Reference.{out-Reference}
-use Rattle.pli_copy.proofs.Alike.{expressions_alike, one_more, parts_alike}
+use Rattle.pli_copy.proofs.AlikeLemmas.{expressions_alike, one_more, parts_alike}
 use Rattle.pli_copy.specs.views.PartView.{part_view}
 use Rattle.pli_copy.proofs.expression.+copied.Goals as goal
 

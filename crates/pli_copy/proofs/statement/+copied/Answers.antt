@@ -5,7 +5,7 @@ use Rattle.pli_base.specs.Statements as tree
 use Rattle.pli_base.specs.views.StatementView.{control_view, option_view, body_view, statement_view, statements_view}
 use Rattle.pli_base.specs.laws.StatementLaws.{begin_made, do_made, unit_made, unit_out}
 use Rattle.pli_base.specs.declared.statement.Procedure.{out-Procedure}
-use Rattle.pli_copy.proofs.Alike.{one_more, statements_alike}
+use Rattle.pli_copy.proofs.AlikeLemmas.{one_more, statements_alike}
 use Rattle.pli_copy.proofs.statement.+copied.Goals as goal
 
 abbrev whole : Identifier → ℕ → List Identifier → List tree.ProcedureOption → tree.Statements → ℕ → tree.ExternalProcedure

@@ -3,7 +3,7 @@ use Rattle.std.specs.Int.{w32, cast_unsigned}
 use Rattle.std.proofs.lemmas.Int.{to_z-of_z}
 use Rattle.std.proofs.lemmas.Result.{on_ok_weaker}
 use Rattle.byteorder.specs.Endian.{big_bytes}
-use Rattle.pli_deck.proofs.Puts.{then_put}
+use Rattle.pli_deck.proofs.PutLemmas.{then_put}
 use Rattle.pli_deck.proofs.coding.put_subscript.Goals as goal
 
 pub returns : goal.returns

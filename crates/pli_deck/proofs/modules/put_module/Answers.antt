@@ -5,7 +5,7 @@ use Rattle.byteorder.specs.Endian.{big_bytes}
 use Rattle.pli_deck.specs.ModuleFields.{external_behind, bytes_behind, member, module_field}
 use Rattle.pli_deck.specs.ModuleView.{external_view, member_view}
 use Rattle.pli_deck.proofs.ModulePuts.{external_bytes, behind_bytes}
-use Rattle.pli_deck.proofs.Puts.{then_put, mapped_length}
+use Rattle.pli_deck.proofs.PutLemmas.{then_put, mapped_length}
 use Rattle.pli_deck.proofs.modules.put_module.Goals as goal
 
 abbrev whole : (units main externals members : List ℕ) → List ℕ

@@ -3,7 +3,7 @@ use Rattle.std.proofs.lemmas.Result.{on_ok_weaker}
 use Rattle.byteorder.specs.Endian.{big_bytes}
 use Rattle.pli_deck.specs.DeckFields.{characters}
 use Rattle.pli_deck.proofs.LowBytes.{byte_by_byte}
-use Rattle.pli_deck.proofs.Puts.{then_put}
+use Rattle.pli_deck.proofs.PutLemmas.{then_put}
 use Rattle.pli_deck.proofs.writing.put_characters.Goals as goal
 
 pub returns : goal.returns

@@ -4,7 +4,7 @@ use Rattle.std.specs.List.{flat_map}
 use Rattle.byteorder.specs.Endian.{big_bytes}
 use Rattle.pli_deck.specs.DeckFields.{name}
 use Rattle.pli_deck.proofs.LowBytes.{byte_by_byte}
-use Rattle.pli_deck.proofs.Puts.{then_put}
+use Rattle.pli_deck.proofs.PutLemmas.{then_put}
 use Rattle.pli_deck.proofs.writing.put_name.Goals as goal
 
 pub returns : goal.returns

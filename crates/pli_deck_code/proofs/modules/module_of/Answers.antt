@@ -1,6 +1,6 @@
 use Rattle.std.proofs.Common.{◌∙◌, ap, subst, List, map}
 use Rattle.std.specs.Map.{keys_of}
-use Rattle.pli_deck.specs.ModuleFields.{External, Member, Module}
+use Rattle.pli_deck.specs.ModuleFields.{External, Member, DeckModule}
 use Rattle.pli_deck.specs.ModuleView.{member_view}
 use Rattle.pli_unit_code.specs.views.CodeView.{unit_view}
 use Rattle.pli_deck_code.specs.CodeModules.{declarations, external_of, members_of}
@@ -16,7 +16,7 @@ returns c =
     let names = keys_of declared in
     let externals = c.in_ok-externals.externals.items in
     let numbers = c.in_ok-numbers.numbers.entries in
-    let module_with : List External → List Member → Module = λ es us. record { main = main; externals = es; units = us } in
+    let module_with : List External → List Member → DeckModule = λ es us. record { main = main; externals = es; units = us } in
     let first = c.in_ok-externals.ensures ∙ ap (λ us. map external_of (declarations (map unit_view us))) c.deref.ensures.value in
     let numbered : AreNumbered numbers names =
     subst (AreNumbered numbers) (ap (map name_of) c.deref-2.ensures.value ∙ names_are externals declared first) c.in_ok-numbers.ensures in

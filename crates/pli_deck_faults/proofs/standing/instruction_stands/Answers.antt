@@ -2,7 +2,7 @@ use Rattle.std.proofs.Common.{sym, ap}
 use Rattle.std.specs.List.{list_all}
 use Rattle.pli_deck.specs.DeckFaults.{is_there}
 use Rattle.pli_deck.specs.DeckView.{deck_view}
-use Rattle.pli_deck_faults.proofs.Nameless.{names_nothing}
+use Rattle.pli_deck_faults.proofs.NamelessLemmas.{names_nothing}
 use Rattle.pli_deck_faults.proofs.standing.instruction_stands.Goals as goal
 
 pub returns-in_default : goal.returns-in_default

@@ -1,6 +1,6 @@
 use Rattle.std.proofs.Common.{sym, ap, nat_lt}
 use Rattle.std.specs.List.{list_all}
-use Rattle.pli_deck_faults.proofs.Nameless.{jumps_nowhere}
+use Rattle.pli_deck_faults.proofs.NamelessLemmas.{jumps_nowhere}
 use Rattle.pli_deck_faults.proofs.standing.jump_stands.Goals as goal
 
 pub returns-in_default : goal.returns-in_default

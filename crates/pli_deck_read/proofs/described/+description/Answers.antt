@@ -6,7 +6,7 @@ use Rattle.pli_map.specs.views.DescriptionView.{description_view}
 use Rattle.pli_deck.specs.Fields.{many}
 use Rattle.pli_deck.specs.Descriptions.{description_within}
 use Rattle.pli_deck_read.proofs.DescriptionReading.{without_tag, below_all, behind_tag, no_form}
-use Rattle.pli_deck_read.proofs.Loops.{goes_on, ends, is_done}
+use Rattle.pli_deck_read.proofs.LoopLemmas.{goes_on, ends, is_done}
 use Rattle.pli_deck_read.proofs.described.+description.Goals as goal
 
 pub members_at-returns-in_err-member : goal.members_at-returns-in_err-member

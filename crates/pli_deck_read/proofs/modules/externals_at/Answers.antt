@@ -5,8 +5,8 @@ use Rattle.pli_deck.specs.ModuleView.{external_view}
 use Rattle.pli_deck.specs.declared.module.External.{External}
 use Rattle.pli_deck_read.specs.Earlier.{last_of}
 use Rattle.pli_base.specs.answers.FailureAnswers.{Fails}
-use Rattle.pli_deck_read.proofs.Loops.{with_front}
-use Rattle.pli_deck_read.proofs.LoopsBehind.{last_pushed, goes_on_behind, ends_behind, is_done_behind}
+use Rattle.pli_deck_read.proofs.LoopLemmas.{with_front}
+use Rattle.pli_deck_read.proofs.LoopBehindLemmas.{last_pushed, goes_on_behind, ends_behind, is_done_behind}
 use Rattle.pli_deck_read.proofs.modules.externals_at.Goals as goal
 
 pub returns-in-Err : goal.returns-in-Err

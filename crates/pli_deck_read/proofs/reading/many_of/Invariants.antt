@@ -1,6 +1,6 @@
 use Rattle.std.proofs.Common.{◌≡◌, ◌-◌, map}
 use Rattle.pli_deck.specs.Fields.{many}
-use Rattle.pli_deck_read.proofs.Loops.{with_front}
+use Rattle.pli_deck_read.proofs.LoopLemmas.{with_front}
 use Rattle.pli_deck_read.proofs.reading.many_of.Given as goal
 
 -- the values that were read, in front of those that are left, are all of them

@@ -1,4 +1,4 @@
-use Rattle.pli_deck_read.proofs.Loops.{text_read, text_short}
+use Rattle.pli_deck_read.proofs.LoopLemmas.{text_read, text_short}
 use Rattle.pli_deck_read.proofs.reading.text_of.Goals as goal
 
 pub returns-then-bytes-count : goal.returns-then-bytes-count

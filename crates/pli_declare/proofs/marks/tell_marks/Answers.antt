@@ -2,8 +2,8 @@ use Rattle.std.proofs.Common.{◌≡◌, ◌<◌, ◌≤◌, ◌+◌, ◌++◌, 
 use Rattle.std.proofs.lemmas.List.{length-map}
 use Rattle.pli_base.specs.declared.code.Code.{Code}
 use Rattle.pli_declare_constructs.specs.Regions.{block_of}
-use Rattle.pli_declare_outline.specs.Outlines.{Placed, Outline}
-use Rattle.pli_declare_outline.specs.declared.region.Placed as written
+use Rattle.pli_declare_outline.specs.Outlines.{PlacedMark, Outline}
+use Rattle.pli_declare_outline.specs.declared.region.PlacedMark as written
 use Rattle.pli_declare_outline.specs.views.OutlineView.{outline_view, mark_view, marks_view, placed_view}
 use Rattle.pli_declare_tables.specs.Tables.{entries_in, inner_marks}
 use Rattle.pli_declare.specs.Resolution.{item_code, declared_by, faults_after}
@@ -33,7 +33,7 @@ offset_bounds-codes-block c =
     search rules
 
 -- there is a number for the block of a mark
-next_within : (o : Outline) (before : List Placed) (next : List ℕ) (region block : ℕ) → block ≡ block_of o.regions region → next ≡ of_blocks o (λ b. declared_by o b before) → block < length next
+next_within : (o : Outline) (before : List PlacedMark) (next : List ℕ) (region block : ℕ) → block ≡ block_of o.regions region → next ≡ of_blocks o (λ b. declared_by o b before) → block < length next
 next_within o before next region block e all = block_in o (λ b. declared_by o b before) next region block e all
 
 pub index-requires : goal.index-requires
@@ -47,7 +47,7 @@ index_mut-requires c =
     omega (arith, next_within (outline_view c.args.scopes.now.outline.now) before c.loop-placed.next.items c.placed-item.result.region c.block_of-block.result c.block_of-block.ensures c.loop-placed.invariant.next)
 
 -- the names of a mark have codes
-declared_within : (o : Outline) (ms : List written.Placed) (n : ℕ) (x : written.Placed) (number : ℕ) (codes : List (Option Code)) → n < length ms → x ≡ get_or ms n x → marks_view ms ≡ inner_marks o.marks
+declared_within : (o : Outline) (ms : List written.PlacedMark) (n : ℕ) (x : written.PlacedMark) (number : ℕ) (codes : List (Option Code)) → n < length ms → x ≡ get_or ms n x → marks_view ms ≡ inner_marks o.marks
     → number ≡ declared_by o (block_of o.regions x.region) (marks_view (take n ms)) → codes ≡ block_codes o (block_of o.regions x.region) → number + length (declared_names (mark_view x.mark)) ≤ length codes
 declared_within o ms n x number codes lt read marks counted coded =
     let here = block_of o.regions x.region in

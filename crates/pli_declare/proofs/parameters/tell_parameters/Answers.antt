@@ -6,7 +6,7 @@ use Rattle.pli_base.specs.Words.{same_name}
 use Rattle.pli_base.specs.declared.syntax.Identifier.{Identifier}
 use Rattle.pli_declare_outline.specs.views.OutlineView.{outline_view}
 use Rattle.pli_declare.specs.Resolution.{parameter_codes}
-use Rattle.pli_declare_scopes.proofs.Seen.{seen_more, names_alike}
+use Rattle.pli_declare_scopes.proofs.PutOnceLemmas.{seen_more, names_alike}
 use Rattle.pli_declare.proofs.ParameterNames.{names_to, names_more, told_more}
 use Rattle.pli_declare.proofs.parameters.tell_parameters.Goals as goal
 

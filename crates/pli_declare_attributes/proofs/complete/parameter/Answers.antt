@@ -6,7 +6,7 @@ use Rattle.pli_declare_attributes.specs.Extents.{all_bounds}
 use Rattle.pli_declare_attributes.specs.Types.{number_of, scalar_of}
 use Rattle.pli_declare_attributes.specs.Sets.{set_of}
 use Rattle.pli_declare_attributes.specs.Faults.{parameter_place, parameter_of, with_bounds}
-use Rattle.pli_declare_attributes.proofs.Shapes.{description_sound, bounds_good, sound_alike}
+use Rattle.pli_declare_attributes.proofs.ShapeLemmas.{description_sound, bounds_good, sound_alike}
 use Rattle.pli_declare_attributes.proofs.complete.parameter.Goals as goal
 
 pub all_described-requires : goal.all_described-requires

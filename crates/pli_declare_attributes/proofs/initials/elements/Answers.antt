@@ -1,17 +1,17 @@
 use Rattle.std.proofs.Common.{◌≡◌, ◌*◌, ◌+◌, ◌∙◌, ◌&&◌, Bool, true, false, None, drop, min, ap, sym, arith}
 use Rattle.std.proofs.lemmas.List.{at_drop_more}
 use Rattle.std.specs.List.{list_all}
-use Rattle.pli_base.specs.declared.declaration.Bounds.{Bounds}
+use Rattle.pli_base.specs.declared.declaration.WrittenBounds.{WrittenBounds}
 use Rattle.pli_map.specs.Sizes.{count_of, extent_of}
 use Rattle.pli_declare_attributes.specs.Extents.{all_bounds, are_good}
-use Rattle.pli_declare_attributes.proofs.Counts.{count_left, cut_factor}
+use Rattle.pli_declare_attributes.proofs.CountLemmas.{count_left, cut_factor}
 use Rattle.pli_declare_attributes.proofs.initials.elements.Goals as goal
 
 second : (a b : Bool) → (a && b) ≡ true → b ≡ true
 second true b h = h
 second false b h = cc
 
-abbrev none : Bounds
+abbrev none : WrittenBounds
 none = record { low = None; high = record { negative = false; value = 0 } }
 
 pub loop-bounds-init : goal.loop-bounds-init

@@ -4,7 +4,7 @@ use Rattle.pli_declare_outline.specs.views.OutlineView.{region_view, regions_vie
 use Rattle.pli_declare_outline.specs.declared.region.Region.{Region as Written}
 use Rattle.pli_declare_outline.specs.declared.region.RegionKind.TheVariants as kinds
 use Rattle.pli_declare_constructs.specs.Regions.{innermost, outside}
-use Rattle.pli_declare_constructs.proofs.Blocks.{told_block, told_other, told, told_all, next_before, next_behind, next_none}
+use Rattle.pli_declare_constructs.proofs.BlocksAround.{told_block, told_other, told, told_all, next_before, next_behind, next_none}
 use Rattle.pli_declare_constructs.proofs.nesting.blocks_of.Goals as goal
 use Rattle.pli_declare_constructs.proofs.nesting.blocks_of.Goals.{then-is_block, else-is_block+in-Some, else-is_block+in_default-2, else-is_block+in_default}
 

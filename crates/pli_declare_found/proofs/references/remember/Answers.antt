@@ -1,5 +1,5 @@
 use Rattle.std.proofs.Common.{refl, arith}
-use Rattle.pli_declare_found.proofs.Kept.{put_back}
+use Rattle.pli_declare_found.proofs.PutBackLemmas.{put_back}
 use Rattle.pli_declare_found.proofs.references.remember.Goals as goal
 
 pub returns : goal.returns

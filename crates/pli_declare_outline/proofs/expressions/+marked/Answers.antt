@@ -4,7 +4,7 @@ use Rattle.pli_base.specs.views.SyntaxView.{joined_view}
 use Rattle.pli_base.specs.declared.syntax.Reference.{out-Reference}
 use Rattle.pli_declare_outline.specs.Outlines.{placed, member_names, joined_marks}
 use Rattle.pli_declare_outline.specs.views.OutlineView.{marks_view}
-use Rattle.pli_declare_outline.proofs.Marks.{reference_marked}
+use Rattle.pli_declare_outline.proofs.MarkLemmas.{reference_marked}
 use Rattle.pli_declare_outline.proofs.expressions.+marked.Goals as goal
 
 pub mark_reference-returns : goal.mark_reference-returns

@@ -6,7 +6,7 @@ use Rattle.pli_base.specs.views.SyntaxView.{expression_view}
 use Rattle.pli_base.specs.views.StatementView.{body_view, statement_view, statements_view, unit_view}
 use Rattle.pli_base.specs.laws.StatementLaws.{begin_made, do_made, if_made, on_made, boxed_view, unit_statements, procedure_body}
 use Rattle.pli_declare_outline.specs.Outlines.{label_marks, regions_among, regions_in, statements_regions, statements_marks, statement_regions, statement_marks}
-use Rattle.pli_declare_outline.proofs.Walking.{procedure, block, group, region_walked, marks_then, region_then, statements_then, none_walked, nothing_walked, if_walked, unit_walked}
+use Rattle.pli_declare_outline.proofs.WalkLemmas.{procedure, block, group, region_walked, marks_then, region_then, statements_then, none_walked, nothing_walked, if_walked, unit_walked}
 use Rattle.pli_declare_outline.proofs.walk.+walk.Goals as goal
 
 pub walk_statement-returns : goal.walk_statement-returns

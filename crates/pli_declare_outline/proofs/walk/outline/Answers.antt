@@ -7,10 +7,10 @@ use Rattle.pli_declare_outline.specs.declared.region.RegionKind.TheVariants as k
 use Rattle.pli_base.specs.laws.StatementLaws.{unit_statements}
 use Rattle.pli_declare_outline.proofs.walk.outline.Goals as goal
 
-abbrev outlined : List plain.Region → List plain.Placed → plain.Outline
+abbrev outlined : List plain.Region → List plain.PlacedMark → plain.Outline
 outlined rs ms = record { regions = rs; marks = ms }
 
-both : (rs ss : List plain.Region) (ms ns : List plain.Placed) → rs ≡ ss → ms ≡ ns → outlined rs ms ≡ outlined ss ns
+both : (rs ss : List plain.Region) (ms ns : List plain.PlacedMark) → rs ≡ ss → ms ≡ ns → outlined rs ms ≡ outlined ss ns
 both rs ss ms ns r m = ap (λ xs. outlined xs ms) r ∙ ap (outlined ss) m
 
 abbrev the_unit : plain.Region

@@ -3,7 +3,7 @@ use Rattle.std.proofs.lemmas.List.{get_or_default}
 use Rattle.pli_declare_scopes.specs.Scopes.{no_item}
 use Rattle.std.specs.Option.{is_some}
 use Rattle.pli_declare_scopes.specs.answers.Leaps.{rank}
-use Rattle.pli_declare_scopes.proofs.Repeated.{same_owners}
+use Rattle.pli_declare_scopes.proofs.RepeatsLemmas.{same_owners}
 use Rattle.pli_declare_scopes.proofs.ReachesKept.{some_is, Closing, closing_on, closing_ends}
 use Rattle.pli_declare_scopes.proofs.reach.close.Goals as goal
 

@@ -1,6 +1,6 @@
 use Rattle.std.proofs.Common.{◌≤◌, IfSome, sym, subst}
 use Rattle.std.proofs.lemmas.Bool.Decides.{leb_tells}
-use Rattle.pli_declare_scopes.proofs.Chains.{none_is}
+use Rattle.pli_declare_scopes.proofs.ChainLemmas.{none_is}
 use Rattle.pli_declare_scopes.proofs.StandsAbove.{none_above, reaches_on, end_tells}
 use Rattle.pli_declare_scopes.proofs.reach.stands_above.Goals as goal
 

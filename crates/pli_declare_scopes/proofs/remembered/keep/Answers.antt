@@ -1,6 +1,6 @@
 use Rattle.std.proofs.Common.{sym, subst}
 use Rattle.pli_declare_scopes.specs.answers.Remembered.{AreRemembered}
-use Rattle.pli_declare_scopes.proofs.Recalled.{one_more}
+use Rattle.pli_declare_scopes.proofs.RememberedLemmas.{one_more}
 use Rattle.pli_declare_scopes.proofs.remembered.keep.Goals as goal
 
 pub returns : goal.returns

@@ -1,5 +1,5 @@
 use Rattle.std.proofs.Common.{◌≡◌, IfSome, sym, subst, ◌∙◌}
-use Rattle.pli_declare_scopes.proofs.Recalled.{recalled}
+use Rattle.pli_declare_scopes.proofs.RememberedLemmas.{recalled}
 use Rattle.pli_declare_scopes.proofs.remembered.remembered_of.Goals as goal
 
 pub returns : goal.returns

@@ -3,8 +3,8 @@ use Rattle.std.specs.List.{list_any}
 use Rattle.std.proofs.lemmas.List.{take_more}
 use Rattle.pli_declare_scopes.specs.declared.repeat.Written.{Written}
 use Rattle.pli_declare_scopes.specs.Repeats.{repeats, counts_above}
-use Rattle.pli_declare_scopes.proofs.Repeated.{repeats_same, judged_more}
-use Rattle.pli_declare_scopes.proofs.Seen.{seen_more}
+use Rattle.pli_declare_scopes.proofs.RepeatsLemmas.{repeats_same, judged_more}
+use Rattle.pli_declare_scopes.proofs.PutOnceLemmas.{seen_more}
 use Rattle.pli_declare_scopes.proofs.repeat.verdicts.Goals as goal
 
 pub loop-item-preserved : goal.loop-item-preserved

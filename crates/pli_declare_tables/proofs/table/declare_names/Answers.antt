@@ -4,7 +4,7 @@ use Rattle.std.specs.Iterator.Adapters.{zip_first, zip_second}
 use Rattle.std.specs.Slice.Iter.{iter_rest}
 use Rattle.pli_declare_scopes.specs.Repeats.{is_counting}
 use denote.Enum.Bare.{sameb}
-use Rattle.pli_declare_scopes.specs.Scopes.{Block}
+use Rattle.pli_declare_scopes.specs.Scopes.{BlockItems}
 use Rattle.pli_declare_scopes.specs.declared.block.Declared.{Declared}
 use Rattle.pli_declare_scopes.specs.declared.repeat.Verdict.{Verdict}
 use Rattle.pli_declare_scopes.specs.contracts.repeat.Verdict.{the_type}
@@ -22,10 +22,10 @@ loop-entry-init c =
     let first : left ≡ c.args.entries.now = cc in
     let second : given ≡ c.args.verdicts.now = cc in
     record {
-      block = ap (λ (b : Block). b ++ with_verdicts (entries_view left) given) c.requires.empty ∙ ap (λ es. with_verdicts (entries_view es) given) first
+      block = ap (λ (b : BlockItems). b ++ with_verdicts (entries_view left) given) c.requires.empty ∙ ap (λ es. with_verdicts (entries_view es) given) first
           ∙ ap (with_verdicts (entries_view c.args.entries.now)) second;
       behind = subst (λ (es : List Entry). Behind (length c.args.block.now) (entries_view es)) (sym first)
-          (subst (λ (b : Block). Behind (length b) (entries_view c.args.entries.now)) (sym c.requires.empty) (owners_behind (entries_view c.args.entries.now) c.requires.behind));
+          (subst (λ (b : BlockItems). Behind (length b) (entries_view c.args.entries.now)) (sym c.requires.empty) (owners_behind (entries_view c.args.entries.now) c.requires.behind));
     }
 
 pub returns : goal.returns
@@ -45,7 +45,7 @@ said Verdict.Twice = refl
 said Verdict.Beneath = refl
 
 -- one more item
-one_more : (before after whole : Block) (left rest : List Entry) (given others : List Verdict) (e : Entry) (v : Verdict) (counts : Bool)
+one_more : (before after whole : BlockItems) (left rest : List Entry) (given others : List Verdict) (e : Entry) (v : Verdict) (counts : Bool)
     → left ≡ e ∷ rest → given ≡ v ∷ others → counts ≡ is_counting v
     → after ≡ before ++ record { name = e.identifier.name; owner = e.owner; counts = counts } ∷ []
     → before ++ with_verdicts (entries_view left) given ≡ whole
@@ -53,17 +53,17 @@ one_more : (before after whole : Block) (left rest : List Entry) (given others :
 one_more before after whole left rest given others e v counts l g k made all =
     let more = with_verdicts (entries_view rest) others in
     let item : Declared = record { name = e.identifier.name; owner = e.owner; counts = counts } in
-    ap (λ (b : Block). b ++ more) made
+    ap (λ (b : BlockItems). b ++ more) made
     ∙ append_assoc before (item ∷ []) more
     ∙ ap (λ (b : Bool). before ++ record { name = e.identifier.name; owner = e.owner; counts = b } ∷ more) k
     ∙ ap (λ (es : List Entry). before ++ with_verdicts (entries_view es) (v ∷ others)) (sym l)
     ∙ ap (λ (vs : List Verdict). before ++ with_verdicts (entries_view left) vs) (sym g)
     ∙ all
 
-behind_it : (before after : Block) (left rest : List Entry) (e : Entry) (item : Declared) → left ≡ e ∷ rest → after ≡ before ++ item ∷ []
+behind_it : (before after : BlockItems) (left rest : List Entry) (e : Entry) (item : Declared) → left ≡ e ∷ rest → after ≡ before ++ item ∷ []
     → Behind (length before) (entries_view left) → Behind (length after) (entries_view rest)
 behind_it before after left rest e item l made h =
-    let longer : length after ≡ length before + 1 = ap (λ (b : Block). length b) made ∙ length-append before (item ∷ []) in
+    let longer : length after ≡ length before + 1 = ap (λ (b : BlockItems). length b) made ∙ length-append before (item ∷ []) in
     subst (λ (n : ℕ). Behind n (entries_view rest)) (sym longer) (subst (λ (es : List Entry). Behind (length before) (entries_view es)) l h).1
 
 pub loop-entry-preserved : goal.loop-entry-preserved

@@ -1,7 +1,7 @@
 use Rattle.std.proofs.Common.{◌≡◌, true, false, None, List, get_or, length, sym, ap, subst, ◌∙◌, arith}
 use Rattle.std.proofs.lemmas.List.{length-map}
 use Rattle.pli_declare_attributes.specs.Faults.{item_fault}
-use Rattle.pli_declare_attributes.specs.declared.place.Place.{Place}
+use Rattle.pli_declare_attributes.specs.declared.place.ItemPlace.{ItemPlace}
 use Rattle.pli_declare_attributes.specs.declared.place.Position.TheVariants.{AtLevelOne}
 use Rattle.pli_declare_tables.specs.Tables as plain
 use Rattle.pli_declare_tables.specs.views.TableView.{entry_view, entries_view}
@@ -9,11 +9,11 @@ use Rattle.pli_declare_variables.specs.Declarations.{IsGood}
 use Rattle.pli_declare_variables.specs.Places.{item_in, place_in, own_code}
 use Rattle.pli_declare_variables.specs.answers.Walks.{cut_place_in}
 use Rattle.pli_declare_variables.proofs.Faultless.{without}
-use Rattle.pli_declare_variables.proofs.Levelled.{view_at}
-use Rattle.pli_declare_variables.proofs.Numbers.{mapped_at, mapped_more}
+use Rattle.pli_declare_variables.proofs.LevelLemmas.{view_at}
+use Rattle.pli_declare_variables.proofs.NumberLemmas.{mapped_at, mapped_more}
 use Rattle.pli_declare_variables.proofs.codes.codes_at.Goals as goal
 
-abbrev no_place : Place
+abbrev no_place : ItemPlace
 no_place = record { position = AtLevelOne; has_members = false; in_array = false; elements_above = None; built_in_name = false }
 
 pub loop-number-preserved : goal.loop-number-preserved
@@ -26,6 +26,6 @@ loop-number-preserved c = λ names good placed.
     let view = view_at program n x lt c.index-entries-number.is in
     let fine = λ (e : c.args.are_good ≡ true). without entries names n (entry_view x).entity (ap (λ (x : plain.Entry). x.entity) view)
     (subst (λ (x : plain.Entry). IsGood entries names n x.entity) view (good e n (omega (arith, lt, length-map program entry_view)))) in
-    let place = ap (λ (ps : List Place). get_or ps n no_place) placed ∙ mapped_at (cut_place_in entries names) (length program) n no_place lt in
+    let place = ap (λ (ps : List ItemPlace). get_or ps n no_place) placed ∙ mapped_at (cut_place_in entries names) (length program) n no_place lt in
     let here = c.own_code-code.ensures (place_in entries names n) place fine ∙ ap (λ (x : plain.Entry). item_fault (place_in entries names n) (item_in x.entity)) (sym view) in
     c.in_ok-push.ensures.items ∙ mapped_more (own_code entries names) c.loop-number.codes.items n c.own_code-code.result (c.loop-number.invariant names good placed) here

@@ -1,7 +1,7 @@
 use Rattle.std.proofs.Common.{◌≡◌, List, length, map, option_map, sym, ap, subst, ◌∙◌, arith}
 use Rattle.std.proofs.lemmas.List.{length-map, map_push}
 use Rattle.pli_map.specs.views.DescriptionView.{description_view}
-use Rattle.pli_declare_attributes.specs.declared.place.Place.{Place}
+use Rattle.pli_declare_attributes.specs.declared.place.ItemPlace.{ItemPlace}
 use Rattle.pli_declare_tables.specs.Tables as plain
 use Rattle.pli_declare_tables.specs.views.TableView.{entry_view, entries_view}
 use Rattle.pli_declare_variables.specs.answers.Walks.{cut_place_in}
@@ -10,15 +10,15 @@ use Rattle.pli_declare_variables.specs.Declarations.{declaration_at}
 use Rattle.pli_declare_variables.specs.views.DeclarationView.{kind_view, declaration_view}
 use Rattle.pli_declare_variables.specs.declared.declaration.Declaration.{Declaration}
 use Rattle.pli_declare_variables.proofs.Faultless.{all_codes, faultless, whole, kind_at}
-use Rattle.pli_declare_variables.proofs.Levelled.{view_at}
-use Rattle.pli_declare_variables.proofs.Numbers.{mapped_more, mapped_length}
-use Rattle.pli_declare_variables.proofs.Placing.{element_at}
-use Rattle.pli_declare_variables.proofs.Sound.{codes_sound}
+use Rattle.pli_declare_variables.proofs.LevelLemmas.{view_at}
+use Rattle.pli_declare_variables.proofs.NumberLemmas.{mapped_more, mapped_length}
+use Rattle.pli_declare_variables.proofs.PlaceLemmas.{element_at}
+use Rattle.pli_declare_variables.proofs.LimitsHaveFaults.{codes_sound}
 use Rattle.pli_declare_variables.proofs.declared.declare.Goals as goal
 
 pub codes_at-requires : goal.codes_at-requires
 codes_at-requires c =
-    ap (λ (xs : List Place). length xs) (c.deref.ensures.value ∙ c.in_ok-places.ensures)
+    ap (λ (xs : List ItemPlace). length xs) (c.deref.ensures.value ∙ c.in_ok-places.ensures)
     ∙ mapped_length (cut_place_in (entries_view c.args.entries.now) c.args.parameters.now) (length c.args.entries.now)
 
 pub whole_description-requires-clause-sound : goal.whole_description-requires-clause-sound
@@ -30,7 +30,7 @@ whole_description-requires-clause-sound c =
 
 pub index-requires : goal.index-requires
 index-requires c =
-    let long = ap (λ (xs : List Place). length xs) c.in_ok-places.ensures ∙ mapped_length (cut_place_in (entries_view c.args.entries.now) c.args.parameters.now) (length c.args.entries.now) in
+    let long = ap (λ (xs : List ItemPlace). length xs) c.in_ok-places.ensures ∙ mapped_length (cut_place_in (entries_view c.args.entries.now) c.args.parameters.now) (length c.args.entries.now) in
     omega (arith, long, c.loop-number-test.true)
 
 pub kind-requires : goal.kind-requires

@@ -9,9 +9,9 @@ use Rattle.pli_declare_variables.specs.answers.Walks.{nameable_at}
 use Rattle.pli_declare_variables.specs.Judging.{judged_at}
 use Rattle.pli_declare_variables.specs.declared.judged.Judged.{Judged}
 use Rattle.pli_declare_variables.specs.declared.locators.Nameable.{Nameable}
-use Rattle.pli_declare_variables.proofs.Numbers.{mapped_more, mapped_length}
-use Rattle.pli_declare_variables.proofs.Placing.{element_at}
-use Rattle.pli_declare_variables.proofs.Sound.{codes_sound}
+use Rattle.pli_declare_variables.proofs.NumberLemmas.{mapped_more, mapped_length}
+use Rattle.pli_declare_variables.proofs.PlaceLemmas.{element_at}
+use Rattle.pli_declare_variables.proofs.LimitsHaveFaults.{codes_sound}
 use Rattle.pli_declare_variables.proofs.judged.judge.Goals as goal
 
 -- the codes of all entries

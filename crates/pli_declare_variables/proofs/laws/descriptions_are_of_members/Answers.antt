@@ -6,7 +6,7 @@ use Rattle.pli_declare_tables.specs.Tables.{Entry, entries_in}
 use Rattle.pli_declare_tables.proofs.MembersStandBehind.{owners_stand_before}
 use Rattle.pli_declare_variables.specs.Descriptions.{is_of_shape, scalar_at, inside, own_codes, described}
 use Rattle.pli_declare_variables.specs.Places.{item_of, members_of}
-use Rattle.pli_declare_variables.proofs.Describing.{of_parts}
+use Rattle.pli_declare_variables.proofs.DescriptionLemmas.{of_parts}
 use Rattle.pli_declare_variables.proofs.laws.descriptions_are_of_members.Goals as goal
 
 pub returns-clause-described : goal.returns-clause-described

@@ -2,9 +2,9 @@ use Rattle.std.proofs.Common.{List, Bool, length, ap, ◌∙◌, arith}
 use Rattle.pli_declare_tables.specs.views.TableView.{entries_view}
 use Rattle.pli_declare_variables.specs.answers.Walks.{cut_place_in}
 use Rattle.pli_declare_variables.specs.answers.Walks.{has_members_at, above_at}
-use Rattle.pli_declare_variables.specs.declared.places.Surroundings.{Surroundings}
-use Rattle.pli_declare_variables.proofs.Numbers.{mapped_more, mapped_length}
-use Rattle.pli_declare_variables.proofs.Placing.{placed_at, element_at}
+use Rattle.pli_declare_variables.specs.declared.places.LevelsAbove.{LevelsAbove}
+use Rattle.pli_declare_variables.proofs.NumberLemmas.{mapped_more, mapped_length}
+use Rattle.pli_declare_variables.proofs.PlaceLemmas.{placed_at, element_at}
 use Rattle.pli_declare_variables.proofs.places.places.Goals as goal
 
 pub index-requires : goal.index-requires
@@ -16,7 +16,7 @@ index-requires c =
 pub index-requires-in-loop-number : goal.index-requires-in-loop-number
 index-requires-in-loop-number c =
     let count = length c.args.entries.now in
-    let long = ap (λ (xs : List Surroundings). length xs) c.in_ok-aboves.ensures ∙ mapped_length (above_at (entries_view c.args.entries.now)) count in
+    let long = ap (λ (xs : List LevelsAbove). length xs) c.in_ok-aboves.ensures ∙ mapped_length (above_at (entries_view c.args.entries.now)) count in
     omega (arith, long, c.loop-number-test.true)
 
 pub loop-number-preserved : goal.loop-number-preserved

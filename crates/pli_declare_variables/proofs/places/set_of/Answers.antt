@@ -3,7 +3,7 @@ use Rattle.std.specs.List.{list_any}
 use Rattle.std.proofs.lemmas.List.{take_more}
 use Rattle.pli_base.specs.Name.{Name}
 use Rattle.pli_base.specs.Words.{same_name}
-use Rattle.pli_declare_scopes.proofs.Seen.{seen_more, names_alike}
+use Rattle.pli_declare_scopes.proofs.PutOnceLemmas.{seen_more, names_alike}
 use Rattle.pli_declare_variables.proofs.places.set_of.Goals as goal
 
 pub loop-name-preserved : goal.loop-name-preserved

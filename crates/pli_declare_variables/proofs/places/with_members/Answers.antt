@@ -7,9 +7,9 @@ use Rattle.pli_declare_tables.specs.Tables.{numbers_from}
 use Rattle.pli_declare_tables.specs.views.TableView.{entry_view, entries_view}
 use Rattle.pli_declare_variables.specs.Places.{owner_is}
 use Rattle.pli_declare_variables.specs.answers.Walks.{has_members_at}
-use Rattle.pli_declare_variables.proofs.Numbers.{mapped_at, mapped_length}
-use Rattle.pli_declare_variables.proofs.Levelled.{owner_before, view_at}
-use Rattle.pli_declare_variables.proofs.Marks.{members_there, none_marked, one_marked}
+use Rattle.pli_declare_variables.proofs.NumberLemmas.{mapped_at, mapped_length}
+use Rattle.pli_declare_variables.proofs.LevelLemmas.{owner_before, view_at}
+use Rattle.pli_declare_variables.proofs.MarkLemmas.{members_there, none_marked, one_marked}
 use Rattle.pli_declare_variables.proofs.places.with_members.Goals as goal
 use Rattle.pli_declare_variables.proofs.places.with_members.Goals.{in-Some, in_default}
 

@@ -11,7 +11,7 @@ use Rattle.std.specs.Prelude.{option_map}
 use Rattle.pli_declare_variables.specs.Places.{item_in}
 use Rattle.pli_declare_variables.specs.Descriptions.{inside}
 use Rattle.pli_declare_variables.specs.answers.Measures.{of_layout, IsMeasured}
-use Rattle.pli_declare_variables.proofs.Measuring.{of_scalar, inside_some}
+use Rattle.pli_declare_variables.proofs.SizeLemmas.{of_scalar, inside_some}
 use Rattle.pli_declare_variables.proofs.sizes.measure.Goals.{then-is_empty, else-is_empty}
 use Rattle.pli_declare_variables.proofs.sizes.measure.Goals as goal
 

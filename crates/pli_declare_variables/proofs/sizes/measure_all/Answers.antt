@@ -11,7 +11,7 @@ use Rattle.pli_declare_variables.specs.Descriptions.{described, inside}
 use Rattle.pli_declare_variables.specs.answers.Measures.{IsMeasured, AreMeasured}
 use Rattle.pli_declare_variables.specs.declared.sizes.Measured.{Measured}
 use Rattle.pli_declare_variables.specs.declared.sizes.Measured.TheVariants.{Unknown}
-use Rattle.pli_declare_variables.proofs.Describing.{rows, row}
+use Rattle.pli_declare_variables.proofs.DescriptionLemmas.{rows, row}
 use Rattle.pli_declare_variables.proofs.MembersFound.{viewed, shapeless, shaped, one_more}
 use Rattle.pli_declare_variables.proofs.sizes.measure_all.Goals.{then-has_bad_shape, else-has_bad_shape}
 use Rattle.pli_declare_variables.proofs.sizes.measure_all.Goals as goal

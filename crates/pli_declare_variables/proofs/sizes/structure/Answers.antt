@@ -1,5 +1,5 @@
 use Rattle.pli_declare_variables.specs.Descriptions.{members_made}
-use Rattle.pli_declare_variables.proofs.Measuring.{begins}
+use Rattle.pli_declare_variables.proofs.SizeLemmas.{begins}
 use Rattle.pli_declare_variables.proofs.sizes.structure.Goals as goal
 
 pub loop-number-init : goal.loop-number-init

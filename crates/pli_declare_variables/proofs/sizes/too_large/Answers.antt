@@ -9,7 +9,7 @@ use Rattle.pli_declare_variables.specs.Descriptions.{described, is_large, is_lar
 use Rattle.pli_declare_variables.specs.answers.Measures.{IsMeasured}
 use Rattle.pli_declare_variables.specs.declared.sizes.Measured.{Measured}
 use Rattle.pli_declare_variables.specs.declared.sizes.Measured.TheVariants.{Unknown}
-use Rattle.pli_declare_variables.proofs.NumbersOn.{map_next}
+use Rattle.pli_declare_variables.proofs.NumberListLemmas.{map_next}
 use Rattle.pli_declare_variables.proofs.MembersFound.{viewed}
 use Rattle.pli_declare_variables.proofs.sizes.too_large.Goals as goal
 

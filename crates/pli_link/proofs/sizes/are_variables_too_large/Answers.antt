@@ -1,7 +1,7 @@
 use Rattle.std.proofs.Common.{◌≡◌, ◌∙◌, ap, Bool, true, false, not, refl, is_none, is_some}
 use Rattle.pli_link.specs.ModuleSize.{variables_made}
 use Rattle.pli_link.specs.answers.Tables.{units_in}
-use Rattle.pli_link.proofs.Counted.{too_large}
+use Rattle.pli_link.proofs.ByteCountLemmas.{too_large}
 use Rattle.pli_link.proofs.sizes.are_variables_too_large.Goals as goal
 
 turned : (a b : Bool) → a ≡ not b → b ≡ not a

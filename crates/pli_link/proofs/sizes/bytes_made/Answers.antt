@@ -6,7 +6,7 @@ use Rattle.pli_link.specs.Names.{externals}
 use Rattle.pli_link.specs.answers.Counting.{counted, if_counted}
 use Rattle.pli_link.specs.answers.Tables.{units_in}
 use Rattle.pli_unit_code.specs.CodeTables.{there}
-use Rattle.pli_link.proofs.Counted.{counted_behind}
+use Rattle.pli_link.proofs.ByteCountLemmas.{counted_behind}
 use Rattle.pli_link.proofs.sizes.bytes_made.Goals as goal
 
 pub returns-in_err-with_all_own : goal.returns-in_err-with_all_own

@@ -1,6 +1,6 @@
 use Rattle.std.proofs.Common.{◌∙◌, ap}
 use Rattle.pli_link.specs.answers.Counting.{counted}
-use Rattle.pli_link.proofs.Counted.{shown, shown_values}
+use Rattle.pli_link.proofs.ByteCountLemmas.{shown, shown_values}
 use Rattle.pli_link.proofs.sizes.with_externals.Goals as goal
 
 pub loop-external-init : goal.loop-external-init

@@ -4,7 +4,7 @@ use Rattle.std.specs.Map.{values_of}
 use Rattle.pli_link.specs.answers.Counting.{counted}
 use Rattle.pli_link.specs.views.NameView.{externals_view}
 use Rattle.pli_unit_code.specs.CodeTables.{there}
-use Rattle.pli_link.proofs.Counted.{shown}
+use Rattle.pli_link.proofs.ByteCountLemmas.{shown}
 use Rattle.pli_link.proofs.sizes.with_externals.Given as goal
 
 -- the bytes so far, with those of the variables that are left, are those of all

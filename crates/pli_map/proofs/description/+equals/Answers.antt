@@ -1,5 +1,5 @@
 use Rattle.std.proofs.Common.{true≢false, arith, sym, ◌∙◌}
-use Rattle.pli_map.proofs.Equality.{other_lengths, same_at}
+use Rattle.pli_map.proofs.EqualityLemmas.{other_lengths, same_at}
 use Rattle.pli_map.proofs.description.+equals.Goals as goal
 
 pub all_equal-returns-then-left-right : goal.all_equal-returns-then-left-right

@@ -9,15 +9,15 @@ use Rattle.pli_parse_declaration.proofs.list.list_at.Goals as goal
 pub returns-in_err-read-clause-value : goal.returns-in_err-read-clause-value
 returns-in_err-read-clause-value g c =
     let p = err_from_is_err_and c.from_residual.result c.from_residual.ensures.1 in
-    let one = g.R.ReadsOne.one c.args.reader.now in
-    rw (p.1, p.2) (fails c.args.separator one (map g.R.ReadsOne.tree c.loop-values.values.items) c.loop-values.next c.loop-values.rest.now
+    let one = g.R.ListReader.one c.args.reader.now in
+    rw (p.1, p.2) (fails c.args.separator one (map g.R.ListReader.tree c.loop-values.values.items) c.loop-values.next c.loop-values.rest.now
     (list_at c.args.separator one c.args.at c.args.texts.now)
     c.in_err-read.field-0.0 c.in_err-read.ensures.value c.loop-values.invariant.value)
 
 pub loop-values-preserved : goal.loop-values-preserved
 loop-values-preserved g c =
-    let one = g.R.ReadsOne.one c.args.reader.now in
-    let tree = g.R.ReadsOne.tree in
+    let one = g.R.ListReader.one c.args.reader.now in
+    let tree = g.R.ListReader.tree in
     let e : map tree c.push.new.self.items ≡ map tree c.loop-values.values.items ++ tree c.in_ok-read.read.value ∷ [] = rw c.in_ok-push.ensures.items (map_push _ c.loop-values.values.items c.in_ok-read.read.value) in
     record {
       value = rw (e, c.in-Some.ensures.next) (goes_on c.args.separator one (map tree c.loop-values.values.items) c.loop-values.next c.loop-values.rest.now
@@ -31,9 +31,9 @@ loop-values-smaller g c = omega (arith, c.in_ok-read.ensures.place, c.in-Some.en
 
 pub returns-in-None-clause-value : goal.returns-in-None-clause-value
 returns-in-None-clause-value g c =
-    let one = g.R.ReadsOne.one c.args.reader.now in
-    let tree = g.R.ReadsOne.tree in
+    let one = g.R.ListReader.one c.args.reader.now in
+    let tree = g.R.ListReader.tree in
     let e : map tree c.push.new.self.items ≡ map tree c.loop-values.values.items ++ tree c.in_ok-read.read.value ∷ [] = rw c.in_ok-push.ensures.items (map_push _ c.loop-values.values.items c.in_ok-read.read.value) in
-    rw (g.met.R.ReadsOne.each c.push.new.self.items, e) (is_done c.args.separator one (map tree c.loop-values.values.items) c.loop-values.next c.loop-values.rest.now
+    rw (g.met.R.ListReader.each c.push.new.self.items, e) (is_done c.args.separator one (map tree c.loop-values.values.items) c.loop-values.next c.loop-values.rest.now
     (list_at c.args.separator one c.args.at c.args.texts.now)
     (front_view tree c.in_ok-read.read) c.in_ok-read.ensures.value c.in-None.ensures.value c.loop-values.invariant.value)

@@ -3,7 +3,7 @@ use Rattle.pli_parse_expression.specs.Assignments.{accepts, move, kind_of, is_as
 use Rattle.pli_parse_expression.specs.declared.assignment.Frame.TheVariants.{Target}
 use Rattle.pli_parse_expression.specs.declared.assignment.State.TheVariants.{NameWanted}
 use Rattle.pli_parse_expression.specs.answers.Tests.{onto, answered}
-use Rattle.pli_parse_expression.proofs.Frames.{step_on, no_token}
+use Rattle.pli_parse_expression.proofs.FrameLemmas.{step_on, no_token}
 use Rattle.pli_parse_expression.proofs.assignment.is_assignment.Goals as goal
 
 pub loop-text-init : goal.loop-text-init

@@ -1,4 +1,4 @@
-use Rattle.pli_parse_expression.proofs.Frames.{entered, left}
+use Rattle.pli_parse_expression.proofs.FrameLemmas.{entered, left}
 use Rattle.pli_parse_expression.proofs.assignment.moved.Goals as goal
 
 pub returns-in_ok-push-in-Enters : goal.returns-in_ok-push-in-Enters

@@ -7,7 +7,7 @@ use Rattle.pli_base.specs.declared.syntax.Part.{roll-Part}
 use Rattle.pli_parse_expression.specs.Reading.{infix_from, operand_at, inside, argument_of, listed_at, joined_from}
 use Rattle.pli_parse_expression.specs.answers.Answers.{front_view}
 use Rattle.pli_base.specs.views.SyntaxView.{arguments_view}
-use Rattle.pli_parse_expression.proofs.Loops.{too_many, operand_fails, right_goes_on, right_fails, goes_on, operators_end, no_name, arguments_fail, part_goes_on, parts_begin, parts_end, one_fails, list_goes_on, first_fails, list_begins, close_fails, list_ends, reference_done}
+use Rattle.pli_parse_expression.proofs.LoopLemmas.{too_many, operand_fails, right_goes_on, right_fails, goes_on, operators_end, no_name, arguments_fail, part_goes_on, parts_begin, parts_end, one_fails, list_goes_on, first_fails, list_begins, close_fails, list_ends, reference_done}
 use Rattle.pli_parse_expression.proofs.expression.+expression.Goals as goal
 
 pub right_of-returns-then-operators-ge-OPERATOR_LIMIT-clause-value : goal.right_of-returns-then-operators-ge-OPERATOR_LIMIT-clause-value

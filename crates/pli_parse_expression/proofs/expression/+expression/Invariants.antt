@@ -1,7 +1,7 @@
 use Rattle.std.proofs.Common.{◌≡◌, ℕ, ◌+◌, ◌*◌, ◌<◌, ◌≤◌, length, option_map}
 use Rattle.pli_base.specs.views.SyntaxView.{expression_view}
 use Rattle.pli_parse_expression.specs.Reading.{infix_from, operand_at, inside, argument_of, listed_at, joined_from}
-use Rattle.pli_parse_expression.proofs.Loops.{OperatorsLeft, PartsLeft, ListLeft}
+use Rattle.pli_parse_expression.proofs.LoopLemmas.{OperatorsLeft, PartsLeft, ListLeft}
 use Rattle.pli_parse_expression.proofs.expression.+expression.Given as goal
 
 -- Each call is on fewer tokens, or on the same with a lesser number behind the sum.

@@ -3,8 +3,8 @@
 use crate::tests::showing::expression::show_name;
 use pli_base::Name;
 use pli_base::declaration::{
-    Attribute, Bounds, DescribedAttribute, InitialValue, Integer, Item, ParameterDescription,
-    SimpleAttribute,
+    Attribute, DescribedAttribute, InitialValue, Integer, Item, ParameterDescription,
+    SimpleAttribute, WrittenBounds,
 };
 use pli_base::syntax::Identifier;
 use pli_text_tests::Shown;
@@ -17,7 +17,7 @@ fn show_integer(shown: &mut Shown, integer: &Integer) {
 }
 
 /// ` (0:9,-1:1)`, or nothing.
-fn show_dimensions(shown: &mut Shown, dimensions: &[Bounds]) {
+fn show_dimensions(shown: &mut Shown, dimensions: &[WrittenBounds]) {
     let mut before = "(";
     for bounds in dimensions {
         shown.put(before);

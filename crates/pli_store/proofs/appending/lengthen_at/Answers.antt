@@ -1,7 +1,7 @@
 use Rattle.std.proofs.Common.{◌≡◌, length, Some, slice_get, refl}
 use Rattle.std.proofs.lemmas.Option.{slice_get_read}
 use Rattle.pli_store.specs.declared.generation.Generation.{Generation}
-use Rattle.pli_store.proofs.Lengthening.{lengthened_at}
+use Rattle.pli_store.proofs.AppendLemmas.{lengthened_at}
 use Rattle.pli_store.proofs.appending.lengthen_at.Goals as goal
 
 pub returns : goal.returns

@@ -1,6 +1,6 @@
 use Rattle.std.proofs.Common.{◌≡◌, length, Some, slice_get, refl, arith}
 use Rattle.std.proofs.lemmas.Option.{slice_get_read}
-use Rattle.pli_store.proofs.Lengthening.{lengthened_in}
+use Rattle.pli_store.proofs.AppendLemmas.{lengthened_in}
 use Rattle.pli_store.proofs.appending.lengthen_in.Goals as goal
 
 pub returns : goal.returns

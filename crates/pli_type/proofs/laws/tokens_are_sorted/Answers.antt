@@ -1,7 +1,7 @@
 use Rattle.std.proofs.Common.{length}
 use Rattle.std.specs.Ordering.{nat_cmp}
 use Rattle.std.proofs.lemmas.Cmp.{nat_cmp_total}
-use Rattle.pli_sort.proofs.Sorted.{items_are_sorted}
+use Rattle.pli_sort.proofs.SortedLemmas.{items_are_sorted}
 use Rattle.pli_type.specs.TextOrder.{numbers_from}
 use Rattle.pli_type.specs.laws.TextSorting.{token_of}
 use Rattle.pli_type.proofs.laws.tokens_are_sorted.Goals as goal

@@ -2,8 +2,8 @@ use Rattle.std.proofs.Common.{◌-◌, ap, ◌∙◌, sym}
 use Rattle.std.specs.Prelude.{slice_get}
 use Rattle.pli_map.specs.views.DescriptionView.{description_view}
 use Rattle.pli_type.specs.FunctionCalls.{bound_in}
-use Rattle.pli_type_names.proofs.Trees.{array_view}
-use Rattle.pli_type_expression.proofs.Calls.{bound_found}
+use Rattle.pli_type_names.proofs.TreeLemmas.{array_view}
+use Rattle.pli_type_expression.proofs.CallLemmas.{bound_found}
 use Rattle.pli_type_expression.proofs.function.bounds_in.Goals as goal
 
 pub returns-in-Array : goal.returns-in-Array

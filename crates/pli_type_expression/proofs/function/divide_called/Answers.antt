@@ -5,7 +5,7 @@ use Rattle.pli_type.specs.FunctionCalls.{values_in}
 use Rattle.pli_type.specs.views.ValueView.{value_view}
 use Rattle.pli_type_expression.specs.Quotients.{precision_written, quotient_of}
 use Rattle.pli_type_expression.specs.views.TypingView.{argument_view}
-use Rattle.pli_type_expression.proofs.Calls.{no_quotient_without, quotient_by_values}
+use Rattle.pli_type_expression.proofs.CallLemmas.{no_quotient_without, quotient_by_values}
 use Rattle.pli_type_expression.proofs.function.divide_called.Goals as goal
 
 pub returns-in_default : goal.returns-in_default

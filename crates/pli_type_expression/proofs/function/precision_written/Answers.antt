@@ -1,7 +1,7 @@
 use Rattle.std.proofs.Common.{rules, ◌≡◌, length, map, ◌∙◌, sym}
 use Rattle.std.proofs.lemmas.List.{length-map}
 use Rattle.pli_type_expression.specs.views.TypingView.{argument_view}
-use Rattle.pli_type_expression.proofs.Calls.{no_precision}
+use Rattle.pli_type_expression.proofs.CallLemmas.{no_precision}
 use Rattle.pli_type_expression.proofs.function.precision_written.Goals as goal
 
 pub returns-in_default : goal.returns-in_default

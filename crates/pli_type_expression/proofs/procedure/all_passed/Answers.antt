@@ -7,7 +7,7 @@ use Rattle.pli_map.specs.views.DescriptionView.{description_view}
 use Rattle.pli_type.specs.ProcedureCalls.{all_passed}
 use Rattle.pli_type_tree.specs.views.TypedView.{argument_before}
 use Rattle.pli_type_expression.specs.views.TypingView.{argument_view}
-use Rattle.pli_type_expression.proofs.Passing.{arguments_before, before_none, one_passed}
+use Rattle.pli_type_expression.proofs.PassingLemmas.{arguments_before, before_none, one_passed}
 use Rattle.pli_type_expression.proofs.procedure.all_passed.Goals as goal
 
 pub loop-description-preserved : goal.loop-description-preserved

@@ -5,7 +5,7 @@ use Rattle.std.specs.Vec.Iter.{into_iter_items}
 use Rattle.pli_map.specs.views.DescriptionView.{description_view}
 use Rattle.pli_type.specs.ProcedureCalls.{all_passed}
 use Rattle.pli_type_expression.specs.views.TypingView.{argument_view}
-use Rattle.pli_type_expression.proofs.Passing.{arguments_before}
+use Rattle.pli_type_expression.proofs.PassingLemmas.{arguments_before}
 use Rattle.pli_type_expression.proofs.procedure.all_passed.Given as goal
 
 -- the arguments so far in front of those that are left

@@ -2,13 +2,13 @@ use Rattle.std.proofs.Common.{rules, ◌≡◌, ◌⊎◌, ◌<◌, inl, inr, []
 use Rattle.std.proofs.lemmas.List.{length-map}
 use Rattle.pli_map.specs.views.DescriptionView.{description_view}
 use Rattle.pli_type.specs.References.{subscripts_at}
-use Rattle.pli_type_names.proofs.Trees.{some_items}
-use Rattle.pli_type_names.specs.Meant.{is_way}
+use Rattle.pli_type_names.proofs.TreeLemmas.{some_items}
+use Rattle.pli_type_names.specs.SymbolMeaning.{is_way}
 use Rattle.pli_type_names.specs.views.NameView.{part_view}
 use Rattle.pli_type_tree.specs.TypedTree.{Part}
 use Rattle.pli_type_tree.specs.laws.TypedTreeLaws.{part_made}
 use Rattle.pli_type_tree.specs.views.TypedView.{expression_view, root_view, stride_view, subscripts_view}
-use Rattle.pli_type_expression.proofs.References.{reference_is_part}
+use Rattle.pli_type_expression.proofs.ReferenceLemmas.{reference_is_part}
 use Rattle.pli_type_expression.proofs.variable.reference_to.Goals as goal
 use Rattle.pli_type_expression.proofs.variable.reference_to.Goals.{else-not-is_member-via-then-not-is_member+else-is_empty, else-not-is_member-via-else-not-is_member}
 

@@ -4,7 +4,7 @@ use Rattle.std.specs.Iterator.Adapters.{zip_first, zip_second}
 use Rattle.std.specs.Slice.Iter.{iter_rest}
 use Rattle.std.specs.Vec.Iter.{into_iter_items}
 use Rattle.pli_type_tree.specs.views.TypedView.{expression_view, stride_view}
-use Rattle.pli_type_expression.proofs.References.{subscripts_before, before_none, nothing_placed, placed_more}
+use Rattle.pli_type_expression.proofs.ReferenceLemmas.{subscripts_before, before_none, nothing_placed, placed_more}
 use Rattle.pli_type_expression.proofs.variable.subscripts_at.Goals as goal
 
 pub loop-stride-preserved : goal.loop-stride-preserved

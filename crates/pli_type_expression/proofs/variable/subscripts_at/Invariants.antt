@@ -4,7 +4,7 @@ use Rattle.std.specs.Slice.Iter.{iter_rest}
 use Rattle.std.specs.Vec.Iter.{into_iter_items}
 use Rattle.pli_type.specs.References.{subscripts_at}
 use Rattle.pli_type_tree.specs.views.TypedView.{expression_view, stride_view}
-use Rattle.pli_type_expression.proofs.References.{subscripts_before}
+use Rattle.pli_type_expression.proofs.ReferenceLemmas.{subscripts_before}
 use Rattle.pli_type_expression.proofs.variable.subscripts_at.Given as goal
 
 -- the subscripts so far in front of those that are left

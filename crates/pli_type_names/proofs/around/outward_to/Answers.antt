@@ -1,5 +1,5 @@
 use Rattle.std.proofs.Common.{◌∙◌}
-use Rattle.pli_type_names.proofs.Outward.{found_here, found_further}
+use Rattle.pli_type_names.proofs.OutwardLemmas.{found_here, found_further}
 use Rattle.pli_type_names.proofs.around.outward_to.Goals as goal
 
 pub returns-then-around-outward : goal.returns-then-around-outward

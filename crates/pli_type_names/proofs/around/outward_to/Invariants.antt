@@ -1,6 +1,6 @@
 use Rattle.std.proofs.Common.{◌≡◌, drop, reverse}
 use Rattle.pli_type.specs.NamedUnits.{outward_to}
-use Rattle.pli_type_names.proofs.Outward.{further}
+use Rattle.pli_type_names.proofs.OutwardLemmas.{further}
 use Rattle.pli_type_names.proofs.around.outward_to.Given as goal
 
 -- the block is so many links behind those that are passed

@@ -1,8 +1,8 @@
 use Rattle.std.proofs.Common.{ap, sym, ◌∙◌, not}
 use Rattle.pli_map.specs.views.DescriptionView.{members_view}
 use Rattle.pli_type.specs.NamedUnits.{is_plain, all_plain}
-use Rattle.pli_type_names.proofs.Plain.{structure_plain, structure_empty}
-use Rattle.pli_type_names.proofs.Trees.{structure_view, some_items, no_items}
+use Rattle.pli_type_names.proofs.PlainLemmas.{structure_plain, structure_empty}
+use Rattle.pli_type_names.proofs.TreeLemmas.{structure_view, some_items, no_items}
 use Rattle.pli_type_names.proofs.descriptions.+is_plain.Goals as goal
 
 pub is_plain-returns-then-not-is_empty-2 : goal.is_plain-returns-then-not-is_empty-2

@@ -3,8 +3,8 @@ use Rattle.pli_base.specs.views.StatementView.{unit_view}
 use Rattle.pli_resolve.specs.ResolvedUnits.{resolved_unit_of}
 use Rattle.pli_resolve.specs.views.UnitView.{resolved_block_view}
 use Rattle.pli_type_names.specs.views.EntryView.{entry_view}
-use Rattle.pli_type_names.proofs.Blocks.{entries_of, entry_bare, all_entries}
-use Rattle.pli_type_names.proofs.Lists.{made_more}
+use Rattle.pli_type_names.proofs.BlockLemmas.{entries_of, entry_bare, all_entries}
+use Rattle.pli_type_names.proofs.ListLemmas.{made_more}
 use Rattle.pli_type_names.proofs.entries.block_entries.Goals as goal
 
 pub loop-number-preserved : goal.loop-number-preserved

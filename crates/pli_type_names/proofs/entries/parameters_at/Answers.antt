@@ -3,7 +3,7 @@ use Rattle.std.proofs.lemmas.Option.{slice_get-map, slice_get_past, slice_get_re
 use Rattle.pli_map.specs.views.DescriptionView.{description_view}
 use Rattle.pli_type_names.specs.BlockEntries.{parameters_in}
 use Rattle.pli_type_names.specs.views.EntryView.{entry_view}
-use Rattle.pli_type_names.proofs.Lists.{none_mapped}
+use Rattle.pli_type_names.proofs.ListLemmas.{none_mapped}
 use Rattle.pli_type_names.proofs.entries.parameters_at.Goals as goal
 
 pub returns-in_default : goal.returns-in_default

@@ -7,7 +7,7 @@ use Rattle.pli_map.proofs.Members.{member_past}
 use Rattle.pli_type_names.specs.OnWays.{placed_in}
 use Rattle.pli_type_names.specs.views.NameView.{part_view}
 use Rattle.pli_type_names.proofs.LevelsLead.{member_fits}
-use Rattle.pli_type_names.proofs.Plain.{PlainMember}
+use Rattle.pli_type_names.proofs.PlainLemmas.{PlainMember}
 use Rattle.pli_type_names.proofs.levels.member.Goals as goal
 
 pub returns-then-number-len-clause-part : goal.returns-then-number-len-clause-part

@@ -5,7 +5,7 @@ use Rattle.pli_map.specs.views.DescriptionView.{members_view}
 use Rattle.pli_type.specs.References.{element_of}
 use Rattle.pli_type_names.specs.OnWays.{IsLevel}
 use Rattle.pli_type_names.specs.views.NameView.{part_view}
-use Rattle.pli_type_names.proofs.Trees.{structure_view}
+use Rattle.pli_type_names.proofs.TreeLemmas.{structure_view}
 use Rattle.pli_type_names.proofs.levels.note.Goals as goal
 
 pub returns : goal.returns

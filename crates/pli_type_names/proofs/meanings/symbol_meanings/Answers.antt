@@ -10,7 +10,7 @@ use Rattle.pli_type_names.specs.OwnVariables.{global_at, own_variables}
 use Rattle.pli_type_names.specs.Seen.{Kept, kept_symbols, kind_kept}
 use Rattle.pli_type_names.specs.views.MeaningView.{meant_view}
 use Rattle.pli_type_names.specs.views.VariableView.{own_view}
-use Rattle.pli_type_names.proofs.Lists.{each_counted, number_there, numbered_more}
+use Rattle.pli_type_names.proofs.ListLemmas.{each_counted, number_there, numbered_more}
 use Rattle.pli_type_names.proofs.meanings.symbol_meanings.Goals as goal
 
 pub index-global-requires : goal.index-global-requires

@@ -10,8 +10,8 @@ use Rattle.pli_type_names.specs.BlockFacts.{facts_of}
 use Rattle.pli_type_names.specs.Seen.{Kept, kept_symbols}
 use Rattle.pli_type_names.specs.UnitNaming.{symbols_in}
 use Rattle.pli_type_names.specs.views.MeaningView.{row_view}
-use Rattle.pli_type_names.proofs.Blocks.{rows_of, row_there, symbols_there, all_rows, globals_more}
-use Rattle.pli_type_names.proofs.Lists.{made_more}
+use Rattle.pli_type_names.proofs.BlockLemmas.{rows_of, row_there, symbols_there, all_rows, globals_more}
+use Rattle.pli_type_names.proofs.ListLemmas.{made_more}
 use Rattle.pli_type_names.proofs.meanings.unit_meanings.Goals as goal
 
 pub loop-block-preserved : goal.loop-block-preserved

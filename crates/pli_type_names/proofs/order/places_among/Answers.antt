@@ -2,7 +2,7 @@ use Rattle.std.proofs.Common.{◌≡◌, ℕ, ◌+◌, ◌-◌, ◌<◌, List, d
 use Rattle.std.proofs.lemmas.List.{length-map}
 use Rattle.pli_type.specs.TextOrder.{numbers_from, place_from}
 use Rattle.pli_type.proofs.TextNumbers.{numbers_counted}
-use Rattle.pli_type_names.proofs.Ordered.{place_more, places_first}
+use Rattle.pli_type_names.proofs.PlacesOrdered.{place_more, places_first}
 use Rattle.pli_type_names.proofs.order.places_among.Goals as goal
 
 pub loop-place-init : goal.loop-place-init

@@ -5,7 +5,7 @@ use Rattle.pli_resolve.specs.Symbols.{Symbol}
 use Rattle.pli_resolve.specs.views.SymbolView.{symbol_view}
 use Rattle.pli_type.specs.NamedUnits.{block_symbols, global_tokens}
 use Rattle.pli_type_names.specs.UnitNaming.{symbols_in}
-use Rattle.pli_type_names.proofs.Blocks.{gathered_more, all_gathered}
+use Rattle.pli_type_names.proofs.BlockLemmas.{gathered_more, all_gathered}
 use Rattle.pli_type_names.proofs.order.unit_tokens.Goals as goal
 
 pub loop-block-preserved : goal.loop-block-preserved

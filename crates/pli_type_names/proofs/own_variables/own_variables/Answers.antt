@@ -6,8 +6,8 @@ use Rattle.pli_type_names.specs.BlockFacts.{BlockFacts}
 use Rattle.pli_type_names.specs.Numbered.{each_from}
 use Rattle.pli_type_names.specs.OwnVariables as spec
 use Rattle.pli_type_names.specs.views.VariableView.{own_view}
-use Rattle.pli_type_names.proofs.Lists.{number_more, numbered_more}
-use Rattle.pli_type_names.proofs.Owns.{none_before, no_global_before, own_is, before_more, global_more}
+use Rattle.pli_type_names.proofs.ListLemmas.{number_more, numbered_more}
+use Rattle.pli_type_names.proofs.VariableStarts.{none_before, no_global_before, own_is, before_more, global_more}
 use Rattle.pli_type_names.proofs.own_variables.own_variables.Goals as goal
 
 pub loop-number-init : goal.loop-number-init

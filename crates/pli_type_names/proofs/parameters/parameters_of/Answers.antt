@@ -4,7 +4,7 @@ use Rattle.pli_map.specs.Description.{Description}
 use Rattle.pli_map.specs.views.DescriptionView.{description_view}
 use Rattle.pli_resolve.specs.ResolvedUnits.{resolved_unit_of}
 use Rattle.pli_type.specs.NamedUnits.{block_symbols, description_in, parameters_of}
-use Rattle.pli_type_names.proofs.Lists.{mapped_more}
+use Rattle.pli_type_names.proofs.ListLemmas.{mapped_more}
 use Rattle.pli_type_names.proofs.parameters.parameters_of.Goals as goal
 
 pub loop-number-preserved : goal.loop-number-preserved

@@ -6,7 +6,7 @@ use Rattle.pli_map.specs.views.DescriptionView.{description_view}
 use Rattle.pli_type.specs.References.{strides_of}
 use Rattle.pli_type_tree.specs.TypedTree.{Stride}
 use Rattle.pli_type_tree.specs.views.TypedView.{stride_view}
-use Rattle.pli_type_names.proofs.Strides.{over_extent, both_positive, one_more}
+use Rattle.pli_type_names.proofs.StrideLemmas.{over_extent, both_positive, one_more}
 use Rattle.pli_type_names.proofs.part.push_strides.Goals as goal
 
 pub loop-dimension-preserved : goal.loop-dimension-preserved

@@ -2,7 +2,7 @@ use Rattle.std.proofs.Common.{◌≡◌, ◌++◌, ◌∷◌, [], true, not, map
 use Rattle.std.specs.Prelude.{is_ok, if◌then◌else◌}
 use Rattle.pli_resolve.specs.views.SymbolView.{symbol_view}
 use Rattle.pli_type_names.specs.UnitNaming.{symbols_in}
-use Rattle.pli_type_names.proofs.Lists.{symbols_more}
+use Rattle.pli_type_names.proofs.ListLemmas.{symbols_more}
 use Rattle.pli_type_names.proofs.unit_symbols.symbols.Goals as goal
 
 pub loop-number-preserved : goal.loop-number-preserved

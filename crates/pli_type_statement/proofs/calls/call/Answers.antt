@@ -5,10 +5,10 @@ use Rattle.pli_map.specs.views.DescriptionView.{description_view}
 use Rattle.pli_type.specs.StatementTyping as spec
 use Rattle.pli_base.specs.answers.FailureAnswers.{Fails}
 use Rattle.pli_type_expression.specs.views.TypingView.{argument_view}
-use Rattle.pli_type_names.specs.Meant.{IsMeantAs}
+use Rattle.pli_type_names.specs.SymbolMeaning.{IsMeantAs}
 use Rattle.pli_type_names.specs.UnitNaming.{naming_in}
 use Rattle.pli_type_tree.specs.views.TypedView.{arguments_view, callee_view}
-use Rattle.pli_type_statement.proofs.Called.{meant_procedure, call_fails, call_done}
+use Rattle.pli_type_statement.proofs.CallLemmas.{meant_procedure, call_fails, call_done}
 use Rattle.pli_type_statement.proofs.calls.call.Goals as goal
 
 pub returns-in_err-arguments-2 : goal.returns-in_err-arguments-2

@@ -12,8 +12,8 @@ use Rattle.pli_type_tree.specs.views.TypedView.{procedure_view, statements_view}
 use Rattle.pli_type.specs.Checked.{outer_signature}
 use Rattle.pli_type_statement.specs.Parts.{told, Adds, unit_named}
 use Rattle.pli_type_statement.specs.Walking.{finished, unit_with}
-use Rattle.pli_type_statement.proofs.Beginnings.{all_of, built_first, first_entered, placed_first}
-use Rattle.pli_type_statement.proofs.Beginnings.{globals_first, templates_first, whole_walked}
+use Rattle.pli_type_statement.proofs.WalkEndLemmas.{all_of, built_first, first_entered, placed_first}
+use Rattle.pli_type_statement.proofs.WalkEndLemmas.{globals_first, templates_first, whole_walked}
 use Rattle.pli_type_statement.proofs.Units.{faulty, returned_found, typed, typed_list}
 use Rattle.pli_type_statement.proofs.checking.built.Goals as goal
 

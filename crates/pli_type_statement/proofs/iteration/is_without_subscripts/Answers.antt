@@ -1,7 +1,7 @@
 use Rattle.std.proofs.Common.{ap, sym, ◌∙◌}
 use Rattle.pli_type.specs.StatementTyping.{without_subscripts}
 use Rattle.pli_type_tree.specs.views.TypedView.{reference_view}
-use Rattle.pli_type_statement.proofs.Called.{bare}
+use Rattle.pli_type_statement.proofs.CallLemmas.{bare}
 use Rattle.pli_type_statement.proofs.iteration.is_without_subscripts.Goals as goal
 
 pub returns-in-Part : goal.returns-in-Part

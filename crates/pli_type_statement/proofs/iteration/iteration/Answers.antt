@@ -9,7 +9,7 @@ use Rattle.pli_base.specs.answers.FailureAnswers.{Gives}
 use Rattle.pli_type_expression.specs.views.TypingView.{denoted_view, referent_view}
 use Rattle.pli_type_names.specs.UnitNaming.{naming_in}
 use Rattle.pli_type_tree.specs.views.TypedView as typed
-use Rattle.pli_type_statement.proofs.Called.{iteration_fails, iteration_goes_on}
+use Rattle.pli_type_statement.proofs.CallLemmas.{iteration_fails, iteration_goes_on}
 use Rattle.pli_type_statement.proofs.iteration.iteration.Goals as goal
 
 pub returns-in_err-variable-2 : goal.returns-in_err-variable-2

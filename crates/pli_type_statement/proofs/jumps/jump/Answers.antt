@@ -2,11 +2,11 @@ use Rattle.std.proofs.Common.{None, ap, sym, ◌∙◌, subst}
 use Rattle.pli_base.specs.declared.code.Code.TheVariants.{NotYetBuilt}
 use Rattle.pli_type.specs.StatementTyping as spec
 use Rattle.pli_base.specs.answers.FailureAnswers.{Fails}
-use Rattle.pli_type_names.specs.Meant.{IsMeantAs}
+use Rattle.pli_type_names.specs.SymbolMeaning.{IsMeantAs}
 use Rattle.pli_type_names.specs.UnitNaming.{naming_in}
 use Rattle.pli_type_statement.specs.Around.{blocks_of, surroundings_of}
 use Rattle.pli_type_statement.specs.views.AroundView.{around_view, lists_view}
-use Rattle.pli_type_statement.proofs.Called.{meant_label, no_jump}
+use Rattle.pli_type_statement.proofs.CallLemmas.{meant_label, no_jump}
 use Rattle.pli_type.specs.Typing.{or_fault}
 use Rattle.pli_type_statement.proofs.jumps.jump.Goals as goal
 

@@ -3,12 +3,12 @@ use Rattle.pli_base.specs.views.SyntaxView as syntax
 use Rattle.pli_type.specs.StatementTyping as spec
 use Rattle.pli_type.specs.Unbuilt.{later_expression, later_part}
 use Rattle.pli_type.specs.views.ValueView.{value_view}
-use Rattle.pli_type_expression.proofs.Binds.{exits}
+use Rattle.pli_type_expression.proofs.BindLemmas.{exits}
 use Rattle.pli_type_names.specs.UnitNaming.{compiled_in, naming_in}
 use Rattle.pli_type_statement.specs.Around.{surroundings_of}
 use Rattle.pli_type_statement.specs.views.AroundView.{around_view}
 use Rattle.pli_type_tree.specs.views.TypedView.{form_view}
-use Rattle.pli_type_statement.proofs.Called.{return_fails, return_goes_on}
+use Rattle.pli_type_statement.proofs.CallLemmas.{return_fails, return_goes_on}
 use Rattle.pli_type_statement.proofs.jumps.returned.Goals as goal
 
 pub value_of-requires : goal.value_of-requires

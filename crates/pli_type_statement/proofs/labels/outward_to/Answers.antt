@@ -1,4 +1,4 @@
-use Rattle.pli_type_statement.proofs.Searches.{search_ends}
+use Rattle.pli_type_statement.proofs.SearchLemmas.{search_ends}
 use Rattle.pli_type_statement.proofs.labels.outward_to.Goals as goal
 
 pub returns : goal.returns

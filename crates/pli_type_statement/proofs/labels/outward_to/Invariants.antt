@@ -1,6 +1,6 @@
 use Rattle.std.proofs.Common.{◌≡◌, None, false, drop}
 use Rattle.pli_type_statement.specs.views.AroundView.{lists_view}
-use Rattle.pli_type_statement.proofs.Searches.{searched}
+use Rattle.pli_type_statement.proofs.SearchLemmas.{searched}
 use Rattle.pli_type_statement.proofs.labels.outward_to.Given as goal
 
 -- the lists that are left give what all give

@@ -17,10 +17,10 @@ use Rattle.pli_type_statement.specs.Walking.{WalksBody, WalksList, around, next_
 use Rattle.pli_type_statement.specs.views.AroundView.{around_view}
 use Rattle.pli_type_statement.specs.views.HeaderView.{header_view}
 use Rattle.pli_type_statement.proofs.Blocks.{begin_walked, block_placed, block_walked, group_placed, group_walked, in_group_around, procedure_answer, returned_is}
-use Rattle.pli_type_statement.proofs.Built.{statement_built, procedure_built, do_built, if_built}
-use Rattle.pli_type_statement.proofs.Sizes.{statement_size, body_size, list_size, alternative_size, item_size}
-use Rattle.pli_type_statement.proofs.Turns.{all_walked, do_walked, goes_on_first, goes_on_next, if_next_none, if_next_some, in_front, next_built, none_walked, simple_answer}
-use Rattle.pli_type_statement.proofs.Walked.{as_typed, if_walked, made_walked, back_then, moved, nothing_walked}
+use Rattle.pli_type_statement.proofs.NothingLater.{statement_built, procedure_built, do_built, if_built}
+use Rattle.pli_type_statement.proofs.SizeLemmas.{statement_size, body_size, list_size, alternative_size, item_size}
+use Rattle.pli_type_statement.proofs.TurnLemmas.{all_walked, do_walked, goes_on_first, goes_on_next, if_next_none, if_next_some, in_front, next_built, none_walked, simple_answer}
+use Rattle.pli_type_statement.proofs.WalkLemmas.{as_typed, if_walked, made_walked, back_then, moved, nothing_walked}
 use Rattle.pli_type_statement.proofs.statement.+typed.Goals as goal
 use Rattle.pli_type_statement.proofs.statement.+typed.Goals.{type_statements-then-complete, type_statements-else-complete, type_statements-then-complete-2, type_statements-else-complete-2}
 

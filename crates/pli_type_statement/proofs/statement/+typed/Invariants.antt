@@ -4,8 +4,8 @@ use Rattle.pli_type.specs.Unbuilt.{later_statements}
 use Rattle.pli_type_names.specs.UnitNaming.{compiled_in}
 use Rattle.pli_type_tree.specs.views.TypedView.{statement_view}
 use Rattle.pli_type_statement.specs.Walking.{IsBack}
-use Rattle.pli_type_statement.proofs.Sizes.{statement_size, body_size, list_size}
-use Rattle.pli_type_statement.proofs.Turns.{GoesOn}
+use Rattle.pli_type_statement.proofs.SizeLemmas.{statement_size, body_size, list_size}
+use Rattle.pli_type_statement.proofs.TurnLemmas.{GoesOn}
 use Rattle.pli_type_statement.proofs.statement.+typed.Given as goal
 
 -- what is done with the statements that are left is done with all

@@ -2,7 +2,7 @@ use Rattle.std.proofs.Common.{◌+◌, refl, ap, ◌∙◌, option_map}
 use Rattle.pli_base.specs.views.StatementView as source
 use Rattle.pli_type_statement.specs.Headers.{header_typed}
 use Rattle.pli_type_statement.specs.views.HeaderView.{header_view}
-use Rattle.pli_type_statement.proofs.Walked.{own_walked}
+use Rattle.pli_type_statement.proofs.WalkLemmas.{own_walked}
 use Rattle.pli_type_statement.proofs.statement.type_header.Goals as goal
 
 pub specified-header-requires : goal.specified-header-requires

@@ -3,7 +3,7 @@ use Rattle.pli_base.specs.views.StatementView as source
 use Rattle.pli_type_tree.specs.views.TypedView.{form_view}
 use Rattle.pli_type_statement.specs.Simple.{simple_typed}
 use Rattle.pli_type_statement.specs.Walking.{around}
-use Rattle.pli_type_statement.proofs.Walked.{own_walked}
+use Rattle.pli_type_statement.proofs.WalkLemmas.{own_walked}
 use Rattle.pli_type_statement.proofs.statement.type_simple.Goals as goal
 
 pub simple-form-requires : goal.simple-form-requires

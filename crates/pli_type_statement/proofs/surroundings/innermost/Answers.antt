@@ -1,4 +1,4 @@
-use Rattle.pli_type_statement.proofs.Searches.{number_ends}
+use Rattle.pli_type_statement.proofs.SearchLemmas.{number_ends}
 use Rattle.pli_type_statement.proofs.surroundings.innermost.Goals as goal
 
 pub returns : goal.returns

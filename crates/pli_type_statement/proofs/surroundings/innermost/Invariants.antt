@@ -1,6 +1,6 @@
 use Rattle.std.proofs.Common.{◌≡◌, drop}
 use Rattle.pli_type_statement.specs.views.AroundView.{lists_view}
-use Rattle.pli_type_statement.proofs.Searches.{number_from}
+use Rattle.pli_type_statement.proofs.SearchLemmas.{number_from}
 use Rattle.pli_type_statement.proofs.surroundings.innermost.Given as goal
 
 -- the lists that are left give what all give

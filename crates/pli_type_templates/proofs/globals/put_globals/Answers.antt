@@ -4,7 +4,7 @@ use Rattle.std.proofs.lemmas.List.{append_assoc, append-nil, drop_all, drop_more
 use Rattle.pli_resolve.specs.views.SymbolView.{symbol_view}
 use Rattle.pli_type.specs.InitialScalars.{InitialItem}
 use Rattle.pli_type.specs.NamedUnits.{member_items, globals_from}
-use Rattle.pli_type_templates.specs.declared.items.Item.{Item}
+use Rattle.pli_type_templates.specs.declared.items.ValuedItem.{ValuedItem}
 use Rattle.pli_type_templates.specs.views.ItemView.{items_view}
 use Rattle.pli_type_templates.specs.views.PlacedView.{placed_view}
 use Rattle.pli_type_templates.proofs.GroupsMade.{one_global}
@@ -17,7 +17,7 @@ loop-number-preserved c =
     let v = c.index-members-number.result in
     let all = map symbol_view c.args.symbols.now in
     let others = drop (l.number + 1) c.args.symbols.now in
-    let items : Vec Item Global → List InitialItem = λ v. items_view v.items in
+    let items : Vec ValuedItem Global → List InitialItem = λ v. items_view v.items in
     let step = drop_more c.args.symbols.now l.number s c.loop-number-test.true ∙ ap (λ x. x ∷ others) (sym c.index-symbols-number.is) in
     let within : l.number < length all = omega (arith, c.loop-number-test.true, length-map c.args.symbols.now symbol_view) in
     let owned : l.number < length c.args.members.now = omega (arith, within, c.requires.sized, length-map c.args.members.now items) in

@@ -3,14 +3,14 @@ use Rattle.std.specs.Global.{Global}
 use Rattle.std.proofs.lemmas.List.{drop_all, drop_more, length-map, map_push, replicate_more}
 use Rattle.pli_resolve.specs.views.SymbolView.{symbol_view}
 use Rattle.pli_type.specs.InitialScalars.{InitialItem}
-use Rattle.pli_type_templates.specs.declared.items.Item.{Item}
+use Rattle.pli_type_templates.specs.declared.items.ValuedItem.{ValuedItem}
 use Rattle.pli_type_templates.specs.views.ItemView.{items_view, rows_view}
 use Rattle.pli_type_templates.proofs.MembersFound.{Found, all_found, found_more, none_found}
 use Rattle.pli_type_templates.proofs.members.members_by_root.Goals as goal
 
 pub loop-preserved : goal.loop-preserved
 loop-preserved c =
-    let items : Vec Item Global → List InitialItem = λ v. items_view v.items in
+    let items : Vec ValuedItem Global → List InitialItem = λ v. items_view v.items in
     ap (map items) c.in_ok-push.ensures.items ∙ map_push items c.loop.members.items c.new.result
     ∙ ap (λ xs. xs ++ items c.new.result ∷ []) c.loop.invariant
     ∙ ap (λ is. replicate c.loop.counter [] ++ items_view is ∷ []) c.new.ensures.items

@@ -2,7 +2,7 @@ use Rattle.std.proofs.Common.{ℕ, map, refl, ap, ◌∙◌, rules}
 use Rattle.std.specs.Ordering.{nat_cmp}
 use Rattle.std.proofs.lemmas.Cmp.{nat_cmp_total}
 use Rattle.std.proofs.lemmas.List.Sorted.{answers_always}
-use Rattle.pli_sort.proofs.Corresponding.{mapped_in_order}
+use Rattle.pli_sort.proofs.CorrespondLemmas.{mapped_in_order}
 use Rattle.pli_sort.proofs.SortedOnce.{in_order_from_sort}
 use Rattle.pli_type.specs.NamedUnits as units
 use Rattle.pli_type_templates.specs.declared.placed_globals.PlacedGlobal.{PlacedGlobal}

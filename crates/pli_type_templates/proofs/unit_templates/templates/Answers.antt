@@ -5,9 +5,9 @@ use Rattle.pli_type.specs.NamedUnits as units
 use Rattle.pli_type.specs.NamedUnits.{block_symbols, globals_of}
 use Rattle.pli_type.specs.TextOrder.{in_order}
 use Rattle.pli_type_names.specs.UnitNaming.{symbols_in}
-use Rattle.pli_type_names.proofs.Lists.{made_more}
+use Rattle.pli_type_names.proofs.ListLemmas.{made_more}
 use Rattle.pli_type_templates.specs.views.UnitView.{row_view}
-use Rattle.pli_type_names.proofs.Blocks.{gathered_more, all_gathered}
+use Rattle.pli_type_names.proofs.BlockLemmas.{gathered_more, all_gathered}
 use Rattle.pli_type_templates.proofs.UnitsMade.{rows_of, row_there, all_rows, globals_alone}
 use Rattle.pli_type_templates.proofs.unit_templates.templates.Goals as goal
 

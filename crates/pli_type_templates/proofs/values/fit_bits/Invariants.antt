@@ -1,5 +1,5 @@
 use Rattle.std.proofs.Common.{◌≡◌, false, get_or}
-use Rattle.pli_value.proofs.Loops.{tabulated}
+use Rattle.pli_value.proofs.BitLoopLemmas.{tabulated}
 use Rattle.pli_type_templates.proofs.values.fit_bits.Given as goal
 
 -- so far there are the bits at so many places

@@ -2,7 +2,7 @@ use Rattle.std.proofs.Common.{ap, sym, ◌∙◌, option_map}
 use Rattle.pli_base.specs.views.StatementView.{body_view, control_view, statements_view}
 use Rattle.pli_type.specs.Unbuilt as spec
 use Rattle.pli_type_names.specs.UnitNaming.{compiled_in}
-use Rattle.pli_type_unbuilt.proofs.Parts.{later_begin, later_do, behind_control}
+use Rattle.pli_type_unbuilt.proofs.PartLemmas.{later_begin, later_do, behind_control}
 use Rattle.pli_type_unbuilt.proofs.statements.+later_statement.Goals as goal
 
 pub later_body-returns-in-Begin : goal.later_body-returns-in-Begin

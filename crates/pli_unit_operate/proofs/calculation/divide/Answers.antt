@@ -2,7 +2,7 @@ use Rattle.std.proofs.Common.{ap, sym, ◌∙◌, w64, SFits, arith, rules}
 use Rattle.std.proofs.lemmas.Int.{to_z-of_z}
 use Rattle.pli_operation.specs.Operations.{Calculates, as_number}
 use Rattle.pli_value.specs.Value.{Number}
-use Rattle.pli_unit_operate.proofs.Quotients.{wide_quotient}
+use Rattle.pli_unit_operate.proofs.QuotientLemmas.{wide_quotient}
 use Rattle.pli_unit_operate.proofs.calculation.divide.Goals as goal
 
 pub returns-in-Ok : goal.returns-in-Ok

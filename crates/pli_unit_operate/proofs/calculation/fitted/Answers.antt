@@ -1,6 +1,6 @@
 use Rattle.std.proofs.Common.{Ok, ap, sym, ◌∙◌, w64, arith}
 use Rattle.std.proofs.lemmas.Int.{to_z-of_z}
-use Rattle.pli_unit_operate.proofs.Wide.{wide_within}
+use Rattle.pli_unit_operate.proofs.WidthLemmas.{wide_within}
 use Rattle.pli_unit_operate.proofs.calculation.fitted.Goals as goal
 
 pub returns-then-precision-gt-WIDEST_PRECISION : goal.returns-then-precision-gt-WIDEST_PRECISION

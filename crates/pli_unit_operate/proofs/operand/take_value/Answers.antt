@@ -2,7 +2,7 @@ use Rattle.std.proofs.Common.{Some, ◌∷◌, ap, sym, ◌∙◌}
 use Rattle.pli_machine_step.specs.Machine.{OfValue}
 use Rattle.pli_unit_operate.specs.declared.operand.Operand.TheVariants as operand
 use Rattle.pli_unit_operate.specs.views.OperandView.{stack}
-use Rattle.pli_unit_operate.proofs.Stack.{stack_popped}
+use Rattle.pli_unit_operate.proofs.StackLemmas.{stack_popped}
 use Rattle.pli_unit_operate.proofs.operand.take_value.Goals as goal
 
 pub returns-in-Some-OfValue : goal.returns-in-Some-OfValue

@@ -6,7 +6,7 @@ use Rattle.pli_store.specs.World.{is_given}
 use Rattle.pli_store.specs.views.StorageView.{place_view}
 use Rattle.pli_unit_perform.specs.views.Image.{name_at}
 use Rattle.pli_unit_perform.specs.views.MachineView.{activation_view, activations_of, frame_view, frames_of, world_of}
-use Rattle.pli_unit_perform.proofs.Ends.{newest_first}
+use Rattle.pli_unit_perform.proofs.EndLemmas.{newest_first}
 use Rattle.pli_unit_perform.proofs.entering.begin_block.Goals as goal
 
 pub returns : goal.returns

@@ -1,4 +1,4 @@
-use Rattle.pli_unit_perform.proofs.Worlds.{jump_made}
+use Rattle.pli_unit_perform.proofs.WorldLemmas.{jump_made}
 use Rattle.pli_unit_perform.proofs.instructions.jump.Goals as goal
 
 pub returns : goal.returns

@@ -1,7 +1,7 @@
 use Rattle.std.proofs.Common.{refl, arith}
 use Rattle.pli_unit_perform.specs.views.MachineView.{world_of, frame_view, frames_of, left_of}
 use Rattle.pli_unit_operate.specs.views.OperandView.{stack}
-use Rattle.pli_unit_perform.proofs.Worlds.{temporary_set}
+use Rattle.pli_unit_perform.proofs.WorldLemmas.{temporary_set}
 use Rattle.pli_unit_perform.proofs.keeping.set_temporary.Goals as goal
 
 pub returns : goal.returns

@@ -1,7 +1,7 @@
 use Rattle.std.proofs.Common.{suc, length, ◌∙◌, arith}
 use Rattle.std.proofs.lemmas.Bool.{ne_eqb}
 use Rattle.pli_unit_perform.specs.views.MachineView.{activations_of, frame_view, frames_of, world_of, left_of}
-use Rattle.pli_unit_perform.proofs.Ends.{lands_fails}
+use Rattle.pli_unit_perform.proofs.EndLemmas.{lands_fails}
 use Rattle.pli_unit_perform.proofs.SlotPlaces.{how_many}
 use Rattle.pli_unit_perform.proofs.landing.land.Goals as goal
 

@@ -3,7 +3,7 @@ use Rattle.pli_value.specs.Value.{value_view}
 use Rattle.pli_machine_step.specs.Machine.{OfValue, At, with_operands}
 use Rattle.pli_unit_perform.specs.views.MachineView.{Running, frame_view, frames_of, world_of, left_of}
 use Rattle.pli_unit_operate.specs.views.OperandView.{stack}
-use Rattle.pli_unit_perform.proofs.Ends.{valued_more, valued_fails, valued_goes, valued_ends}
+use Rattle.pli_unit_perform.proofs.EndLemmas.{valued_more, valued_fails, valued_goes, valued_ends}
 use Rattle.pli_unit_perform.proofs.leaving.give_back.Goals as goal
 
 pub returns-then-not-leave : goal.returns-then-not-leave

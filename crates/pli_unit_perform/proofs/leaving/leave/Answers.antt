@@ -4,7 +4,7 @@ use Rattle.pli_store.specs.World.{left_by}
 use Rattle.pli_store.specs.views.StorageView.{storage_view}
 use Rattle.pli_unit_perform.specs.views.MachineView.{activation_view, activations_of, frame_view, frames_of, world_of}
 use Rattle.pli_store.proofs.RisingNumbers.{without_append}
-use Rattle.pli_unit_perform.proofs.Ends.{newest_first, same_world}
+use Rattle.pli_unit_perform.proofs.EndLemmas.{newest_first, same_world}
 use Rattle.pli_unit_perform.proofs.leaving.leave.Goals as goal
 
 pub returns-in-Some-clause-leaves : goal.returns-in-Some-clause-leaves

@@ -1,5 +1,5 @@
 use Rattle.std.proofs.Common.{◌-◌, ◌+◌, ◌∙◌, arith}
-use Rattle.pli_unit_perform.proofs.Ends.{returned_more, returned_fails, returned_ends}
+use Rattle.pli_unit_perform.proofs.EndLemmas.{returned_more, returned_fails, returned_ends}
 use Rattle.pli_unit_perform.proofs.leaving.return_from.Goals as goal
 
 pub returns-then-not-leave : goal.returns-then-not-leave

@@ -4,7 +4,7 @@ use Rattle.pli_operation.specs.Operations.{Fit}
 use Rattle.pli_value.specs.Value.{value_view}
 use Rattle.pli_machine_step.specs.Machine.{values_off}
 use Rattle.pli_unit_operate.specs.views.CalculationView.{calculation_view}
-use Rattle.pli_unit_perform.proofs.Operating.{operates, of_one}
+use Rattle.pli_unit_perform.proofs.OperationLemmas.{operates, of_one}
 use Rattle.pli_unit_perform.proofs.operate.fit_to.Goals as goal
 
 pub returns : goal.returns

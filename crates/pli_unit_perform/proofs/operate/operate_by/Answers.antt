@@ -1,7 +1,7 @@
 use Rattle.std.proofs.Common.{[], ◌∷◌, ◌∙◌}
 use Rattle.pli_value.specs.Value.{value_view}
 use Rattle.pli_unit_operate.specs.views.CalculationView.{calculation_view, ternary_view}
-use Rattle.pli_unit_perform.proofs.Operating.{operates, ternary_three, of_three}
+use Rattle.pli_unit_perform.proofs.OperationLemmas.{operates, ternary_three, of_three}
 use Rattle.pli_unit_perform.proofs.operate.operate_by.Goals as goal
 
 pub returns : goal.returns

@@ -5,7 +5,7 @@ use Rattle.pli_operation.specs.Operations.{Fit}
 use Rattle.pli_value.specs.Value.{Number}
 use Rattle.pli_machine_step.specs.Machine.{values_off}
 use Rattle.pli_unit_operate.specs.views.CalculationView.{immediate_view}
-use Rattle.pli_unit_perform.proofs.Operating.{operates, of_one}
+use Rattle.pli_unit_perform.proofs.OperationLemmas.{operates, of_one}
 use Rattle.pli_unit_perform.proofs.operate.operate_fit.Goals as goal
 
 pub returns-in-Some : goal.returns-in-Some

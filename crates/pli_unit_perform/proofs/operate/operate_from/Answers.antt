@@ -2,7 +2,7 @@ use Rattle.std.proofs.Common.{[], ◌∷◌, ap, ◌∙◌}
 use Rattle.pli_value.specs.Value.{value_view}
 use Rattle.pli_machine_step.specs.Machine.{values_off}
 use Rattle.pli_unit_operate.specs.views.CalculationView.{calculation_view, prefix_view}
-use Rattle.pli_unit_perform.proofs.Operating.{operates, prefix_one, of_one}
+use Rattle.pli_unit_perform.proofs.OperationLemmas.{operates, prefix_one, of_one}
 use Rattle.pli_unit_perform.proofs.operate.operate_from.Goals as goal
 
 pub returns : goal.returns

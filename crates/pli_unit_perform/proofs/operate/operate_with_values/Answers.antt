@@ -4,7 +4,7 @@ use Rattle.pli_value.specs.Value.{value_view}
 use Rattle.pli_machine_step.specs.Machine.{values_off}
 use Rattle.pli_unit_operate.specs.views.CalculationView.{calculation_view, infix_view}
 use Rattle.pli_unit_operate.specs.views.OperandView.{taken_view}
-use Rattle.pli_unit_perform.proofs.Operating.{operates, infix_two, of_two}
+use Rattle.pli_unit_perform.proofs.OperationLemmas.{operates, infix_two, of_two}
 use Rattle.pli_unit_perform.proofs.operate.operate_with_values.Goals as goal
 
 pub returns : goal.returns

@@ -3,7 +3,7 @@ use Rattle.std.proofs.lemmas.Int.{to_z-of_z}
 use Rattle.pli_operation.specs.Operations.{Within, Calculates}
 use Rattle.pli_value.specs.Value.{Number, Bits}
 use Rattle.pli_machine_step.specs.Machine.{values_off}
-use Rattle.pli_unit_perform.proofs.Operating.{operates, of_three}
+use Rattle.pli_unit_perform.proofs.OperationLemmas.{operates, of_three}
 use Rattle.pli_unit_perform.proofs.operate.operate_within.Goals as goal
 
 pub returns-in-Some : goal.returns-in-Some

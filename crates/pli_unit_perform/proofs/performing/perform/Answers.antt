@@ -6,7 +6,7 @@ use Rattle.pli_unit_code.specs.declared.instruction.Instruction.TheVariants as c
 use Rattle.pli_unit_code.specs.views.CodeView.{unit_view}
 use Rattle.pli_unit_perform.specs.views.ImageView.{image_of}
 use Rattle.pli_unit_perform.specs.declared.machine.Stop.TheVariants as stop
-use Rattle.pli_unit_perform.proofs.Performed.{one_performs, does_performs, moves_performs, same_performs}
+use Rattle.pli_unit_perform.proofs.InstructionsDo.{one_performs, does_performs, moves_performs, same_performs}
 use Rattle.pli_unit_perform.proofs.LinkedUnits.{unit_named}
 use Rattle.pli_unit_perform.proofs.performing.perform.Goals as goal
 

@@ -6,7 +6,7 @@ use Rattle.pli_unit_operate.specs.views.OperandView.{stack}
 use Rattle.pli_unit_perform.specs.declared.machine.Machine.{Machine}
 use Rattle.pli_unit_perform.specs.views.Image.{Image}
 use Rattle.pli_unit_perform.specs.views.MachineView.{Running, leads, world_of, frame_view, frames_of, left_of}
-use Rattle.pli_unit_perform.proofs.Worlds.{item_printed}
+use Rattle.pli_unit_perform.proofs.WorldLemmas.{item_printed}
 use Rattle.pli_unit_perform.proofs.printing.put.Goals as goal
 
 -- the item of these characters was taken and printed

@@ -6,7 +6,7 @@ use Rattle.pli_unit_code.specs.views.CodeView.{module_view}
 use Rattle.pli_unit_perform.specs.answers.Making.{first_world}
 use Rattle.pli_unit_perform.specs.views.Image.{image_with}
 use Rattle.pli_unit_perform.specs.views.MachineView.{shown}
-use Rattle.pli_unit_perform.proofs.Beginnings.{begins_as}
+use Rattle.pli_unit_perform.proofs.BeginningLemmas.{begins_as}
 use Rattle.pli_unit_perform.proofs.LinkedUnits.{code_there, none_there, named_there}
 use Rattle.pli_unit_perform.proofs.starting.begin.Goals as goal
 

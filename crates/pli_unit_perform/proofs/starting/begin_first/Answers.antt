@@ -7,7 +7,7 @@ use Rattle.pli_unit_code.specs.views.CodeView.{code_view, block_view}
 use Rattle.pli_unit_perform.specs.answers.Making.{first_world}
 use Rattle.pli_unit_perform.specs.views.Image.{unit_with}
 use Rattle.pli_unit_perform.specs.views.MachineView.{shown}
-use Rattle.pli_unit_perform.proofs.Beginnings.{begins_as, not_main}
+use Rattle.pli_unit_perform.proofs.BeginningLemmas.{begins_as, not_main}
 use Rattle.pli_unit_perform.proofs.EnteredBlocks.{block_there}
 use Rattle.pli_unit_perform.proofs.starting.begin_first.Goals as goal
 

@@ -8,9 +8,9 @@ use Rattle.pli_unit_code.specs.views.CodeView.{code_view, block_view}
 use Rattle.pli_unit_perform.specs.answers.Making.{EndsAs, first_world}
 use Rattle.pli_unit_perform.specs.views.Image.{name_at, unit_with}
 use Rattle.pli_unit_perform.specs.views.MachineView.{frame_view, frames_of, world_of, left_of, shown}
-use Rattle.pli_unit_perform.proofs.Beginnings.{one_step, main_begun, begun_main, ends_main}
+use Rattle.pli_unit_perform.proofs.BeginningLemmas.{one_step, main_begun, begun_main, ends_main}
 use Rattle.pli_unit_perform.proofs.EnteredBlocks.{enters_goes, enters_stops}
-use Rattle.pli_unit_perform.proofs.States.{goes_on}
+use Rattle.pli_unit_perform.proofs.StateLemmas.{goes_on}
 use Rattle.pli_unit_perform.proofs.starting.begin_main.Goals as goal
 
 pub returns-in-Ok : goal.returns-in-Ok

@@ -1,6 +1,6 @@
 use Rattle.std.proofs.Common.{refl}
 use Rattle.pli_unit_perform.specs.views.MachineView.{world_of, frame_view, frames_of}
-use Rattle.pli_unit_perform.proofs.Worlds.{step_taken}
+use Rattle.pli_unit_perform.proofs.WorldLemmas.{step_taken}
 use Rattle.pli_unit_perform.proofs.stepping.step.Goals as goal
 
 pub returns : goal.returns

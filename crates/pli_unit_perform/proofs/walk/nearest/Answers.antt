@@ -1,7 +1,7 @@
 use Rattle.std.proofs.Common.{sym, ◌∙◌, arith}
 use Rattle.pli_unit_code.specs.views.CodeView.{module_view}
 use Rattle.pli_unit_perform.specs.views.Image.{name_at, image_with}
-use Rattle.pli_unit_perform.proofs.Links.{found_near, next_near, past_near, none_near}
+use Rattle.pli_unit_perform.proofs.LinkLemmas.{found_near, next_near, past_near, none_near}
 use Rattle.pli_unit_perform.proofs.walk.nearest.Goals as goal
 
 pub returns-then-is_of-clause-found : goal.returns-then-is_of-clause-found

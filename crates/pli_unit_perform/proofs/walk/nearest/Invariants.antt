@@ -4,7 +4,7 @@ use Rattle.pli_store.specs.World.{Static}
 use Rattle.pli_unit_code.specs.views.CodeView.{module_view}
 use Rattle.pli_unit_perform.specs.views.Image.{name_at, image_with}
 use Rattle.pli_unit_perform.specs.views.MachineView.{activation_view, activations_of}
-use Rattle.pli_unit_perform.proofs.Walks.{first_of}
+use Rattle.pli_unit_perform.proofs.LinkWalkLemmas.{first_of}
 use Rattle.pli_unit_perform.proofs.walk.nearest.Given as goal
 
 -- from the height that is reached the nearest is the nearest of all

@@ -1,7 +1,7 @@
 use Rattle.std.proofs.Common.{◌∙◌, ◌-◌, ◌+◌, ap, arith}
 use Rattle.pli_store.specs.Activations.{outward_from}
-use Rattle.pli_unit_perform.proofs.Walks.{first_of}
-use Rattle.pli_unit_perform.proofs.Links.{views, no_link, past_link, next_link, end_link}
+use Rattle.pli_unit_perform.proofs.LinkWalkLemmas.{first_of}
+use Rattle.pli_unit_perform.proofs.LinkLemmas.{views, no_link, past_link, next_link, end_link}
 use Rattle.pli_unit_perform.proofs.walk.outer.Goals as goal
 use Rattle.pli_unit_perform.proofs.walk.outer.Goals.{then-height-eq0-via-then-height-eq0, then-height-eq0-via-else-height-eq0+then-height-count, then-height-eq0-2, else-height-eq0-2}
 

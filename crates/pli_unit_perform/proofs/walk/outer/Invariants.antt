@@ -2,7 +2,7 @@ use Rattle.std.proofs.Common.{◌≡◌, ◌-◌, ◌≤◌, length, map}
 use Rattle.pli_unit_perform.specs.views.Image.{Image}
 use Rattle.pli_store.specs.Activations.{outward_from}
 use Rattle.pli_unit_perform.specs.views.MachineView.{activation_view, activations_of}
-use Rattle.pli_unit_perform.proofs.Walks.{first_of}
+use Rattle.pli_unit_perform.proofs.LinkWalkLemmas.{first_of}
 use Rattle.pli_unit_perform.proofs.walk.outer.Given as goal
 
 -- from the height that is reached, what is left of the way leads where the whole way leads

@@ -1,5 +1,5 @@
 use Rattle.std.proofs.Common.{◌≡◌, ℕ, false, get_or, length, sym, ap, ◌∙◌, arith}
-use Rattle.pli_value.proofs.Loops.{tabulated, tabulated_more, map_is_tabulated}
+use Rattle.pli_value.proofs.BitLoopLemmas.{tabulated, tabulated_more, map_is_tabulated}
 use Rattle.pli_value.specs.Conversions.{bit_character}
 use Rattle.pli_value.proofs.bit.bits_to_char.Goals as goal
 

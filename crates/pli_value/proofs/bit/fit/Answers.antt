@@ -1,5 +1,5 @@
 use Rattle.std.proofs.Common.{◌≡◌, ℕ, Bool, false, get_or, length, sym, ap, ◌∙◌, arith}
-use Rattle.pli_value.proofs.Loops.{tabulated, tabulated_counted, tabulated_more, fitted_is_tabulated}
+use Rattle.pli_value.proofs.BitLoopLemmas.{tabulated, tabulated_counted, tabulated_more, fitted_is_tabulated}
 use Rattle.pli_value.proofs.bit.fit.Goals as goal
 
 pub push-requires : goal.push-requires

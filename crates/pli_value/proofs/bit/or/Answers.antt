@@ -1,5 +1,5 @@
 use Rattle.std.proofs.Common.{◌≡◌, ℕ, Bool, false, get_or, length, arith, ◌||◌}
-use Rattle.pli_value.proofs.Loops.{tabulated_counted, tabulated_more}
+use Rattle.pli_value.proofs.BitLoopLemmas.{tabulated_counted, tabulated_more}
 use Rattle.pli_value.proofs.bit.or.Goals as goal
 
 pub push-requires : goal.push-requires

@@ -1,5 +1,5 @@
 use Rattle.std.proofs.Common.{◌≡◌, false, get_or, ◌||◌}
-use Rattle.pli_value.proofs.Loops.{tabulated}
+use Rattle.pli_value.proofs.BitLoopLemmas.{tabulated}
 use Rattle.pli_value.proofs.bit.or.Given as goal
 
 abbrev pub invariant-loop-place : goal.invariant-loop-place

@@ -1,7 +1,7 @@
 use Rattle.std.proofs.Common.{◌≡◌, ℕ, ◌<◌, false, get_or, length, take, sym, ap, ◌∙◌, arith}
 use Rattle.std.proofs.lemmas.List.{take_more_set}
 use Rattle.pli_value.specs.Conversions.{bit_character}
-use Rattle.pli_value.proofs.Loops.{tabulated, tabulated_more, map_is_tabulated}
+use Rattle.pli_value.proofs.BitLoopLemmas.{tabulated, tabulated_more, map_is_tabulated}
 use Rattle.pli_value.proofs.bit.spell.Goals as goal
 
 pub loop-place-preserved : goal.loop-place-preserved

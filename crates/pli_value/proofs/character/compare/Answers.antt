@@ -1,6 +1,6 @@
 use Rattle.std.proofs.Common.{◌<◌, max, length, arith}
 use Rattle.std.specs.Ordering.{nat_cmp}
-use Rattle.pli_value.proofs.Orders.{passed, stopped, ended}
+use Rattle.pli_value.proofs.OrderLemmas.{passed, stopped, ended}
 use Rattle.pli_value.proofs.character.compare.Goals as goal
 
 pub returns-in_default : goal.returns-in_default

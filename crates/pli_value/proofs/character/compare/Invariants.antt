@@ -1,7 +1,7 @@
 use Rattle.std.proofs.Common.{◌≡◌}
 use Rattle.std.specs.Ordering.{nat_cmp}
 use Rattle.pli_value.specs.Strings.{order_of}
-use Rattle.pli_value.proofs.Orders.{order_from}
+use Rattle.pli_value.proofs.OrderLemmas.{order_from}
 use Rattle.pli_value.proofs.character.compare.Given as goal
 
 abbrev pub invariant-loop-place : goal.invariant-loop-place

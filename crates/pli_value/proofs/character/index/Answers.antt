@@ -1,6 +1,6 @@
 use Rattle.std.proofs.Common.{ℕ, Some, None, ◌<◌, length, arith, Option}
 use Rattle.std.proofs.lemmas.Bool.{eqb-false}
-use Rattle.pli_value.proofs.Places.{index_is}
+use Rattle.pli_value.proofs.PlaceLemmas.{index_is}
 use Rattle.pli_value.proofs.character.index.Goals as goal
 
 pub returns-in-Some : goal.returns-in-Some

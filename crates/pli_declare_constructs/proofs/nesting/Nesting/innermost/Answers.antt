@@ -1,7 +1,7 @@
 use Rattle.std.proofs.Common.{◌≡◌, ◌<◌, Some, None, length, IfSome, subst, sym, ap, ◌∙◌, rules}
 use Rattle.std.proofs.lemmas.List.{get_or_default}
 use Rattle.pli_declare_constructs.specs.Regions.{innermost, blocks_from}
-use Rattle.pli_declare_constructs.proofs.Blocks.{finds}
+use Rattle.pli_declare_constructs.proofs.BlocksAround.{finds}
 use Rattle.pli_declare_constructs.proofs.nesting.Nesting.innermost.Goals as goal
 
 found : (c : goal.After-result-1) → c.index.result.now ≡ innermost c.args.self.now c.args.region

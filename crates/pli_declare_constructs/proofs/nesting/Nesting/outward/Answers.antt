@@ -1,7 +1,7 @@
 use Rattle.std.proofs.Common.{◌≡◌, ◌<◌, ◌∷◌, None, length, subst, sym, ap, ◌∙◌, arith}
 use Rattle.std.proofs.lemmas.List.{get_or_default}
 use Rattle.pli_declare_constructs.specs.Regions.{innermost, blocks_from}
-use Rattle.pli_declare_constructs.proofs.Blocks.{Outwards, leads, within_it, next, next_before, next_behind, next_none}
+use Rattle.pli_declare_constructs.proofs.BlocksAround.{Outwards, leads, within_it, next, next_before, next_behind, next_none}
 use Rattle.pli_declare_constructs.proofs.nesting.Nesting.outward.Goals as goal
 
 some : (c : goal.After-result-1) → Outwards c.args.self.now c.args.block c.index-in-Some.result.now

@@ -4,7 +4,7 @@ use Rattle.pli_declare_outline.specs.views.OutlineView.{region_view, regions_vie
 use Rattle.pli_declare_constructs.specs.Regions.{outside, round_of}
 use Rattle.pli_declare_constructs.specs.Reach.{is_group, reaches}
 use Rattle.pli_declare_constructs.specs.answers.ReachSteps.{reaches_through}
-use Rattle.pli_declare_constructs.proofs.Blocks.{read}
+use Rattle.pli_declare_constructs.proofs.BlocksAround.{read}
 use Rattle.pli_declare_constructs.proofs.ReachStepLemmas.{reach_past, reach_here, reach_none, reach_behind, reach_outer}
 use Rattle.pli_declare_constructs.proofs.ReachLemmas.{walk_is_reach}
 use Rattle.pli_declare_constructs.proofs.nesting.Nesting.reaches.Goals as goal

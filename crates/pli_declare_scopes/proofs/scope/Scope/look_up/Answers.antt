@@ -2,7 +2,7 @@ use Rattle.std.proofs.Common.{◌≡◌, [], sym, ap, ◌∙◌, arith}
 use Rattle.std.specs.Prelude.{reverse}
 use Rattle.std.proofs.lemmas.List.{nil_from_length}
 use Rattle.pli_declare_scopes.specs.Scopes.{meant, meant_there}
-use Rattle.pli_declare_scopes.proofs.Outwards.{no_reference, decided_here, decided_further}
+use Rattle.pli_declare_scopes.proofs.OutwardLemmas.{no_reference, decided_here, decided_further}
 use Rattle.pli_declare_scopes.proofs.scope.Scope.look_up.Goals as goal
 
 pub returns-in_default : goal.returns-in_default

@@ -1,4 +1,4 @@
-use Rattle.pli_declare_variables.proofs.Measuring.{bounded_over}
+use Rattle.pli_declare_variables.proofs.SizeLemmas.{bounded_over}
 use Rattle.pli_declare_variables.proofs.sizes.Measured.with_dimensions.Goals as goal
 
 pub returns-in_default : goal.returns-in_default

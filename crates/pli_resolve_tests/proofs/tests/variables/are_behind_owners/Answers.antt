@@ -6,7 +6,7 @@ use Rattle.pli_declare_scopes.specs.laws.RepeatLaws.{written_at}
 use Rattle.pli_declare_tables.specs.Tables.{written, no_entry}
 use Rattle.pli_declare_tables.specs.views.TableView.{entry_view, entries_view}
 use Rattle.pli_declare_tables.specs.declared.entry.Entry.{Entry}
-use Rattle.pli_declare_variables.proofs.Levelled.{view_at}
+use Rattle.pli_declare_variables.proofs.LevelLemmas.{view_at}
 use Rattle.pli_resolve_tests.proofs.tests.variables.are_behind_owners.Goals as goal
 
 abbrev Stands : List Entry → ℕ → Type 0

@@ -10,9 +10,9 @@ use Rattle.pli_declare_variables.specs.Declarations.{IsGood}
 use Rattle.pli_declare_variables.specs.answers.Declaring.{IsFaultless}
 use Rattle.pli_declare_variables.specs.Judging.{judged_at}
 use Rattle.pli_declare_variables.specs.declared.judged.Judged.{Judged}
-use Rattle.pli_declare_variables.proofs.Levelled.{view_at}
-use Rattle.pli_declare_variables.proofs.Numbers.{mapped_length}
-use Rattle.pli_declare_variables.proofs.Placing.{element_at}
+use Rattle.pli_declare_variables.proofs.LevelLemmas.{view_at}
+use Rattle.pli_declare_variables.proofs.NumberLemmas.{mapped_length}
+use Rattle.pli_declare_variables.proofs.PlaceLemmas.{element_at}
 use Rattle.pli_resolve_tests.proofs.tests.variables.are_good.Goals as goal
 
 one_more : (P : ℕ → Type 0) (i : ℕ) → ((n : ℕ) → n < i → P n) → P i → (n : ℕ) → n < i + 1 → P n

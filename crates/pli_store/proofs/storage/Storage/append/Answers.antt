@@ -1,7 +1,7 @@
 use Rattle.std.proofs.Common.{map, refl, sym, ◌∙◌, arith}
 use Rattle.pli_store.specs.views.GenerationView.{generation_view}
 use Rattle.pli_store.specs.views.StorageView.{place_view, storage_view}
-use Rattle.pli_store.proofs.Lengthening.{appended_there, kept_lengthened}
+use Rattle.pli_store.proofs.AppendLemmas.{appended_there, kept_lengthened}
 use Rattle.pli_store.proofs.Searches.{slice_get_within_view}
 use Rattle.pli_store.proofs.storage.Storage.append.Goals as goal
 

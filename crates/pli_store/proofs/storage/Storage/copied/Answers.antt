@@ -8,7 +8,7 @@ use Rattle.pli_map.specs.views.DescriptionView.{description_view}
 use Rattle.pli_value.specs.Value.{value_view}
 use Rattle.pli_store.specs.views.GenerationView.{generation_view}
 use Rattle.pli_store.specs.views.StorageView.{place_view, storage_view, with_storage}
-use Rattle.pli_store.proofs.Copies.{copied_other, copied_from_none, copied_to_none, copied_done, values_copied}
+use Rattle.pli_store.proofs.CopyLemmas.{copied_other, copied_from_none, copied_to_none, copied_done, values_copied}
 use Rattle.pli_store.proofs.PartAnswers.{kept_after}
 use Rattle.pli_store.proofs.Searches.{slice_get_within_view}
 use Rattle.pli_store.proofs.storage.Storage.copied.Goals as goal

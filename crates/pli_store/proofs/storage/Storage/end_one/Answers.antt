@@ -3,7 +3,7 @@ use Rattle.pli_store.specs.Storage.{live_bytes}
 use Rattle.pli_store.specs.answers.Kept.{rise}
 use Rattle.pli_store.specs.views.GenerationView.{generation_view}
 use Rattle.pli_store.specs.views.StorageView.{storage_view}
-use Rattle.pli_store.proofs.Endings.{ended_size, ended_live, ended_rise, ended_view, none_ended}
+use Rattle.pli_store.proofs.EndingLemmas.{ended_size, ended_live, ended_rise, ended_view, none_ended}
 use Rattle.pli_store.proofs.storage.Storage.end_one.Goals as goal
 
 pub overflow_cast-self : goal.overflow_cast-self

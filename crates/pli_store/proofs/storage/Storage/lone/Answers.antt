@@ -5,7 +5,7 @@ use Rattle.pli_map.specs.Scalars.{first_scalar}
 use Rattle.pli_map.specs.views.DescriptionView.{description_view}
 use Rattle.pli_store.specs.answers.Found.{StandsAt}
 use Rattle.pli_store.specs.views.StorageView.{place_view, storage_view}
-use Rattle.pli_store.proofs.Leading.{leads_to}
+use Rattle.pli_store.proofs.PlaceLemmas.{leads_to}
 use Rattle.pli_store.proofs.Searches.{stands_at}
 use Rattle.pli_store.proofs.storage.Storage.lone.Goals as goal
 

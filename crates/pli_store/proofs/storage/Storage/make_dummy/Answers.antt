@@ -7,7 +7,7 @@ use Rattle.pli_store.specs.World.{made_of}
 use Rattle.pli_store.specs.answers.Answered.{Answered}
 use Rattle.pli_store.specs.declared.place.Place.{Place}
 use Rattle.pli_store.specs.views.StorageView.{place_view, with_storage}
-use Rattle.pli_store.proofs.Makings.{dummy_misfit, dummy_made}
+use Rattle.pli_store.proofs.MakingLemmas.{dummy_misfit, dummy_made}
 use Rattle.pli_store.proofs.storage.Storage.make_dummy.Goals as goal
 
 pub returns-then-not-holds-clause-made : goal.returns-then-not-holds-clause-made

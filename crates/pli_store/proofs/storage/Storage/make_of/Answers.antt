@@ -7,7 +7,7 @@ use Rattle.pli_store.specs.World.{Yields}
 use Rattle.pli_store.specs.declared.generation.Generation.{Generation}
 use Rattle.pli_store.specs.views.GenerationView.{generation_view, made_view}
 use Rattle.pli_store.specs.views.StorageView.{with_storage}
-use Rattle.pli_store.proofs.Makings.{made_too_often, made_too_large, made_there}
+use Rattle.pli_store.proofs.MakingLemmas.{made_too_often, made_too_large, made_there}
 use Rattle.pli_store.proofs.RisingNumbers.{live_added, rise_added}
 use Rattle.pli_store.proofs.storage.Storage.make_of.Goals as goal
 use Rattle.pli_store.proofs.storage.Storage.make_of.Goals.{then-self-ge-GENERATION_LIMIT-via-then-self-ge-GENERATION_LIMIT, then-self-ge-GENERATION_LIMIT-via-else-self-ge-GENERATION_LIMIT+then-size-room}

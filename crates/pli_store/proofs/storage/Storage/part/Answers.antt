@@ -1,7 +1,7 @@
 use Rattle.std.proofs.Common.{◌≡◌, ◌≤◌, length, Some, slice_get, refl, arith}
 use Rattle.std.proofs.lemmas.Option.{slice_get_read}
 use Rattle.pli_store.specs.views.StorageView.{place_view}
-use Rattle.pli_store.proofs.Leading.{within_store, leads_too_far, leads_to, leads_nowhere}
+use Rattle.pli_store.proofs.PlaceLemmas.{within_store, leads_too_far, leads_to, leads_nowhere}
 use Rattle.pli_store.proofs.storage.Storage.part.Goals as goal
 
 pub returns-in_default-try_from : goal.returns-in_default-try_from

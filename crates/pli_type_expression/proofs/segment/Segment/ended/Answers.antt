@@ -3,7 +3,7 @@ use Rattle.std.proofs.lemmas.Result.{err_from_is_err_and}
 use Rattle.pli_type_names.specs.UnitNaming.{naming_in}
 use Rattle.pli_type_tree.specs.views.TypedView.{expression_view}
 use Rattle.pli_type_expression.specs.views.TypingView.{referent_view, role_view}
-use Rattle.pli_type_expression.proofs.Meanings.{ended_at_variable, ended_with_fault}
+use Rattle.pli_type_expression.proofs.MeaningLemmas.{ended_at_variable, ended_with_fault}
 use Rattle.pli_type_expression.proofs.segment.Segment.ended.Goals as goal
 
 pub returns-in_err-referent-in-Variable : goal.returns-in_err-referent-in-Variable

@@ -5,7 +5,7 @@ use Rattle.pli_type.specs.NamedUnits.{parameters_of, returned_of}
 use Rattle.pli_type_names.specs.BlockEntries.{parameters_in, returned_in}
 use Rattle.pli_type_names.specs.UnitNaming.{procedure_in}
 use Rattle.pli_type_names.specs.views.EntryView.{entry_view}
-use Rattle.pli_type_names.proofs.Answered.{parameters_found, returned_found}
+use Rattle.pli_type_names.proofs.AnswersSay.{parameters_found, returned_found}
 use Rattle.pli_type_names.proofs.naming.Naming.procedure.Goals as goal
 
 pub returns : goal.returns

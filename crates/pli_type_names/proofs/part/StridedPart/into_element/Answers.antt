@@ -3,8 +3,8 @@ use Rattle.pli_map.specs.Description as tree
 use Rattle.pli_map.specs.Sizes.{size_of}
 use Rattle.pli_map.specs.views.DescriptionView.{description_view}
 use Rattle.pli_type.specs.NamedUnits.{is_plain}
-use Rattle.pli_type_names.proofs.Plain.{plain_array, element_size}
-use Rattle.pli_type_names.proofs.Trees.{array_view}
+use Rattle.pli_type_names.proofs.PlainLemmas.{plain_array, element_size}
+use Rattle.pli_type_names.proofs.TreeLemmas.{array_view}
 use Rattle.pli_type_names.proofs.part.StridedPart.into_element.Goals as goal
 
 pub invariant_of-result : goal.invariant_of-result

@@ -2,7 +2,7 @@ use Rattle.std.proofs.Common.{◌≡◌, sym, Some}
 use Rattle.pli_map.specs.Parts.{Member, part_at}
 use Rattle.pli_map.specs.views.DescriptionView.{description_view}
 use Rattle.pli_map.specs.views.PartView.{part_view}
-use Rattle.pli_type_names.proofs.Plain.{plain_step}
+use Rattle.pli_type_names.proofs.PlainLemmas.{plain_step}
 use Rattle.pli_type_names.proofs.part.StridedPart.into_member.Goals as goal
 
 pub into_placed-requires-clause-plain : goal.into_placed-requires-clause-plain

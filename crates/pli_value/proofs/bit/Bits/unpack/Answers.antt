@@ -1,7 +1,7 @@
 use Rattle.std.proofs.Common.{◌≡◌, ◌-◌, ◌/◌, ◌%◌, nat_eq, length, get_or, ap, arith}
 use Rattle.std.proofs.lemmas.Nat.Bits.{shr_and_one}
 use Rattle.pli_value.specs.Packing.{packed_bit}
-use Rattle.pli_value.proofs.Loops.{tabulated_counted, tabulated_more}
+use Rattle.pli_value.proofs.BitLoopLemmas.{tabulated_counted, tabulated_more}
 use Rattle.pli_value.proofs.bit.Bits.unpack.Goals as goal
 
 pub push-requires : goal.push-requires

@@ -1,0 +1,98 @@
+-- What is found block by block.
+use Rattle.std.proofs.Common.{◌≡◌, ℕ, ◌+◌, ◌<◌, ◌≤◌, Option, Some, None, List, [], ◌∷◌, ◌++◌, take, length, map, option_map, slice_get, get_or}
+use Rattle.std.proofs.Common.{refl, ap, sym, ◌∙◌, arith}
+use Rattle.std.specs.List.{flat_map}
+use Rattle.std.specs.Option.{unwrap_or}
+use Rattle.std.proofs.lemmas.Grind.{flat_map-append}
+use Rattle.std.proofs.lemmas.List.{append-nil, length-append, length-map, take_all}
+use Rattle.std.proofs.lemmas.Option.{slice_get-get_or, unwrap_or-slice_get}
+use Rattle.pli_resolve.specs.ResolvedUnits.{ResolvedUnit, ResolvedBlock, all_symbols}
+use Rattle.pli_resolve.specs.Symbols.{Symbol}
+use Rattle.pli_resolve.specs.views.UnitView.{without_symbols}
+use Rattle.pli_type.specs.NamedUnits.{block_symbols, globals_before, globals_in}
+use Rattle.pli_type_names.specs.BlockEntries.{BlockEntry, entry_at}
+use Rattle.pli_type_names.specs.BlockFacts.{facts_of}
+use Rattle.pli_type_names.specs.Numbered.{each_from}
+use Rattle.pli_type_names.specs.Seen.{Kept, kept_symbols}
+use Rattle.pli_type_names.proofs.ListLemmas.{each_at, each_counted, each_get, take_one_more, take_whole}
+
+-- ---- entries
+
+abbrev pub entries_of : ResolvedUnit → List BlockEntry
+entries_of r = each_from (entry_at r) 0 r.blocks
+
+pub entry_there : (r : ResolvedUnit) (n : ℕ) → slice_get (entries_of r) n ≡ option_map (entry_at r n) (slice_get r.blocks n)
+entry_there r n = each_at (entry_at r) r.blocks 0 n n (omega arith)
+
+bare_entry : (r : ResolvedUnit) (n : ℕ) (o : Option ResolvedBlock) → option_map (entry_at r n) o ≡ option_map (entry_at r n) (option_map without_symbols o)
+bare_entry r n None = refl
+bare_entry r n (Some b) = refl
+
+-- by a block apart from its symbols
+pub entry_bare : (r : ResolvedUnit) (n : ℕ) (o : Option ResolvedBlock) → o ≡ option_map without_symbols (slice_get r.blocks n)
+    → slice_get (entries_of r) n ≡ option_map (entry_at r n) o
+entry_bare r n o e = entry_there r n ∙ bare_entry r n (slice_get r.blocks n) ∙ ap (option_map (entry_at r n)) (sym e)
+
+-- all of them
+pub all_entries : (r : ResolvedUnit) (n : ℕ) (es : List BlockEntry) → None ≡ option_map without_symbols (slice_get r.blocks n)
+    → es ≡ take n (entries_of r) → (k : ℕ) → slice_get es k ≡ option_map (entry_at r k) (slice_get r.blocks k)
+all_entries r n es e is k = ap (λ xs. slice_get xs k) (is ∙ take_whole (entries_of r) n (entry_bare r n None e)) ∙ entry_there r k
+
+-- ---- meanings
+
+abbrev pub rows_of : ResolvedUnit → List (List Kept)
+rows_of r = each_from (λ block (ss : List Symbol). kept_symbols (facts_of r block)) 0 (all_symbols r)
+
+-- how many blocks have symbols
+pub all_counted : (r : ResolvedUnit) → length (all_symbols r) ≡ length r.blocks + 1
+all_counted r = length-append (map (λ b. b.symbols) r.blocks) (r.outermost ∷ []) ∙ ap (λ n. n + 1) (length-map r.blocks (λ b. b.symbols))
+
+pub symbols_there : (r : ResolvedUnit) (n : ℕ) → n < length r.blocks + 1 → slice_get (all_symbols r) n ≡ Some (block_symbols r n)
+symbols_there r n h = slice_get-get_or (all_symbols r) n [] (omega (arith, h, all_counted r))
+
+pub row_there : (r : ResolvedUnit) (n : ℕ) → n < length r.blocks + 1 → slice_get (rows_of r) n ≡ Some (kept_symbols (facts_of r n))
+row_there r n h =
+    each_at (λ block (ss : List Symbol). kept_symbols (facts_of r block)) (all_symbols r) 0 n n (omega arith)
+    ∙ ap (option_map (λ (ss : List Symbol). kept_symbols (facts_of r n))) (symbols_there r n h)
+
+no_rows : (r : ResolvedUnit) (n : ℕ) (o : Option (List Symbol)) → slice_get (all_symbols r) n ≡ o
+    → unwrap_or (option_map (λ (ss : List Symbol). kept_symbols (facts_of r n)) o) [] ≡ kept_symbols (facts_of r n)
+no_rows r n None e =
+    let none : block_symbols r n ≡ [] = sym (unwrap_or-slice_get (all_symbols r) n []) ∙ ap (λ o. unwrap_or o []) e in
+    let f = facts_of r n in
+    ap (λ ss. kept_symbols (record { parameters = f.parameters; places = f.places; globals = f.globals; symbols = ss })) (sym none)
+no_rows r n (Some ss) e = refl
+
+pub all_rows : (r : ResolvedUnit) (n : ℕ) (rows : List (List Kept)) → length r.blocks + 1 ≤ n → rows ≡ take n (rows_of r)
+    → (block : ℕ) → get_or rows block [] ≡ kept_symbols (facts_of r block)
+all_rows r n rows h is block =
+    let f : ℕ → List Symbol → List Kept = λ b ss. kept_symbols (facts_of r b) in
+    let long : length (rows_of r) ≤ n = omega (arith, h, all_counted r, each_counted f 0 (all_symbols r)) in
+    ap (λ xs. get_or xs block []) (is ∙ take_all n (rows_of r) long)
+    ∙ each_get f (all_symbols r) 0 block block [] (omega arith)
+    ∙ no_rows r block (slice_get (all_symbols r) block) refl
+
+-- ---- globals
+
+globals_behind : (xss : List (List Symbol)) (xs : List Symbol) → globals_in 31 (xss ++ xs ∷ []) ≡ globals_in 31 xss + globals_before 31 xs (length xs)
+globals_behind [] xs = omega arith
+globals_behind (ys ∷ xss) xs = omega (arith, globals_behind xss xs)
+
+pub globals_more : (xss : List (List Symbol)) (n : ℕ) (xs : List Symbol) → slice_get xss n ≡ Some xs
+    → globals_in 31 (take (n + 1) xss) ≡ globals_in 31 (take n xss) + globals_before 31 xs (length xs)
+globals_more xss n xs e = ap (globals_in 31) (take_one_more xss n xs e) ∙ globals_behind (take n xss) xs
+
+-- what is gathered from one block more, and from all
+pub gathered_more : {A : Type 0} (f : List Symbol → List A) (r : ResolvedUnit) (n : ℕ) → n < length r.blocks + 1
+    → flat_map f (take n (all_symbols r)) ++ f (block_symbols r n) ≡ flat_map f (take (n + 1) (all_symbols r))
+gathered_more f r n h =
+    let own = block_symbols r n in
+    sym (ap (flat_map f) (take_one_more (all_symbols r) n own (symbols_there r n h))
+    ∙ flat_map-append f (take n (all_symbols r)) (own ∷ [])
+    ∙ ap (λ ts. flat_map f (take n (all_symbols r)) ++ ts) (append-nil (f own)))
+
+pub all_gathered : {A : Type 0} (f : List Symbol → List A) (r : ResolvedUnit) (n : ℕ) → length r.blocks + 1 ≤ n
+    → flat_map f (take n (all_symbols r)) ≡ flat_map f (all_symbols r)
+all_gathered f r n h =
+    let long : length (all_symbols r) ≤ n = omega (arith, h, all_counted r) in
+    ap (flat_map f) (take_all n (all_symbols r) long)

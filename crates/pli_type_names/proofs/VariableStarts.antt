@@ -1,0 +1,135 @@
+-- Where variables begin, by how many stand before them.
+use Rattle.std.proofs.Common.{◌≡◌, ℕ, zero, suc, ◌+◌, ◌<◌, Bool, true, false, ◌&&◌, Option, Some, None, List, [], ◌∷◌, map, length, get_or}
+use Rattle.std.proofs.Common.{refl, ap, ◌∙◌, arith}
+use Rattle.std.specs.Prelude.{if◌then◌else◌}
+use Rattle.pli_map.specs.Description.{Description}
+use Rattle.pli_resolve.specs.Symbols as plain
+use Rattle.pli_resolve.specs.Symbols.{SymbolKind, Variable, Member, Label, Procedure, Entry, BuiltIn}
+use Rattle.pli_resolve.specs.declared.symbol.Symbol.{Symbol}
+use Rattle.pli_resolve.specs.declared.symbol.StorageClass.{StorageClass}
+use Rattle.pli_resolve.specs.declared.symbol.StorageClass.TheVariants as classes
+use Rattle.pli_resolve.specs.views.SymbolView.{symbol_view, symbol_kind_view}
+use Rattle.pli_type.specs.NamedUnits.{is_parameter, is_stored, is_automatic, is_static, one_such, such_before, one_global, globals_before}
+use Rattle.pli_type_names.specs.BlockFacts.{BlockFacts}
+use Rattle.pli_type_names.specs.OwnVariables.{OwnVariable, begun, global_at, own_at, own_behind, slots_of, globals_of}
+use Rattle.pli_type_names.specs.declared.place.Location.{Location}
+use Rattle.pli_type_names.specs.declared.place.Location.TheVariants.{InBlock, BeforeProgram}
+
+-- ---- one variable
+
+in_order : (stored : Bool) (place : Location) (d : Description)
+    → (if stored then begun (Some place) d else None) ≡ begun (if stored then Some place else None) d
+in_order true place d = refl
+in_order false place d = refl
+
+in_both : (stored is : Bool) (place : Location) (d : Description)
+    → (if stored then begun (if is then Some place else None) d else None) ≡ begun (if stored && is then Some place else None) d
+in_both true is place d = refl
+in_both false is place d = refl
+
+nowhere : (stored : Bool) (o : Option OwnVariable) → (if stored then o else o) ≡ o
+nowhere true o = refl
+nowhere false o = refl
+
+-- the variable that a symbol is, by those before it
+pub own_is : (f : BlockFacts) (number slots globals : ℕ) (k : SymbolKind)
+    → slots ≡ length f.parameters + such_before (is_automatic 31) f.symbols number
+    → globals ≡ global_at f number
+    → own_behind f.parameters slots globals number k ≡ own_at f number k
+own_is f number slots globals (Variable d classes.Automatic scope initial area) e g =
+    in_order (is_stored 31 d) (InBlock slots) d
+    ∙ ap (λ n. begun (if is_stored 31 d then Some (InBlock n) else None) d) e
+own_is f number slots globals (Variable d classes.Static scope initial area) e g =
+    in_order (is_stored 31 d) (BeforeProgram globals) d
+    ∙ ap (λ n. begun (if is_stored 31 d then Some (BeforeProgram n) else None) d) g
+own_is f number slots globals (Variable d (classes.Parameter slot) scope initial area) e g =
+    in_both (is_stored 31 d) (is_parameter f.parameters slot number) (InBlock slot) d
+own_is f number slots globals (Variable d classes.Controlled scope initial area) e g = nowhere (is_stored 31 d) None
+own_is f number slots globals (Variable d (classes.Based locator) scope initial area) e g = nowhere (is_stored 31 d) None
+own_is f number slots globals (Member root path initial area) e g = refl
+own_is f number slots globals (Label statement) e g = refl
+own_is f number slots globals (Procedure block returned area) e g = refl
+own_is f number slots globals (Entry parameters returned) e g = refl
+own_is f number slots globals BuiltIn e g = refl
+
+-- ---- counting
+
+abbrev one_if : Bool → ℕ
+one_if b = if b then 1 else 0
+
+-- a variable that is stored
+pub slots_stored : (d : Description) (class : StorageClass) → is_stored 31 d ≡ true
+    → one_if (is_automatic 31 class d) ≡ slots_of class
+slots_stored d classes.Automatic e = ap one_if e
+slots_stored d classes.Static e = refl
+slots_stored d (classes.Parameter slot) e = refl
+slots_stored d classes.Controlled e = refl
+slots_stored d (classes.Based locator) e = refl
+
+pub globals_stored : (d : Description) (class : StorageClass) → is_stored 31 d ≡ true
+    → one_if (is_static 31 class d) ≡ globals_of class
+globals_stored d classes.Automatic e = refl
+globals_stored d classes.Static e = ap one_if e
+globals_stored d (classes.Parameter slot) e = refl
+globals_stored d classes.Controlled e = refl
+globals_stored d (classes.Based locator) e = refl
+
+-- one that is not
+pub slots_unstored : (d : Description) (class : StorageClass) → is_stored 31 d ≡ false
+    → one_if (is_automatic 31 class d) ≡ 0
+slots_unstored d classes.Automatic e = ap one_if e
+slots_unstored d classes.Static e = refl
+slots_unstored d (classes.Parameter slot) e = refl
+slots_unstored d classes.Controlled e = refl
+slots_unstored d (classes.Based locator) e = refl
+
+pub globals_unstored : (d : Description) (class : StorageClass) → is_stored 31 d ≡ false
+    → one_if (is_static 31 class d) ≡ 0
+globals_unstored d classes.Automatic e = refl
+globals_unstored d classes.Static e = ap one_if e
+globals_unstored d (classes.Parameter slot) e = refl
+globals_unstored d classes.Controlled e = refl
+globals_unstored d (classes.Based locator) e = refl
+
+-- ---- one symbol further on
+
+abbrev pub Class : Type 0
+Class = StorageClass → Description → Bool
+
+pub none_before : (f : Class) (ss : List plain.Symbol) → such_before f ss 0 ≡ 0
+none_before f [] = refl
+none_before f (s ∷ ss) = refl
+
+before_next : (f : Class) (ss : List Symbol) (n : ℕ) (d : Symbol) → n < length ss
+    → such_before f (map symbol_view ss) (suc n)
+    ≡ such_before f (map symbol_view ss) n + one_such f (symbol_kind_view (get_or ss n d).kind)
+before_next f [] n d h = absurd (omega arith)
+before_next f (s ∷ ss) zero d h = omega (arith, none_before f (map symbol_view ss))
+before_next f (s ∷ ss) (suc n) d h = omega (arith, before_next f ss n d (omega (arith, h)))
+
+pub before_more : (f : Class) (ss : List Symbol) (n : ℕ) (d : Symbol) → n < length ss
+    → such_before f (map symbol_view ss) (n + 1)
+    ≡ such_before f (map symbol_view ss) n + one_such f (symbol_kind_view (get_or ss n d).kind)
+before_more f ss n d h =
+    let next : n + 1 ≡ suc n = omega arith in
+    ap (such_before f (map symbol_view ss)) next ∙ before_next f ss n d h
+
+-- the same of globals
+
+pub no_global_before : (ss : List plain.Symbol) → globals_before 31 ss 0 ≡ 0
+no_global_before [] = refl
+no_global_before (s ∷ ss) = refl
+
+global_next : (ss : List Symbol) (n : ℕ) (d : Symbol) → n < length ss
+    → globals_before 31 (map symbol_view ss) (suc n)
+    ≡ globals_before 31 (map symbol_view ss) n + one_global 31 (symbol_kind_view (get_or ss n d).kind)
+global_next [] n d h = absurd (omega arith)
+global_next (s ∷ ss) zero d h = omega (arith, no_global_before (map symbol_view ss))
+global_next (s ∷ ss) (suc n) d h = omega (arith, global_next ss n d (omega (arith, h)))
+
+pub global_more : (ss : List Symbol) (n : ℕ) (d : Symbol) → n < length ss
+    → globals_before 31 (map symbol_view ss) (n + 1)
+    ≡ globals_before 31 (map symbol_view ss) n + one_global 31 (symbol_kind_view (get_or ss n d).kind)
+global_more ss n d h =
+    let next : n + 1 ≡ suc n = omega arith in
+    ap (globals_before 31 (map symbol_view ss)) next ∙ global_next ss n d h

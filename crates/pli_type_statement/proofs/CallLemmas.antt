@@ -1,0 +1,179 @@
+-- Calls by CALL, and control variables without subscripts.
+use Rattle.std.proofs.Common.{◌≡◌, arith, ◌∷◌, [], ℕ, List, length, Option, Some, None, option_map, Result, Ok, Err, map, Vec, Global, refl, ap, sym, ◌∙◌, subst}
+use Rattle.std.specs.Bool.{◌==◌}
+use Rattle.std.specs.Vec.{vec_len}
+use Rattle.std.proofs.lemmas.Bool.{eq-eqb, ne_eqb}
+use Rattle.pli_base.specs.Results.{◌>>=◌}
+use Rattle.pli_base.specs.Reading.{at_fault}
+use Rattle.pli_map.specs.views.DescriptionView.{description_view}
+use Rattle.pli_base.specs.Statements.{Range}
+use Rattle.pli_base.specs.Syntax.{Arguments, Expression, Referred}
+use Rattle.pli_base.specs.declared.syntax.Expression as program_tree
+use Rattle.pli_base.specs.declared.syntax.Reference as syntax
+use Rattle.pli_base.specs.declared.syntax.Reference.{out-Reference}
+use Rattle.pli_base.specs.laws.SyntaxLaws.{reference_out}
+use Rattle.pli_base.specs.views.SyntaxView as syntax_view
+use Rattle.pli_base.specs.views.SyntaxView.{reference_view as reference_in}
+use Rattle.pli_type.specs.ExpressionTypes.{TypedValue}
+use Rattle.pli_type.specs.References.{AsLocator, Referent}
+use Rattle.pli_type.specs.Typing.{first_token, referred, value_of}
+use Rattle.pli_type_statement.specs.Iterations.{iteration_with}
+use Rattle.pli_base.specs.declared.code.Code.TheVariants.{NotCallableHere}
+use Rattle.pli_base.specs.declared.syntax.Identifier.{Identifier}
+use Rattle.pli_base.specs.declared.token.Fault.{Fault}
+use Rattle.pli_map.specs.Description.{Description}
+use Rattle.pli_map.specs.declared.description.Description as described
+use Rattle.pli_type.specs.FunctionCalls.{Argument, Denoted}
+use Rattle.pli_type.specs.Names.{Naming, NamedAs, NamedProcedure, AVariable, AFunction, AProcedure, ALabel, Untyped}
+use Rattle.pli_type.specs.ProcedureCalls.{arguments_passed}
+use Rattle.pli_type.specs.StatementTyping.{Surroundings, jump, arguments_typed, call_of, call_typed, controls, iteration, limits, no_function, return_typed, returned_value, without_subscripts}
+use Rattle.pli_type_expression.proofs.BindLemmas.{bind_ok, fails_as, fails_on}
+use Rattle.pli_base.specs.answers.FailureAnswers.{Fails, Gives}
+use Rattle.pli_base.specs.declared.failure.Failure.{Failure}
+use Rattle.pli_base.specs.declared.failure.Failure.TheVariants as errors
+use Rattle.pli_type_names.specs.SymbolMeaning.{IsMeantAs, IsProcedure}
+use Rattle.pli_type_names.specs.UnitNaming.{Names, naming_in}
+use Rattle.pli_type_names.specs.declared.naming.NamedAs as program_name
+use Rattle.pli_type_names.specs.declared.naming.NamedAs.TheVariants as answers
+use Rattle.pli_type_names.specs.declared.naming.NamedProcedure as program
+use Rattle.pli_type_tree.specs.TypedTree as typed
+use Rattle.pli_type_tree.specs.TypedTree.{TypedArguments, Form}
+use Rattle.pli_type_tree.specs.declared.expression.Root.{Root}
+use Rattle.pli_type_tree.specs.declared.expression.TypedReference.{Part}
+use Rattle.pli_type_tree.specs.declared.expression.TypedSubscript.{TypedSubscript}
+use Rattle.pli_type_tree.specs.laws.TypedTreeLaws.{part_made}
+use Rattle.pli_type_tree.specs.views.TypedView.{reference_view, root_view, subscripts_view}
+
+-- what a name means that was found to mean a procedure
+pub meant_procedure : (p : program.NamedProcedure) (m : NamedAs) → IsMeantAs (answers.Procedure p) m
+    → (q : NamedProcedure) × (m ≡ AProcedure q) × IsProcedure p q
+meant_procedure p (AProcedure q) h = (q, refl, h)
+meant_procedure p (AVariable v) h = absurd h
+meant_procedure p (AFunction f) h = absurd h
+meant_procedure p (ALabel s) h = absurd h
+meant_procedure p Untyped h = absurd h
+
+pub greatest_is : (names : Names) → (naming_in names).greatest ≡ 31
+unfolding naming_in
+greatest_is names = refl
+
+call_passed : (names : Names) (name : Identifier) (list : Arguments) (gs : List Argument) (q : NamedProcedure)
+    → arguments_typed (naming_in names) list ≡ Ok gs → (naming_in names).meaning name.at ≡ AProcedure q
+    → call_typed (naming_in names) name list
+    ≡ (arguments_passed 31 q name.at gs >>= no_function name.at q.callee q.returned)
+call_passed names name list gs q typed meant =
+    ap (λ r. r >>= λ gs. call_of (naming_in names).greatest name.at ((naming_in names).meaning name.at) gs) typed
+    ∙ ap (λ m. call_of (naming_in names).greatest name.at m gs) meant
+    ∙ ap (λ g. arguments_passed g q name.at gs >>= no_function name.at q.callee q.returned) (greatest_is names)
+
+pub call_fails : (names : Names) (name : Identifier) (list : Arguments) (gs : List Argument) (q : NamedProcedure) (e : Failure Fault) (g : ℕ) → g ≡ 31
+    → arguments_typed (naming_in names) list ≡ Ok gs → (naming_in names).meaning name.at ≡ AProcedure q
+    → Fails e (arguments_passed g q name.at gs) → Fails e (call_typed (naming_in names) name list)
+call_fails names name list gs q errors.OutOfMemory g is typed meant h = tt
+call_fails names name list gs q (errors.Fault f) g is typed meant h =
+    call_passed names name list gs q typed meant ∙ ap (λ g. arguments_passed g q name.at gs >>= no_function name.at q.callee q.returned) (sym is)
+    ∙ ap (λ r. r >>= no_function name.at q.callee q.returned) h
+
+pub call_done : (names : Names) (name : Identifier) (list : Arguments) (gs : List Argument) (q : NamedProcedure) (xs : TypedArguments)
+    (returned : Option Description) (callee : typed.Callee) (g : ℕ) → g ≡ 31 → arguments_typed (naming_in names) list ≡ Ok gs
+    → (naming_in names).meaning name.at ≡ AProcedure q → arguments_passed g q name.at gs ≡ Ok xs
+    → callee ≡ q.callee → returned ≡ q.returned
+    → call_typed (naming_in names) name list ≡ no_function name.at callee returned xs
+call_done names name list gs q xs returned callee g small typed meant h is gives =
+    call_passed names name list gs q typed meant ∙ ap (λ g. arguments_passed g q name.at gs >>= no_function name.at q.callee q.returned) (sym small) ∙ ap (λ r. r >>= no_function name.at q.callee q.returned) h
+    ∙ ap (λ b. no_function name.at b q.returned xs) (sym is) ∙ ap (λ d. no_function name.at callee d xs) (sym gives)
+
+-- a reference without subscripts
+bare_list : (root : typed.Root) (offset : ℕ) (d : Description) (xs : List TypedSubscript) (n : ℕ) → n ≡ length xs
+    → (n == 0) ≡ without_subscripts (typed.Part root offset d (subscripts_view xs))
+bare_list root offset d [] n e = eq-eqb n 0 e
+bare_list root offset d (x ∷ xs) n e = ne_eqb n 0 (λ none. omega (arith, e, none))
+
+pub bare : (root : Root) (offset : ℕ) (d : described.Description) (xs : Vec TypedSubscript Global)
+    → (vec_len xs == 0) ≡ without_subscripts (reference_view (Part root offset d xs))
+bare root offset d xs = bare_list (root_view root) offset (description_view d) xs.items (vec_len xs) xs.ok.0
+    ∙ ap without_subscripts (sym (part_made root offset d xs))
+
+-- a control variable that may not control
+
+token_of : (r : syntax.Reference) → first_token (Referred (reference_in r)) ≡ (out-Reference r).first.name.at
+token_of r = ap (λ r. first_token (Referred r)) (reference_out r)
+
+pub iteration_fails : (n : Naming) (temporary : ℕ) (v : syntax.Reference) (equals : ℕ) (first : Expression) (range : Option Range)
+    (tested : Option Expression) (a : TypedValue) (k : typed.TypedRange) (d : Denoted) (e : Failure Fault)
+    → value_of n first ≡ Ok a → limits n range ≡ Ok k → referred n AsLocator (reference_in v) ≡ Ok d
+    → Fails e (controls (out-Reference v).first.name.at k d)
+    → Fails e (iteration n temporary (reference_in v) equals first range tested)
+iteration_fails n temporary v equals first range tested a k d errors.OutOfMemory x y z h = tt
+iteration_fails n temporary v equals first range tested a k d (errors.Fault f) x y z h =
+    let at = first_token (Referred (reference_in v)) in
+    ap (λ r. r >>= λ a. limits n range >>= λ k. referred n AsLocator (reference_in v) >>= λ d. controls at k d >>= λ r. iteration_with n temporary equals a k r range tested) x
+    ∙ ap (λ r. r >>= λ k. referred n AsLocator (reference_in v) >>= λ d. controls at k d >>= λ r. iteration_with n temporary equals a k r range tested) y
+    ∙ ap (λ r. r >>= λ d. controls at k d >>= λ r. iteration_with n temporary equals a k r range tested) z
+    ∙ ap (λ at. controls at k d >>= λ r. iteration_with n temporary equals a k r range tested) (token_of v)
+    ∙ ap (λ r. r >>= λ r. iteration_with n temporary equals a k r range tested) h
+
+-- one that may
+pub iteration_goes_on : (n : Naming) (temporary : ℕ) (v : syntax.Reference) (equals : ℕ) (first : Expression) (range : Option Range)
+    (tested : Option Expression) (a : TypedValue) (k : typed.TypedRange) (d : Denoted) (r : Referent)
+    → value_of n first ≡ Ok a → limits n range ≡ Ok k → referred n AsLocator (reference_in v) ≡ Ok d
+    → controls (out-Reference v).first.name.at k d ≡ Ok r
+    → iteration n temporary (reference_in v) equals first range tested ≡ iteration_with n temporary equals a k r range tested
+iteration_goes_on n temporary v equals first range tested a k d r x y z h =
+    let at = first_token (Referred (reference_in v)) in
+    ap (λ r. r >>= λ a. limits n range >>= λ k. referred n AsLocator (reference_in v) >>= λ d. controls at k d >>= λ r. iteration_with n temporary equals a k r range tested) x
+    ∙ ap (λ r. r >>= λ k. referred n AsLocator (reference_in v) >>= λ d. controls at k d >>= λ r. iteration_with n temporary equals a k r range tested) y
+    ∙ ap (λ r. r >>= λ d. controls at k d >>= λ r. iteration_with n temporary equals a k r range tested) z
+    ∙ ap (λ at. controls at k d >>= λ r. iteration_with n temporary equals a k r range tested) (token_of v)
+    ∙ ap (λ r. r >>= λ r. iteration_with n temporary equals a k r range tested) h
+
+-- labels
+
+pub meant_label : (s : ℕ) (m : NamedAs) → IsMeantAs (answers.Label s) m → m ≡ ALabel s
+meant_label s (ALabel t) h = ap ALabel (sym h)
+meant_label s (AProcedure q) h = absurd h
+meant_label s (AVariable v) h = absurd h
+meant_label s (AFunction f) h = absurd h
+meant_label s Untyped h = absurd h
+
+pub no_jump : (s : Surroundings) (a : program_name.NamedAs) (m : NamedAs) → IsMeantAs a m → ((x : ℕ) → a ≡ answers.Label x → ⊥)
+    → jump s m ≡ None
+no_jump s a (ALabel t) h never = absurd (not_label a t h never)
+  where
+    not_label : (a : program_name.NamedAs) (t : ℕ) → IsMeantAs a (ALabel t) → ((x : ℕ) → a ≡ answers.Label x → ⊥) → ⊥
+    not_label (answers.Label x) t h never = never x refl
+    not_label (answers.Variable v) t h never = h
+    not_label (answers.Function f) t h never = h
+    not_label (answers.Procedure p) t h never = h
+    not_label answers.Untyped t h never = h
+no_jump s a (AProcedure q) h never = refl
+no_jump s a (AVariable v) h never = refl
+no_jump s a (AFunction f) h never = refl
+no_jump s a Untyped h never = refl
+
+-- RETURN with a value
+
+return_of : (names : Names) (s : Surroundings) (at : ℕ) (e : program_tree.Expression) (value : Option program_tree.Expression)
+    → value ≡ Some e → return_typed (naming_in names) s at (option_map syntax_view.expression_view value)
+    ≡ (value_of (naming_in names) (syntax_view.expression_view e)
+    >>= λ v. returned_value (naming_in names).greatest at (first_token (syntax_view.expression_view e)) s.begins s.value v)
+return_of names s at e value is = ap (λ o. return_typed (naming_in names) s at (option_map syntax_view.expression_view o)) is
+
+pub return_fails : (names : Names) (s : Surroundings) (at : ℕ) (e : program_tree.Expression)
+    (value : Option program_tree.Expression) (error : Failure Fault) → value ≡ Some e
+    → Fails error (value_of (naming_in names) (syntax_view.expression_view e))
+    → Fails error (return_typed (naming_in names) s at (option_map syntax_view.expression_view value))
+return_fails names s at e value error is h =
+    fails_as error _ _ (return_of names s at e value is) (fails_on error _ _ h)
+
+pub return_goes_on : {X : Type 0} (view : X → Form) (result : Result X (Failure Fault)) (names : Names) (s : Surroundings) (at : ℕ)
+    (e : program_tree.Expression) (value : Option program_tree.Expression) (v : TypedValue) (greatest first : ℕ)
+    → value ≡ Some e → value_of (naming_in names) (syntax_view.expression_view e) ≡ Ok v → greatest ≡ 31
+    → first ≡ first_token (syntax_view.expression_view e)
+    → Gives view result (returned_value greatest at first s.begins s.value v)
+    → Gives view result (return_typed (naming_in names) s at (option_map syntax_view.expression_view value))
+return_goes_on view result names s at e value v greatest first is typed small token h =
+    subst (Gives view result)
+    (ap (λ g. returned_value g at first s.begins s.value v) (small ∙ sym (greatest_is names))
+    ∙ ap (λ f. returned_value (naming_in names).greatest at f s.begins s.value v) token
+    ∙ sym (return_of names s at e value is ∙ bind_ok _ v _ typed)) h
