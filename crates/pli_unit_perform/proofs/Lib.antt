@@ -1,4 +1,5 @@
 pub mod BeginningLemmas
+pub mod DisplayLemmas
 pub mod DummyArguments
 pub mod EndLemmas
 pub mod EnteredBlocks

@@ -1,4 +1,6 @@
 pub mod ActView
+pub mod ActivationView
+pub mod DisplayView
 pub mod Image
 pub mod ImageView
 pub mod MachineView

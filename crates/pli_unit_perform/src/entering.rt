@@ -103,6 +103,7 @@ fn begin_block<'m>(
     let new = activation(unit, number, block, link, places, handed, room)?;
     let before = mem::replace(&mut machine.here, new);
     machine.waiting.push(before)?;
+    machine.display.turn(&machine.waiting, link);
     Ok(())
 }
 

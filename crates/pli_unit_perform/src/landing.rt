@@ -9,7 +9,7 @@ ghost use Rattle.pli_unit_perform.specs.views.MachineView.{Does, Moves};
 use crate::jumping::count_jump;
 use crate::leaving::leave;
 use crate::machine::{Machine, Stop};
-use crate::walk::outer;
+use crate::walk::outer_place;
 
 /// Gives up the calls that the newest activation prepares, clears its operands and jumps there.
 fn arrive(machine: &mut Machine, target: usize) -> Option<Stop>
@@ -43,7 +43,7 @@ pub fn go_to(machine: &mut Machine, outward: u32, target: usize) -> Option<Stop>
         let height = machine.waiting.len() + 1;
         return land(machine, height, target);
     }
-    match outer(&machine.waiting, machine.here.link, outward - 1) {
+    match outer_place(machine, outward - 1) {
         Some(place) => land(machine, place + 1, target),
         None => Some(Stop::Fault),
     }

@@ -35,6 +35,7 @@ pub fn leave(machine: &mut Machine) -> bool
             machine.storage.end(&machine.here.owned);
             lend(&mut next.pending, &mut machine.here.owned);
             let ended = mem::replace(&mut machine.here, next);
+            machine.display.turn(&machine.waiting, machine.here.link);
             machine.spare.keep(ended);
             true
         }

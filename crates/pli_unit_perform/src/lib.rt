@@ -3,6 +3,7 @@
 
 mod arguments;
 mod calling;
+mod display;
 mod distinct;
 mod dummies;
 mod entering;

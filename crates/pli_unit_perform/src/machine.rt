@@ -1,6 +1,8 @@
 //! The machine: its activations, storage and output.
 ghost use Rattle.std.specs.Prelude.{◌≤◌, length};
+ghost use Rattle.pli_unit_perform.specs.views.DisplayView.{IsDisplay};
 
+use crate::display::Display;
 use crate::spare::Spare;
 use pli_code::RunError;
 use pli_store::{Place, Storage};
@@ -61,6 +63,9 @@ pub struct Machine<'m> {
     pub limit: u64,
     /// What activations have left that have ended.
     pub(crate) spare: Spare<'m>,
+    /// Where those stand that wait and are outward from the newest one.
+    pub(crate) display: Display,
     ghost on_line: { column ≤ 121 },
     ghost few: { length waiting.items ≤ 1000 },
+    ghost displayed: { IsDisplay waiting.items display.link display.places.items },
 }

@@ -7,7 +7,7 @@ ghost use Rattle.pli_store.specs.Activations.{outward_from, nearest_of, is_of};
 ghost use Rattle.pli_store.specs.World.{Static};
 ghost use Rattle.pli_unit_perform.specs.views.MachineView.{activation_view, activations_of};
 
-use crate::machine::Activation;
+use crate::machine::{Activation, Machine};
 use crate::numbered::linked_at;
 use pli_base::Name;
 use pli_unit_code::Module;
@@ -30,6 +30,18 @@ pub fn outer(waiting: &[Activation], link: u32, outward: u32) -> Option<usize>
         None
     } else {
         Some(height - 1)
+    }
+}
+
+/// Which of the activations that wait is so many static links outward from the one that the newest one's link names.
+#[inline]
+pub fn outer_place(machine: &Machine, outward: u32) -> Option<usize>
+    ensures found { (image : Image) → outward_from (activations_of image machine.now.waiting.items) machine.now.here.link outward ≡ option_map suc result }
+    ensures within { IfSome result (λ place. place < length machine.now.waiting.items) }
+{
+    match machine.display.place(machine.here.link, outward) {
+        Some(place) => Some(place),
+        None => outer(&machine.waiting, machine.here.link, outward),
     }
 }
 

@@ -6,8 +6,16 @@ use Rattle.pli_store.specs.World.{is_given}
 use Rattle.pli_store.specs.views.StorageView.{place_view}
 use Rattle.pli_unit_perform.specs.views.Image.{name_at}
 use Rattle.pli_unit_perform.specs.views.MachineView.{activation_view, activations_of, frame_view, frames_of, world_of}
+use Rattle.pli_unit_perform.proofs.DisplayLemmas.{one_more}
 use Rattle.pli_unit_perform.proofs.EndLemmas.{newest_first}
 use Rattle.pli_unit_perform.proofs.entering.begin_block.Goals as goal
+
+pub turn-requires : goal.turn-requires
+turn-requires c =
+    rw c.deref-2.ensures.value
+    (λ _.
+    one_more c.args.machine.now.waiting.items c.push.new.self.items c.replace-before.result _ _
+    c.in_ok-push.ensures.items c.args.machine.now.displayed)
 
 pub returns : goal.returns
 returns c = λ image put.

@@ -4,8 +4,16 @@ use Rattle.pli_store.specs.World.{left_by}
 use Rattle.pli_store.specs.views.StorageView.{storage_view}
 use Rattle.pli_unit_perform.specs.views.MachineView.{activation_view, activations_of, frame_view, frames_of, world_of}
 use Rattle.pli_store.proofs.RisingNumbers.{without_append}
+use Rattle.pli_unit_perform.proofs.DisplayLemmas.{one_fewer}
 use Rattle.pli_unit_perform.proofs.EndLemmas.{newest_first, same_world}
 use Rattle.pli_unit_perform.proofs.leaving.leave.Goals as goal
+
+pub turn-requires : goal.turn-requires
+turn-requires c =
+    rw c.deref-in-Some-2.ensures.value
+    (λ low.
+    one_fewer c.pop.new.self.items c.args.machine.now.waiting.items c.in-Some.next _ _ c.in-Some.ensures.items
+    c.args.machine.now.displayed low)
 
 pub returns-in-Some-clause-leaves : goal.returns-in-Some-clause-leaves
 unfolding left_by
