@@ -1,6 +1,7 @@
 -- The deck of a unit: its code with its tables, as their bytes have them (own).
 use Rattle.std.specs.Prelude.{ℕ, min, nat_le, Bool, ℤ, pos, unsigned_abs, Option, Some, None, option_map}
 use Rattle.std.specs.Prelude.{List, [], map, slice_get, get_or, if◌then◌else◌}
+use Rattle.pli_base.specs.Name.{Name}
 use Rattle.pli_code.specs.declared.ending.RunError.{RunError}
 use Rattle.pli_code.specs.declared.ending.RunError.TheVariants as errors
 use Rattle.pli_deck.specs.Decks as deck
@@ -12,7 +13,6 @@ use Rattle.pli_operation.specs.declared.operation.Relation.{Relation}
 use Rattle.pli_operation.specs.declared.operation.Relation.TheVariants as relations
 use Rattle.pli_type_tree.specs.Templates.{InitialScalar}
 use Rattle.pli_unit_code.specs.CodeTables as code
-use Rattle.pli_unit_code.specs.Modules.{LinkedUnit}
 use Rattle.pli_unit_code.specs.declared.instruction.Instruction.{Instruction}
 use Rattle.pli_unit_code.specs.declared.instruction.Instruction.TheVariants as coded
 use Rattle.pli_value.specs.Value.{Value, Number, Characters, Bits}
@@ -157,16 +157,16 @@ block_of b = record {
   statement = b.statement;
 }
 
--- the deck of a unit, which is the main one or not
-abbrev pub deck_of : (is_main : Bool) → LinkedUnit → deck.Deck
-deck_of is_main u = record {
-  name = u.procedure;
+-- the deck of a unit's code, whose external procedure has this name and is a main procedure or not
+abbrev pub deck_of : (is_main : Bool) (procedure : Name) → code.Code → deck.Deck
+deck_of is_main procedure c = record {
+  name = procedure;
   is_main = is_main;
-  signature = signature_of u.code.signature;
-  descriptions = u.code.descriptions;
-  templates = map (template_of u.code.descriptions) u.code.templates;
-  values = map constant_of u.code.values;
-  globals = map global_of u.code.globals;
-  blocks = map block_of u.code.blocks;
-  instructions = map instruction_of u.code.instructions;
+  signature = signature_of c.signature;
+  descriptions = c.descriptions;
+  templates = map (template_of c.descriptions) c.templates;
+  values = map constant_of c.values;
+  globals = map global_of c.globals;
+  blocks = map block_of c.blocks;
+  instructions = map instruction_of c.instructions;
 }

@@ -70,7 +70,7 @@ links_of names (EntryPoint name signature ∷ gs) (unit ∷ units) = unit ∷ li
 abbrev pub member : (names : List Name) → (is_main : Bool) → LinkedUnit → Member
 member names is_main u = record {
   name = u.unit;
-  deck = deck_of is_main u;
+  deck = deck_of is_main u.procedure u.code;
   links = links_of names u.code.globals u.entries;
 }
 

@@ -1,7 +1,7 @@
 //! Signatures, globals, blocks, and the deck of a unit.
 ghost use Rattle.std.specs.Prelude.{◌≡◌, map, IfOk};
 ghost use Rattle.pli_deck.specs.DeckView as view;
-ghost use Rattle.pli_unit_code.specs.views.CodeView.{kind_view, signature_view, global_view, block_view, unit_view};
+ghost use Rattle.pli_unit_code.specs.views.CodeView.{kind_view, signature_view, global_view, block_view, code_view};
 ghost use Rattle.pli_deck_code.specs.CodeDecks.{kind_number, signature_of, global_of, block_of, deck_of};
 
 use crate::constants::constants_of;
@@ -9,9 +9,10 @@ use crate::descriptions::copied_descriptions;
 use crate::instructions::instructions_of;
 use crate::numbers::{byte, short};
 use crate::templates::templates_of;
+use pli_base::Name;
 use pli_deck::{Deck, DeckBlock, DeckSignature, Global};
 use pli_unit_code as code;
-use pli_unit_code::{BlockKind, CodedGlobal, CodedSignature, LinkedUnit};
+use pli_unit_code::{BlockKind, Code, CodedGlobal, CodedSignature};
 use std::alloc;
 use std::alloc::AllocError;
 
@@ -96,13 +97,18 @@ fn blocks_of(alloc: alloc::Global, blocks: &[code::Block]) -> Result<Vec<DeckBlo
     Ok(made)
 }
 
-/// The deck of a unit, whose procedure is the main procedure or not.
-pub fn deck_of(alloc: alloc::Global, is_main: bool, unit: &LinkedUnit) -> Result<Deck, AllocError>
-    ensures { IfOk result (λ made. view.deck_view made ≡ deck_of is_main (unit_view unit.now)) }
+/// The deck of a unit's code, whose external procedure has this name and is a main procedure or not. Takes time in
+/// proportion to the code and to the variables that have initial values. An error comes where memory runs out.
+pub fn deck_of(
+    alloc: alloc::Global,
+    is_main: bool,
+    procedure: Name,
+    code: &Code,
+) -> Result<Deck, AllocError>
+    ensures { IfOk result (λ made. view.deck_view made ≡ deck_of is_main procedure (code_view code.now)) }
 {
-    let code = &unit.code;
     Ok(Deck {
-        name: unit.procedure,
+        name: procedure,
         is_main,
         signature: signature_of(alloc, &code.signature)?,
         descriptions: copied_descriptions(alloc, &code.descriptions)?,

@@ -1,4 +1,4 @@
-//! Decks and modules of code: what the linker gives, as its bytes have it.
+//! Decks of code, and modules of what the linker gives, as their bytes have them.
 #![tactic(auto)]
 
 mod blocks;
@@ -14,6 +14,7 @@ mod numbers;
 mod offsets;
 mod templates;
 
+pub use blocks::deck_of;
 pub use descriptions::{copied_descriptions, description_at};
 pub use examples::worked_modules;
 pub use laws::offsets_are_places;

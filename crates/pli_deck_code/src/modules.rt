@@ -29,7 +29,7 @@ fn member_of(
 {
     Ok(Member {
         name: unit.unit,
-        deck: deck_of(alloc, is_main, unit)?,
+        deck: deck_of(alloc, is_main, unit.procedure, &unit.code)?,
         links: links_of(alloc, numbers, &unit.code.globals, &unit.entries)?,
     })
 }

@@ -4,14 +4,13 @@ use Rattle.std.specs.Prelude.{fold}
 use Rattle.std.specs.List.{flat_map, list_all, list_any, sum_by, AllByRecursion}
 use Rattle.std.proofs.lemmas.Bool.{lt-ltb, le-leb}
 use Rattle.std.proofs.lemmas.List.{length-map}
-use Rattle.pli_base.specs.Name.{Name}
 use Rattle.pli_map.specs.Description.{Description}
 use Rattle.pli_map.specs.Same.{same}
 use Rattle.pli_map.specs.laws.SameLaws.{same_decides}
 use Rattle.pli_machine_step.specs.Program as op
 use Rattle.pli_type_tree.specs.Templates.{InitialScalar, Template}
 use Rattle.pli_type_tree.specs.TypedTree.{Global, TypedUnit}
-use Rattle.pli_unit_code.specs.CodeTables.{CodedTemplate, CodedBlock, Code}
+use Rattle.pli_unit_code.specs.CodeTables.{CodedTemplate, CodedBlock}
 use Rattle.pli_gen_emit.specs.TreeTranslation.{BlockTree, behind, block_code, blocks_code, blocks_of, places_of, statement_place, with_target, instructions_of}
 use Rattle.pli_gen_emit.proofs.JumpLemmas.{behind_is}
 use Rattle.pli_gen_tree.specs.Encoding.{NumberedTables, tables_for, descriptions_named, templates_named, values_named, description_number, template_code, global_code, instruction_code, coded_blocks, code_of}
@@ -34,7 +33,7 @@ use Rattle.pli_deck.specs.DeckFaults.{Naming, OfDescription, OfTemplate, OfValue
 use Rattle.pli_deck.specs.DeckFaults.{is_there, targets_of, jumps_within, is_good_template, within_limits}
 use Rattle.pli_deck.specs.DeckFaults as fault
 use Rattle.pli_deck.specs.Spelling.{IsDeck}
-use Rattle.pli_deck_code.specs.CodeDecks.{constant_of, initial_of, offsets_in, template_of, signature_of, global_of, block_of, instruction_of}
+use Rattle.pli_deck_code.specs.CodeDecks.{constant_of, initial_of, offsets_in, template_of, global_of, block_of, instruction_of, deck_of}
 use Rattle.pli_deck_laws.specs.DeckLaws.{UnitsAreSaid}
 use Rattle.pli_deck_laws.specs.KeptNumbers.{IsNear, KeepsBlock, KeepsTemplate, KeepsInstruction, KeepsNumbers}
 use Rattle.pli_deck_laws.specs.Limits.{level_limit, IsDescription, IsConstant, IsTemplate}
@@ -229,19 +228,6 @@ module _ (tables : NumberedTables) (globals blocks last : ℕ) (d : Deck) (g : G
 
 -- ---- units
 
-abbrev deck_from : Name → Bool → Code → Deck
-deck_from n is_main c = record {
-  name = n;
-  is_main = is_main;
-  signature = signature_of c.signature;
-  descriptions = c.descriptions;
-  templates = map (template_of c.descriptions) c.templates;
-  values = map constant_of c.values;
-  globals = map global_of c.globals;
-  blocks = map block_of c.blocks;
-  instructions = map instruction_of c.instructions;
-}
-
 some_last : (n : ℕ) → 1 ≤ n → (last : ℕ) × (n ≡ suc last)
 some_last zero h = absurd (omega (arith, h))
 some_last (suc n) h = (n, refl)
@@ -386,7 +372,7 @@ module _ (t : TypedUnit) (is_main : Bool) (well : IsWellNumbered t) (formed : Is
         (descriptions_good G B last t bs all_code formed.signature formed.globals heads allowed) (none_of has_many_members tables.descriptions short.members)
 
     abbrev D : Deck
-    D = deck_from t.procedure is_main (code_of t)
+    D = deck_of is_main t.procedure (code_of t)
 
     good_deck : GoodDeck tables G B last D
     good_deck =
@@ -440,7 +426,7 @@ module _ (t : TypedUnit) (is_main : Bool) (well : IsWellNumbered t) (formed : Is
     both : IsDeck D × KeepsNumbers (code_of t)
     both = (good_is_deck tables G B last D good_deck, keeps)
 
-  said : IsDeck (deck_from t.procedure is_main (code_of t)) × KeepsNumbers (code_of t)
+  said : IsDeck (deck_of is_main t.procedure (code_of t)) × KeepsNumbers (code_of t)
   said =
       let e = behind_is plain 0 in
       let some = some_code bs 0 (one_block t well formed.some) in
@@ -452,6 +438,6 @@ units_are_said t u is_main well formed fits_in of typed =
     let procedure : IsName t.procedure = subst IsName of.procedure typed.procedure in
     let r = said t is_main well formed fits_in procedure (subst IsTypedCode of.code typed.code) in
     record {
-      is_deck = subst (λ c. IsDeck (deck_from u.procedure is_main c)) (sym of.code) (subst (λ n. IsDeck (deck_from n is_main (code_of t))) (sym of.procedure) r.0);
+      is_deck = subst (λ c. IsDeck (deck_of is_main u.procedure c)) (sym of.code) (subst (λ n. IsDeck (deck_of is_main n (code_of t))) (sym of.procedure) r.0);
       keeps = subst KeepsNumbers (sym of.code) r.1;
     }

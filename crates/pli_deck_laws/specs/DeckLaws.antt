@@ -30,7 +30,7 @@ pub record HasCodeOf (t : TypedUnit) (u : LinkedUnit) : Type 0 where
 
 -- the deck of a unit that is well formed, numbered well and not too long
 pub record IsSaid (is_main : Bool) (u : LinkedUnit) : Type 0 where
-  pub is_deck : IsDeck (deck_of is_main u)
+  pub is_deck : IsDeck (deck_of is_main u.procedure u.code)
   pub keeps : KeepsNumbers u.code
 
 -- so it is with each unit that is numbered well, well formed and not too long

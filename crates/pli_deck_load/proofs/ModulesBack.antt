@@ -88,15 +88,15 @@ globals_same : (gs : List code.CodedGlobal) → all_of global_from (map global_o
 globals_same [] = refl
 globals_same (g ∷ gs) = made_more global_from (global_of g) (map global_of gs) g gs (global_back g) (globals_same gs)
 
-code_back : (is_main : Bool) (u : LinkedUnit) → code_fits u.code ≡ true → fields.deck.fits (deck_of is_main u) ≡ true
-    → fault_of (deck_of is_main u) ≡ None → code_from (deck_of is_main u) ≡ Some u.code
-code_back is_main u fits spelled faultless =
-    let c = u.code in
+code_back : (is_main : Bool) (procedure : Name) (c : code.Code) → code_fits c ≡ true → fields.deck.fits (deck_of is_main procedure c) ≡ true
+    → fault_of (deck_of is_main procedure c) ≡ None → code_from (deck_of is_main procedure c) ≡ Some c
+code_back is_main procedure c fits spelled faultless =
+    let d = deck_of is_main procedure c in
     let templates = and_parts (list_all (template_fits c.descriptions) c.templates) _ fits in
     let constants = and_parts (list_all value_fits c.values) _ templates.1 in
     let blocks = and_parts (list_all block_fits c.blocks) (list_all instruction_fits c.instructions) constants.1 in
-    parts (deck_of is_main u) c refl refl
-    (templates_back c.descriptions (tables_fit (deck_of is_main u) spelled).descriptions c.templates templates.0 (good_templates (deck_of is_main u) faultless))
+    parts d c refl refl
+    (templates_back c.descriptions (tables_fit d spelled).descriptions c.templates templates.0 (good_templates d faultless))
     (all_back value_from constant_of value_fits value_back c.values constants.0) (globals_same c.globals)
     (all_back block_from block_of block_fits block_back c.blocks blocks.0)
     (all_back instruction_from instruction_of instruction_fits instruction_back c.instructions blocks.1)
@@ -132,7 +132,7 @@ unit_back names is_main u fits spelled =
     let has = has_deck (member names is_main u) spelled in
     let made : code.Code → List ℕ → LinkedUnit = λ c es. record { unit = u.unit; procedure = u.procedure; code = c; entries = es } in
     let found = entries_from (map global_of u.code.globals) (links_of names u.code.globals u.entries) in
-    ap (option_map (λ c. made c found)) (code_back is_main u both.0 has.spelled has.faultless)
+    ap (option_map (λ c. made c found)) (code_back is_main u.procedure u.code both.0 has.spelled has.faultless)
     ∙ ap (λ es. Some (made u.code es)) (entries_back names u.code.globals u.entries (eqb-true (length u.entries) (entries_in u.code.globals) both.1))
 
 units_back : (main : ℕ) (names : List Name) (number : ℕ) (us : List LinkedUnit) → list_all unit_fits us ≡ true

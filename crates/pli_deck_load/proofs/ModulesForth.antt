@@ -59,13 +59,13 @@ all_pass [] = refl
 all_pass (x ∷ xs) = all_pass xs
 
 record IsCode (d : Deck) (c : code.Code) : Type 0 where
-  deck : (unit : Name) (entries : List ℕ) → deck_of d.is_main (record { unit = unit; procedure = d.name; code = c; entries = entries }) ≡ d
+  deck : deck_of d.is_main d.name c ≡ d
   fits : code_fits c ≡ true
 
 same_deck : (d : Deck) (c : code.Code) → signature_of c.signature ≡ d.signature → c.descriptions ≡ d.descriptions → map (template_of c.descriptions) c.templates ≡ d.templates
     → map constant_of c.values ≡ d.values → map global_of c.globals ≡ d.globals → map block_of c.blocks ≡ d.blocks → map instruction_of c.instructions ≡ d.instructions
-    → (unit : Name) (entries : List ℕ) → deck_of d.is_main (record { unit = unit; procedure = d.name; code = c; entries = entries }) ≡ d
-same_deck d c s ds ts vs gs bs is unit entries = rw (s, ts, vs, gs, bs, is, ds) refl
+    → deck_of d.is_main d.name c ≡ d
+same_deck d c s ds ts vs gs bs is = rw (s, ts, vs, gs, bs, is, ds) refl
 
 code_forth : (d : Deck) (c : code.Code) → fields.deck.fits d ≡ true → code_from d ≡ Some c → IsCode d c
 code_forth d c h e =
@@ -117,7 +117,7 @@ links_counted m h =
 
 record IsUnit (m : Member) (u : LinkedUnit) : Type 0 where
   unit : u.unit ≡ m.name
-  deck : (is_main : Bool) → is_main ≡ m.deck.is_main → deck_of is_main u ≡ m.deck
+  deck : (is_main : Bool) → is_main ≡ m.deck.is_main → deck_of is_main u.procedure u.code ≡ m.deck
   fits : unit_fits u ≡ true
 
 unit_forth : (m : Member) (u : LinkedUnit) → modules.member.fits m ≡ true → unit_from m ≡ Some u → IsUnit m u
@@ -129,8 +129,7 @@ unit_forth m u h e =
     let counted = of_some (HasEntries m.deck.globals m.links) (all_of global_from m.deck.globals) p.0.globals (entries_forth m.deck.globals m.links (links_counted m h)) parts.globals in
     subst (IsUnit m) p.2 (record {
       unit = refl;
-      deck = λ is_main is. ap (λ b. deck_of b (record { unit = m.name; procedure = m.deck.name; code = p.0; entries = entries_from m.deck.globals m.links })) is
-          ∙ c.deck m.name (entries_from m.deck.globals m.links);
+      deck = λ is_main is. ap (λ b. deck_of b m.deck.name p.0) is ∙ c.deck;
       fits = and_from (code_fits p.0) _ c.fits (eq-eqb (length (entries_from m.deck.globals m.links)) (entries_in p.0.globals) counted);
     })
 
@@ -143,7 +142,7 @@ record AreUnits (main : ℕ) (names : List Name) (ms : List Member) (us : List L
 member_forth : (names : List Name) (is_main : Bool) (m : Member) (u : LinkedUnit) → IsUnit m u → mark_of (member names is_main u) ≡ mark_of m → member names is_main u ≡ m
 member_forth names is_main m u is same =
     let made : Name → Deck → List ℕ → Member = λ n d ls. record { name = n; deck = d; links = ls } in
-    ap (λ n. made n (deck_of is_main u) (links_of names u.code.globals u.entries)) is.unit
+    ap (λ n. made n (deck_of is_main u.procedure u.code) (links_of names u.code.globals u.entries)) is.unit
     ∙ ap (λ d. made m.name d (links_of names u.code.globals u.entries)) (is.deck is_main (ap (λ x. x.0) same))
     ∙ ap (λ ls. made m.name m.deck ls) (ap (λ x. x.1) same)
 

@@ -59,14 +59,14 @@ bytes_of (Some t) = size_of t.description
 abbrev pub size_in : Template → ℕ
 size_in t = size_of t.description
 
-pub template_same : (is_main : Bool) (u : LinkedUnit) (t : ℕ) → template_bytes (deck_of is_main u) t ≡ bytes_of (template_at u.code t)
-template_same is_main u t = ap (bytes_by_template (deck_of is_main u)) (slice_get-map (template_of u.code.descriptions) u.code.templates t) ∙ by (slice_get u.code.templates t)
+pub template_same : (is_main : Bool) (u : LinkedUnit) (t : ℕ) → template_bytes (deck_of is_main u.procedure u.code) t ≡ bytes_of (template_at u.code t)
+template_same is_main u t = ap (bytes_by_template (deck_of is_main u.procedure u.code)) (slice_get-map (template_of u.code.descriptions) u.code.templates t) ∙ by (slice_get u.code.templates t)
   where
     named : (initial : List InitialScalar) (o : Option Description) → description_bytes o ≡ bytes_of (described u.code initial o)
     named initial None = refl
     named initial (Some d) = refl
 
-    by : (o : Option CodedTemplate) → bytes_by_template (deck_of is_main u) (option_map (template_of u.code.descriptions) o) ≡ bytes_of (with_description u.code o)
+    by : (o : Option CodedTemplate) → bytes_by_template (deck_of is_main u.procedure u.code) (option_map (template_of u.code.descriptions) o) ≡ bytes_of (with_description u.code o)
     by None = refl
     by (Some t) = named t.initial (slice_get u.code.descriptions t.description)
 
@@ -75,7 +75,7 @@ there_bytes None = refl
 there_bytes (Some t) = omega arith
 
 -- the variables that a unit has for itself take the same bytes in its deck
-pub own_bytes : (is_main : Bool) (u : LinkedUnit) (gs : List CodedGlobal) → total (static_bytes (deck_of is_main u)) (map global_of gs) ≡ total size_in (own_of u.code gs)
+pub own_bytes : (is_main : Bool) (u : LinkedUnit) (gs : List CodedGlobal) → total (static_bytes (deck_of is_main u.procedure u.code)) (map global_of gs) ≡ total size_in (own_of u.code gs)
 own_bytes is_main u [] = refl
 own_bytes is_main u (OwnVariable t ∷ gs) =
     omega (arith, own_bytes is_main u gs, template_same is_main u t, there_bytes (template_at u.code t), total_joined size_in (there (template_at u.code t)) (own_of u.code gs))

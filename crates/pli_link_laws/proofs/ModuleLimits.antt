@@ -69,7 +69,7 @@ module _ (numbers : List (Name × ℕ)) (main : ℕ) (names : List Name) where
         arith,
         own_same cs (i + 1),
         own_bytes (nat_eq i main) u c.code.globals,
-        sum_is_total (static_bytes (deck_of (nat_eq i main) u)) (map global_of c.code.globals),
+        sum_is_total (static_bytes (deck_of (nat_eq i main) c.procedure c.code)) (map global_of c.code.globals),
         total_joined size_in (own_of c.code c.code.globals) (all_own cs),
       )
 

@@ -54,7 +54,7 @@ module _ (members : List Member) (i : ℕ) (is_main : Bool) (names : List Name) 
           unit = short_within i;
           number = short_within j;
         },
-        ap (λ o. bytes_in_unit o (short j)) unit_at ∙ ap (declared_bytes (deck_of is_main u)) variable_at ∙ template_same is_main u t,
+        ap (λ o. bytes_in_unit o (short j)) unit_at ∙ ap (declared_bytes (deck_of is_main u.procedure u.code)) variable_at ∙ template_same is_main u t,
       )
 
   abbrev Stand : List CodedGlobal → (number : ℕ) → Type 0
@@ -86,7 +86,7 @@ module _ (numbers : List (Name × ℕ)) (main : ℕ) (names : List Name) (member
   units_paired (c ∷ cs) i at few said =
       let u = linked_unit numbers c in
       let gs = c.code.globals in
-      let fit = globals_fit (deck_of (nat_eq i main) u) said.0.is_deck.fits in
+      let fit = globals_fit (deck_of (nat_eq i main) c.procedure c.code) said.0.is_deck.fits in
       let here : i ≡ i + 0 = omega arith in
       paired_behind shared_bytes (bytes_where members) (IsDeclared members) (shared_by c.code gs) (all_shared cs) (declared_in i 0 gs) (all_declared (i + 1) (map (linked_unit numbers) cs))
       (unit_paired members i (nat_eq i main) names u (omega (arith, few)) (ap (slice_get members) here ∙ sym (at 0)) gs 0 (λ k. let e : k ≡ 0 + k = omega arith in ap (slice_get gs) e)
