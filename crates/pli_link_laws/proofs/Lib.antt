@@ -1,5 +1,6 @@
 pub mod DeckParts
 pub mod FirstDeclarations
+pub mod KeptDecks
 pub mod LinkedFrom
 pub mod ModuleFits
 pub mod ModuleLimits

@@ -1,1 +1,2 @@
 pub mod LinkedModules
+pub mod UnitDecks
