@@ -1,12 +1,16 @@
 //! What compiling a unit gives.
 ghost use Rattle.std.specs.Prelude.{◌≡◌, Ok, Err, option_map, IfOk};
 ghost use Rattle.std.specs.Result.{result_ok};
+ghost use Rattle.pli_deck.specs.DeckView.{deck_view};
 ghost use Rattle.pli_link.specs.views.UnitView.{compiled_unit_view};
+ghost use Rattle.pli_link_laws.specs.UnitDecks.{compiled_deck};
 ghost use Rattle.pli_compile.specs.Faults.{faults_of};
 ghost use Rattle.pli_compile.specs.views.OutcomeView.{outcome_view};
 
 use crate::copying::copied_unit;
 use pli_base::Fault;
+use pli_deck::Deck;
+use pli_deck_code::deck_of;
 use pli_link::CompiledUnit;
 use std::alloc::{AllocError, Global};
 
@@ -65,6 +69,20 @@ impl Compiled {
     {
         let Compiled { unit, .. } = self;
         unit
+    }
+
+    /// The deck of the compiled unit, where there are no faults. Takes time in proportion to the code and to the
+    /// variables that have initial values. An error comes where memory runs out.
+    #[tactic(auto, unfolding(crate::specs::views::OutcomeView::outcome_view))]
+    pub fn deck(&self, alloc: Global) -> Result<Option<Deck>, AllocError>
+        ensures { IfOk result (λ deck.
+            option_map deck_view deck ≡ option_map compiled_deck (result_ok (outcome_view self.now))) }
+    {
+        let Some(unit) = &self.unit else {
+            return Ok(None);
+        };
+        let deck = deck_of(alloc, unit.is_main, unit.procedure, &unit.code)?;
+        Ok(Some(deck))
     }
 
     /// A copy, which equals the original. Takes time in proportion to the code. An error comes where memory runs out.
