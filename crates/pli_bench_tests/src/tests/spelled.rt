@@ -1,6 +1,8 @@
-//! Decks and modules: their bytes whole, cut and changed.
+//! Decks and modules: their bytes whole, cut and changed, and of compiled units.
+use pli_compile::Compiler;
 use pli_deck::{write_deck, write_module};
 use pli_deck_read::{ReadError, read_deck, read_module};
+use pli_text_tests::tokens_of;
 use std::alloc::Global;
 use std::process::Abort;
 use std::test::*;
@@ -10,6 +12,9 @@ static SMALLEST: [u8; 39] = [
     80, 76, 73, 68, 1, 1, 77, 1, 0, 255, 255, 0, 0, 0, 0, 0, 0, 0, 0, 0, 1, 0, 255, 255, 0, 0, 0,
     0, 0, 0, 0, 0, 0, 0, 1, 0, 1, 9, 0,
 ];
+
+/// The text of the smallest deck, its tokens apart.
+static SMALLEST_TEXT: &str = "M : PROC OPTIONS ( MAIN ) ; END ;";
 
 /// `M: PROC OPTIONS(MAIN); DCL X BIT EXT, Q ENTRY(BIT); CALL Q(X); END;` as a deck.
 static CALLING: [u8; 73] = [
@@ -114,4 +119,21 @@ fn modules(rt: HostRuntime) {
     are_whole(&rt, rt.alloc(), Kind::Module, &ONE_UNIT);
     are_whole(&rt, rt.alloc(), Kind::Module, &TWO_UNITS);
     stand_changed(&rt, rt.alloc(), Kind::Module, &TWO_UNITS);
+}
+
+/// The bytes of the deck of a text; none, if it has a fault.
+fn compiled_bytes(rt: &impl Abort, alloc: Global, text: &str) -> Option<Vec<u8>> {
+    let tokens = tokens_of(alloc, text).expect(rt, "memory");
+    let compiled = Compiler::new(alloc).compile(&tokens).expect(rt, "memory");
+    let deck = compiled.deck(alloc).expect(rt, "memory")?;
+    Some(write_deck(alloc, &deck).expect(rt, "memory"))
+}
+
+#[test]
+fn compiled_decks(rt: HostRuntime) {
+    let alloc = rt.alloc();
+    let smallest = compiled_bytes(&rt, alloc, SMALLEST_TEXT).expect(&rt, "a deck");
+    assert!(rt; smallest.as_slice() == SMALLEST.as_slice());
+    assert!(rt; read_as(&rt, alloc, Kind::Deck, &smallest) == Spelled::Same);
+    assert!(rt; compiled_bytes(&rt, alloc, "").is_none());
 }
