@@ -3,6 +3,13 @@ use Rattle.std.proofs.Common.{◌≡◌, ℕ, ◌-◌, Bool, true, false, ◌&&�
 use Rattle.std.specs.List.{list_all}
 use Rattle.std.proofs.lemmas.Bool.Decides.{nat_tests}
 use Rattle.std.proofs.lemmas.List.{length-map}
+use Rattle.std.proofs.lemmas.List.Elements.{All-cons, All-nil}
+use Rattle.std.proofs.lemmas.Option.{none-some}
+use Rattle.std.proofs.lemmas.Str.{IsUtf8-from_ascii}
+use Rattle.std.proofs.lemmas.Str.Ascii.{IsAscii-from_all}
+use Rattle.std.specs.List.{All}
+use Rattle.std.specs.Prelude.{if◌then◌else◌, None, ◌<◌}
+use Rattle.std.specs.Str.{IsUtf8}
 use Rattle.pli_base.specs.Name.{is_lower, is_letter, is_name_character, upper, has_form, name_of}
 
 -- in upper case a letter is no lower one any more
@@ -60,3 +67,29 @@ pub read_as_itself : (cs : List ℕ) → has_form cs ≡ true → nat_le (length
 read_as_itself cs h few =
     let short : nat_le (length (map upper cs)) 31 ≡ true = rw (length-map cs upper) few in
     rw (form_stays cs h, short, all_again cs) refl
+
+-- the characters of a name are ASCII, so that they are a text
+character_is_ascii : (c : ℕ) → is_name_character c ≡ true → c < 128
+character_is_ascii c h = grind (arith, nat_tests)
+
+letter_is_ascii : (c : ℕ) → is_letter c ≡ true → c < 128
+letter_is_ascii c h = grind (arith, nat_tests)
+
+characters_are_ascii : (cs : List ℕ) → list_all is_name_character cs ≡ true → All (λ c. c < 128) cs
+characters_are_ascii [] h = All-nil (λ c. c < 128)
+characters_are_ascii (c ∷ cs) h =
+    let parts = both (is_name_character c) (list_all is_name_character cs) h in
+    All-cons (λ c. c < 128) c cs (character_is_ascii c parts.0) (characters_are_ascii cs parts.1)
+
+form_is_ascii : (cs : List ℕ) → has_form cs ≡ true → All (λ c. c < 128) cs
+form_is_ascii [] h = absurd (true≢false (sym h))
+form_is_ascii (c ∷ cs) h =
+    let parts = both (is_letter c) (list_all is_name_character cs) h in
+    All-cons (λ c. c < 128) c cs (letter_is_ascii c parts.0) (characters_are_ascii cs parts.1)
+
+pub names_are_text : (n : List ℕ) → name_of n ≡ Some n → IsUtf8 n
+names_are_text n h = by (has_form n && nat_le (length n) 31) refl h
+  where
+    by : (b : Bool) → has_form n && nat_le (length n) 31 ≡ b → (if b then Some (map upper n) else None) ≡ Some n → IsUtf8 n
+    by true fits _ = IsUtf8-from_ascii n (IsAscii-from_all n (form_is_ascii n (both (has_form n) (nat_le (length n) 31) fits).0))
+    by false _ h = absurd (none-some n h)

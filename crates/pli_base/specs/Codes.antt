@@ -1,5 +1,5 @@
 -- The table of diagnostics: each code once, with its label and its text (own).
-use Rattle.std.specs.Prelude.{◌≡◌, ℕ, List, codes}
+use Rattle.std.specs.Prelude.{◌≡◌, ℕ, List, ◌∷◌, ◌++◌, codes}
 use Rattle.pli_base.specs.declared.code.Code.{Code}
 use Rattle.pli_base.specs.declared.code.Code.TheVariants.{UnendedComment, UnendedString, BadCharacter}
 use Rattle.pli_base.specs.declared.code.Code.TheVariants.{BadNumber, NameTooLong, BadBits, NoSuchMember}
@@ -164,6 +164,10 @@ code_text Unresolved = codes "UNRESOLVED"
 code_text DefinedTwice = codes "DEFINED TWICE"
 code_text Mismatch = codes "MISMATCH"
 code_text ModuleTooLarge = codes "MODULE TOO LARGE"
+
+-- a diagnostic as it is shown: its label, a blank and its text
+abbrev pub code_shown : Code → List ℕ
+code_shown code = code_label code ++ 32 ∷ code_text code
 
 -- the place of a code in the order of diagnostics
 abbrev pub code_place : Code → ℕ

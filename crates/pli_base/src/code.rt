@@ -1,7 +1,9 @@
 //! The diagnostics of a build, in the order in which they are answered.
-ghost use Rattle.std.specs.Prelude.{◌≡◌};
-ghost use Rattle.pli_base.specs.Codes.{code_label, code_text, code_place, OneCode};
+ghost use Rattle.std.specs.Prelude.{◌≡◌, Some};
+ghost use Rattle.pli_base.specs.Codes.{code_label, code_text, code_shown, code_place, OneCode};
 ghost use Rattle.std.specs.Ordering.{nat_cmp};
+
+use std::fmt;
 
 /// A diagnostic (own). The order of the variants is the order of diagnostics at one place.
 #[derive(Clone, Copy, Debug, PartialEq, Eq, PartialOrd, Ord)]
@@ -283,6 +285,15 @@ impl Code {
             Code::Mismatch => "MISMATCH",
             Code::ModuleTooLarge => "MODULE TOO LARGE",
         }
+    }
+}
+
+/// What it is cited by, a blank and what it says, as `A1 NOT DECLARED`.
+impl fmt::Display for Code {
+    ghost output = { λ code. Some (code_shown code) };
+
+    fn fmt<W: fmt::Write>(&self, f: &mut fmt::Formatter<W>) -> fmt::Result {
+        write!(f, "{} {}", self.label(), self.text())
     }
 }
 

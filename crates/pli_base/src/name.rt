@@ -10,10 +10,9 @@ ghost use Rattle.pli_base.specs.Name.{name_of, has_form, upper};
 
 use crate::character::{is_letter, is_name_character};
 use std::cmp::Ordering;
-use std::fmt;
-use std::fmt::Write;
 use std::hash::{Hash, Hasher};
 use std::marker::Model;
+use std::{fmt, str};
 
 /// The greatest number of characters in a name (X3.74).
 pub const NAME_LIMIT: usize = 31;
@@ -102,14 +101,30 @@ impl Name {
     {
         &self.bytes[..self.count]
     }
+
+    /// The characters as text.
+    #[tactic(auto, using(crate::proofs::WrittenNames::names_are_text))]
+    pub fn as_str(&self) -> &str
+        ensures { result.now ≡ self.now }
+    {
+        match str::from_utf8(&self.bytes[..self.count]) {
+            Ok(text) => text,
+            Err(_) => "",
+        }
+    }
+}
+
+impl fmt::Display for Name {
+    ghost output = { λ name. Some name };
+
+    fn fmt<W: fmt::Write>(&self, f: &mut fmt::Formatter<W>) -> fmt::Result {
+        f.write_str(self.as_str())
+    }
 }
 
 impl fmt::Debug for Name {
     fn fmt<W: fmt::Write>(&self, f: &mut fmt::Formatter<W>) -> fmt::Result {
-        for byte in self.bytes() {
-            f.write_char(char::from(*byte))?;
-        }
-        Ok(())
+        f.write_str(self.as_str())
     }
 }
 

@@ -1,5 +1,5 @@
 -- The errors that end a run: each with its label and its text (own).
-use Rattle.std.specs.Prelude.{ℕ, List, codes}
+use Rattle.std.specs.Prelude.{ℕ, List, ◌∷◌, ◌++◌, codes}
 use Rattle.pli_code.specs.declared.ending.RunError.{RunError}
 use Rattle.pli_code.specs.declared.ending.RunError.TheVariants.{SubscriptRange, StringRange, NullLocator}
 use Rattle.pli_code.specs.declared.ending.RunError.TheVariants.{DeadLocator, DescriptionMismatch}
@@ -38,3 +38,7 @@ error_text ZeroDivide = codes "ZERODIVIDE"
 error_text Area = codes "AREA"
 error_text StorageLimit = codes "STORAGE LIMIT"
 error_text TooManyActivations = codes "TOO MANY ACTIVATIONS"
+
+-- an error as it is shown: its label, a blank and its text
+abbrev pub error_shown : RunError → List ℕ
+error_shown e = error_label e ++ 32 ∷ error_text e

@@ -1,8 +1,9 @@
 //! How a run ends.
-ghost use Rattle.std.specs.Prelude.{◌≡◌};
-ghost use Rattle.pli_code.specs.Errors.{error_label, error_text};
+ghost use Rattle.std.specs.Prelude.{◌≡◌, Some};
+ghost use Rattle.pli_code.specs.Errors.{error_label, error_text, error_shown};
 
 use pli_base::Name;
+use std::fmt;
 
 /// An error that ends a run (own).
 #[derive(Clone, Copy, Debug, PartialEq, Eq)]
@@ -63,6 +64,15 @@ impl RunError {
             RunError::StorageLimit => "STORAGE LIMIT",
             RunError::TooManyActivations => "TOO MANY ACTIVATIONS",
         }
+    }
+}
+
+/// Its label, a blank and its text, as `E10 ZERODIVIDE`.
+impl fmt::Display for RunError {
+    ghost output = { λ error. Some (error_shown error) };
+
+    fn fmt<W: fmt::Write>(&self, f: &mut fmt::Formatter<W>) -> fmt::Result {
+        write!(f, "{} {}", self.label(), self.text())
     }
 }
 

@@ -1,6 +1,6 @@
 -- Which edits are refused, and what a refusal says (own).
-use Rattle.std.specs.Prelude.{ℕ, ◌^◌, Bool, not, ◌||◌, ◌&&◌, nat_eq, nat_lt, nat_le, List, length, Option}
-use Rattle.std.specs.Prelude.{None, Some, is_some, Result, Ok, Err, codes, if◌then◌else◌}
+use Rattle.std.specs.Prelude.{ℕ, ◌^◌, Bool, not, ◌||◌, ◌&&◌, nat_eq, nat_lt, nat_le, List, ◌∷◌, ◌++◌, length}
+use Rattle.std.specs.Prelude.{Option, None, Some, is_some, Result, Ok, Err, codes, if◌then◌else◌}
 use Rattle.std.specs.List.{list_all}
 use Rattle.pli_base.specs.Name.{Name}
 use Rattle.pli_members.specs.Members.{Store, Member, Change, Insert, Replace, Remove, member_of}
@@ -105,3 +105,7 @@ refusal_text BadByte = codes "BAD BYTE"
 refusal_text TooManyLines = codes "TOO MANY LINES"
 refusal_text TooManyMembers = codes "TOO MANY MEMBERS"
 refusal_text VersionsExhausted = codes "VERSIONS EXHAUSTED"
+
+-- a refusal as it is shown: its label, a blank and its text
+abbrev pub refusal_shown : Refusal → List ℕ
+refusal_shown r = refusal_label r ++ 32 ∷ refusal_text r

@@ -1,9 +1,10 @@
 //! Why an edit is refused.
-ghost use Rattle.std.specs.Prelude.{◌≡◌};
-ghost use Rattle.pli_members.specs.Refusals.{refusal_label, refusal_text};
+ghost use Rattle.std.specs.Prelude.{◌≡◌, Some};
+ghost use Rattle.pli_members.specs.Refusals.{refusal_label, refusal_text, refusal_shown};
 ghost use Rattle.pli_members.specs.declared.refusal.EditError.TheVariants.{Refused, OutOfMemory};
 
 use std::alloc::{AllocError, AllocFailed};
+use std::fmt;
 
 /// Why an edit is refused (own). The order of the variants is that of the numbers.
 #[derive(Clone, Copy, Debug, PartialEq, Eq)]
@@ -57,6 +58,15 @@ impl Refusal {
             Refusal::TooManyMembers => "TOO MANY MEMBERS",
             Refusal::VersionsExhausted => "VERSIONS EXHAUSTED",
         }
+    }
+}
+
+/// Its label, a blank and its text, as `M1 NAME TAKEN`.
+impl fmt::Display for Refusal {
+    ghost output = { λ refusal. Some (refusal_shown refusal) };
+
+    fn fmt<W: fmt::Write>(&self, f: &mut fmt::Formatter<W>) -> fmt::Result {
+        write!(f, "{} {}", self.label(), self.text())
     }
 }
 
