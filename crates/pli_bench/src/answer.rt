@@ -1,5 +1,5 @@
-//! Texts of several parts, gathered or put one after another.
-ghost use Rattle.std.specs.Prelude.{◌≡◌, ◌++◌, OnOk, MatchResult, map};
+//! Texts of several parts, put one after another.
+ghost use Rattle.std.specs.Prelude.{MatchResult, map};
 ghost use Rattle.std.specs.Io.KnownBytes.{Appends};
 ghost use Rattle.pli_base.specs.Devices.{AppendsPrefix};
 ghost use Rattle.pli_bench.specs.answers.Answering.{joined, Writes};
@@ -10,17 +10,6 @@ use itoa::Buffer;
 use pli_base::{Failed, Sink, put_all};
 use pli_code::Ending;
 use pli_members::Refusal;
-use std::alloc::AllocError;
-
-/// Appends the parts to `text`, one after another.
-pub fn append_parts(text: &mut Vec<u8>, parts: &[&[u8]]) -> Result<(), AllocError>
-    ensures { OnOk result (text.new.items ≡ text.old.items ++ joined (map (λ p. p.now) parts.now)) }
-{
-    for part in parts {
-        text.extend_from_slice(part)?;
-    }
-    Ok(())
-}
 
 /// Puts the parts, one after another.
 pub fn put_parts<W: Sink>(writer: &mut W, parts: &[&[u8]]) -> Result<(), Failed>

@@ -237,7 +237,7 @@ impl Bench {
             }
             Ok(Built::Diagnosed(text)) => {
                 self.standing = None;
-                put_parts(writer, &[text.as_slice(), b"NOT BUILT\n"])
+                put_parts(writer, &[text.as_bytes(), b"NOT BUILT\n"])
             }
             Err(AllocError) => {
                 self.standing = None;

@@ -5,7 +5,6 @@ ghost use Rattle.pli_meaning.specs.Scratch.{scratch, link_line, all_text, all_un
 ghost use Rattle.pli_bench.specs.answers.Building.{IsBuilt};
 ghost use Rattle.pli_link.specs.views.UnitView.{compiled_view};
 
-use crate::answer::append_parts;
 use crate::compile::compile;
 use crate::stored::{StoredModule, stored};
 use pli_base::Code;
@@ -14,11 +13,12 @@ use pli_include::Expander;
 use pli_link::{LinkError, LinkFault, LinkedName, NamedUnit, link};
 use pli_members::{MemberKind, Members, NamedMember};
 use std::alloc::{AllocError, Global};
+use std::fmt::Write;
 
 /// What a build gives: the text of its diagnostics, or the bytes of a module.
 #[derive(Drop)]
 pub enum Built {
-    Diagnosed(Vec<u8>),
+    Diagnosed(String),
     Made(StoredModule),
 }
 
@@ -33,7 +33,7 @@ pub fn build(
     ensures { IfOk result (IsBuilt members.now.entries) }
 {
     members.are_few();
-    let mut text = Vec::new(alloc);
+    let mut text = String::new(alloc);
     let units = compile_all(alloc, expander, compiler, members, &mut text)?;
     if !text.is_empty() {
         return Ok(Built::Diagnosed(text));
@@ -52,10 +52,10 @@ fn compile_entry(
     members: &Members,
     entry: &NamedMember,
     units: &mut Vec<NamedUnit>,
-    text: &mut Vec<u8>,
+    text: &mut String,
 ) -> Result<(), AllocError>
     ensures units { OnOk result (map compiled_view units.new.items ≡ map compiled_view units.old.items ++ units_in members.now.entries entry.now.0 entry.now.1.kind) }
-    ensures text { OnOk result (text.new.items ≡ text.old.items ++ text_in members.now.entries entry.now.0 entry.now.1.kind) }
+    ensures text { OnOk result (text.new.bytes.items ≡ text.old.bytes.items ++ text_in members.now.entries entry.now.0 entry.now.1.kind) }
 {
     match entry.kind() {
         MemberKind::Source => {
@@ -74,10 +74,10 @@ fn compile_all(
     expander: &mut Expander,
     compiler: &mut Compiler,
     members: &Members,
-    text: &mut Vec<u8>,
+    text: &mut String,
 ) -> Result<Vec<NamedUnit>, AllocError>
     ensures units { IfOk result (λ units. map compiled_view units.items ≡ all_units members.now.entries members.now.entries) }
-    ensures text { OnOk result (text.new.items ≡ text.old.items ++ all_text members.now.entries members.now.entries) }
+    ensures text { OnOk result (text.new.bytes.items ≡ text.old.bytes.items ++ all_text members.now.entries members.now.entries) }
 {
     let mut units = Vec::new(alloc);
     for entry in members.entries() {
@@ -87,37 +87,22 @@ fn compile_all(
 }
 
 /// Appends `code text`.
-fn write_code(text: &mut Vec<u8>, code: Code) -> Result<(), AllocError>
-    ensures { OnOk result (text.new.items ≡ text.old.items ++ code_line code) }
+fn write_code(text: &mut String, code: Code) -> Result<(), AllocError>
+    ensures { OnOk result (text.new.bytes.items ≡ text.old.bytes.items ++ code_line code) }
 {
-    append_parts(
-        text,
-        &[code.label().as_bytes(), b" ", code.text().as_bytes(), b"\n"],
-    )
+    writeln!(text, "{code}")
 }
 
 /// Appends `code text name unit`.
-fn write_name(text: &mut Vec<u8>, code: Code, linked: LinkedName) -> Result<(), AllocError>
-    ensures { OnOk result (text.new.items ≡ text.old.items ++ name_line code linked) }
+fn write_name(text: &mut String, code: Code, linked: LinkedName) -> Result<(), AllocError>
+    ensures { OnOk result (text.new.bytes.items ≡ text.old.bytes.items ++ name_line code linked) }
 {
-    append_parts(
-        text,
-        &[
-            code.label().as_bytes(),
-            b" ",
-            code.text().as_bytes(),
-            b" ",
-            linked.name.bytes(),
-            b" ",
-            linked.unit.bytes(),
-            b"\n",
-        ],
-    )
+    writeln!(text, "{code} {} {}", linked.name, linked.unit)
 }
 
 /// Appends the line of a fault of linking.
-fn write_link_fault(text: &mut Vec<u8>, fault: LinkFault) -> Result<(), AllocError>
-    ensures { OnOk result (text.new.items ≡ text.old.items ++ link_line fault) }
+fn write_link_fault(text: &mut String, fault: LinkFault) -> Result<(), AllocError>
+    ensures { OnOk result (text.new.bytes.items ≡ text.old.bytes.items ++ link_line fault) }
 {
     match fault {
         LinkFault::NoMainProcedure => write_code(text, Code::NoMainProcedure),
@@ -130,10 +115,10 @@ fn write_link_fault(text: &mut Vec<u8>, fault: LinkFault) -> Result<(), AllocErr
 }
 
 /// The lines of faults of linking.
-fn link_text(alloc: Global, faults: &[LinkFault]) -> Result<Vec<u8>, AllocError>
-    ensures { IfOk result (λ text. text.items ≡ flat_map link_line faults.now) }
+fn link_text(alloc: Global, faults: &[LinkFault]) -> Result<String, AllocError>
+    ensures { IfOk result (λ text. text.bytes.items ≡ flat_map link_line faults.now) }
 {
-    let mut text = Vec::new(alloc);
+    let mut text = String::new(alloc);
     for fault in faults {
         write_link_fault(&mut text, *fault)?;
     }

@@ -6,14 +6,13 @@ ghost use Rattle.pli_bench.specs.answers.Compiling.{Tells};
 ghost use Rattle.pli_link.specs.Units.{as_unit};
 ghost use Rattle.pli_link.specs.views.UnitView.{compiled_unit_view, compiled_view};
 
-use crate::answer::append_parts;
-use itoa::Buffer;
 use pli_base::{Code, Fault, Name, Origin};
 use pli_compile::Compiler;
 use pli_include::{Expander, Expansion};
 use pli_link::{CompiledUnit, NamedUnit};
 use pli_members::Members;
 use std::alloc::AllocError;
+use std::fmt::Write;
 
 /// Compiles a unit, or appends its diagnostics to `text`, in the order of their tokens. A pass with faults is the last.
 #[tactic(auto, unfolding(pli_meaning::specs::Scratch::compiled_of, pli_include::specs::Expanded::expansion_of))]
@@ -22,9 +21,9 @@ pub fn compile(
     compiler: &mut Compiler,
     members: &Members,
     unit: Name,
-    text: &mut Vec<u8>,
+    text: &mut String,
 ) -> Result<Option<NamedUnit>, AllocError>
-    ensures { IfOk result (λ compiled. Tells unit (compiled_of members.now.entries unit) (option_map compiled_view compiled) text.old.items text.new.items) }
+    ensures { IfOk result (λ compiled. Tells unit (compiled_of members.now.entries unit) (option_map compiled_view compiled) text.old.bytes.items text.new.bytes.items) }
 {
     let expansion = expander.expand(members, unit)?;
     match expansion.fault() {
@@ -42,9 +41,9 @@ fn compile_expansion(
     compiler: &mut Compiler,
     unit: Name,
     expansion: &Expansion,
-    text: &mut Vec<u8>,
+    text: &mut String,
 ) -> Result<Option<NamedUnit>, AllocError>
-    ensures { IfOk result (λ named. Tells unit (all_located unit expansion.now.origins (with_unit unit (compiled_texts expansion.now.texts))) (option_map compiled_view named) text.old.items text.new.items) }
+    ensures { IfOk result (λ named. Tells unit (all_located unit expansion.now.origins (with_unit unit (compiled_texts expansion.now.texts))) (option_map compiled_view named) text.old.bytes.items text.new.bytes.items) }
 {
     let compiled = compiler.compile(expansion.texts())?;
     write_faults(text, unit, expansion.origins(), compiled.faults())?;
@@ -63,29 +62,14 @@ fn named(unit: Name, compiled: Option<CompiledUnit>) -> Option<NamedUnit>
 
 /// Appends `unit member:line code text`.
 fn write_diagnostic(
-    text: &mut Vec<u8>,
+    text: &mut String,
     unit: Name,
     origin: Origin,
     code: Code,
 ) -> Result<(), AllocError>
-    ensures { OnOk result (text.new.items ≡ text.old.items ++ diagnostic_line unit (record { origin = origin; code = code })) }
+    ensures { OnOk result (text.new.bytes.items ≡ text.old.bytes.items ++ diagnostic_line unit (record { origin = origin; code = code })) }
 {
-    let mut digits = Buffer::new();
-    append_parts(
-        text,
-        &[
-            unit.bytes(),
-            b" ",
-            origin.member.bytes(),
-            b":",
-            digits.format(origin.line).as_bytes(),
-            b" ",
-            code.label().as_bytes(),
-            b" ",
-            code.text().as_bytes(),
-            b"\n",
-        ],
-    )
+    writeln!(text, "{unit} {}:{} {code}", origin.member, origin.line)
 }
 
 /// The origin of the token at a place, or the unit's line 1 where there is none.
@@ -103,12 +87,12 @@ fn origin_at(unit: Name, origins: &[Origin], place: usize) -> Origin
 
 /// Appends the diagnostics of faults at tokens.
 fn write_faults(
-    text: &mut Vec<u8>,
+    text: &mut String,
     unit: Name,
     origins: &[Origin],
     faults: &[Fault],
 ) -> Result<(), AllocError>
-    ensures { OnOk result (text.new.items ≡ text.old.items ++ flat_map (diagnostic_line unit) (map (located unit origins.now) faults.now)) }
+    ensures { OnOk result (text.new.bytes.items ≡ text.old.bytes.items ++ flat_map (diagnostic_line unit) (map (located unit origins.now) faults.now)) }
 {
     for fault in faults {
         let origin = origin_at(unit, origins, fault.at as usize);

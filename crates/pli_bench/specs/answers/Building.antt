@@ -9,5 +9,5 @@ use Rattle.pli_bench.specs.declared.build.Built.TheVariants.{Diagnosed, Made}
 
 -- a text of diagnostics, or the bytes of a module
 abbrev pub IsBuilt : List (Name × Member) → Built → Type 0
-IsBuilt entries (Diagnosed text) = scratch.scratch entries ≡ scratch.Diagnosed text.items
+IsBuilt entries (Diagnosed text) = scratch.scratch entries ≡ scratch.Diagnosed text.bytes.items
 IsBuilt entries (Made m) = IsOfMembers entries m.bytes.items

@@ -7,5 +7,5 @@ use Rattle.pli_bench.proofs.build.compile_all.Given as goal
 abbrev pub invariant-loop-entry : goal.invariant-loop-entry
 invariant-loop-entry l = record {
   units : map compiled_view l.units.items ++ all_units l.members.entries (drop l.entry-index l.entry-items) ≡ all_units l.members.entries l.entry-items;
-  text : l.text.items ++ all_text l.members.entries (drop l.entry-index l.entry-items) ≡ l.initial.text.items ++ all_text l.members.entries l.entry-items;
+  text : l.text.bytes.items ++ all_text l.members.entries (drop l.entry-index l.entry-items) ≡ l.initial.text.bytes.items ++ all_text l.members.entries l.entry-items;
 }

@@ -5,4 +5,4 @@ use Rattle.pli_bench.proofs.build.link_text.Given as goal
 
 -- the lines so far, and those of the faults that are left, are those of all
 abbrev pub invariant-loop-fault : goal.invariant-loop-fault
-invariant-loop-fault l = l.text.items ++ flat_map link_line (drop l.fault-index l.faults) ≡ flat_map link_line l.faults
+invariant-loop-fault l = l.text.bytes.items ++ flat_map link_line (drop l.fault-index l.faults) ≡ flat_map link_line l.faults

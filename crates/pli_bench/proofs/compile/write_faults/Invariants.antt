@@ -6,5 +6,5 @@ use Rattle.pli_bench.proofs.compile.write_faults.Given as goal
 -- what is appended and the diagnostics that are left are all of them
 abbrev pub invariant-loop-fault : goal.invariant-loop-fault
 invariant-loop-fault l =
-    l.text.items ++ flat_map (diagnostic_line l.unit) (map (located l.unit l.origins) (drop l.fault-index l.faults))
-    ≡ l.initial.text.items ++ flat_map (diagnostic_line l.unit) (map (located l.unit l.origins) l.faults)
+    l.text.bytes.items ++ flat_map (diagnostic_line l.unit) (map (located l.unit l.origins) (drop l.fault-index l.faults))
+    ≡ l.initial.text.bytes.items ++ flat_map (diagnostic_line l.unit) (map (located l.unit l.origins) l.faults)

@@ -13,9 +13,9 @@ returns-in-Ok-Made-clause-answered g c =
 pub returns-in-Ok-Diagnosed-clause-answered : goal.returns-in-Ok-Diagnosed-clause-answered
 returns-in-Ok-Diagnosed-clause-answered g c =
     let given = rw c.in-Ok-Diagnosed.field-0-is at c.in-Ok-Diagnosed.ensures in (
-      build_answer (Diagnosed c.in-Ok-Diagnosed.text.items),
-      builds c.args.self.now c.self.inside.members _ c.self.inside.steps c.self.view_is (Diagnosed c.in-Ok-Diagnosed.text.items) (sym given),
-      rw (← c.as_slice.ensures.value) c.put_parts-in-Ok-Diagnosed.ensures.written,
+      build_answer (Diagnosed c.in-Ok-Diagnosed.text.bytes.items),
+      builds c.args.self.now c.self.inside.members _ c.self.inside.steps c.self.view_is (Diagnosed c.in-Ok-Diagnosed.text.bytes.items) (sym given),
+      rw (← c.as_bytes.ensures.value) c.put_parts-in-Ok-Diagnosed.ensures.written,
     )
 
 pub returns-in-Err-clause-answered : goal.returns-in-Err-clause-answered
