@@ -192,6 +192,10 @@ fn versions(rt: HostRuntime) {
     agree_from(&rt, rt.alloc(), 1, &REFUSALS);
     same(&rt, "M6", Refusal::TooManyLines.label());
     same(&rt, "TOO MANY LINES", Refusal::TooManyLines.text());
+    let shown = Refusal::TooManyLines
+        .to_string(rt.alloc())
+        .expect(&rt, "memory");
+    same(&rt, "M6 TOO MANY LINES", &shown);
 }
 
 #[test]

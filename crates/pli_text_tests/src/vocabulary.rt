@@ -23,8 +23,8 @@ fn names(rt: HostRuntime) {
     for text in &NO_NAMES {
         assert!(rt; Name::read(text.as_bytes()).is_none());
     }
-    let written = format!(in rt.alloc(); "{sum:?}").expect(&rt, "memory");
-    same(&rt, "SUM_1$", &written);
+    let written = format!(in rt.alloc(); "{sum:?}: {sum}").expect(&rt, "memory");
+    same(&rt, "SUM_1$: SUM_1$", &written);
 }
 
 #[test]
@@ -61,6 +61,8 @@ fn codes_and_lines(rt: HostRuntime) {
     one_code();
     code_order();
     assert!(rt; Code::EndMissing.label() == "P9" && Code::EndMissing.text() == "END MISSING");
+    let shown = Code::EndMissing.to_string(rt.alloc()).expect(&rt, "memory");
+    same(&rt, "P9 END MISSING", &shown);
     assert!(rt; Code::BadInclude < Code::NoProcedure && Code::BadOption < Code::NotDeclared);
     assert!(rt; Code::NotYetBuilt.label() == "Z1" && Code::NotYetBuilt < Code::NotAVariable);
     let line = Line::new(rt.alloc(), b"a = 1;").expect(&rt, "memory");
