@@ -8,7 +8,7 @@ use crate::tests::showing::statement::{show_statement, show_unit};
 use crate::tests::tables::{show_meanings, show_tables};
 use crate::tests::words::tokens_between;
 use pli_base::ParseError;
-use pli_base::statement::Procedure;
+use pli_base::statement::{Procedure, Statement};
 use pli_copy::Copied;
 use pli_declare::{ResolveError, Resolved, resolve};
 use pli_declare_constructs::Nesting;
@@ -63,7 +63,10 @@ fn unit_of(alloc: Global, asked: Asked, text: &str) -> Result<Procedure, ParseEr
 impl Answers for Asked {
     fn put(&self, shown: &mut Shown, alloc: Global, text: &str) {
         match unit_of(alloc, *self, text) {
-            Ok(unit) => put_unit(shown, alloc, *self, &unit),
+            Ok(unit) => {
+                put_unit(shown, alloc, *self, &unit);
+                drop(unit);
+            }
             Err(ParseError::Fault(fault)) => show_faults(shown, &[fault]),
             Err(ParseError::OutOfMemory) => shown.refuse(),
         }
@@ -96,14 +99,25 @@ fn show_parts(shown: &mut Shown, unit: &Procedure) {
 /// Puts the tree of a copy of a unit, and behind it those of copies of its statements.
 fn put_copies(shown: &mut Shown, alloc: Global, unit: &Procedure) {
     match unit.copy(alloc) {
-        Ok(copy) => show_unit(shown, &copy),
+        Ok(copy) => {
+            show_unit(shown, &copy);
+            drop(copy);
+        }
         Err(_) => shown.refuse(),
     }
     for statement in &unit.statements {
-        match statement.copy(alloc) {
-            Ok(copy) => show_statement(shown, &copy),
-            Err(_) => shown.refuse(),
+        put_copy(shown, alloc, statement);
+    }
+}
+
+/// Puts the tree of a copy of a statement.
+fn put_copy(shown: &mut Shown, alloc: Global, statement: &Statement) {
+    match statement.copy(alloc) {
+        Ok(copy) => {
+            show_statement(shown, &copy);
+            drop(copy);
         }
+        Err(_) => shown.refuse(),
     }
 }
 
@@ -116,10 +130,13 @@ fn tables_of<'a>(alloc: Global, outline: &Outline<'a>) -> Result<Tables<'a>, All
 /// Puts what is asked of the blocks of an outline.
 fn put_tables(shown: &mut Shown, alloc: Global, asked: Asked, outline: &Outline<'_>) {
     match tables_of(alloc, outline) {
-        Ok(tables) => match asked {
-            Asked::Meanings => show_meanings(shown, alloc, &tables),
-            _ => show_tables(shown, &tables),
-        },
+        Ok(tables) => {
+            match asked {
+                Asked::Meanings => show_meanings(shown, alloc, &tables),
+                _ => show_tables(shown, &tables),
+            }
+            drop(tables);
+        }
         Err(_) => shown.refuse(),
     }
 }
@@ -127,10 +144,13 @@ fn put_tables(shown: &mut Shown, alloc: Global, asked: Asked, outline: &Outline<
 /// Puts the outline of a unit, or what is asked of its blocks.
 fn put_outline(shown: &mut Shown, alloc: Global, asked: Asked, unit: &Procedure) {
     match outline(alloc, unit) {
-        Ok(outline) => match asked {
-            Asked::Outline => show_outline(shown, &outline),
-            _ => put_tables(shown, alloc, asked, &outline),
-        },
+        Ok(outline) => {
+            match asked {
+                Asked::Outline => show_outline(shown, &outline),
+                _ => put_tables(shown, alloc, asked, &outline),
+            }
+            drop(outline);
+        }
         Err(_) => shown.refuse(),
     }
 }
@@ -146,7 +166,10 @@ fn put_names(shown: &mut Shown, alloc: Global, asked: Asked, resolved: &Resolved
     match asked {
         Asked::Faults => {}
         Asked::CopiedNames => match resolved.copy(alloc) {
-            Ok(copy) => show_named(shown, &copy),
+            Ok(copy) => {
+                show_named(shown, &copy);
+                drop(copy);
+            }
             Err(_) => shown.refuse(),
         },
         _ => show_named(shown, resolved),
@@ -156,7 +179,10 @@ fn put_names(shown: &mut Shown, alloc: Global, asked: Asked, resolved: &Resolved
 /// Puts the faults of a unit; of one without them, what is asked of its names.
 fn put_named(shown: &mut Shown, alloc: Global, asked: Asked, unit: &Procedure) {
     match named(alloc, unit) {
-        Ok(resolved) => put_names(shown, alloc, asked, &resolved),
+        Ok(resolved) => {
+            put_names(shown, alloc, asked, &resolved);
+            drop(resolved);
+        }
         Err(ResolveError::Fault(faults)) => show_faults(shown, &faults),
         Err(ResolveError::OutOfMemory) => shown.refuse(),
     }
@@ -166,7 +192,10 @@ fn put_named(shown: &mut Shown, alloc: Global, asked: Asked, unit: &Procedure) {
 fn put_whole(shown: &mut Shown, alloc: Global, asked: Asked, resolved: &ResolvedUnit<'_>) {
     match asked {
         Asked::CopiedResolved => match resolved.copy(alloc) {
-            Ok(copy) => show_resolved(shown, &copy),
+            Ok(copy) => {
+                show_resolved(shown, &copy);
+                drop(copy);
+            }
             Err(_) => shown.refuse(),
         },
         _ => show_resolved(shown, resolved),
@@ -176,7 +205,10 @@ fn put_whole(shown: &mut Shown, alloc: Global, asked: Asked, resolved: &Resolved
 /// Puts the faults of a unit; of one without them, its blocks and symbols.
 fn put_resolved(shown: &mut Shown, alloc: Global, asked: Asked, unit: &Procedure) {
     match resolve_unit(alloc, unit) {
-        Ok(resolved) => put_whole(shown, alloc, asked, &resolved),
+        Ok(resolved) => {
+            put_whole(shown, alloc, asked, &resolved);
+            drop(resolved);
+        }
         Err(ResolveError::Fault(faults)) => show_faults(shown, &faults),
         Err(ResolveError::OutOfMemory) => shown.refuse(),
     }

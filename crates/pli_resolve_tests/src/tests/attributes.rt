@@ -142,19 +142,33 @@ fn show_completed(shown: &mut Shown, completed: &Completed) {
 /// Puts what an item is at a place, or its least fault, as `A3`.
 fn put_completed(shown: &mut Shown, alloc: Global, place: ItemPlace, facts: &ItemFacts) {
     match completed_item(alloc, place, facts) {
-        Ok(completed) => show_completed(shown, &completed),
+        Ok(completed) => {
+            show_completed(shown, &completed);
+            drop(completed);
+        }
         Err(AttributeError::Fault(code)) => shown.put(code.label()),
         Err(AttributeError::OutOfMemory) => shown.refuse(),
+    }
+}
+
+/// Puts what a copy is.
+fn put_copy(shown: &mut Shown, alloc: Global, completed: &Completed) {
+    match completed.copy(alloc) {
+        Ok(copy) => {
+            show_completed(shown, &copy);
+            drop(copy);
+        }
+        Err(_) => shown.refuse(),
     }
 }
 
 /// Puts what a copy of that is, or the fault.
 fn put_copied(shown: &mut Shown, alloc: Global, place: ItemPlace, facts: &ItemFacts) {
     match completed_item(alloc, place, facts) {
-        Ok(completed) => match completed.copy(alloc) {
-            Ok(copy) => show_completed(shown, &copy),
-            Err(_) => shown.refuse(),
-        },
+        Ok(completed) => {
+            put_copy(shown, alloc, &completed);
+            drop(completed);
+        }
         Err(AttributeError::Fault(code)) => shown.put(code.label()),
         Err(AttributeError::OutOfMemory) => shown.refuse(),
     }

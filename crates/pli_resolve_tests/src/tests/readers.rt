@@ -71,7 +71,10 @@ fn put_copies(shown: &mut Shown, alloc: Global, items: &[Item]) {
     for item in items {
         shown.put(before);
         match item.copy(alloc) {
-            Ok(copy) => show_item(shown, &copy),
+            Ok(copy) => {
+                show_item(shown, &copy);
+                drop(copy);
+            }
             Err(_) => shown.refuse(),
         }
         before = ", ";
@@ -83,10 +86,13 @@ fn put_items(shown: &mut Shown, alloc: Global, asked: Read, tokens: &[TokenText]
     requires { length tokens.now ≤ 200000 }
 {
     match declaration_at(alloc, 0, tokens) {
-        Ok(read) => match asked {
-            Read::CopiedItems => put_copies(shown, alloc, &read.value),
-            _ => show_items(shown, &read.value),
-        },
+        Ok(read) => {
+            match asked {
+                Read::CopiedItems => put_copies(shown, alloc, &read.value),
+                _ => show_items(shown, &read.value),
+            }
+            drop(read);
+        }
         Err(error) => put_fault(shown, error, " at "),
     }
 }
@@ -99,6 +105,7 @@ fn put_returned(shown: &mut Shown, alloc: Global, tokens: &[TokenText])
         Ok(read) => {
             show_described(shown, &read.value);
             shown.put_number(" up to ", u64::from(read.next));
+            drop(read);
         }
         Err(error) => put_fault(shown, error, " at "),
     }
@@ -112,6 +119,7 @@ fn put_expression(shown: &mut Shown, alloc: Global, levels: u32, tokens: &[Token
         Ok(front) => {
             show_expression(shown, &front.value);
             shown.put_number(" ", u64::from(front.next));
+            drop(front);
         }
         Err(error) => put_fault(shown, error, " "),
     }
@@ -127,6 +135,7 @@ fn put_reference(shown: &mut Shown, alloc: Global, tokens: &[TokenText])
             shown.put_number(" ", u64::from(front.next));
             shown.put_number(" ", u64::from(front.operators));
             shown.put_number(" of ", tokens.len() as u64);
+            drop(front);
         }
         Err(error) => put_fault(shown, error, " at "),
     }
