@@ -6,7 +6,7 @@ ghost use Rattle.std.specs.Ordering.{nat_cmp};
 use std::fmt;
 
 /// A diagnostic (own). The order of the variants is the order of diagnostics at one place.
-#[derive(Clone, Copy, Debug, PartialEq, Eq, PartialOrd, Ord)]
+#[derive(Clone, Copy, PartialEq, Eq, PartialOrd, Ord)]
 pub enum Code {
     /// X1, in lexing.
     UnendedComment = 0,

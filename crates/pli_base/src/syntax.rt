@@ -19,7 +19,7 @@ pub enum ConstantValue {
 }
 
 /// A prefix operator: `+`, `-` or `^` (X3.74).
-#[derive(Clone, Copy, Debug, PartialEq, Eq)]
+#[derive(Clone, Copy, PartialEq, Eq)]
 pub enum PrefixOperator {
     Plus,
     Minus,
@@ -27,7 +27,7 @@ pub enum PrefixOperator {
 }
 
 /// An infix operator. From the least priority to the greatest: `|`; `&`; comparisons; `||`; `+` and `-`; `*` (X3.74).
-#[derive(Clone, Copy, Debug, PartialEq, Eq)]
+#[derive(Clone, Copy, PartialEq, Eq)]
 pub enum InfixOperator {
     Or,
     And,
@@ -44,7 +44,7 @@ pub enum InfixOperator {
 }
 
 /// How a part of a reference is joined to what stands before it (X3.74).
-#[derive(Clone, Copy, Debug, PartialEq, Eq)]
+#[derive(Clone, Copy, PartialEq, Eq)]
 pub enum Joining {
     /// `.`: the part is a member of what the names before it name.
     Member,

@@ -6,7 +6,7 @@ use crate::string::{BitString, CharacterString};
 use std::alloc::{AllocError, Global};
 
 /// A sign of the language. Each has one spelling here: `~` is `^`, `^<` is `>=` and `^>` is `<=` (X3.74).
-#[derive(Clone, Copy, Debug, PartialEq, Eq)]
+#[derive(Clone, Copy, PartialEq, Eq)]
 pub enum Sign {
     Colon,
     Semicolon,
