@@ -1,7 +1,7 @@
 //! Kinds of members.
 
 /// What a member is for (own).
-#[derive(Clone, Copy, Debug, PartialEq, Eq)]
+#[derive(Clone, Copy, PartialEq, Eq)]
 pub enum MemberKind {
     /// A unit of its own, which a build compiles.
     Source,
