@@ -30,6 +30,25 @@ impl Copied for ProcedureOption {
     }
 }
 
+/// Copies an expression, and another that may be absent.
+fn copied_pair(
+    alloc: Global,
+    expression: &Expression,
+    option: &Option<Expression>,
+) -> Result<(Expression, Option<Expression>), AllocError>
+    ensures one { IfOk result (λ pair. expression_view pair.0 ≡ expression_view expression.now) }
+    ensures other { IfOk result (λ pair. option_map expression_view pair.1 ≡ option_map expression_view option.now) }
+{
+    let copied = expression.copy(alloc)?;
+    match copied_option(alloc, option) {
+        Ok(other) => Ok((copied, other)),
+        Err(error) => {
+            drop(copied);
+            Err(error)
+        }
+    }
+}
+
 impl Copied for Range {
     ghost View = { tree.Range };
 
@@ -37,14 +56,14 @@ impl Copied for Range {
 
     fn copy(&self, alloc: Global) -> Result<Range, AllocError> {
         match self {
-            Range::To { to, by } => Ok(Range::To {
-                to: to.copy(alloc)?,
-                by: copied_option(alloc, by)?,
-            }),
-            Range::By { by, to } => Ok(Range::By {
-                by: by.copy(alloc)?,
-                to: copied_option(alloc, to)?,
-            }),
+            Range::To { to, by } => {
+                let (to, by) = copied_pair(alloc, to, by)?;
+                Ok(Range::To { to, by })
+            }
+            Range::By { by, to } => {
+                let (by, to) = copied_pair(alloc, by, to)?;
+                Ok(Range::By { by, to })
+            }
             Range::Repeat(next) => Ok(Range::Repeat(next.copy(alloc)?)),
         }
     }
@@ -65,17 +84,30 @@ impl Copied for Control {
                 range,
                 condition,
             } => {
-                let variable = variable.copy(alloc)?;
-                let first = first.copy(alloc)?;
-                let condition = copied_option(alloc, condition)?;
-                let range = copied_option(alloc, range)?;
-                Ok(Control::Iterate {
-                    variable,
-                    equals: *equals,
-                    first,
-                    range,
-                    condition,
-                })
+                let (first, condition) = copied_pair(alloc, first, condition)?;
+                let variable = match variable.copy(alloc) {
+                    Ok(variable) => variable,
+                    Err(error) => {
+                        drop(first);
+                        drop(condition);
+                        return Err(error);
+                    }
+                };
+                match copied_option(alloc, range) {
+                    Ok(range) => Ok(Control::Iterate {
+                        variable,
+                        equals: *equals,
+                        first,
+                        range,
+                        condition,
+                    }),
+                    Err(error) => {
+                        drop(variable);
+                        drop(first);
+                        drop(condition);
+                        Err(error)
+                    }
+                }
             }
         }
     }
