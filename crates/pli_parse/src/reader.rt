@@ -3,7 +3,7 @@ ghost use Rattle.std.specs.Prelude.{◌≡◌, ◌≤◌, ◌<◌, ◌+◌, ◌-
 ghost use Rattle.pli_base.specs.Statements.{count, body_count, list_count, alternative_count};
 ghost use Rattle.pli_base.specs.laws.StatementLaws.{boxed_view};
 ghost use Rattle.pli_base.specs.views.StatementView.{body_view, statement_view, statements_view};
-ghost use Rattle.pli_parse_statement.specs.StatementReading.{is_label, ending_at, list_in, begin_at, do_at, procedure_at, alternative_from, if_at, on_at, keyed_at, body_from, statement_at, inside_of};
+ghost use Rattle.pli_parse_statement.specs.StatementReading.{is_label, stopped, ending_at, list_in, begin_at, do_at, procedure_at, alternative_from, if_at, on_at, keyed_at, body_from, statement_at, inside_of};
 ghost use Rattle.pli_parse_statement.specs.StatementReading as reading;
 ghost use Rattle.pli_base.specs.Statements as tree;
 ghost use Rattle.pli_parse_statement.specs.StatementWords as grammar;
@@ -53,8 +53,19 @@ fn is_label(label: &Option<Identifier>, name: &Name) -> bool
     }
 }
 
+/// The `;` of an END.
+#[tactic(auto, unfolding(pli_parse_statement::specs::StatementReading::stopped))]
+fn stopped(at: u32, texts: &[TokenText]) -> Result<Front<'_, ()>, ParseError>
+    requires { at + length texts.now ≤ 200000 }
+    ensures value { Gives (front_view (λ u. tt)) result (stopped (tt {0}) at texts.now) }
+    ensures place { IfOk result (Advances at texts.now) }
+{
+    let rest = semicolon_taken(at, texts)?;
+    Ok(Front::new((), at + 1, rest))
+}
+
 /// What stands behind END: nothing, or the label of the block or group; and `;`.
-#[tactic(auto, unfolding(pli_parse_statement::specs::StatementReading::ending_at, pli_parse_statement::specs::StatementReading::stopped))]
+#[tactic(auto, unfolding(pli_parse_statement::specs::StatementReading::ending_at))]
 fn ending_at<'a>(
     label: &Option<Identifier>,
     at: u32,
@@ -64,23 +75,16 @@ fn ending_at<'a>(
     ensures value { Gives (front_view (λ u. tt)) result (ending_at label.now at texts.now) }
     ensures place { IfOk result (Advances at texts.now) }
 {
-    let [TokenText::Word(name), behind @ ..] = texts else {
-        let rest = semicolon_taken(at, texts)?;
-        return Ok(Front {
-            value: (),
-            next: at + 1,
-            rest,
-        });
-    };
-    if !is_label(label, name) {
-        return Err(fault(Code::WrongEndName, at));
+    match texts {
+        [TokenText::Word(name), behind @ ..] => {
+            if is_label(label, name) {
+                stopped(at + 1, behind)
+            } else {
+                Err(fault(Code::WrongEndName, at))
+            }
+        }
+        _ => stopped(at, texts),
     }
-    let rest = semicolon_taken(at + 1, behind)?;
-    Ok(Front {
-        value: (),
-        next: at + 2,
-        rest,
-    })
 }
 
 /// Statements up to an END, and that END.
@@ -302,8 +306,9 @@ fn alternative_at<'a>(
         in_unit: context.in_unit,
     };
     let read = statement_at(alloc, levels, inner, at + 1, number, behind)?;
+    let alternative = Box::new(alloc, read.value)?;
     Ok(Counted {
-        value: Some(Box::new(alloc, read.value)?),
+        value: Some(alternative),
         number: read.number,
         next: read.next,
         rest: read.rest,
@@ -387,15 +392,16 @@ fn on_at<'a>(
         standing: StatementStanding::AsUnit,
         in_unit: true,
     };
-    let unit = statement_at(alloc, levels, inner, condition.next, number, condition.rest)?;
+    let read = statement_at(alloc, levels, inner, condition.next, number, condition.rest)?;
+    let unit = Box::new(alloc, read.value)?;
     Ok(Counted {
         value: Body::On {
             condition: condition.value,
-            unit: Box::new(alloc, unit.value)?,
+            unit,
         },
-        number: unit.number,
-        next: unit.next,
-        rest: unit.rest,
+        number: read.number,
+        next: read.next,
+        rest: read.rest,
     })
 }
 
