@@ -7,7 +7,7 @@ ghost use Rattle.pli_map.specs.views.DescriptionView.{description_view, members_
 use std::alloc::{AllocError, Global};
 
 /// The bounds of one dimension of an array, each from -32,767 to 32,767. Where `high` is below `low` there are no subscripts.
-#[derive(Clone, Copy, Debug, PartialEq, Eq)]
+#[derive(Clone, Copy, PartialEq, Eq)]
 pub struct Bounds {
     pub low: i16,
     pub high: i16,
