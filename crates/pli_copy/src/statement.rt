@@ -331,9 +331,10 @@ fn copied_body(alloc: Global, body: &Body) -> Result<Body, AllocError>
             consequence,
             alternative,
         } => Ok(Body::If {
-            condition: condition.copy(alloc)?,
+            // The condition comes last, so that only boxes are let go of where a copy fails.
             consequence: Box::new(alloc, copied_statement(alloc, consequence)?)?,
             alternative: copied_alternative(alloc, alternative)?,
+            condition: condition.copy(alloc)?,
         }),
         Body::On { condition, unit } => copied_unit(alloc, *condition, unit),
     }
