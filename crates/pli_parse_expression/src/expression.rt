@@ -334,15 +334,19 @@ fn parenthesis_of<'a>(
     if levels == 0 {
         return Err(fault(Code::NestedTooDeep, at));
     }
-    let inner = expression_at(alloc, levels - 1, operators, at + 1, rest)?;
-    let behind = close_taken(inner.next, inner.rest)?;
+    let read = expression_at(alloc, levels - 1, operators, at + 1, rest)?;
+    let behind = match close_taken(read.next, read.rest) {
+        Ok(behind) => behind,
+        Err(error) => {
+            drop(read);
+            return Err(error);
+        }
+    };
+    let inner = Box::new(alloc, read.value)?;
     Ok(ExpressionFront::new(
-        Expression::Parenthesized {
-            at,
-            inner: Box::new(alloc, inner.value)?,
-        },
-        inner.operators,
-        inner.next + 1,
+        Expression::Parenthesized { at, inner },
+        read.operators,
+        read.next + 1,
         behind,
     ))
 }
