@@ -8,7 +8,7 @@ use pli_map::{Bounds, Description};
 use std::alloc::{AllocError, Global};
 
 /// Where the generations of a variable come from.
-#[derive(Clone, Copy, PartialEq, Eq)]
+#[derive(Clone, Copy)]
 pub enum DeclaredStorage {
     Automatic,
     Static,

@@ -7,7 +7,7 @@ use crate::facts::ItemFacts;
 use crate::set::AttributeSet;
 
 /// What attributes make of an item that BASED or OFFSET may name.
-#[derive(Clone, Copy, PartialEq, Eq)]
+#[derive(Clone, Copy)]
 pub struct Named {
     /// Neither an entry nor a built-in function.
     pub is_variable: bool,

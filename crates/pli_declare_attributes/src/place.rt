@@ -1,7 +1,7 @@
 //! Where a declared name stands.
 
 /// Which rules on storage, scope and initial values hold for a name.
-#[derive(Clone, Copy, PartialEq, Eq)]
+#[derive(Clone, Copy)]
 pub enum Position {
     /// A name that belongs to no item and whose level is no fault, so one of level 1, which is no parameter.
     AtLevelOne,
