@@ -8,7 +8,7 @@ use pli_declare_variables::Declaration;
 use std::alloc::{AllocError, Global};
 
 /// What a name means.
-#[derive(Clone, Copy, Debug, PartialEq, Eq)]
+#[derive(Clone, Copy)]
 pub enum Target {
     /// The name of this number in a block, by its region; or the unit's own name, which the outermost block declares.
     Name { block: Option<usize>, number: usize },
@@ -17,7 +17,7 @@ pub enum Target {
 }
 
 /// What the name at a token means. Tokens are counted from 0.
-#[derive(Clone, Copy, Debug, PartialEq, Eq)]
+#[derive(Clone, Copy)]
 pub struct Use {
     pub at: u32,
     pub target: Target,

@@ -1,9 +1,10 @@
 //! The least code of each name of a block.
 ghost use Rattle.std.specs.Prelude.{◌≡◌, ◌+◌, ◌<◌, length, map, get_or, IfOk};
 ghost use Rattle.pli_declare_outline.specs.views.OutlineView.{outline_view};
+ghost use Rattle.pli_declare_scopes.specs.declared.repeat.Verdict.TheVariants as judgments;
 ghost use Rattle.pli_declare_tables.specs.Tables.{no_entry, entries_in, numbers_from};
 ghost use Rattle.pli_declare_tables.specs.views.TableView.{entity_view};
-ghost use Rattle.pli_declare.specs.Resolution.{least as least_of, entity_codes, item_code};
+ghost use Rattle.pli_declare.specs.Resolution.{least as least_of, entity_codes, item_code, twice_code};
 ghost use Rattle.pli_declare.specs.answers.Walks.{entity_is_good, block_goodness};
 
 use crate::heading::heading_code;
@@ -15,6 +16,16 @@ use pli_declare_scopes::Verdict;
 use pli_declare_tables::Entity;
 use pli_declare_variables::Judged;
 use std::alloc::{AllocError, Global};
+
+/// The code of a name that is declared twice; a name of which nothing is judged counts.
+fn told_twice(verdicts: &[Verdict], number: usize) -> Option<Code>
+    ensures { result ≡ twice_code (get_or verdicts.now number judgments.Counts) }
+{
+    match verdicts.get(number) {
+        Some(Verdict::Twice) => Some(Code::DeclaredTwice),
+        _ => None,
+    }
+}
 
 impl Known<'_> {
     /// The least code of what a name is declared as, apart from A2.
@@ -55,10 +66,7 @@ impl Known<'_> {
         let table = self.table(block);
         let entity = table.entries[number].entity;
         let code = self.entity_code(block, self.judged(block, number), entity, is_good);
-        match table.verdicts.get(number) {
-            Some(Verdict::Twice) => lesser(Some(Code::DeclaredTwice), code),
-            Some(Verdict::Counts | Verdict::Beneath) | None => code,
-        }
+        lesser(told_twice(&table.verdicts, number), code)
     }
 
     /// The least code of each name of a block, where it is known of each whether the names in its attributes are good.

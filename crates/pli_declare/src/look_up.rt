@@ -13,7 +13,7 @@ use pli_declare_scopes::Found;
 use pli_declare_tables::{Table, Tables};
 
 /// What names mean.
-#[derive(Clone, Copy, Debug, PartialEq, Eq)]
+#[derive(Clone, Copy)]
 pub enum Looked {
     /// The name of this number in a block, by its region; or the unit's own name, which the outermost block declares.
     Found { block: Option<usize>, number: usize },

@@ -24,6 +24,14 @@ pub(crate) struct NamedMeanings {
     pub locators: IndexMap<u32, Target>,
 }
 
+/// What the names of a unit mean, by the tokens of these.
+#[derive(Drop)]
+pub(crate) struct UnitMeanings {
+    /// What each reference and the label of each GOTO means.
+    pub uses: IndexMap<u32, Target>,
+    pub named: NamedMeanings,
+}
+
 /// A unit whose declarations have no faults: its tree, with what each of its blocks declares and what each name means. Contracts
 /// see the tree.
 #[derive(Drop)]
@@ -32,8 +40,7 @@ pub struct Resolved<'a> {
     pub(crate) regions: Vec<Region>,
     pub(crate) outermost: Vec<Declaration<'a>>,
     pub(crate) blocks: Vec<BlockDeclarations<'a>>,
-    pub(crate) meanings: IndexMap<u32, Target>,
-    pub(crate) named: NamedMeanings,
+    pub(crate) meanings: UnitMeanings,
 }
 
 impl<'a> Model for Resolved<'a> {
@@ -48,7 +55,7 @@ impl<'a> Model for Resolved<'a> {
 
     ghost view = { λ r. r.unit.now };
 
-    ghost invariant = { λ r. IsResolvedOf (unit_view r.unit.now) r.regions.items r.outermost.items r.blocks.items r.meanings r.named.areas r.named.locators };
+    ghost invariant = { λ r. IsResolvedOf (unit_view r.unit.now) r.regions.items r.outermost.items r.blocks.items r.meanings.uses r.meanings.named.areas r.meanings.named.locators };
 }
 
 /// The same meanings.
@@ -67,6 +74,20 @@ impl NamedMeanings {
         Ok(NamedMeanings {
             areas: copied_meanings(&self.areas)?,
             locators: copied_meanings(&self.locators)?,
+        })
+    }
+}
+
+impl UnitMeanings {
+    /// The same meanings.
+    fn copy(&self) -> Result<UnitMeanings, AllocError>
+        ensures uses { IfOk result (λ copied. (at : ℕ) → get nat_eq copied.uses at ≡ get nat_eq self.now.uses at) }
+        ensures areas { IfOk result (λ copied. (at : ℕ) → get nat_eq copied.named.areas at ≡ get nat_eq self.now.named.areas at) }
+        ensures locators { IfOk result (λ copied. (at : ℕ) → get nat_eq copied.named.locators at ≡ get nat_eq self.now.named.locators at) }
+    {
+        Ok(UnitMeanings {
+            uses: copied_meanings(&self.uses)?,
+            named: self.named.copy()?,
         })
     }
 }
@@ -104,21 +125,21 @@ impl<'a> Resolved<'a> {
     pub fn meaning_at(&self, at: u32) -> Option<Target>
         ensures { result ≡ meaning_at (resolved_of (unit_view self.now)).uses at }
     {
-        self.meanings.get(&at).copied()
+        self.meanings.uses.get(&at).copied()
     }
 
     /// The area of the OFFSET of the name that is declared at a token, or of that in its RETURNS, if it names one.
     pub fn area_at(&self, at: u32) -> Option<Target>
         ensures { result ≡ meaning_at (resolved_of (unit_view self.now)).areas at }
     {
-        self.named.areas.get(&at).copied()
+        self.meanings.named.areas.get(&at).copied()
     }
 
     /// The locator of the BASED of the name that is declared at a token, if it names one.
     pub fn locator_at(&self, at: u32) -> Option<Target>
         ensures { result ≡ meaning_at (resolved_of (unit_view self.now)).locators at }
     {
-        self.named.locators.get(&at).copied()
+        self.meanings.named.locators.get(&at).copied()
     }
     /// A resolved unit of the same tree.
     pub fn copy(&self, alloc: Global) -> Result<Resolved<'a>, AllocError>
@@ -129,8 +150,7 @@ impl<'a> Resolved<'a> {
             regions: Vec::from_slice(alloc, &self.regions)?,
             outermost: copied_declarations(alloc, &self.outermost)?,
             blocks: copied_blocks(alloc, &self.blocks)?,
-            meanings: copied_meanings(&self.meanings)?,
-            named: self.named.copy()?,
+            meanings: self.meanings.copy()?,
         })
     }
 }

@@ -8,15 +8,15 @@ ghost use Rattle.pli_declare_tables.specs.answers.Answers.{AreOf};
 ghost use Rattle.pli_declare_variables.specs.Declarations.{declared_in};
 ghost use Rattle.pli_declare_variables.specs.views.DeclarationView.{declaration_view};
 ghost use Rattle.pli_declare.specs.Resolution.{outline_faults};
-ghost use Rattle.pli_declare.specs.Resolved.{block_at};
-ghost use Rattle.pli_declare.specs.views.BlockView.{block_view};
+ghost use Rattle.pli_declare.specs.Resolved.{block_at, of_marks, uses_at, areas_at, locators_at};
+ghost use Rattle.pli_declare.specs.views.BlockView.{block_view, AreMeanings};
 ghost use Rattle.pli_declare.specs.views.ResolvedView.{IsResolved};
 ghost use Rattle.pli_declare.specs.answers.Walks.{AreParameters};
 
 use crate::attributes::named_meanings;
 use crate::block::BlockDeclarations;
 use crate::parameters::parameters;
-use crate::resolved::Resolved;
+use crate::resolved::{Resolved, UnitMeanings};
 use crate::scopes::Scopes;
 use crate::unit::faults_told;
 use crate::uses::use_meanings;
@@ -97,6 +97,22 @@ fn outermost<'a>(
     declare(alloc, &tables.unit.entries, &[])
 }
 
+/// What the names that marks use and declare mean.
+fn unit_meanings(
+    alloc: Global,
+    scopes: &Scopes,
+    marks: &[PlacedMark],
+) -> Result<UnitMeanings, AllocError>
+    ensures uses { IfOk result (λ meanings. AreMeanings meanings.uses (of_marks (uses_at (outline_view scopes.now.outline.now)) (marks_view marks.now))) }
+    ensures areas { IfOk result (λ meanings. AreMeanings meanings.named.areas (of_marks (areas_at (outline_view scopes.now.outline.now)) (marks_view marks.now))) }
+    ensures locators { IfOk result (λ meanings. AreMeanings meanings.named.locators (of_marks (locators_at (outline_view scopes.now.outline.now)) (marks_view marks.now))) }
+{
+    Ok(UnitMeanings {
+        uses: use_meanings(alloc, scopes, marks)?,
+        named: named_meanings(alloc, scopes, marks)?,
+    })
+}
+
 /// The resolved unit of a tree without faults, by its outline.
 #[tactic(auto, unfolding(crate::specs::Resolved::resolved_of))]
 fn resolved<'a>(
@@ -112,15 +128,13 @@ fn resolved<'a>(
     let regions = Vec::from_slice(alloc, &scopes.outline.regions)?;
     let outermost = outermost(alloc, scopes.outline, scopes.tables)?;
     let blocks = blocks(alloc, scopes.outline, scopes.tables)?;
-    let meanings = use_meanings(alloc, scopes, marks)?;
-    let named = named_meanings(alloc, scopes, marks)?;
+    let meanings = unit_meanings(alloc, scopes, marks)?;
     Ok(Resolved {
         unit,
         regions,
         outermost,
         blocks,
         meanings,
-        named,
     })
 }
 
@@ -144,11 +158,11 @@ fn resolve_told<'a>(
         tables,
     };
     let faults = faults_told(alloc, &scopes)?;
-    if faults.is_empty() {
-        Ok(resolved(alloc, unit, &scopes)?)
-    } else {
-        Err(ResolveError::Fault(faults))
+    if !faults.is_empty() {
+        return Err(ResolveError::Fault(faults));
     }
+    drop(faults);
+    Ok(resolved(alloc, unit, &scopes)?)
 }
 
 /// The resolved unit of a tree whose outline is given, or all faults of its declarations and uses: for each declared name and

@@ -1,9 +1,21 @@
-use Rattle.std.proofs.Common.{◌≡◌, ◌++◌, List, ap, ◌∙◌, sym}
+use Rattle.std.proofs.Common.{◌≡◌, ◌++◌, List, ap, ◌∙◌, sym, arith}
 use Rattle.std.proofs.lemmas.List.{append-nil, drop_all}
 use Rattle.pli_declare_outline.specs.views.OutlineView.{outline_view, marks_view}
 use Rattle.pli_declare.specs.Resolved.{of_marks, areas_at, locators_at, meaning_at}
 use Rattle.pli_declare.specs.declared.block.Use.{Use}
+use Rattle.pli_declare.proofs.NamedUses.{mark_passed}
 use Rattle.pli_declare.proofs.attributes.named_meanings.Goals as goal
+
+pub loop-placed-preserved : goal.loop-placed-preserved
+loop-placed-preserved c =
+    let l = c.loop-placed in
+    let o = outline_view c.args.scopes.now.outline.now in
+    let marks = c.args.marks.now in
+    let x = c.placed-item.result in
+    record {
+      areas = mark_passed (areas_at o) marks l.placed-index x l.areas.items c.add_names.new.areas.items _ (omega arith) c.placed-item.is c.in_ok-add_names.ensures.areas l.invariant.areas;
+      locators = mark_passed (locators_at o) marks l.placed-index x l.locators.items c.add_names.new.locators.items _ (omega arith) c.placed-item.is c.in_ok-add_names.ensures.locators l.invariant.locators;
+    }
 
 pub returns : goal.returns
 returns c =

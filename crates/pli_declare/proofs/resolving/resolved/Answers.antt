@@ -18,10 +18,10 @@ invariant_of-result c =
       regions_are = ap regions_view (c.in_ok-regions.ensures.items ∙ c.deref.ensures.value) ∙ ap (λ (r : plain.Resolved). r.regions) same;
       outermost_is = c.in_ok-outermost.ensures ∙ ap (λ (r : plain.Resolved). r.outermost) same;
       blocks_are = c.in_ok-blocks.ensures ∙ ap (λ (r : plain.Resolved). r.blocks) same;
-      meanings_are = λ at. c.in_ok-meanings.ensures at
+      meanings_are = λ at. c.in_ok-meanings.ensures.uses at
           ∙ ap (λ (us : List Use). meaning_at us at) (ap (of_marks (uses_at o)) marks ∙ ap (λ (r : plain.Resolved). r.uses) same);
-      areas_are = λ at. c.in_ok-named.ensures.areas at
+      areas_are = λ at. c.in_ok-meanings.ensures.areas at
           ∙ ap (λ (us : List Use). meaning_at us at) (ap (of_marks (areas_at o)) marks ∙ ap (λ (r : plain.Resolved). r.areas) same);
-      locators_are = λ at. c.in_ok-named.ensures.locators at
+      locators_are = λ at. c.in_ok-meanings.ensures.locators at
           ∙ ap (λ (us : List Use). meaning_at us at) (ap (of_marks (locators_at o)) marks ∙ ap (λ (r : plain.Resolved). r.locators) same);
     }

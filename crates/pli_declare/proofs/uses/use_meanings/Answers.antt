@@ -1,10 +1,17 @@
-use Rattle.std.proofs.Common.{◌≡◌, ◌++◌, List, ap, ◌∙◌, sym}
+use Rattle.std.proofs.Common.{◌≡◌, ◌++◌, List, ap, ◌∙◌, sym, arith}
 use Rattle.std.proofs.lemmas.List.{append-nil, drop_all}
 use Rattle.std.proofs.lemmas.Result.{IfOk-weaker}
 use Rattle.pli_declare_outline.specs.views.OutlineView.{outline_view, marks_view}
 use Rattle.pli_declare.specs.Resolved.{of_marks, uses_at, meaning_at}
 use Rattle.pli_declare.specs.declared.block.Use.{Use}
+use Rattle.pli_declare.proofs.NamedUses.{mark_passed}
 use Rattle.pli_declare.proofs.uses.use_meanings.Goals as goal
+
+pub loop-placed-preserved : goal.loop-placed-preserved
+loop-placed-preserved c =
+    let l = c.loop-placed in
+    mark_passed (uses_at (outline_view c.args.scopes.now.outline.now)) c.args.marks.now l.placed-index c.placed-item.result l.uses.items c.add_mark.new.uses.items _
+    (omega arith) c.placed-item.is c.in_ok-add_mark.ensures l.invariant
 
 pub returns : goal.returns
 returns c =
