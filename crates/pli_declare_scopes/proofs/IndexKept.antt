@@ -4,7 +4,8 @@ use Rattle.std.proofs.lemmas.Bool.Decides.{nat_tests}
 use Rattle.std.proofs.Math.ListN.{get_or-append}
 use Rattle.std.proofs.Math.Seq.{get_or-append_seam}
 use Rattle.std.specs.Cmp.Lexicographic.{same_text}
-use Rattle.indexmap.specs.IndexMap.{IndexMap, get}
+use Rattle.std.specs.Map.{lookup}
+use Rattle.indexmap.specs.IndexMap.{IndexMap, IsUnchanged, get}
 use Rattle.pli_base.specs.Name.{Name}
 use Rattle.pli_base.specs.Words.{same_name}
 use Rattle.pli_declare_scopes.specs.declared.block.Declared.{Declared}
@@ -104,3 +105,13 @@ module _ {S : Type 0} (items : BlockItems) (earlier : List (Option ℕ)) (latest
         count = omega (arith, length-append items (i ∷ []), length-append earlier (before ∷ []), kept.count);
       } in
       rw p (rw q made)
+
+-- an index in which nothing has changed
+pub indexed_still : {S : Type 0} (items : BlockItems) (earlier : List (Option ℕ)) (before after : IndexMap Name ℕ S)
+    → IsUnchanged before after → IsIndexed items earlier before → IsIndexed items earlier after
+indexed_still items earlier before after same index = record {
+  last = λ name. ap (lookup (same_name name)) same ∙ index.last name;
+  links = index.links;
+  owners = index.owners;
+  count = index.count;
+}

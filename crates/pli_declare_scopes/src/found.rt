@@ -3,7 +3,7 @@ ghost use Rattle.std.specs.Prelude.{◌≡◌};
 ghost use Rattle.pli_declare_scopes.specs.Scopes.{with_number, meant_there};
 
 /// What items of a block fit a reference: none, just one, by its number, or several.
-#[derive(Clone, Copy, Debug, PartialEq, Eq)]
+#[derive(Clone, Copy, PartialEq, Eq)]
 pub enum Found {
     Nothing,
     One(usize),
@@ -11,7 +11,7 @@ pub enum Found {
 }
 
 /// What a reference means. Names of built-in functions are the caller's.
-#[derive(Clone, Copy, Debug, PartialEq, Eq)]
+#[derive(Clone, Copy, PartialEq, Eq)]
 pub enum ReferenceMeaning {
     /// The item of this number in a block, and how many blocks outwards that is: 0 for the innermost.
     Item { number: usize, block: usize },

@@ -14,7 +14,7 @@ pub struct Written {
 }
 
 /// What becomes of an item of a block.
-#[derive(Clone, Copy, Debug, PartialEq, Eq)]
+#[derive(Clone, Copy, PartialEq, Eq)]
 pub enum Verdict {
     /// References may mean it.
     Counts,

@@ -8,10 +8,51 @@ use Rattle.pli_declare_scopes.specs.answers.Indexes.{IsIndexed, last_below}
 use Rattle.pli_declare_scopes.specs.answers.Leaps.{AreLeaps}
 use Rattle.pli_declare_scopes.specs.answers.Reaches.{AreReaching}
 use Rattle.pli_declare_scopes.specs.answers.Remembered.{AreRemembered, found_fitting}
-use Rattle.pli_declare_scopes.proofs.IndexKept.{indexed_more}
+use Rattle.pli_declare_scopes.proofs.IndexKept.{indexed_more, indexed_still}
 use Rattle.pli_declare_scopes.proofs.PathsKept.{path_more}
 use Rattle.pli_declare_scopes.proofs.ReachesKept.{noted_within}
 use Rattle.pli_declare_scopes.proofs.block.BlockItems.declare.Goals as goal
+
+-- where there is no memory the lists have what they had
+pub invariant_of-self : goal.invariant_of-self
+invariant_of-self c =
+    let room = c.make_room.ensures in
+    let inv = c.self.invariant in (
+      rw room.items (rw room.earlier inv.0),
+      rw room.items (rw room.paths inv.1),
+      rw room.items (rw room.leaps inv.2),
+      rw room.items (rw room.lasts (rw room.tops inv.3)),
+      rw room.items inv.4,
+      rw room.items inv.5,
+    )
+
+pub invariant_of-self-in_err-path : goal.invariant_of-self-in_err-path
+invariant_of-self-in_err-path c =
+    let room = c.make_room.ensures in
+    let inv = c.self.invariant in
+    let kept = c.path_of.ensures.kept c.self.inside.items.items c.self.inside.paths.items inv.1 in (
+      rw room.items (rw room.earlier inv.0),
+      rw room.items (rw room.paths kept),
+      rw room.items (rw room.leaps inv.2),
+      rw room.items (rw room.lasts (rw room.tops inv.3)),
+      rw room.items inv.4,
+      rw room.items inv.5,
+    )
+
+pub invariant_of-self-in_err-before : goal.invariant_of-self-in_err-before
+invariant_of-self-in_err-before c =
+    let items = c.self.inside.items.items in
+    let room = c.make_room.ensures in
+    let inv = c.self.invariant in
+    let kept = c.path_of.ensures.kept items c.self.inside.paths.items inv.1 in
+    let index = indexed_still items c.self.inside.earlier.items c.self.inside.latest c.note.new.latest c.in_err-before.ensures.err inv.0 in (
+      rw room.items (rw room.earlier index),
+      rw room.items (rw room.paths kept),
+      rw room.items (rw room.leaps inv.2),
+      rw room.items (rw room.lasts (rw room.tops inv.3)),
+      rw room.items inv.4,
+      rw room.items inv.5,
+    )
 
 pub invariant_of-self-2 : goal.invariant_of-self-2
 invariant_of-self-2 c =
