@@ -1,5 +1,5 @@
 //! Which regions are blocks, and how blocks are numbered.
-ghost use Rattle.std.specs.Prelude.{◌≡◌, IfOk};
+ghost use Rattle.std.specs.Prelude.{◌≡◌, ◌≤◌, IfOk};
 ghost use Rattle.pli_declare_outline.specs.views.OutlineView.{regions_view};
 ghost use Rattle.pli_resolve.specs.BlockNumbers as spec;
 
@@ -7,7 +7,7 @@ use pli_declare_outline::{Region, RegionKind};
 use std::alloc::{AllocError, Global};
 
 /// What a block is (X3.74).
-#[derive(Clone, Copy, PartialEq, Eq)]
+#[derive(Clone, Copy)]
 pub enum ResolvedBlockKind {
     Procedure,
     /// A BEGIN block.
@@ -48,6 +48,32 @@ fn number_outside(numbers: &[usize], outer: Option<usize>) -> usize
     }
 }
 
+/// The number of the block that a region is or stands in, where a block would have the next number.
+fn number_with(
+    numbers: &[usize],
+    next: usize,
+    outer: Option<usize>,
+    kind: Option<ResolvedBlockKind>,
+) -> usize
+    ensures { result ≡ spec.number_with numbers.now next outer kind }
+{
+    match kind {
+        Some(_) => next,
+        None => number_outside(numbers, outer),
+    }
+}
+
+/// How many blocks begin with a region.
+fn begun_by(kind: Option<ResolvedBlockKind>) -> usize
+    ensures begun { result ≡ spec.begun_by kind }
+    ensures one { result ≤ 1 }
+{
+    match kind {
+        Some(_) => 1,
+        None => 0,
+    }
+}
+
 /// For each region the number of the block that it is or stands in.
 pub(crate) fn block_numbers(alloc: Global, regions: &[Region]) -> Result<Vec<usize>, AllocError>
     ensures { IfOk result (λ numbers. numbers.items ≡ spec.block_numbers (regions_view regions.now)) }
@@ -55,13 +81,10 @@ pub(crate) fn block_numbers(alloc: Global, regions: &[Region]) -> Result<Vec<usi
     let mut numbers = Vec::new(alloc);
     let mut next = 0;
     for region in regions {
-        if block_kind(region.kind).is_some() {
-            numbers.push(next)?;
-            next += 1;
-        } else {
-            let outside = number_outside(&numbers, region.outer);
-            numbers.push(outside)?;
-        }
+        let kind = block_kind(region.kind);
+        let number = number_with(&numbers, next, region.outer, kind);
+        numbers.push(number)?;
+        next += begun_by(kind);
     }
     Ok(numbers)
 }

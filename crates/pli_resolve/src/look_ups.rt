@@ -12,6 +12,7 @@ ghost use Rattle.pli_resolve.specs.ResolvedUnits as spec;
 use crate::built_in::{BuiltInFunction, function_named};
 use crate::statement_places::StatementPlace;
 use crate::symbol::SymbolKey;
+use crate::unit_tables::StatementMaps;
 use indexmap::IndexMap;
 use pli_declare::BlockDeclarations;
 use pli_declare_outline::{Mark, PlacedMark};
@@ -63,10 +64,7 @@ fn note_label(labels: &mut IndexMap<u32, u32>, place: StatementPlace) -> Result<
 }
 
 /// The statements of labels, by the labels' tokens.
-pub(crate) fn labels(
-    alloc: Global,
-    places: &[StatementPlace],
-) -> Result<IndexMap<u32, u32>, AllocError>
+fn labels(alloc: Global, places: &[StatementPlace]) -> Result<IndexMap<u32, u32>, AllocError>
     ensures { IfOk result (λ labels. (at : ℕ) → get nat_eq labels at ≡ found_in (flat_map spec.label_statement places.now) at) }
 {
     let mut labels = IndexMap::new(alloc);
@@ -77,7 +75,7 @@ pub(crate) fn labels(
 }
 
 /// The regions of statements, by their numbers.
-pub(crate) fn statement_regions(
+fn statement_regions(
     alloc: Global,
     places: &[StatementPlace],
 ) -> Result<IndexMap<u32, usize>, AllocError>
@@ -88,6 +86,20 @@ pub(crate) fn statement_regions(
         regions.insert(place.number, place.region)?;
     }
     Ok(regions)
+}
+
+/// Where statements and their labels stand.
+pub(crate) fn statement_maps(
+    alloc: Global,
+    places: &[StatementPlace],
+) -> Result<StatementMaps, AllocError>
+    ensures regions { IfOk result (λ maps. (number : ℕ) → get nat_eq maps.regions number ≡ found_in (map (λ p. (p.number, p.region)) places.now) number) }
+    ensures labels { IfOk result (λ maps. (at : ℕ) → get nat_eq maps.labels at ≡ found_in (flat_map spec.label_statement places.now) at) }
+{
+    Ok(StatementMaps {
+        regions: statement_regions(alloc, places)?,
+        labels: labels(alloc, places)?,
+    })
 }
 
 /// Notes the symbol of a procedure's name.
@@ -131,8 +143,26 @@ fn note_block(
     note_procedures(procedures, number, &block.declarations)
 }
 
-/// The symbols of procedures' names, by the regions of the procedures.
+/// Notes the symbols of the names of the procedures that the outermost block and each region declare.
 #[tactic(auto, using(crate::proofs::LookUps::found_behind))]
+fn note_blocks(
+    procedures: &mut IndexMap<usize, SymbolKey>,
+    numbers: &[usize],
+    outermost: usize,
+    unit: &[Declaration],
+    blocks: &[BlockDeclarations],
+) -> Result<(), AllocError>
+    ensures { OnOk result ((region : ℕ) → get nat_eq procedures.new region
+        ≡ found_after (get nat_eq procedures.old region) (spec.procedures_from outermost 0 (map declaration_view unit.now) ++ spec.procedures_of numbers.now 0 (map block_view blocks.now)) region) }
+{
+    note_procedures(procedures, outermost, unit)?;
+    for (region, block) in blocks.iter().enumerate() {
+        note_block(procedures, numbers, region, block)?;
+    }
+    Ok(())
+}
+
+/// The symbols of procedures' names, by the regions of the procedures.
 pub(crate) fn procedures(
     alloc: Global,
     numbers: &[usize],
@@ -144,9 +174,6 @@ pub(crate) fn procedures(
         ≡ found_in (spec.procedures_from outermost 0 (map declaration_view unit.now) ++ spec.procedures_of numbers.now 0 (map block_view blocks.now)) region) }
 {
     let mut procedures = IndexMap::new(alloc);
-    note_procedures(&mut procedures, outermost, unit)?;
-    for (region, block) in blocks.iter().enumerate() {
-        note_block(&mut procedures, numbers, region, block)?;
-    }
+    note_blocks(&mut procedures, numbers, outermost, unit, blocks)?;
     Ok(procedures)
 }

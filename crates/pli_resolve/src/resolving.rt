@@ -12,12 +12,12 @@ ghost use Rattle.pli_resolve.specs.views.UnitView.{IsResolvedUnit, AreTablesOf, 
 
 use crate::block_numbers::{block_numbers, block_regions};
 use crate::built_in::BuiltInFunction;
-use crate::look_ups::{functions, labels, procedures, statement_regions};
+use crate::look_ups::{functions, procedures, statement_maps};
 use crate::statement_places::{StatementPlace, statement_list};
 use crate::symbol::SymbolKey;
 use crate::tables::block_tables;
 use crate::unit::ResolvedUnit;
-use crate::unit_tables::{RegionNumbers, UnitMaps, UnitTables};
+use crate::unit_tables::{Callables, RegionNumbers, UnitMaps, UnitTables};
 use crate::ways::ways;
 use indexmap::IndexMap;
 use pli_base::statement::Procedure;
@@ -65,6 +65,24 @@ fn unit_procedures(
     )
 }
 
+/// What may be called in a unit.
+fn callables(
+    alloc: Global,
+    declared: &Resolved,
+    regions: &RegionNumbers,
+    marks: &[PlacedMark],
+) -> Result<Callables, AllocError>
+    requires are_numbers { AreNumbersOf regions.now (unit_view declared.now) }
+    requires are_marks { marks_view marks.now ≡ inner_marks (outline_of (unit_view declared.now)).marks }
+    ensures functions { IfOk result (λ callables. (at : ℕ) → get nat_eq callables.functions at ≡ found_in (functions_in (inner_marks (outline_of (unit_view declared.now)).marks)) at) }
+    ensures procedures { IfOk result (λ callables. (region : ℕ) → get nat_eq callables.procedures region ≡ found_in (procedures_in (unit_view declared.now)) region) }
+{
+    Ok(Callables {
+        functions: functions(alloc, marks)?,
+        procedures: unit_procedures(alloc, declared, regions)?,
+    })
+}
+
 /// What is found by a token, the number of a statement, or a region.
 fn unit_maps(
     alloc: Global,
@@ -79,10 +97,8 @@ fn unit_maps(
     ensures { IfOk result (λ maps. AreMapsOf maps (unit_view declared.now)) }
 {
     Ok(UnitMaps {
-        functions: functions(alloc, marks)?,
-        statements: statement_regions(alloc, places)?,
-        labels: labels(alloc, places)?,
-        procedures: unit_procedures(alloc, declared, regions)?,
+        callables: callables(alloc, declared, regions, marks)?,
+        statements: statement_maps(alloc, places)?,
     })
 }
 

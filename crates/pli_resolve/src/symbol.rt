@@ -7,14 +7,14 @@ use pli_map::Description;
 
 /// Under which a symbol is found: its block, and its number there. The number behind that of the last block is the outermost
 /// block's, which declares the unit's own name.
-#[derive(Clone, Copy, PartialEq, Eq)]
+#[derive(Clone, Copy)]
 pub struct SymbolKey {
     pub block: usize,
     pub number: usize,
 }
 
 /// What a name means where it is used.
-#[derive(Clone, Copy, PartialEq, Eq)]
+#[derive(Clone, Copy)]
 pub enum NameMeaning {
     Symbol(SymbolKey),
     /// A built-in function, declared BUILTIN or not at all.
@@ -22,7 +22,7 @@ pub enum NameMeaning {
 }
 
 /// Where the generations of a variable come from (X3.74).
-#[derive(Clone, Copy, PartialEq, Eq)]
+#[derive(Clone, Copy)]
 pub enum StorageClass {
     /// A parameter, by its place in the list of its procedure, from 0.
     Parameter(usize),

@@ -110,7 +110,13 @@ impl<'a> ResolvedUnit<'a> {
     pub fn block_of_statement(&self, statement: u32) -> Option<usize>
         ensures { result ≡ block_of_statement (resolved_unit_of (unit_view self.now)) statement }
     {
-        let region = self.tables.maps.statements.get(&statement).copied()?;
+        let region = self
+            .tables
+            .maps
+            .statements
+            .regions
+            .get(&statement)
+            .copied()?;
         Some(self.number_of(region))
     }
 
@@ -153,7 +159,7 @@ impl<'a> ResolvedUnit<'a> {
     {
         match self.declared.meaning_at(at)? {
             Target::Function => {
-                let function = self.tables.maps.functions.get(&at).copied()?;
+                let function = self.tables.maps.callables.functions.get(&at).copied()?;
                 Some(NameMeaning::BuiltIn(function))
             }
             Target::Name { block, number } => self.declared_meaning(block, number),
@@ -265,6 +271,7 @@ impl<'a> ResolvedUnit<'a> {
                 statement: self
                     .tables
                     .maps
+                    .statements
                     .labels
                     .get(&identifier.at)
                     .copied()
@@ -329,7 +336,13 @@ impl<'a> ResolvedUnit<'a> {
             kind: block.kind,
             outer,
             statement: self.tables.starts.get(block.region).copied().unwrap_or(0),
-            name: self.tables.maps.procedures.get(&block.region).copied(),
+            name: self
+                .tables
+                .maps
+                .callables
+                .procedures
+                .get(&block.region)
+                .copied(),
             parameters: self.parameters_of(block.region),
         }
     }

@@ -1,5 +1,6 @@
 //! What is found once for a unit.
-ghost use Rattle.std.specs.Prelude.{◌≡◌, IfOk};
+ghost use Rattle.std.specs.Prelude.{◌≡◌, ℕ, nat_eq, IfOk};
+ghost use Rattle.indexmap.specs.IndexMap.{get};
 ghost use Rattle.pli_base.specs.Statements.{ExternalProcedure};
 ghost use Rattle.pli_resolve.specs.views.UnitView.{AreTablesOf, AreMapsOf, AreNumbersOf};
 
@@ -23,15 +24,29 @@ pub(crate) struct RegionNumbers {
     pub blocks: Vec<BlockRegion>,
 }
 
+/// What may be called.
+#[derive(Drop)]
+pub(crate) struct Callables {
+    /// Built-in functions, by the tokens where they are named.
+    pub functions: IndexMap<u32, BuiltInFunction>,
+    /// The symbols of procedures' names, by the regions of the procedures.
+    pub procedures: IndexMap<usize, SymbolKey>,
+}
+
+/// Where statements and their labels stand.
+#[derive(Drop)]
+pub(crate) struct StatementMaps {
+    /// The regions of statements, by their numbers.
+    pub regions: IndexMap<u32, usize>,
+    /// The statements of labels, by the labels' tokens.
+    pub labels: IndexMap<u32, u32>,
+}
+
 /// What is found by a token, the number of a statement, or a region.
 #[derive(Drop)]
 pub(crate) struct UnitMaps {
-    pub functions: IndexMap<u32, BuiltInFunction>,
-    /// The regions of statements, by their numbers.
-    pub statements: IndexMap<u32, usize>,
-    /// The statements of labels, by the labels' tokens.
-    pub labels: IndexMap<u32, u32>,
-    pub procedures: IndexMap<usize, SymbolKey>,
+    pub callables: Callables,
+    pub statements: StatementMaps,
 }
 
 /// What is found once for a unit.
@@ -58,16 +73,40 @@ impl RegionNumbers {
     }
 }
 
+impl Callables {
+    /// The same functions and procedures.
+    fn copy(&self) -> Result<Callables, AllocError>
+        ensures functions { IfOk result (λ copied. (at : ℕ) → get nat_eq copied.functions at ≡ get nat_eq self.now.functions at) }
+        ensures procedures { IfOk result (λ copied. (region : ℕ) → get nat_eq copied.procedures region ≡ get nat_eq self.now.procedures region) }
+    {
+        Ok(Callables {
+            functions: copied_functions(&self.functions)?,
+            procedures: copied_procedures(&self.procedures)?,
+        })
+    }
+}
+
+impl StatementMaps {
+    /// The same statements and labels.
+    fn copy(&self) -> Result<StatementMaps, AllocError>
+        ensures regions { IfOk result (λ copied. (number : ℕ) → get nat_eq copied.regions number ≡ get nat_eq self.now.regions number) }
+        ensures labels { IfOk result (λ copied. (at : ℕ) → get nat_eq copied.labels at ≡ get nat_eq self.now.labels at) }
+    {
+        Ok(StatementMaps {
+            regions: copied_statements(&self.regions)?,
+            labels: copied_labels(&self.labels)?,
+        })
+    }
+}
+
 impl UnitMaps {
     /// The same maps.
     fn copy(&self) -> Result<UnitMaps, AllocError>
         ensures { IfOk result (λ copied. (u : ExternalProcedure) → AreMapsOf self.now u → AreMapsOf copied u) }
     {
         Ok(UnitMaps {
-            functions: copied_functions(&self.functions)?,
-            statements: copied_statements(&self.statements)?,
-            labels: copied_labels(&self.labels)?,
-            procedures: copied_procedures(&self.procedures)?,
+            callables: self.callables.copy()?,
+            statements: self.statements.copy()?,
         })
     }
 }

@@ -56,13 +56,14 @@ pub record AreNumbersOf (t : RegionNumbers) (u : ExternalProcedure) : Type 0
 -- what is found by tokens, statements and regions is what the tree says
 pub record AreMapsOf (t : UnitMaps) (u : ExternalProcedure) : Type 0
   where
-    pub functions_are : (at : ℕ) → get nat_eq t.functions at
+    pub functions_are : (at : ℕ) → get nat_eq t.callables.functions at
         ≡ found_in (functions_in (inner_marks (outline_of u).marks)) at
-    pub statements_are : (n : ℕ) → get nat_eq t.statements n
+    pub statements_are : (n : ℕ) → get nat_eq t.statements.regions n
         ≡ found_in (map (λ p. (p.number, p.region)) (unit_places u)) n
-    pub labels_are : (at : ℕ) → get nat_eq t.labels at
+    pub labels_are : (at : ℕ) → get nat_eq t.statements.labels at
         ≡ found_in (flat_map label_statement (unit_places u)) at
-    pub procedures_are : (n : ℕ) → get nat_eq t.procedures n ≡ found_in (procedures_in u) n
+    pub procedures_are : (n : ℕ) → get nat_eq t.callables.procedures n
+        ≡ found_in (procedures_in u) n
 
 -- what is found once for a unit is what its tree says
 pub record AreTablesOf (t : UnitTables) (u : ExternalProcedure) : Type 0

@@ -4,7 +4,7 @@ use Rattle.pli_declare.specs.views.BlockView.{block_view}
 use Rattle.pli_resolve.specs.Symbols.{found_after}
 use Rattle.pli_resolve.specs.ResolvedUnits as spec
 use Rattle.pli_resolve.proofs.LookUps.{found_behind, drop_next}
-use Rattle.pli_resolve.proofs.look_ups.procedures.Goals as goal
+use Rattle.pli_resolve.proofs.look_ups.note_blocks.Goals as goal
 
 pub loop-region-preserved : goal.loop-region-preserved
 loop-region-preserved c = λ region.
