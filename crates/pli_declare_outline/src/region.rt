@@ -4,7 +4,7 @@ use pli_base::statement::Procedure;
 use pli_base::syntax::Identifier;
 
 /// What a region is (own).
-#[derive(Clone, Copy, Debug, PartialEq, Eq)]
+#[derive(Clone, Copy)]
 pub enum RegionKind {
     Procedure,
     /// A BEGIN block.
