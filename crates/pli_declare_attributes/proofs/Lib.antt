@@ -1,4 +1,5 @@
 pub mod BitLemmas
+pub mod BoundsDescribed
 pub mod CountLemmas
 pub mod CutLemmas
 pub mod LeastFaults
