@@ -1,5 +1,6 @@
 pub mod BitLemmas
 pub mod BoundsDescribed
+pub mod BoundsFit
 pub mod CountLemmas
 pub mod CutLemmas
 pub mod LeastFaults
