@@ -6,7 +6,7 @@ use pli_map::Description;
 use std::alloc::{AllocError, Global};
 
 /// What a comparison asks (X3.74).
-#[derive(Clone, Copy, Debug, PartialEq, Eq)]
+#[derive(Clone, Copy)]
 pub enum Relation {
     Equal,
     Unequal,

@@ -14,7 +14,7 @@ pub struct CodedTemplate {
 }
 
 /// What a block is of.
-#[derive(Clone, Copy, Debug, PartialEq, Eq)]
+#[derive(Clone, Copy)]
 pub enum BlockKind {
     Procedure,
     Begin,
