@@ -10,7 +10,7 @@ ghost use Rattle.pli_unit_perform.specs.views.TableView.{place_of, place_in, ent
 
 use crate::linked::LinkedGlobal;
 use crate::loaded::Loaded;
-use crate::numbered::table_at;
+use crate::numbered::{linked_at, table_at};
 use crate::unit::ActiveUnit;
 use pli_base::Name;
 use pli_store::Place;
@@ -21,8 +21,8 @@ pub fn unit_at<'l, 'm>(loaded: &'l Loaded<'m>, number: usize) -> Option<ActiveUn
     ensures { MatchOption result (slice_get (image_of loaded.now).linked.units number ≡ None)
         (λ u. (u.number ≡ number) × (u.loaded.now ≡ loaded.now)) }
 {
-    let linked = loaded.module.units.get(number)?;
-    let globals = loaded.globals.get(number)?;
+    let linked = linked_at(loaded.module, number)?;
+    let globals = table_at(loaded, number)?;
     Some(ActiveUnit {
         loaded,
         number,

@@ -6,6 +6,7 @@ use crate::loaded::Loaded;
 use pli_unit_code::{LinkedUnit, Module};
 
 /// The unit of a number.
+#[inline]
 pub fn linked_at(module: &Module, number: usize) -> Option<&LinkedUnit>
     ensures { MatchOption result (slice_get «module».now.units.items number ≡ None)
         (λ u. slice_get «module».now.units.items number ≡ Some u.now) }
@@ -14,6 +15,7 @@ pub fn linked_at(module: &Module, number: usize) -> Option<&LinkedUnit>
 }
 
 /// The globals of the unit of a number.
+#[inline]
 pub fn table_at<'l, 'm>(loaded: &'l Loaded<'m>, number: usize) -> Option<&'l [LinkedGlobal<'m>]>
     ensures { MatchOption result (slice_get (map (λ t. t.items) loaded.now.globals.items) number ≡ None)
         (λ t. slice_get (map (λ t. t.items) loaded.now.globals.items) number ≡ Some t.now) }

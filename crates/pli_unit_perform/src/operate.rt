@@ -111,9 +111,12 @@ fn operate_with_values(
         return Ok(Some(Stop::Fault));
     };
     let Some(left) = pop_value(alloc, operands)? else {
+        drop(right);
         return Ok(Some(Stop::Fault));
     };
-    let calculation = calculate_with(alloc, operation, left, right.value())?;
+    let outcome = calculate_with(alloc, operation, left, right.value());
+    drop(right);
+    let calculation = outcome?;
     give(operands, calculation)
 }
 
@@ -144,7 +147,11 @@ pub fn operate_by(
     let Some((first, second, third)) = pop_three(alloc, operands)? else {
         return Ok(Some(Stop::Fault));
     };
-    let calculation = calculate_by(alloc, operation, &first, &second, &third)?;
+    let outcome = calculate_by(alloc, operation, &first, &second, &third);
+    drop(first);
+    drop(second);
+    drop(third);
+    let calculation = outcome?;
     give(operands, calculation)
 }
 

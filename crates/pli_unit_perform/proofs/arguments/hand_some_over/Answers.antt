@@ -1,5 +1,7 @@
 use Rattle.std.proofs.Common.{◌∙◌, map, sym, ap, arith}
 use Rattle.std.specs.Prelude.{not, get_or}
+use Rattle.std.specs.List.{filter}
+use Rattle.std.proofs.lemmas.List.{take_all}
 use Rattle.pli_store.specs.World.{is_given}
 use Rattle.pli_store.specs.views.StorageView.{place_view}
 use Rattle.pli_unit_perform.proofs.GivenPlaces.{given_as, passes_more, fails_more}
@@ -32,3 +34,13 @@ loop-generation-preserved c =
                 (ap not (given ∙ w.if-is_given.false)) (ap (λ v. v.items) w.others-is ∙ w.in_ok-push-2.ensures.items);
           }
     ]
+
+pub loop-generation-init : goal.loop-generation-init
+loop-generation-init c = record { handed = c.new-handed.ensures.items; others = c.new-others.ensures.items }
+
+pub returns : goal.returns
+returns c =
+    let pending = c.args.pending.now in
+    let given = is_given (map place_view c.args.places.now) in
+    let all = take_all c.loop-generation.generation-index pending c.loop-generation-test.false in
+    (c.loop-generation.invariant.handed ∙ ap (filter given) all, c.loop-generation.invariant.others ∙ ap (filter (λ g. not (given g))) all)

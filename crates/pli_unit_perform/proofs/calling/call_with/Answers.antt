@@ -1,4 +1,4 @@
-use Rattle.std.proofs.Common.{Some, map, sym, ◌∙◌}
+use Rattle.std.proofs.Common.{map, sym, ◌∙◌}
 use Rattle.std.proofs.lemmas.Result.{IfOk-weaker}
 use Rattle.pli_store.specs.views.StorageView.{place_view}
 use Rattle.pli_unit_code.specs.CodeTables.{block_looked_up}

@@ -1,4 +1,4 @@
-use Rattle.std.proofs.Common.{◌≡◌, ℕ, ◌+◌, Some, ◌∷◌, [], ◌++◌, length, map, take, slice_get, sym, ap, subst, ◌∙◌, arith}
+use Rattle.std.proofs.Common.{◌≡◌, ◌+◌, ◌∷◌, [], ◌++◌, map, take, slice_get, sym, ap, subst, ◌∙◌, arith}
 use Rattle.std.proofs.lemmas.List.{length-map, get_or-map, take_all, take_more}
 use Rattle.std.specs.HashMap.{get}
 use Rattle.pli_base.specs.Words.{same_name}

@@ -1,4 +1,4 @@
-use Rattle.std.proofs.Common.{map, sym, ap, ◌∙◌}
+use Rattle.std.proofs.Common.{map, sym, ◌∙◌}
 use Rattle.pli_unit_perform.specs.views.ImageView.{image_of}
 use Rattle.pli_unit_perform.proofs.LinkedUnits.{name_there}
 use Rattle.pli_unit_perform.proofs.StaticPlaces.{own_table}

@@ -1,4 +1,4 @@
-use Rattle.std.proofs.Common.{ap, ◌∙◌}
+use Rattle.std.proofs.Common.{ap}
 use Rattle.std.proofs.lemmas.Result.{IfOk-weaker}
 use Rattle.pli_machine_step.specs.Machine.{resume}
 use Rattle.pli_machine_step.specs.Runs.{main_unit}
