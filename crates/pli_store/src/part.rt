@@ -14,14 +14,17 @@ pub struct GenerationPart {
     pub first: usize,
 }
 
-/// Whether both are numbers of one precision: the second then stands where the first begins.
+/// Whether both are numbers of one precision, or strings of characters of one length: the second then stands where the
+/// first begins.
 #[inline(always)]
-pub fn are_same_numbers(whole: &Description, part: &Description) -> bool
+pub fn are_same_scalars(whole: &Description, part: &Description) -> bool
     ensures stands { result ≡ true → first_scalar (description_view whole.now) 0 (description_view part.now) ≡ Some 0 }
     ensures scalar { result ≡ true → is_scalar (description_view part.now) ≡ true }
 {
     match (whole, part) {
         (Description::FixedBinary(has), Description::FixedBinary(wanted)) => *has == *wanted,
+        (Description::Varying(has), Description::Varying(wanted)) => *has == *wanted,
+        (Description::Character(has), Description::Character(wanted)) => *has == *wanted,
         _ => false,
     }
 }
@@ -61,28 +64,10 @@ pub fn scalar_of(whole: &Description, offset: u32, part: &Description) -> Option
     ensures { result ≡ option_map (λ k. min k 18446744073709551615)
         (first_scalar (description_view whole.now) offset (description_view part.now)) }
 {
+    if offset == 0 && are_same_scalars(whole, part) {
+        return Some(0);
+    }
     match (whole, part) {
-        (Description::FixedBinary(has), Description::FixedBinary(wanted)) => {
-            if offset == 0 && *has == *wanted {
-                Some(0)
-            } else {
-                None
-            }
-        }
-        (Description::Varying(has), Description::Varying(wanted)) => {
-            if offset == 0 && *has == *wanted {
-                Some(0)
-            } else {
-                None
-            }
-        }
-        (Description::Character(has), Description::Character(wanted)) => {
-            if offset == 0 && *has == *wanted {
-                Some(0)
-            } else {
-                None
-            }
-        }
         (Description::Array { bounds, element }, Description::FixedBinary(wanted)) => {
             match &**element {
                 Description::FixedBinary(has) if bounds.len() == 1 && *has == *wanted => {

@@ -13,7 +13,7 @@ ghost use Rattle.pli_value.specs.Value.{value_view, Number, Characters};
 use crate::appending::{lengthen_at, varying_size};
 use crate::fault::StoreFault;
 use crate::generation::{Generation, Made};
-use crate::part::{GenerationPart, are_same_numbers, scalar_of};
+use crate::part::{GenerationPart, are_same_scalars, scalar_of};
 use crate::place::Place;
 use crate::putting::{put_many, put_one};
 use crate::spare::SpareValues;
@@ -91,7 +91,7 @@ impl<'m> Storage<'m> {
         }
     }
 
-    /// Where the generation stands that begins with the number to which a place leads, if it stands where it was made: no search
+    /// Where the generation stands that begins with the scalar to which a place leads, if it stands where it was made: no search
     /// is needed then.
     #[inline(always)]
     fn lone(&self, place: Place<'_>) -> Option<usize>
@@ -102,7 +102,7 @@ impl<'m> Storage<'m> {
         if generation.number != place.generation || place.offset != 0 {
             return None;
         }
-        if !are_same_numbers(generation.description, place.description) {
+        if !are_same_scalars(generation.description, place.description) {
             return None;
         }
         Some(place.hint)

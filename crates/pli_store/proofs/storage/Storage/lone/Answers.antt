@@ -19,6 +19,6 @@ returns-clause-leads c =
     ∙ slice_get_read c.deref.result.now (length c.deref.result.now) place.hint g refl (ltb-true place.hint (length c.deref.result.now) (sym c.in_ok-generation.ensures.lookup.0)) c.in_ok-generation.ensures.lookup.1 in
     let stands = subst (λ n. StandsAt (storage_view c.args.self.now) n place.hint) c.if-generation-place.false (stands_at items c.args.self.now.made c.args.self.now.rising place.hint g here) in
     let first : Some 0 ≡ option_map (λ k. min k 18446744073709551615) (first_scalar (description_view g.description.now) 0 (description_view place.description.now)) =
-    ap (option_map (λ k. min k 18446744073709551615)) (sym (c.if-not-are_same_numbers.ensures.stands refl)) in
+    ap (option_map (λ k. min k 18446744073709551615)) (sym (c.if-not-are_same_scalars.ensures.stands refl)) in
     leads_to items (place_view place) place.hint stands refl g here 0
     (subst (λ (o : ℕ). Some 0 ≡ option_map (λ k. min k 18446744073709551615) (first_scalar (description_view g.description.now) o (description_view place.description.now))) (sym c.if-place-ne0.false) first)

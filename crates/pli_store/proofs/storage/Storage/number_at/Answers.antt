@@ -2,7 +2,6 @@ use Rattle.std.proofs.Common.{◌≡◌, length, Some, slice_get, refl, sym, ap,
 use Rattle.std.proofs.lemmas.Int.{to_z-of_z}
 use Rattle.std.proofs.lemmas.Option.{slice_get_read}
 use Rattle.std.specs.Option.{option_copied}
-use Rattle.pli_value.specs.declared.value.Value.{Value}
 use Rattle.pli_store.specs.views.StorageView.{place_view, with_storage}
 use Rattle.pli_store.proofs.PartAnswers.{held_one}
 use Rattle.pli_store.proofs.Searches.{slice_get_within_view}
