@@ -36,6 +36,14 @@ over limit n h = grind (arith, nat_tests)
 pub within : (limit n : ℕ) → n ≤ limit → nat_lt limit n ≡ false
 within limit n h = grind (arith, nat_tests)
 
+-- whether one of what is left is, one element more
+pub any_next : {X : Type 0} (all : List X → Bool) (one : X → Bool) → ((x : X) (xs : List X) → all (x ∷ xs) ≡ (one x || all xs))
+    → (xs : List X) (i : ℕ) (d : X) (found whole : Bool) → i < length xs → d ≡ get_or xs i d → found ≡ one d
+    → all (drop i xs) ≡ whole → (found || all (drop (i + 1) xs)) ≡ whole
+any_next all one splits xs i d found whole lt read is was =
+    let rest = drop (i + 1) xs in
+    ap (λ b. b || all rest) (is ∙ ap one read) ∙ sym (splits (get_or xs i d) rest) ∙ sym (at_drop_more all xs i d lt) ∙ was
+
 -- sums of bytes
 grows : (ts : List Template) (n : ℕ) → n ≤ fold (λ sum t. sum + template_bytes t) n ts
 grows [] n = omega arith
