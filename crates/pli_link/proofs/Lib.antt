@@ -3,6 +3,7 @@ pub mod ClassLemmas
 pub mod ByteCountLemmas
 pub mod Faultless
 pub mod LinkedUnits
+pub mod LoopLemmas
 pub mod MeantFirst
 pub mod MismatchLemmas
 pub mod NameTables

@@ -47,15 +47,28 @@ pub fn link(alloc: Global, units: Vec<NamedUnit>) -> Result<Module, LinkError>
     ensures { Links result (link.link_of (map compiled_view units.items)) }
 {
     let procedures = procedures(alloc, &units)?;
-    let faults = faults_of(alloc, &units, &procedures)?;
+    link_by(alloc, &procedures, units)
+}
+
+/// The same, where these are the procedures of the units.
+fn link_by(
+    alloc: Global,
+    procedures: &IndexMap<Name, usize>,
+    units: Vec<NamedUnit>,
+) -> Result<Module, LinkError>
+    requires { procedures.now.entries ≡ meaning.procedures (map compiled_view units.items) }
+    ensures { Links result (link.link_of (map compiled_view units.items)) }
+{
+    let faults = faults_of(alloc, &units, procedures)?;
     if !faults.is_empty() {
         return Err(LinkError::Fault(faults));
     }
     let Some(main) = main_at(&units) else {
         return Err(LinkError::Fault(faults));
     };
+    drop(faults);
     Ok(Module {
-        units: linked_units(alloc, &procedures, units)?,
+        units: linked_units(alloc, procedures, units)?,
         main: main as u16,
     })
 }

@@ -23,22 +23,20 @@ pub(crate) fn main_names(alloc: Global, units: &[NamedUnit]) -> Result<Vec<Linke
 {
     let mut names = Vec::new(alloc);
     for unit in units {
-        if unit.compiled.is_main {
-            names.push(procedure_of(unit))?;
-        }
+        add_unless(&mut names, unit, !unit.compiled.is_main)?;
     }
     Ok(names)
 }
 
-/// Appends the procedure of a unit, unless its name is new.
-fn add_repeated(
+/// Appends the procedure of a unit, unless it is left out.
+fn add_unless(
     names: &mut Vec<LinkedName>,
     unit: &NamedUnit,
-    is_new: bool,
+    is_left_out: bool,
 ) -> Result<(), AllocError>
-    ensures { OnOk result (names.new.items ≡ names.old.items ++ (if is_new then [] else procedure_of (compiled_view unit.now) ∷ [])) }
+    ensures { OnOk result (names.new.items ≡ names.old.items ++ (if is_left_out then [] else procedure_of (compiled_view unit.now) ∷ [])) }
 {
-    if !is_new {
+    if !is_left_out {
         names.push(procedure_of(unit))?;
     }
     Ok(())
@@ -55,7 +53,7 @@ pub(crate) fn repeated_names(
     let mut names = Vec::new(alloc);
     for unit in units {
         let is_new = before.insert(unit.compiled.procedure)?;
-        add_repeated(&mut names, unit, is_new)?;
+        add_unless(&mut names, unit, is_new)?;
     }
     Ok(names)
 }
