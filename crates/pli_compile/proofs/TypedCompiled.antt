@@ -9,9 +9,10 @@ use Rattle.pli_resolve.specs.ResolvedUnits.{resolved_unit_of}
 use Rattle.pli_type.specs.NamedUnits.{checked_unit}
 use Rattle.pli_meaning.specs.Scratch.{typed_unless, program_from, coded_from, compiled_texts}
 
-module _ (texts : Tokens) (u v : ExternalProcedure) where
-  pub types_decide : unit_of texts ≡ Ok u → resolution_faults u ≡ [] → v ≡ u
-      → compiled_texts texts ≡ coded_from (checked_unit (resolved_unit_of v))
-  types_decide read none same =
-      ap (λ r. coded_from (program_from r)) read ∙ ap (λ fs. coded_from (typed_unless fs u)) none
-      ∙ ap (λ x. coded_from (checked_unit (resolved_unit_of x))) (sym same)
+-- where reading has no fault, the tree that was read decides
+pub tree_decides : (texts : Tokens) (u : ExternalProcedure) → unit_of texts ≡ Ok u → compiled_texts texts ≡ coded_from (typed_unless (resolution_faults u) u)
+tree_decides texts u read = ap (λ r. coded_from (program_from r)) read
+
+-- and where the declarations have none, types
+pub types_decide : (u v : ExternalProcedure) → resolution_faults u ≡ [] → v ≡ u → coded_from (typed_unless (resolution_faults u) u) ≡ coded_from (checked_unit (resolved_unit_of v))
+types_decide u v none same = ap (λ fs. coded_from (typed_unless fs u)) none ∙ ap (λ x. coded_from (checked_unit (resolved_unit_of x))) (sym same)

@@ -3,10 +3,11 @@ ghost use Rattle.std.specs.Prelude.{◌≡◌, ◌≤◌, length};
 ghost use Rattle.pli_base.specs.views.StatementView.{unit_view};
 ghost use Rattle.pli_resolve.specs.ResolvedUnits.{resolved_unit_of};
 ghost use Rattle.pli_type.specs.NamedUnits.{checked_unit};
-ghost use Rattle.pli_meaning.specs.Scratch.{coded_from, compiled_texts};
+ghost use Rattle.pli_declare.specs.Resolution.{resolution_faults};
+ghost use Rattle.pli_meaning.specs.Scratch.{coded_from, compiled_texts, typed_unless};
 ghost use Rattle.pli_compile.specs.answers.Outcomes.{Compiles, of_fault, of_faults, of_generating};
 
-use pli_base::{Code, Failure, Fault, TokenText};
+use pli_base::{Code, Failure, Fault, TokenText, Unit};
 use pli_gen_tree::{GenerateError, generate};
 use pli_link::CompiledUnit;
 use pli_parse::parse;
@@ -76,6 +77,17 @@ fn compile_resolved(
     })
 }
 
+/// A unit's tree, compiled, or the faults of the first pass behind reading that has any.
+fn compile_tree(alloc: Global, tree: &Unit) -> Result<CompiledUnit, CompileError>
+    ensures { let unit = unit_view tree.now in
+        Compiles result (coded_from (typed_unless (resolution_faults unit) unit)) }
+{
+    let resolved = resolve_unit(alloc, tree)?;
+    let compiled = compile_resolved(alloc, &resolved);
+    drop(resolved);
+    compiled
+}
+
 /// The tokens of a unit, compiled, or the faults of the first pass that has any.
 pub(crate) fn compile_texts(
     alloc: Global,
@@ -85,6 +97,7 @@ pub(crate) fn compile_texts(
     ensures { Compiles result (compiled_texts texts.now) }
 {
     let tree = parse(alloc, texts)?;
-    let resolved = resolve_unit(alloc, &tree)?;
-    compile_resolved(alloc, &resolved)
+    let compiled = compile_tree(alloc, &tree);
+    drop(tree);
+    compiled
 }
