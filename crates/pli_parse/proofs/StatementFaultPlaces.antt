@@ -21,7 +21,9 @@ use Rattle.pli_base.specs.Words.{behind}
 use Rattle.pli_parse_declaration.specs.DeclarationReading.{identifier_at, list_at, declaration_at}
 use Rattle.pli_parse_declaration.specs.declared.list.Separator.TheVariants.{Commas}
 use Rattle.pli_base.specs.Reading.{read_as, mapped, if_open}
-use Rattle.pli_parse_declaration.proofs.DeclarationFaults.{identifier_sound, Stands, at_least, stands_behind, stands_then, stands_made, mapped_stands, taken_then, optional_stands, list_sound, declaration_stands, fault_of}
+use Rattle.pli_parse_fault.proofs.StepLemmas.{same_err}
+use Rattle.pli_parse_fault.proofs.ReadingFaults.{Stands, at_least, stands_behind, stands_then, stands_made, mapped_stands, fault_of}
+use Rattle.pli_parse_declaration.proofs.DeclarationFaults.{identifier_sound, taken_then, optional_stands, list_sound, declaration_stands}
 use Rattle.pli_parse_statement.specs.StatementWords.{Context, standing, the_unit, a_procedure, StatementKind, Assigns, Empty, Keyed, Unknown, kind_of}
 use Rattle.pli_parse_statement.specs.StatementReading.{expression_in, reference_in, stopped, closing, assignment_at, condition_at, control_at, allocation_at, put_at, call_at, heading_at, StatementReader, Inside, deeper, has_semicolon, label_at, is_labelled, second_label, bad_label, Misplacement, AtLabel, AtStatement, unit_misplaced, standing_misplaced, misplacement, at_label, Listing, is_label, named_end, ending_at, NextStatement, EndsHere, Another, next_of, list_by, list_from, list_in, else_first, alternative_from, if_at, on_at, do_at, begin_at, inner_list, procedure_at, keyed_at, unless_misplaced, body_from, behind_label, begun, statement_of, inside_of, statement_at, finished, external_at, unit_from, unit_of}
 use Rattle.pli_parse_statement.specs.declared.keyword.Keyword.{Keyword}
@@ -403,10 +405,7 @@ unit_stands ts = by (misplaced ts) (has_semicolon ts) ts refl
 
 text_fault : (ts : Tokens) (r : Result ExternalProcedure Fault) (f : Fault) → TextStands ts r → r ≡ Err f → StandsAtToken ts f
 text_fault ts (Ok u) f h e = cc
-text_fault ts (Err g) f h e = subst (StandsAtToken ts) (err_same e) h
-  where
-    err_same : {x y : Fault} → ◌≡◌ {A = Result ExternalProcedure Fault} (Err x) (Err y) → x ≡ y
-    err_same k = cc
+text_fault ts (Err g) f h e = subst (StandsAtToken ts) (same_err e) h
 
 pub unit_fault_stands : (ts : Tokens) (f : Fault) → unit_of ts ≡ Err f → StandsAtToken ts f
 unit_fault_stands ts f h = text_fault ts (unit_of ts) f (unit_stands ts) h

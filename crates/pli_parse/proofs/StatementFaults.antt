@@ -19,30 +19,26 @@ use Rattle.pli_base.specs.Statements as body
 use Rattle.pli_parse_expression.specs.Expressions.{SpellsOutermost}
 use Rattle.pli_parse_expression.specs.Reading as expressions
 use Rattle.pli_parse_expression.specs.Reading.{expression_at, reference_at, arguments_at, argument_of}
-use Rattle.pli_parse_expression.proofs.ReadFaults as found
 use Rattle.pli_parse_expression.proofs.ReadFaults.{expression_at_sound, reference_at_stands, arguments_stand, arguments_sound}
 use Rattle.pli_base.specs.Words.{behind}
 use Rattle.pli_parse_declaration.specs.DeclarationReading.{identifier_at, list_at, returned_at}
 use Rattle.pli_parse_declaration.specs.declared.list.Separator.TheVariants.{Commas}
 use Rattle.pli_base.specs.Reading.{read_as, mapped, taken, enclosed, if_open, or_none}
 use Rattle.pli_parse_declaration.specs.DeclarationGrammar.{SpellsListed}
-use Rattle.pli_parse_declaration.proofs.DeclarationFaults.{identifier_sound, Stands, IsSound, misfit_stands, at_least, stands_behind, stands_then, stands_made, mapped_stands, taken_then, enclosed_stands, optional_stands, list_sound, returned_stands}
+use Rattle.pli_parse_fault.proofs.ReadingFaults.{Stands, misfit_stands, at_least, stands_behind, stands_then, stands_made, mapped_stands}
+use Rattle.pli_parse_declaration.proofs.DeclarationFaults.{identifier_sound, IsSound, taken_then, enclosed_stands, optional_stands, list_sound, returned_stands}
 use Rattle.pli_parse.proofs.WordsFirst.{range_begins, place_begins, put_begins, option_begins}
 use Rattle.pli_parse_statement.specs.StatementWords.{condition_of, behind_word}
 use Rattle.pli_parse_statement.specs.StatementReading.{uncounted, expression_in, reference_in, stopped, closing, parenthesized, is_equals, assignment_at, condition_from, condition_at, if_word, optional_at, RangeWord, ToWord, ByWord, RepeatWord, range_first, range_from, range_at, Specified, Unspecified, Conditioned, Iterated, specified, control_from, control_at, PlaceWord, InWord, SetWord, place_first, placed_by, places_from, allocation_at, PutWord, SkipWord, ListWord, put_first, put_by, put_from, put_begun, put_at, call_at, OptionWord, OptionsWord, ReturnsWord, RecursiveWord, option_first, main_at, options_by, options_from, heading_at}
 use Rattle.pli_parse.proofs.StatementReadTools.{expression_reads, parenthesized_reads, list_reads, behind_is}
 
-uncounted_stands : {A : Type 0} (least p : ℕ) (ts : Tokens) (r : Result (expressions.ExpressionFront A) Fault) → found.Stands least p ts r → Stands least p ts (uncounted r)
-uncounted_stands least p ts (Ok x) h = h
-uncounted_stands least p ts (Err f) h = h
-
 pub expression_sound : (levels : ℕ) → IsSound (expression_in levels)
 unfolding expression_in
-expression_sound levels p ts = uncounted_stands 1 p ts (expression_at levels 0 p ts) (expression_at_sound levels 0 p ts)
+expression_sound levels p ts = mapped_stands 1 p ts (λ counted. counted.tree) (expression_at levels 0 p ts) (expression_at_sound levels 0 p ts)
 
 pub reference_sound : (levels : ℕ) → IsSound (reference_in levels)
 unfolding reference_in
-reference_sound levels p ts = uncounted_stands 1 p ts (reference_at levels p ts) (reference_at_stands levels p ts)
+reference_sound levels p ts = mapped_stands 1 p ts (λ counted. counted.tree) (reference_at levels p ts) (reference_at_stands levels p ts)
 
 pub stopped_sound : {A : Type 0} (value : A) → IsSound (stopped value)
 unfolding stopped
@@ -297,7 +293,7 @@ call_sound levels p ts =
     stands_then 1 0 p ts (identifier_at p ts)
     (λ name. uncounted (arguments_at (option_map (argument_of true) (expressions.inside levels)) 0 name.next name.rest) >>= λ arguments. read_as (body.Call name.value arguments.value) arguments.next arguments.rest) (identifier_sound p ts)
     (λ name s. stands_made 0 name.next name.rest (uncounted (arguments_at (option_map (argument_of true) (expressions.inside levels)) 0 name.next name.rest)) (λ arguments. body.Call name.value arguments.value)
-    (uncounted_stands 0 name.next name.rest (arguments_at (option_map (argument_of true) (expressions.inside levels)) 0 name.next name.rest)
+    (mapped_stands 0 name.next name.rest (λ counted. counted.tree) (arguments_at (option_map (argument_of true) (expressions.inside levels)) 0 name.next name.rest)
     (arguments_stand (option_map (argument_of true) (expressions.inside levels)) (arguments_sound levels) 0 name.next name.rest)))
 
 main_sound : IsSound main_at

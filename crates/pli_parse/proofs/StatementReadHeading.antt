@@ -3,6 +3,7 @@ use Rattle.std.proofs.Common.{◌≡◌, ◌+◌, ℕ, suc, zero, true, List, []
 use Rattle.pli_base.specs.Words.{Tokens, is_open, is_word, behind, SpellsIdentifier}
 use Rattle.pli_base.specs.Results.{◌>>=◌}
 use Rattle.pli_base.specs.Reading.{Front, read_as, mapped, taken, if_open, or_none}
+use Rattle.pli_parse_expression.specs.declared.counted.Counted.{Counted}
 use Rattle.pli_base.specs.Syntax.{Arguments}
 use Rattle.pli_base.specs.declared.code.Code.TheVariants.{BadOption}
 use Rattle.pli_base.specs.declared.token.Fault.{Fault}
@@ -11,31 +12,30 @@ use Rattle.pli_base.specs.declared.token.TokenText.TheVariants.{Word, Sign}
 use Rattle.pli_base.specs.declared.syntax.Identifier.{Identifier}
 use Rattle.pli_parse_expression.specs.Expressions.{SpellsArguments, GivenFits, Every, OutermostFits, Deeper}
 use Rattle.pli_parse_expression.specs.Reading.{arguments_at, argument_of, inside, expression_at, list_at, outermost}
-use Rattle.pli_parse_expression.specs.Reading as expressions
 use Rattle.pli_parse_expression.proofs.ReadIsSpelled.{list_reads, outermost_read, expression_at_read}
 use Rattle.pli_parse_declaration.specs.DeclarationReading.{returned_at, identifier_at}
 use Rattle.pli_parse_declaration.specs.DeclarationReading as items
 use Rattle.pli_parse_declaration.specs.DeclarationGrammar.{SpellsFront, SpellsListed, Anywhere, SpellsReturned}
 use Rattle.pli_parse_declaration.proofs.DeclarationSteps.{mapped_ok, taken_ok, two}
 use Rattle.pli_parse_fault.proofs.StepLemmas.{same_ok, bind_ok}
-use Rattle.pli_parse_declaration.proofs.DeclarationRead.{Reads}
+use Rattle.pli_parse_declaration.proofs.DeclarationRead.{Reads, identifier_reads}
 use Rattle.pli_parse_declaration.proofs.DeclarationItemsRead.{returned_reads}
 use Rattle.pli_base.specs.Statements.{ProcedureOption, Main, Returns, Recursive, Heading, Body, Call}
 use Rattle.pli_parse_statement.specs.StatementReading.{uncounted, call_at, OptionWord, OptionsWord, ReturnsWord, RecursiveWord, option_first, main_at, options_by, options_from, heading_at}
 use Rattle.pli_parse_statement.specs.StatementGrammar.{SpellsCall, SpellsParameters, SpellsOption, SpellsOptions, SpellsHeading}
 use Rattle.pli_parse.proofs.StatementReadTools as tools
-use Rattle.pli_parse.proofs.StatementReadTools.{uncounted_ok, stopped_ok, identifier_reads, parenthesized_reads, word_first}
+use Rattle.pli_parse.proofs.StatementReadTools.{uncounted_ok, stopped_ok, parenthesized_reads, word_first}
 use Rattle.pli_parse.proofs.StatementReadParts.{MaybeEnclosed, open_reads}
 use Rattle.pli_parse.proofs.WordsFirst.{option_spelling, option_begins}
 use Rattle.pli_parse_declaration.specs.declared.list.Separator.TheVariants.{Commas}
 
 -- the arguments of CALL are outermost expressions
-abbrev ArgumentsRead : (levels p : ℕ) → Tokens → expressions.ExpressionFront Arguments → Type 0
+abbrev ArgumentsRead : (levels p : ℕ) → Tokens → Front (Counted Arguments) → Type 0
 ArgumentsRead levels p ts x =
-    (front : Tokens) × (ts ≡ front ++ x.rest) × (x.next ≡ p + length front) × SpellsArguments p front x.value
-    × GivenFits (λ list. Deeper (λ m. Every (OutermostFits m) list) levels) x.value
+    (front : Tokens) × (ts ≡ front ++ x.rest) × (x.next ≡ p + length front) × SpellsArguments p front x.value.tree
+    × GivenFits (λ list. Deeper (λ m. Every (OutermostFits m) list) levels) x.value.tree
 
-arguments_reads : (levels p : ℕ) (ts : Tokens) (x : expressions.ExpressionFront Arguments) → arguments_at (option_map (argument_of true) (inside levels)) 0 p ts ≡ Ok x → ArgumentsRead levels p ts x
+arguments_reads : (levels p : ℕ) (ts : Tokens) (x : Front (Counted Arguments)) → arguments_at (option_map (argument_of true) (inside levels)) 0 p ts ≡ Ok x → ArgumentsRead levels p ts x
 unfolding arguments_at inside expression_at
 arguments_reads levels p [] x h = subst (ArgumentsRead levels p []) (same_ok h) ([], refl, omega arith, refl, tt)
 arguments_reads zero p (Sign signs.OpenParenthesis ∷ ts) x h = cc

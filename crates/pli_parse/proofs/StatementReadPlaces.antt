@@ -11,11 +11,11 @@ use Rattle.pli_parse_expression.specs.Expressions.{SpellsReferenceAlone}
 use Rattle.pli_parse_declaration.specs.DeclarationGrammar.{SpellsFront}
 use Rattle.pli_parse_declaration.proofs.DeclarationSteps.{two}
 use Rattle.pli_parse_fault.proofs.StepLemmas.{same_ok, bind_ok}
-use Rattle.pli_parse_declaration.proofs.DeclarationRead.{Reads}
+use Rattle.pli_parse_declaration.proofs.DeclarationRead.{Reads, identifier_reads}
 use Rattle.pli_base.specs.Statements.{Allocation}
 use Rattle.pli_parse_statement.specs.StatementReading.{reference_in, parenthesized, PlaceWord, InWord, SetWord, place_first, placed_by, places_from, allocation_at}
 use Rattle.pli_parse_statement.specs.StatementGrammar.{SpellsEnclosed, SpellsOptional, SpellsPlaced, SpellsAllocation}
-use Rattle.pli_parse.proofs.StatementReadTools.{reference_reads, identifier_reads, parenthesized_reads}
+use Rattle.pli_parse.proofs.StatementReadTools.{reference_reads, parenthesized_reads}
 use Rattle.pli_parse.proofs.WordsFirst.{place_spelling, place_begins}
 use Rattle.pli_parse_declaration.specs.DeclarationReading.{identifier_at}
 

@@ -14,7 +14,7 @@ use Rattle.pli_parse_declaration.specs.DeclarationReading.{list_at, declaration_
 use Rattle.pli_parse_declaration.specs.DeclarationGrammar.{SpellsFront, SpellsListed}
 use Rattle.pli_parse_declaration.proofs.DeclarationSteps.{mapped_ok, two}
 use Rattle.pli_parse_fault.proofs.StepLemmas.{same_ok, bind_ok}
-use Rattle.pli_parse_declaration.proofs.DeclarationRead.{Reads}
+use Rattle.pli_parse_declaration.proofs.DeclarationRead.{Reads, identifier_reads}
 use Rattle.pli_parse_declaration.proofs.DeclarationItemsRead.{declaration_reads}
 use Rattle.pli_base.specs.Statements as body
 use Rattle.pli_base.specs.Statements.{Body, BodyAwaitsElse}
@@ -22,7 +22,7 @@ use Rattle.pli_parse_statement.specs.StatementWords.{Context, keyword_of}
 use Rattle.pli_parse_statement.specs.StatementReading.{expression_in, reference_in, closing, assignment_at, condition_at, allocation_at, put_at, call_at, is_labelled, else_first, standing_misplaced, misplacement}
 use Rattle.pli_parse_statement.specs.StatementGrammar.{BeginsAssignment, IsOfItsKind, SpellsCondition, SpellsAllocation, SpellsPut, SpellsCall, SpellsValue, StandsIn, MayReturn, SpellsBody}
 use Rattle.pli_parse_statement.specs.declared.keyword.Keyword.TheVariants as words
-use Rattle.pli_parse.proofs.StatementReadTools.{expression_reads, reference_reads, identifier_reads, list_reads, stopped_ok, equals_ok}
+use Rattle.pli_parse.proofs.StatementReadTools.{expression_reads, reference_reads, list_reads, stopped_ok, equals_ok}
 use Rattle.pli_parse.proofs.StatementReadParts.{MaybeEnclosed, open_reads, condition_reads}
 use Rattle.pli_parse.proofs.StatementReadPlaces.{allocation_reads}
 use Rattle.pli_parse.proofs.StatementReadPut.{put_reads}

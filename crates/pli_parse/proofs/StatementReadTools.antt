@@ -2,9 +2,10 @@
 use Rattle.std.proofs.Common.{◌≡◌, ◌+◌, ℕ, Bool, true, false, cond, [], ◌∷◌, Option, Some, None, Result, Ok, Err, length, refl, ap, ◌∙◌, sym, subst, arith}
 use Rattle.pli_base.specs.Name.{Name}
 use Rattle.pli_base.specs.laws.NameLaws.{equal_from_pointwise}
-use Rattle.pli_base.specs.Words.{Tokens, same_name, is_semicolon, is_open, is_word, behind, name_first, SpellsIdentifier}
+use Rattle.pli_base.specs.Words.{Tokens, same_name, is_semicolon, is_open, is_word, behind}
 use Rattle.pli_base.specs.Results.{◌>>=◌}
 use Rattle.pli_base.specs.Reading.{Front, taken}
+use Rattle.pli_parse_expression.specs.declared.counted.Counted.{Counted}
 use Rattle.pli_base.specs.declared.code.Code.{Code}
 use Rattle.pli_base.specs.declared.code.Code.TheVariants.{SemicolonExpected, ParenthesisExpected}
 use Rattle.pli_base.specs.declared.token.Fault.{Fault}
@@ -14,7 +15,7 @@ use Rattle.pli_base.specs.declared.token.TokenText.TheVariants.{Word, Sign}
 use Rattle.pli_parse_expression.specs.Reading as expressions
 use Rattle.pli_parse_expression.specs.Expressions.{SpellsOutermost, SpellsReferenceAlone}
 use Rattle.pli_parse_expression.proofs.ReadIsSpelled.{expression_spelled, reference_spelled}
-use Rattle.pli_parse_declaration.specs.DeclarationReading.{list_at, identifier_at, name_at}
+use Rattle.pli_parse_declaration.specs.DeclarationReading.{list_at}
 use Rattle.pli_parse_declaration.specs.DeclarationGrammar.{SpellsFront, SpellsListed}
 use Rattle.pli_parse_declaration.proofs.DeclarationSteps.{mapped_ok, first_is, open_first, semicolon_first, taken_ok}
 use Rattle.pli_parse_fault.proofs.StepLemmas.{same_ok, some_same, bind_ok}
@@ -25,7 +26,7 @@ use Rattle.pli_parse_statement.specs.StatementGrammar.{SpellsEnclosed, SpellsOpt
 use Rattle.pli_parse_declaration.specs.declared.list.Separator.TheVariants.{Commas}
 
 -- the count of operators is dropped
-pub uncounted_ok : {A : Type 0} (r : Result (expressions.ExpressionFront A) Fault) (y : Front A) → uncounted r ≡ Ok y → (x : expressions.ExpressionFront A) × (r ≡ Ok x) × (record { value = x.value; next = x.next; rest = x.rest } ≡ y)
+pub uncounted_ok : {A : Type 0} (r : Result (Front (Counted A)) Fault) (y : Front A) → uncounted r ≡ Ok y → (x : Front (Counted A)) × (r ≡ Ok x) × (record { value = x.value.tree; next = x.next; rest = x.rest } ≡ y)
 uncounted_ok (Ok x) y h = (x, refl, same_ok h)
 uncounted_ok (Err e) y h = cc
 
@@ -42,12 +43,6 @@ reference_reads levels p ts y h =
     let u = uncounted_ok (expressions.reference_at levels p ts) y h in
     let f = reference_spelled levels p ts u.0 u.1 in
     subst (SpellsFront (SpellsReferenceAlone levels) p ts) u.2 (f.0, f.1, f.2, f.3)
-
-pub identifier_reads : Reads identifier_at SpellsIdentifier
-unfolding identifier_at name_at name_first
-identifier_reads p [] y h = cc
-identifier_reads p (Word n ∷ us) y h = subst (SpellsFront SpellsIdentifier p (Word n ∷ us)) (same_ok h) (Word n ∷ [], refl, refl, (refl, refl))
-identifier_reads p (t ∷ us) y h = cc
 
 -- a `;` stood behind the value
 pub stopped_ok : {A : Type 0} (value : A) (p : ℕ) (ts : Tokens) (y : Front A) → stopped value p ts ≡ Ok y → (ts ≡ Sign Semicolon ∷ y.rest) × (record { value = value; next = p + 1; rest = y.rest } ≡ y)

@@ -10,13 +10,13 @@ use Rattle.pli_base.specs.declared.token.Sign.TheVariants.{Semicolon, OpenParent
 use Rattle.pli_base.specs.declared.token.TokenText.TheVariants.{Word, Sign}
 use Rattle.pli_parse_declaration.specs.DeclarationGrammar.{SpellsListed}
 use Rattle.pli_parse_declaration.specs.DeclarationReading.{list_at, identifier_at}
-use Rattle.pli_parse_declaration.proofs.DeclarationReadAgain.{Anyhow, NoOpen, ListEnds, placed, open_behind, no_open_word, enclosed_again, commas_close}
+use Rattle.pli_parse_declaration.proofs.DeclarationReadAgain.{Anyhow, NoOpen, ListEnds, placed, open_behind, no_open_word, enclosed_again, commas_close, identifier_again}
 use Rattle.pli_parse_declaration.proofs.DeclarationItemsAgain.{returned_again}
 use Rattle.pli_base.specs.Statements.{ProcedureOption, Main, Returns, Recursive, Heading}
 use Rattle.pli_parse_statement.specs.StatementGrammar.{SpellsParameters, SpellsOption, SpellsOptions, SpellsHeading}
 use Rattle.pli_parse_statement.specs.StatementReading.{stopped, parenthesized, option_word, option_first, main_at, options_by, options_from, heading_at, named_end, ending_at}
 use Rattle.pli_parse.proofs.StatementSpelledTools.{same_again}
-use Rattle.pli_parse.proofs.StatementSpelledParts.{identifier_again, commas_again, stopped_again}
+use Rattle.pli_parse.proofs.StatementSpelledParts.{commas_again, stopped_again}
 use Rattle.pli_parse_declaration.specs.declared.list.Separator.TheVariants.{Commas}
 
 -- parameters, or none

@@ -13,13 +13,14 @@ use Rattle.pli_base.specs.declared.token.TokenText.TheVariants.{Word, Sign}
 use Rattle.pli_parse_expression.specs.Assignments.{accepts, is_assignment}
 use Rattle.pli_parse_expression.specs.Expressions.{SpellsOutermost}
 use Rattle.pli_parse_declaration.proofs.DeclarationReadAgain.{placed}
+use Rattle.pli_parse_declaration.proofs.DeclarationItemsAgain.{semicolon_taken}
 use Rattle.pli_base.specs.Statements.{Heading, Control, Statement, Numbered, Body, If, On, Do, Begin, Procedure, Statements, Ended, Before, Alternative, NoElse, Else, count, list_count, AwaitsElse, BodyAwaitsElse, AlternativeAwaitsElse}
 use Rattle.pli_parse_statement.specs.StatementGrammar.{SpellsCondition, SpellsControl, SpellsHeading, SpellsEnd, IsUnitBody, SpellsStatement, SpellsStatements, SpellsAlternative}
 use Rattle.pli_parse_statement.specs.StatementReading.{heading_at, StatementReader, Inside, has_semicolon, label_at, Listing, ending_at, EndsHere, Another, next_of, before, list_by, list_from, list_in, else_by, else_first, alternative_from, if_at, on_at, do_at, begin_at, inner_list, procedure_at}
 use Rattle.pli_parse_statement.specs.StatementWords.{Context, standing, the_unit, a_procedure, keyword_of, behind_word, up_to_semicolon, is_assigned, begins_assignment, first_kind, kind_of}
 use Rattle.pli_parse_statement.specs.declared.keyword.StatementStanding.TheVariants.{InBlock, InGroup, AsClause}
 use Rattle.pli_base.specs.declared.statement.Condition.{Condition}
-use Rattle.pli_parse.proofs.StatementSpelledParts.{expression_again, condition_again, semicolon_taken}
+use Rattle.pli_parse.proofs.StatementSpelledParts.{expression_again, condition_again}
 use Rattle.pli_parse.proofs.StatementSpelledControls.{control_again}
 use Rattle.pli_parse.proofs.StatementSpelledHeadings.{heading_again, end_alone, end_named}
 use Rattle.pli_parse.proofs.StatementSpelledStarts.{Started, no_else, labelled_no_else, another, labelled_another}

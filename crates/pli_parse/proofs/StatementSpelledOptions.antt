@@ -5,6 +5,7 @@ use Rattle.pli_base.specs.Name.{Name}
 use Rattle.pli_base.specs.Words.{Tokens, name_first}
 use Rattle.pli_base.specs.Results.{◌>>=◌}
 use Rattle.pli_base.specs.Reading.{Front, read_as}
+use Rattle.pli_parse_expression.specs.declared.counted.Counted.{Counted}
 use Rattle.pli_base.specs.Syntax.{Expression, Reference, Named, JoinedParts, Alone, Joined, Arguments}
 use Rattle.pli_base.specs.declared.syntax.Identifier.{Identifier}
 use Rattle.pli_base.specs.declared.syntax.Joining.{Joining}
@@ -15,7 +16,7 @@ use Rattle.pli_base.specs.declared.token.TokenText.TheVariants.{Word, Sign}
 use Rattle.pli_parse_expression.specs.Expressions.{SpellsReferenceAlone, EndsReference}
 use Rattle.pli_parse_expression.specs.Operators.{joining_at}
 use Rattle.pli_parse_expression.specs.Reading as expressions
-use Rattle.pli_parse_expression.specs.Reading.{Reader, arguments_at, argument_of, joined_from, parts_behind, part_behind, reference_of, reference_at}
+use Rattle.pli_parse_expression.specs.Reading.{counted, Reader, arguments_at, argument_of, joined_from, parts_behind, part_behind, reference_of, reference_at}
 use Rattle.pli_parse_expression.proofs.SpelledIsRead.{reference_is_read}
 use Rattle.pli_parse_expression.proofs.ReadingTools as tools
 use Rattle.pli_parse_fault.proofs.StepLemmas as steps
@@ -146,51 +147,51 @@ pub allocation_some : (levels p : ℕ) (ts : Tokens) (a : Allocation) → Spells
 allocation_some levels p ts a spelled = omega (arith, ap length spelled.1)
 
 -- the arguments of CALL: a reference of one name has them too
-joined_alone : (j : Joining) (n : Identifier) (a : Arguments) (m : JoinedParts) (count q : ℕ) (ts : Tokens) (y : expressions.ExpressionFront JoinedParts)
-    → ◌≡◌ {A = Result (expressions.ExpressionFront JoinedParts) Fault} (Ok (record { value = Joined j n a m; count = count; next = q; rest = ts })) (Ok y) → y.value ≡ Alone → ⊥
-joined_alone j n a m count q ts y h alone = differs (ap (λ (z : expressions.ExpressionFront JoinedParts). z.value) (steps.same_ok h) ∙ alone)
+joined_alone : (j : Joining) (n : Identifier) (a : Arguments) (m : JoinedParts) (count q : ℕ) (ts : Tokens) (y : Front (Counted JoinedParts))
+    → ◌≡◌ {A = Result (Front (Counted JoinedParts)) Fault} (counted (Joined j n a m) count q ts) (Ok y) → y.value.tree ≡ Alone → ⊥
+joined_alone j n a m count q ts y h alone = differs (ap (λ (z : Front (Counted JoinedParts)). z.value.tree) (steps.same_ok h) ∙ alone)
   where
     differs : Joined j n a m ≡ Alone → ⊥
     differs e = cc
 
-joined_ends : (one : Option Reader) (bound count p : ℕ) (ts : Tokens) (y : expressions.ExpressionFront JoinedParts) → joined_from one (suc bound) count p ts ≡ Ok y → y.value ≡ Alone → (y.next ≡ p) × (y.rest ≡ ts)
+joined_ends : (one : Option Reader) (bound count p : ℕ) (ts : Tokens) (y : Front (Counted JoinedParts)) → joined_from one (suc bound) count p ts ≡ Ok y → y.value.tree ≡ Alone → (y.next ≡ p) × (y.rest ≡ ts)
 unfolding joined_from
 joined_ends one bound count p ts y h alone = by (joining_at ts) h
   where
     by : (o : Option (Joining × Tokens)) → parts_behind one (joined_from one bound) count p ts o ≡ Ok y → (y.next ≡ p) × (y.rest ≡ ts)
-    by None g = let e = steps.same_ok g in (sym (ap (λ (z : expressions.ExpressionFront JoinedParts). z.next) e), sym (ap (λ (z : expressions.ExpressionFront JoinedParts). z.rest) e))
+    by None g = let e = steps.same_ok g in (sym (ap (λ (z : Front (Counted JoinedParts)). z.next) e), sym (ap (λ (z : Front (Counted JoinedParts)). z.rest) e))
     by (Some x) g = part (name_first x.1) g
       where
         part : (o : Option (Name × Tokens)) → part_behind one (joined_from one bound) x.0 count (p + 1) x.1 o ≡ Ok y → (y.next ≡ p) × (y.rest ≡ ts)
         part None g = absurd (tools.wanted_none NameExpected (p + 1) x.1 y g)
         part (Some n) g =
             let f = steps.bind_ok (arguments_at one count (p + 1 + 1) n.1) _ y g in
-            let e = steps.bind_ok (joined_from one bound f.0.count f.0.next f.0.rest) _ y f.2 in
-            absurd (joined_alone x.0 (record { name = n.0; at = p + 1 }) f.0.value e.0.value e.0.count e.0.next e.0.rest y e.2 alone)
+            let e = steps.bind_ok (joined_from one bound f.0.value.count f.0.next f.0.rest) _ y f.2 in
+            absurd (joined_alone x.0 (record { name = n.0; at = p + 1 }) f.0.value.tree e.0.value.tree e.0.value.count e.0.next e.0.rest y e.2 alone)
 
 named_same : (m n : Identifier) (a b : Arguments) (k l : JoinedParts) → Named m a k ≡ Named n b l → (a ≡ b) × (k ≡ l)
 named_same m n a b k l h = (cc, cc)
 
 -- the arguments of a reference of one name are read again
 alone_again : (one : Option Reader) (p : ℕ) (n : Name) (name : Identifier) (ts more : Tokens) (a : Arguments) (q : ℕ)
-    → reference_of one 0 p (Word n ∷ ts) ≡ Ok (record { value = Named name a Alone; count = 0; next = q; rest = more })
+    → reference_of one 0 p (Word n ∷ ts) ≡ counted (Named name a Alone) 0 q more
     → uncounted (arguments_at one 0 (p + 1) ts) ≡ read_as a q more
 unfolding reference_of name_first
 alone_again one p n name ts more a q h =
     let f = steps.bind_ok (arguments_at one 0 (p + 1) ts) _ _ h in
-    let g = steps.bind_ok (joined_from one (length f.0.rest + 1) f.0.count f.0.next f.0.rest) _ _ f.2 in
+    let g = steps.bind_ok (joined_from one (length f.0.rest + 1) f.0.value.count f.0.next f.0.rest) _ _ f.2 in
     let e = steps.same_ok g.2 in
-    let names = named_same (record { name = n; at = p }) name f.0.value a g.0.value Alone (ap (λ (z : expressions.ExpressionFront Reference). z.value) e) in
+    let names = named_same (record { name = n; at = p }) name f.0.value.tree a g.0.value.tree Alone (ap (λ (z : Front (Counted Reference)). z.value.tree) e) in
     let bound : length f.0.rest + 1 ≡ suc (length f.0.rest) = omega arith in
-    let ends = joined_ends one (length f.0.rest) f.0.count f.0.next f.0.rest g.0 (ap (λ b. joined_from one b f.0.count f.0.next f.0.rest) (sym bound) ∙ g.1) names.1 in
-    let next : f.0.next ≡ q = sym ends.0 ∙ ap (λ (z : expressions.ExpressionFront Reference). z.next) e in
-    let rest : f.0.rest ≡ more = sym ends.1 ∙ ap (λ (z : expressions.ExpressionFront Reference). z.rest) e in
+    let ends = joined_ends one (length f.0.rest) f.0.value.count f.0.next f.0.rest g.0 (ap (λ b. joined_from one b f.0.value.count f.0.next f.0.rest) (sym bound) ∙ g.1) names.1 in
+    let next : f.0.next ≡ q = sym ends.0 ∙ ap (λ (z : Front (Counted Reference)). z.next) e in
+    let rest : f.0.rest ≡ more = sym ends.1 ∙ ap (λ (z : Front (Counted Reference)). z.rest) e in
     ap uncounted f.1
     ∙ ap (λ (v : Arguments). read_as v f.0.next f.0.rest) names.0
     ∙ ap (λ (m : ℕ). read_as a m f.0.rest) next
     ∙ ap (λ (us : Tokens). read_as a q us) rest
 
-of_reference : (levels p : ℕ) (ts : Tokens) (r : Result (expressions.ExpressionFront Reference) Fault) → reference_at levels p ts ≡ r → reference_of (option_map (argument_of true) (expressions.inside levels)) 0 p ts ≡ r
+of_reference : (levels p : ℕ) (ts : Tokens) (r : Result (Front (Counted Reference)) Fault) → reference_at levels p ts ≡ r → reference_of (option_map (argument_of true) (expressions.inside levels)) 0 p ts ≡ r
 unfolding reference_at
 of_reference levels p ts r h = h
 

@@ -1,11 +1,10 @@
 -- What is spelled so is read: parts of statements.
-use Rattle.std.proofs.Common.{◌≡◌, ◌+◌, ◌<◌, ℕ, cond, [], ◌∷◌, ◌++◌, Some, None, Result, Ok, length, refl, ap, ◌∙◌, sym, subst, arith, append_assoc, length-append}
+use Rattle.std.proofs.Common.{◌≡◌, ◌+◌, ◌<◌, ℕ, cond, [], ◌∷◌, ◌++◌, Some, None, Result, length, refl, ap, ◌∙◌, sym, subst, arith, append_assoc, length-append}
 use Rattle.pli_base.specs.Name.{Name}
-use Rattle.pli_base.specs.Words.{Tokens, is_semicolon, behind, name_first, SpellsIdentifier}
+use Rattle.pli_base.specs.Words.{Tokens, behind}
 use Rattle.pli_base.specs.Results.{◌>>=◌}
-use Rattle.pli_base.specs.Reading.{Front, read_as, mapped, taken, enclosed}
+use Rattle.pli_base.specs.Reading.{Front, read_as, mapped, enclosed}
 use Rattle.pli_base.specs.Syntax.{Expression, Referred, Constant, Parenthesized, Prefix, Infix, Reference, Named}
-use Rattle.pli_base.specs.declared.code.Code.TheVariants.{SemicolonExpected}
 use Rattle.pli_base.specs.declared.token.Fault.{Fault}
 use Rattle.pli_base.specs.declared.token.Sign.TheVariants.{Comma, Semicolon, OpenParenthesis, CloseParenthesis}
 use Rattle.pli_base.specs.declared.token.TokenText.TheVariants.{Word, Sign}
@@ -13,7 +12,7 @@ use Rattle.pli_parse_expression.specs.Operators.{infix_sign}
 use Rattle.pli_parse_expression.specs.Expressions.{SpellsExpression, SpellsOutermost, SpellsReferenceAlone, EndsExpression, EndsReference}
 use Rattle.pli_parse_expression.proofs.SpelledIsRead.{expression_is_read, reference_is_read}
 use Rattle.pli_parse_declaration.specs.DeclarationGrammar.{Anywhere, SpellsListed}
-use Rattle.pli_parse_declaration.specs.DeclarationReading.{list_at, identifier_at, name_at}
+use Rattle.pli_parse_declaration.specs.DeclarationReading.{list_at}
 use Rattle.pli_parse_declaration.proofs.DeclarationReadAgain.{ReadAgain, Anyhow, ListEnds, placed, open_taken, enclosed_again, listed_again, comma_goes, commas_close}
 use Rattle.pli_parse_statement.specs.StatementGrammar.{SpellsCondition, SpellsClosed, SpellsEnclosed, SpellsOptional}
 use Rattle.pli_parse_statement.specs.StatementReading.{uncounted, expression_in, reference_in, stopped, closing, parenthesized, condition_from, condition_at, if_word, optional_at}
@@ -21,6 +20,7 @@ use Rattle.pli_parse_statement.specs.StatementWords.{behind_word}
 use Rattle.pli_parse.proofs.StatementSpelledTools.{same_again}
 use Rattle.pli_parse_declaration.specs.Separators.{separated}
 use Rattle.pli_parse_declaration.specs.declared.list.Separator.TheVariants.{Commas}
+use Rattle.pli_parse_declaration.proofs.DeclarationItemsAgain.{semicolon_taken}
 
 pub expression_again : (levels : ℕ) → ReadAgain (expression_in levels) (SpellsOutermost levels) EndsExpression
 unfolding expression_in
@@ -30,20 +30,10 @@ pub reference_again : (levels : ℕ) → ReadAgain (reference_in levels) (Spells
 unfolding reference_in
 reference_again levels p ts more r spelled stops = ap uncounted (reference_is_read levels p ts more r spelled stops)
 
-pub identifier_again : ReadAgain identifier_at SpellsIdentifier Anyhow
-unfolding identifier_at name_at name_first
-identifier_again p ts more i (e, at) stops =
-    subst (λ us. identifier_at p (us ++ more) ≡ read_as i (p + length us) more) (sym e) (ap (λ (q : ℕ). read_as (record { name = i.name; at = q }) (p + 1) more) (sym at))
-
 pub condition_again : ReadAgain condition_at (Anywhere SpellsCondition) Anyhow
 unfolding condition_at
 condition_again p ts more c (n, e, is) stops =
     subst (λ us. condition_at p (us ++ more) ≡ read_as c (p + length us) more) (sym e) (ap (condition_from p more) is)
-
--- a `;` is passed
-pub semicolon_taken : (p : ℕ) (zs : Tokens) → taken is_semicolon SemicolonExpected p (Sign Semicolon ∷ zs) ≡ Ok zs
-unfolding taken behind
-semicolon_taken p zs = refl
 
 pub stopped_again : {A : Type 0} (x : A) (p : ℕ) (more : Tokens) → stopped x p (Sign Semicolon ∷ more) ≡ read_as x (p + 1) more
 unfolding stopped

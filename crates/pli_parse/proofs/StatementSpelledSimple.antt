@@ -14,7 +14,7 @@ use Rattle.pli_parse_expression.specs.Expressions.{SpellsOutermost, SpellsRefere
 use Rattle.pli_base.specs.Declarations.{Item}
 use Rattle.pli_parse_declaration.specs.DeclarationGrammar.{Anywhere, SpellsListed, SpellsDeclaration}
 use Rattle.pli_parse_declaration.specs.DeclarationReading.{list_at, identifier_at}
-use Rattle.pli_parse_declaration.proofs.DeclarationReadAgain.{Anyhow, ListEnds, placed, open_behind, enclosed_again}
+use Rattle.pli_parse_declaration.proofs.DeclarationReadAgain.{Anyhow, ListEnds, placed, open_behind, enclosed_again, identifier_again}
 use Rattle.pli_parse_declaration.proofs.DeclarationItemsAgain.{declaration_again}
 use Rattle.pli_base.specs.Statements.{Allocation, Heading, Control, Statement, Statements, Alternative, Body, Null, Assign, Declare, Procedure, Do, If, On, Revert, Signal, Stop, Allocate, Free, Call, Goto, Return, Put}
 use Rattle.pli_parse_statement.specs.StatementGrammar.{BeginsAssignment, SpellsKeyed, SpellsClosed, SpellsCondition, SpellsAllocation, SpellsCall, SpellsGoto, SpellsValue, SpellsPut, IsUnitBody, StandsIn, MayReturn}
@@ -26,7 +26,7 @@ use Rattle.pli_parse_statement.specs.declared.keyword.StatementStanding.{Stateme
 use Rattle.pli_parse_statement.specs.declared.keyword.StatementStanding.TheVariants.{InBlock, InGroup, AsClause, AsUnit}
 use Rattle.pli_base.specs.declared.statement.Condition.{Condition}
 use Rattle.pli_parse.proofs.StatementSpelledTools.{assignment_begins}
-use Rattle.pli_parse.proofs.StatementSpelledParts.{expression_again, reference_again, identifier_again, condition_again, stopped_again, closing_again, commas_again, commas_stop, references_again}
+use Rattle.pli_parse.proofs.StatementSpelledParts.{expression_again, reference_again, condition_again, stopped_again, closing_again, commas_again, commas_stop, references_again}
 use Rattle.pli_parse.proofs.StatementSpelledHeadings.{no_open_semicolon}
 use Rattle.pli_parse.proofs.StatementSpelledOptions.{NoPlace, no_place_comma, no_place_semicolon, allocation_again, allocation_some, call_again, put_again}
 use Rattle.pli_parse.proofs.StatementSpelledStarts.{keyword_kind, go_kinds}

@@ -14,6 +14,7 @@ use Rattle.pli_parse_expression.proofs.SpelledIsAccepted.{assignment_accepted}
 use Rattle.pli_parse_statement.specs.StatementGrammar.{BeginsAssignment}
 use Rattle.pli_parse_statement.specs.StatementReading.{has_semicolon}
 use Rattle.pli_parse_statement.specs.StatementWords.{up_to_semicolon, is_assigned, begins_assignment}
+use Rattle.pli_parse_declaration.proofs.DeclarationSteps.{semicolon_is}
 
 -- there is a `;` among the tokens
 abbrev pub HasSemicolon : Tokens → Type 0
@@ -64,10 +65,6 @@ other_first t ts h = refl
 
 first_later : (t : TokenText) (ts more : Tokens) → is_semicolon t ≡ false → FirstSemicolon ts more → FirstSemicolon (t ∷ ts) more
 first_later t ts more other (us, vs, shape, found) = (t ∷ us, vs, ap (λ ws. t ∷ ws) shape, other_first t (ts ++ more) other ∙ ap (option_map (λ us. t ∷ us)) found)
-
-semicolon_is : (t : TokenText) → is_semicolon t ≡ true → t ≡ tokens.Sign signs.Semicolon
-semicolon_is (tokens.Sign signs.Semicolon) h = refl
-semicolon_is t h = cc
 
 pub first_semicolon : (ts more : Tokens) → HasSemicolon ts → FirstSemicolon ts more
 unfolding has_semicolon

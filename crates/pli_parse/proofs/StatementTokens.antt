@@ -16,7 +16,7 @@ use Rattle.pli_parse_expression.specs.Operators.{nesting_limit}
 use Rattle.pli_parse_expression.proofs.TokensRise.{expression_rises, reference_rises, arguments_rise}
 use Rattle.pli_parse_declaration.specs.declared.list.Separator.TheVariants.{Commas}
 use Rattle.pli_parse_declaration.specs.DeclarationGrammar.{SpellsListed}
-use Rattle.pli_parse_declaration.proofs.DeclarationTokens.{Rise, listed_rise, declaration_rises}
+use Rattle.pli_parse_declaration.proofs.DeclarationTokens.{Rise, listed_rise, declaration_rises, identifier_rises}
 use Rattle.pli_parse_statement.specs.StatementWords.{Context, standing, the_unit, a_procedure}
 use Rattle.pli_parse_statement.specs.StatementReading.{statement_at, unit_of}
 use Rattle.pli_parse_statement.specs.StatementGrammar.{SpellsEnclosed, SpellsOptional, SpellsParameters, SpellsRange, SpellsControl, SpellsPlaced, SpellsAllocation, SpellsItems, SpellsPut, SpellsValue, SpellsLabel, SpellsStatement, SpellsBody, SpellsStatements, SpellsAlternative, SpellsUnit}
@@ -28,9 +28,6 @@ outermost_rises levels p ts e spelled = expression_rises p ts e spelled.0
 
 alone_rises : (levels : ℕ) → Rise reference_tokens (SpellsReferenceAlone levels)
 alone_rises levels p ts r spelled = reference_rises p ts r spelled.0
-
-identifier_rises : Rise name_tokens SpellsIdentifier
-identifier_rises p ts i spelled = (omega (arith, spelled.1), omega (arith, spelled.1, ap length spelled.0))
 
 -- nothing stands there
 none_rises : (p : ℕ) (ts : Tokens) → Rises p [] (p + length ts)

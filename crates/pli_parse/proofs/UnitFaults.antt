@@ -16,15 +16,13 @@ use Rattle.pli_parse_fault.specs.FaultCodes.{is_of_part, IsToldOf}
 use Rattle.pli_parse_statement.specs.StatementWords.{Context, a_procedure}
 use Rattle.pli_parse_statement.specs.StatementReading.{Inside, deeper, heading_at, inner_list, finished, has_semicolon, begun, statement_of, inside_of, statement_at, external_at, unit_from, unit_of}
 use Rattle.pli_parse_expression.specs.Operators.{nesting_limit}
-use Rattle.pli_parse_declaration.proofs.DeclarationFaults.{fault_of}
+use Rattle.pli_parse_fault.proofs.ReadingFaults.{fault_of}
+use Rattle.pli_parse_fault.proofs.StepLemmas.{same_err}
 use Rattle.pli_parse.proofs.StatementFaults.{heading_stands}
 use Rattle.pli_parse.proofs.StatementFaultPlaces.{UnitStands, IsBehindUnit, list_in_stands, statement_stands, inside_sound, external_stands, statement_told}
 use Rattle.pli_parse.proofs.StatementRead.{statement_reads, inside_reads, IsProcedure, procedure_stands, external_front}
 use Rattle.pli_parse.proofs.StatementSpelledUnits.{inside_there, unit_front}
 use Rattle.pli_parse.specs.UnitFaults.{can_head, HasNoProcedure, HasTextBehind}
-
-err_same : {A : Type 0} {x y : Fault} → ◌≡◌ {A = Result A Fault} (Err x) (Err y) → x ≡ y
-err_same h = cc
 
 at_same : {a b : ℕ} → ◌≡◌ {A = Option ℕ} (Some a) (Some b) → a ≡ b
 at_same h = cc
@@ -123,8 +121,8 @@ unfolding unit_of misplaced has_semicolon
 unit_fault_by X f head end begun ts h = by (misplaced ts) (has_semicolon ts) ts refl refl h
   where
     by : (o : Option ℕ) (b : Bool) (us : Tokens) → misplaced us ≡ o → has_semicolon us ≡ b → unit_from o b us ≡ Err f → X us
-    by (Some p) b us e s g = head us p e (err_same g)
-    by None false us e s g = end us (err_same g)
+    by (Some p) b us e s g = head us p e (same_err g)
+    by None false us e s g = end us (same_err g)
     by None true (Word n ∷ Sign Colon ∷ t ∷ us) e s g = begun n t us e g
     by None true us e s g = cc
 
@@ -174,7 +172,7 @@ text_behind_told ts p (front, t, rest, unit, shape, place, spelled) =
 bind_err : {A B : Type 0} (r : Result A Fault) (f : A → Result B Fault) (e : Fault) → (r >>= f) ≡ Err e
     → (r ≡ Err e) ⊎ ((x : A) × (r ≡ Ok x) × (f x ≡ Err e))
 bind_err (Ok x) f e h = inr (x, refl, h)
-bind_err (Err g) f e h = inl (ap Err (err_same h))
+bind_err (Err g) f e h = inl (ap Err (same_err h))
 
 -- the code is no part's
 told_no_text : (p : ℕ) (ts : Tokens) (f : Fault) → IsToldOf p ts f → f.code ≡ TextAfterEnd → ⊥
@@ -187,7 +185,7 @@ told_no_text p ts f told code =
 finished_met : (unit : ExternalProcedure) (p : ℕ) (ts : Tokens) (f : Fault) → finished unit p ts ≡ Err f
     → (t : TokenText) × (rest : Tokens) × (ts ≡ t ∷ rest) × (f.at ≡ p)
 finished_met unit p [] f h = cc
-finished_met unit p (t ∷ ts) f h = (t, ts, refl, ap (λ (x : Fault). x.at) (sym (err_same h)))
+finished_met unit p (t ∷ ts) f h = (t, ts, refl, ap (λ (x : Fault). x.at) (sym (same_err h)))
 
 -- the levels inside the unit
 abbrev in_unit : Inside

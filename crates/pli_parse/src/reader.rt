@@ -7,15 +7,16 @@ ghost use Rattle.pli_parse_statement.specs.StatementReading.{is_label, stopped, 
 ghost use Rattle.pli_parse_statement.specs.StatementReading as reading;
 ghost use Rattle.pli_base.specs.Statements as tree;
 ghost use Rattle.pli_parse_statement.specs.StatementWords as grammar;
-ghost use Rattle.pli_parse_statement.specs.answers.StatementAnswers.{heading_view, counted_view, Counts, inside_at, listing_view, context_view, words};
+ghost use Rattle.pli_parse_statement.specs.answers.StatementAnswers.{heading_view, tree_view, Counts, inside_at, listing_view, context_view, words};
 ghost use Rattle.pli_base.specs.answers.FailureAnswers.{Gives};
 ghost use Rattle.pli_base.specs.answers.ReadingAnswers.{Advances, front_view};
 
 use pli_base::statement::{Body, Procedure, Statement};
 use pli_base::syntax::Identifier;
 use pli_base::{Code, Front, Name, ParseError, TokenText, fault, semicolon_taken};
+use pli_parse_expression::Counted;
 use pli_parse_statement::{
-    Context, Counted, Heading, Keyword, Listing, Misplacement, NextStatement, StatementKind,
+    Context, Heading, Keyword, Listing, Misplacement, NextStatement, StatementKind,
     StatementStanding, assignment_at, bad_label, condition_at, control_at, else_first,
     expression_in, has_semicolon, heading_at, kind_of, label_at, next_of, simple_at, why_misplaced,
     word_taken,
@@ -23,16 +24,11 @@ use pli_parse_statement::{
 use std::alloc::Global;
 
 /// What was read where no statement is inside: only the statement itself is counted.
-fn alone(read: Front<'_, Body>, number: u32) -> Counted<'_, Body>
+fn alone(read: Front<'_, Body>, number: u32) -> Front<'_, Counted<Body>>
     requires { number ≤ 200000 }
-    ensures { result ≡ record { value = read.entry.value; number = number + 1; next = read.entry.next; rest = read.entry.rest } }
+    ensures { result ≡ record { value = record { tree = read.entry.value; count = number + 1 }; next = read.entry.next; rest = read.entry.rest } }
 {
-    Counted {
-        value: read.value,
-        number: number + 1,
-        next: read.next,
-        rest: read.rest,
-    }
+    Counted::front(read.value, number + 1, read.next, read.rest)
 }
 
 /// The place of the last token of the text.
@@ -98,11 +94,11 @@ pub fn list_in<'a>(
     at: u32,
     number: u32,
     texts: &'a [TokenText],
-) -> Result<Counted<'a, Listing>, ParseError>
+) -> Result<Front<'a, Counted<Listing>>, ParseError>
     requires place { at + length texts.now ≤ 200000 }
     requires number { number ≤ at }
-    ensures value { Gives (counted_view listing_view) result (list_in (inside_at levels) (context_view context) label.now at number texts.now) }
-    ensures numbers { IfOk result (λ x. x.number ≡ number + list_count (statements_view x.value.statements.items) + 1) }
+    ensures value { Gives (front_view (tree_view listing_view)) result (list_in (inside_at levels) (context_view context) label.now at number texts.now) }
+    ensures numbers { IfOk result (λ x. x.value.count ≡ number + list_count (statements_view x.value.tree.statements.items) + 1) }
     ensures place { IfOk result (Counts at number texts.now) }
 {
     let mut statements = Vec::new(alloc);
@@ -113,20 +109,16 @@ pub fn list_in<'a>(
         match next_of(alloc, rest)? {
             NextStatement::EndsHere(behind) => {
                 let ended = ending_at(label, next + 1, behind)?;
-                return Ok(Counted {
-                    value: Listing {
-                        statements,
-                        end: count,
-                    },
-                    number: count + 1,
-                    next: ended.next,
-                    rest: ended.rest,
-                });
+                let listing = Listing {
+                    statements,
+                    end: count,
+                };
+                return Ok(Counted::front(listing, count + 1, ended.next, ended.rest));
             }
             NextStatement::Another => {
                 let read = statement_at(alloc, levels, context, next, count, rest)?;
-                statements.push(read.value)?;
-                count = read.number;
+                count = read.value.count;
+                statements.push(read.value.tree)?;
                 next = read.next;
                 rest = read.rest;
             }
@@ -145,11 +137,11 @@ fn begin_at<'a>(
     at: u32,
     number: u32,
     texts: &'a [TokenText],
-) -> Result<Counted<'a, Body>, ParseError>
+) -> Result<Front<'a, Counted<Body>>, ParseError>
     requires place { at + length texts.now ≤ 200000 }
     requires number { number ≤ at }
-    ensures value { Gives (counted_view body_view) result (begin_at (inside_at levels) (context_view context) label.now at number texts.now) }
-    ensures numbers { IfOk result (λ x. x.number ≡ number + body_count (body_view x.value)) }
+    ensures value { Gives (front_view (tree_view body_view)) result (begin_at (inside_at levels) (context_view context) label.now at number texts.now) }
+    ensures numbers { IfOk result (λ x. x.value.count ≡ number + body_count (body_view x.value.tree)) }
     ensures place { IfOk result (Counts at number texts.now) }
 {
     let rest = semicolon_taken(at, texts)?;
@@ -158,15 +150,9 @@ fn begin_at<'a>(
         in_unit: context.in_unit,
     };
     let list = list_in(alloc, levels, inner, label, at + 1, number, rest)?;
-    Ok(Counted {
-        value: Body::Begin {
-            statements: list.value.statements,
-            end: list.value.end,
-        },
-        number: list.number,
-        next: list.next,
-        rest: list.rest,
-    })
+    let count = list.value.count;
+    let Listing { statements, end } = list.value.tree;
+    Ok(Counted::front(Body::Begin { statements, end }, count, list.next, list.rest))
 }
 
 /// What stands behind DO.
@@ -180,11 +166,11 @@ fn do_at<'a>(
     at: u32,
     number: u32,
     texts: &'a [TokenText],
-) -> Result<Counted<'a, Body>, ParseError>
+) -> Result<Front<'a, Counted<Body>>, ParseError>
     requires place { at + length texts.now ≤ 200000 }
     requires number { number ≤ at }
-    ensures value { Gives (counted_view body_view) result (do_at (inside_at levels) (context_view context) label.now at number texts.now) }
-    ensures numbers { IfOk result (λ x. x.number ≡ number + body_count (body_view x.value)) }
+    ensures value { Gives (front_view (tree_view body_view)) result (do_at (inside_at levels) (context_view context) label.now at number texts.now) }
+    ensures numbers { IfOk result (λ x. x.value.count ≡ number + body_count (body_view x.value.tree)) }
     ensures place { IfOk result (Counts at number texts.now) }
 {
     let control = control_at(alloc, levels, at, texts)?;
@@ -206,16 +192,14 @@ fn do_at<'a>(
             return Err(error);
         }
     };
-    Ok(Counted {
-        value: Body::Do {
-            control: control.value,
-            statements: list.value.statements,
-            end: list.value.end,
-        },
-        number: list.number,
-        next: list.next,
-        rest: list.rest,
-    })
+    let count = list.value.count;
+    let Listing { statements, end } = list.value.tree;
+    let body = Body::Do {
+        control: control.value,
+        statements,
+        end,
+    };
+    Ok(Counted::front(body, count, list.next, list.rest))
 }
 
 /// A procedure inside a unit, of its parts.
@@ -244,11 +228,11 @@ fn procedure_at<'a>(
     at: u32,
     number: u32,
     texts: &'a [TokenText],
-) -> Result<Counted<'a, Body>, ParseError>
+) -> Result<Front<'a, Counted<Body>>, ParseError>
     requires place { at + length texts.now ≤ 200000 }
     requires number { number < at }
-    ensures value { Gives (counted_view body_view) result (procedure_at (inside_at levels) label.now number at texts.now) }
-    ensures numbers { IfOk result (λ x. x.number ≡ number + 1 + body_count (body_view x.value)) }
+    ensures value { Gives (front_view (tree_view body_view)) result (procedure_at (inside_at levels) label.now number at texts.now) }
+    ensures numbers { IfOk result (λ x. x.value.count ≡ number + 1 + body_count (body_view x.value.tree)) }
     ensures place { IfOk result (Counts at (number + 1) texts.now) }
 {
     let Some(name) = label else {
@@ -268,12 +252,9 @@ fn procedure_at<'a>(
         number + 1,
         heading.rest,
     )?;
-    Ok(Counted {
-        value: procedure_of(*name, number, heading.value, list.value),
-        number: list.number,
-        next: list.next,
-        rest: list.rest,
-    })
+    let count = list.value.count;
+    let procedure = procedure_of(*name, number, heading.value, list.value.tree);
+    Ok(Counted::front(procedure, count, list.next, list.rest))
 }
 
 /// ELSE and its statement, if it stands there.
@@ -286,33 +267,24 @@ fn alternative_at<'a>(
     at: u32,
     number: u32,
     texts: &'a [TokenText],
-) -> Result<Counted<'a, Option<Box<Statement>>>, ParseError>
+) -> Result<Front<'a, Counted<Option<Box<Statement>>>>, ParseError>
     requires place { at + length texts.now ≤ 200000 }
     requires number { number ≤ at }
-    ensures value { Gives (counted_view boxed_view) result (alternative_from (inside_at levels) (context_view context) at number texts.now (reading.else_first texts.now)) }
-    ensures numbers { IfOk result (λ x. x.number ≡ number + alternative_count (boxed_view x.value)) }
-    ensures place { IfOk result (λ x. (x.number + at ≤ x.next + number) × (x.next + length x.rest.now ≡ at + length texts.now)) }
+    ensures value { Gives (front_view (tree_view boxed_view)) result (alternative_from (inside_at levels) (context_view context) at number texts.now (reading.else_first texts.now)) }
+    ensures numbers { IfOk result (λ x. x.value.count ≡ number + alternative_count (boxed_view x.value.tree)) }
+    ensures place { IfOk result (λ x. (x.value.count + at ≤ x.next + number) × (x.next + length x.rest.now ≡ at + length texts.now)) }
 {
     let Some(behind) = else_first(alloc, texts)? else {
-        return Ok(Counted {
-            value: None,
-            number,
-            next: at,
-            rest: texts,
-        });
+        return Ok(Counted::front(None, number, at, texts));
     };
     let inner = Context {
         standing: StatementStanding::AsClause,
         in_unit: context.in_unit,
     };
     let read = statement_at(alloc, levels, inner, at + 1, number, behind)?;
-    let alternative = Box::new(alloc, read.value)?;
-    Ok(Counted {
-        value: Some(alternative),
-        number: read.number,
-        next: read.next,
-        rest: read.rest,
-    })
+    let count = read.value.count;
+    let alternative = Box::new(alloc, read.value.tree)?;
+    Ok(Counted::front(Some(alternative), count, read.next, read.rest))
 }
 
 /// What stands behind IF.
@@ -325,11 +297,11 @@ fn if_at<'a>(
     at: u32,
     number: u32,
     texts: &'a [TokenText],
-) -> Result<Counted<'a, Body>, ParseError>
+) -> Result<Front<'a, Counted<Body>>, ParseError>
     requires place { at + length texts.now ≤ 200000 }
     requires number { number ≤ at }
-    ensures value { Gives (counted_view body_view) result (if_at (inside_at levels) (context_view context) at number texts.now) }
-    ensures numbers { IfOk result (λ x. x.number ≡ number + body_count (body_view x.value)) }
+    ensures value { Gives (front_view (tree_view body_view)) result (if_at (inside_at levels) (context_view context) at number texts.now) }
+    ensures numbers { IfOk result (λ x. x.value.count ≡ number + body_count (body_view x.value.tree)) }
     ensures place { IfOk result (Counts at number texts.now) }
 {
     let condition = expression_in(alloc, levels, at, texts)?;
@@ -351,18 +323,18 @@ fn if_at<'a>(
             return Err(error);
         }
     };
-    let consequence = Box::new(alloc, first.value)?;
-    match alternative_at(alloc, levels, context, first.next, first.number, first.rest) {
-        Ok(second) => Ok(Counted {
-            value: Body::If {
+    let count = first.value.count;
+    let consequence = Box::new(alloc, first.value.tree)?;
+    match alternative_at(alloc, levels, context, first.next, count, first.rest) {
+        Ok(second) => {
+            let count = second.value.count;
+            let body = Body::If {
                 condition: condition.value,
                 consequence,
-                alternative: second.value,
-            },
-            number: second.number,
-            next: second.next,
-            rest: second.rest,
-        }),
+                alternative: second.value.tree,
+            };
+            Ok(Counted::front(body, count, second.next, second.rest))
+        }
         Err(error) => {
             drop(condition);
             drop(consequence);
@@ -380,11 +352,11 @@ fn on_at<'a>(
     at: u32,
     number: u32,
     texts: &'a [TokenText],
-) -> Result<Counted<'a, Body>, ParseError>
+) -> Result<Front<'a, Counted<Body>>, ParseError>
     requires place { at + length texts.now ≤ 200000 }
     requires number { number ≤ at }
-    ensures value { Gives (counted_view body_view) result (on_at (inside_at levels) at number texts.now) }
-    ensures numbers { IfOk result (λ x. x.number ≡ number + body_count (body_view x.value)) }
+    ensures value { Gives (front_view (tree_view body_view)) result (on_at (inside_at levels) at number texts.now) }
+    ensures numbers { IfOk result (λ x. x.value.count ≡ number + body_count (body_view x.value.tree)) }
     ensures place { IfOk result (Counts at number texts.now) }
 {
     let condition = condition_at(at, texts)?;
@@ -393,16 +365,13 @@ fn on_at<'a>(
         in_unit: true,
     };
     let read = statement_at(alloc, levels, inner, condition.next, number, condition.rest)?;
-    let unit = Box::new(alloc, read.value)?;
-    Ok(Counted {
-        value: Body::On {
-            condition: condition.value,
-            unit,
-        },
-        number: read.number,
-        next: read.next,
-        rest: read.rest,
-    })
+    let count = read.value.count;
+    let unit = Box::new(alloc, read.value.tree)?;
+    let body = Body::On {
+        condition: condition.value,
+        unit,
+    };
+    Ok(Counted::front(body, count, read.next, read.rest))
 }
 
 /// A statement behind its keyword at `at`.
@@ -417,12 +386,12 @@ fn keyed_at<'a>(
     at: u32,
     number: u32,
     rest: &'a [TokenText],
-) -> Result<Counted<'a, Body>, ParseError>
+) -> Result<Front<'a, Counted<Body>>, ParseError>
     requires place { at + words keyword + length rest.now ≤ 200000 }
     requires number { number ≤ at }
-    ensures value { Gives (counted_view body_view) result (keyed_at levels (inside_of levels) (context_view context) label.now at number rest.now keyword) }
-    ensures numbers { IfOk result (λ x. x.number ≡ number + 1 + body_count (body_view x.value)) }
-    ensures place { IfOk result (λ x. (x.number + at ≤ x.next + number) × (x.next + length x.rest.now ≡ at + words keyword + length rest.now)) }
+    ensures value { Gives (front_view (tree_view body_view)) result (keyed_at levels (inside_of levels) (context_view context) label.now at number rest.now keyword) }
+    ensures numbers { IfOk result (λ x. x.value.count ≡ number + 1 + body_count (body_view x.value.tree)) }
+    ensures place { IfOk result (λ x. (x.value.count + at ≤ x.next + number) × (x.next + length x.rest.now ≡ at + words keyword + length rest.now)) }
 {
     if levels == 0 {
         return Ok(alone(simple_at(alloc, levels, keyword, at, rest)?, number));
@@ -449,21 +418,16 @@ fn body_at<'a>(
     at: u32,
     number: u32,
     texts: &'a [TokenText],
-) -> Result<Counted<'a, Body>, ParseError>
+) -> Result<Front<'a, Counted<Body>>, ParseError>
     requires place { at + length texts.now ≤ 200000 }
     requires number { number ≤ at }
-    ensures value { Gives (counted_view body_view) result (body_from levels (inside_of levels) (context_view context) label.now at number texts.now (grammar.kind_of texts.now)) }
-    ensures numbers { IfOk result (λ x. x.number ≡ number + 1 + body_count (body_view x.value)) }
-    ensures place { IfOk result (λ x. (x.number + at ≤ x.next + number) × (x.next + length x.rest.now ≡ at + length texts.now)) }
+    ensures value { Gives (front_view (tree_view body_view)) result (body_from levels (inside_of levels) (context_view context) label.now at number texts.now (grammar.kind_of texts.now)) }
+    ensures numbers { IfOk result (λ x. x.value.count ≡ number + 1 + body_count (body_view x.value.tree)) }
+    ensures place { IfOk result (λ x. (x.value.count + at ≤ x.next + number) × (x.next + length x.rest.now ≡ at + length texts.now)) }
 {
     match kind_of(alloc, texts)? {
         StatementKind::Assigns => Ok(alone(assignment_at(alloc, levels, at, texts)?, number)),
-        StatementKind::Empty(rest) => Ok(Counted {
-            value: Body::Null,
-            number: number + 1,
-            next: at + 1,
-            rest,
-        }),
+        StatementKind::Empty(rest) => Ok(Counted::front(Body::Null, number + 1, at + 1, rest)),
         StatementKind::Keyed(keyword, rest) => match why_misplaced(
             context,
             keyword,
@@ -490,11 +454,11 @@ pub fn statement_at<'a>(
     at: u32,
     number: u32,
     texts: &'a [TokenText],
-) -> Result<Counted<'a, Statement>, ParseError>
+) -> Result<Front<'a, Counted<Statement>>, ParseError>
     requires place { at + length texts.now ≤ 200000 }
     requires number { number ≤ at }
-    ensures value { Gives (counted_view statement_view) result (statement_at levels (context_view context) at number texts.now) }
-    ensures numbers { IfOk result (λ x. x.number ≡ number + count (statement_view x.value)) }
+    ensures value { Gives (front_view (tree_view statement_view)) result (statement_at levels (context_view context) at number texts.now) }
+    ensures numbers { IfOk result (λ x. x.value.count ≡ number + count (statement_view x.value.tree)) }
     ensures place { IfOk result (Counts at number texts.now) }
 {
     if !has_semicolon(texts) {
@@ -513,15 +477,12 @@ pub fn statement_at<'a>(
         number,
         label.rest,
     )?;
-    Ok(Counted {
-        value: Statement {
-            number,
-            label: label.value,
-            at: label.next,
-            body: body.value,
-        },
-        number: body.number,
-        next: body.next,
-        rest: body.rest,
-    })
+    let count = body.value.count;
+    let statement = Statement {
+        number,
+        label: label.value,
+        at: label.next,
+        body: body.value.tree,
+    };
+    Ok(Counted::front(statement, count, body.next, body.rest))
 }

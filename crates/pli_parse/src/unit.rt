@@ -10,7 +10,9 @@ use crate::reader::{last_place, list_in};
 use pli_base::statement::Procedure;
 use pli_base::syntax::Identifier;
 use pli_base::{Code, Name, ParseError, Sign, TokenText, fault};
-use pli_parse_statement::{Context, StatementStanding, has_semicolon, heading_at, is_name};
+use pli_parse_statement::{
+    Context, Listing, StatementStanding, has_semicolon, heading_at, is_name,
+};
 use std::alloc::Global;
 
 /// The greatest number of levels that may be opened (own): the unit is the first.
@@ -70,13 +72,14 @@ fn external_at(
     if !list.rest.is_empty() {
         return Err(fault(Code::TextAfterEnd, list.next));
     }
+    let Listing { statements, end } = list.value.tree;
     Ok(Procedure {
         name: *name,
         number: 1,
         parameters: heading.value.parameters,
         options: heading.value.options,
-        statements: list.value.statements,
-        end: list.value.end,
+        statements,
+        end,
     })
 }
 

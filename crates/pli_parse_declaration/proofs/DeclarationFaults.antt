@@ -1,9 +1,9 @@
 -- A fault of reading stands at one of the tokens, or at the last where they have ended.
-use Rattle.std.proofs.Common.{◌≡◌, ◌<◌, ◌≤◌, ◌+◌, ℕ, suc, zero, Bool, true, false, cond, List, [], ◌∷◌, ◌++◌, Option, Some, None, Result, Ok, Err, length, codes, refl, ap, subst, arith, length-append}
+use Rattle.std.proofs.Common.{◌≡◌, ◌<◌, ◌≤◌, ◌+◌, ℕ, suc, zero, Bool, true, false, cond, List, [], ◌∷◌, ◌++◌, Option, Some, None, Result, Ok, Err, length, codes, refl, ap, arith, length-append}
 use Rattle.pli_base.specs.FaultPlaces.{FaultStands, Passes}
 use Rattle.pli_base.specs.laws.FaultPlaceLaws.{passes_none, passes_one, passes_on}
 use Rattle.pli_parse_fault.specs.FaultCodes.{is_of_part, IsToldOf}
-use Rattle.pli_parse_fault.proofs.ToldFaults.{told_first, told_ended, told_behind, told_stands}
+use Rattle.pli_parse_fault.proofs.ToldFaults.{told_behind, told_stands}
 use Rattle.pli_base.specs.Words.{Tokens, same_name, is_open, is_close, is_comma, is_semicolon}
 use Rattle.pli_base.specs.Results.{◌>>=◌}
 use Rattle.pli_base.specs.Reading.{Front}
@@ -16,13 +16,12 @@ use Rattle.pli_base.specs.declared.token.TokenText.TheVariants.{Word, Decimal, B
 use Rattle.pli_base.specs.Declarations as tree
 use Rattle.pli_base.specs.declared.syntax.Identifier.{Identifier}
 use Rattle.pli_base.specs.declared.declaration.Integer.{Integer}
-use Rattle.pli_base.specs.declared.declaration.WrittenBounds.{WrittenBounds}
 use Rattle.pli_base.specs.declared.declaration.InitialValue.{InitialValue}
 use Rattle.pli_base.specs.declared.declaration.InitialValue.TheVariants as initial
 use Rattle.pli_parse_declaration.specs.DeclarationWords.{attribute_first, with_attribute, begins_description, is_zero}
 use Rattle.pli_base.specs.Words.{behind, name_first, is_colon}
 use Rattle.pli_parse_declaration.specs.DeclarationReading.{listed_after, listed_at, list_at, number_at, signed, integer_at, bounds_from, bounds_at, dimensions_at, length_at, with_scale, scaled_at, precision_at, name_at, identifier_at, area_at, locator_at, repeated_at, null_from, value_at, values_at, simple_of, Walk, description_walk, parameters_walk, entry_walk, word_walk, closed_walk, comma_walk, behind_walk, no_word_walk, walk_by, step_at, walked_after, walked, nest_at, described_from, described_at, parameter_at, parameters_from, parameters_at, entry_from, entry_at, returned_at, attribute_from, attribute_at, attributes_from, attributes_at, level_at, names_from, names_at, item_at, items_at, declaration_at}
-use Rattle.pli_base.specs.Reading.{expected, misfit, read_as, mapped, taken, taken_or, enclosed, if_open, or_none}
+use Rattle.pli_base.specs.Reading.{expected, read_as, mapped, taken, taken_or, enclosed, if_open, or_none}
 use Rattle.pli_parse_declaration.specs.declared.list.Separator.{Separator}
 use Rattle.pli_parse_declaration.specs.declared.list.Separator.TheVariants.{Commas, Periods, Nothing}
 use Rattle.pli_parse_declaration.specs.Separators.{separated, behind_separator}
@@ -35,47 +34,13 @@ use Rattle.pli_parse_declaration.specs.declared.word.SimpleWord.{SimpleWord}
 use Rattle.pli_parse_declaration.specs.declared.word.SimpleWord.TheVariants as words
 use Rattle.pli_parse_declaration.specs.declared.word.AttributeWord.{AttributeWord}
 use Rattle.pli_parse_declaration.specs.declared.word.AttributeWord.TheVariants as attribute
+use Rattle.pli_parse_fault.proofs.ReadingFaults.{Stands, misfit_stands, at_least, stands_behind, stands_then, stands_made, mapped_stands, fault_of}
 use Rattle.pli_parse_declaration.proofs.DeclarationSteps.{first_is, separator_first, separator_place}
 use Rattle.pli_parse_declaration.proofs.DeclarationRead.{word_first}
-
--- what was read passes over so many tokens at least, and a fault stands at one of them
-abbrev pub Stands : {A : Type 0} → (least p : ℕ) → Tokens → Result (Front A) Fault → Type 0
-Stands least p ts (Ok x) = Passes least p ts x.next x.rest
-Stands least p ts (Err f) = IsToldOf p ts f
 
 -- a reader passes over a token at least
 abbrev pub IsSound : {A : Type 0} → (one : ℕ → Tokens → Result (Front A) Fault) → Type 0
 IsSound one = (p : ℕ) (ts : Tokens) → Stands 1 p ts (one p ts)
-
-pub misfit_stands : (code : Code) → is_of_part code ≡ true → (p : ℕ) (ts : Tokens) → IsToldOf p ts (misfit code p ts)
-unfolding misfit
-misfit_stands code part p [] = told_ended p
-misfit_stands code part p (t ∷ ts) = told_first code part p (t ∷ ts) (omega arith)
-
--- with less passed over
-pub at_least : {A : Type 0} (most least p : ℕ) (ts : Tokens) (r : Result (Front A) Fault) → least ≤ most → Stands most p ts r → Stands least p ts r
-at_least most least p ts (Ok x) less h = (omega (arith, h.0), h.1)
-at_least most least p ts (Err f) less h = h
-
--- behind tokens that were passed over
-pub stands_behind : {A : Type 0} (a b p q : ℕ) (ts us : Tokens) (r : Result (Front A) Fault) → Passes a p ts q us → Stands b q us r → Stands (a + b) p ts r
-stands_behind a b p q ts us (Ok x) passed h = passes_on a b p q x.next ts us x.rest passed h
-stands_behind a b p q ts us (Err f) passed h = told_behind a p q ts us f passed h
-
--- one step behind another
-pub stands_then : {A B : Type 0} (a b p : ℕ) (ts : Tokens) (r : Result (Front A) Fault) (f : Front A → Result (Front B) Fault)
-    → Stands a p ts r → ((x : Front A) → Passes a p ts x.next x.rest → Stands b x.next x.rest (f x)) → Stands (a + b) p ts (r >>= f)
-stands_then a b p ts (Ok x) f h more = stands_behind a b p x.next ts x.rest (f x) h (more x h)
-stands_then a b p ts (Err e) f h more = h
-
--- where something is made of what was read
-pub stands_made : {A B : Type 0} (a p : ℕ) (ts : Tokens) (r : Result (Front A) Fault) (value : Front A → B) → Stands a p ts r → Stands a p ts (r >>= λ x. read_as (value x) x.next x.rest)
-stands_made a p ts (Ok x) value h = h
-stands_made a p ts (Err e) value h = h
-
-pub mapped_stands : {A B : Type 0} (a p : ℕ) (ts : Tokens) (f : A → B) (r : Result (Front A) Fault) → Stands a p ts r → Stands a p ts (mapped f r)
-mapped_stands a p ts f (Ok x) h = h
-mapped_stands a p ts f (Err e) h = h
 
 pub mapped_sound : {A B : Type 0} (f : A → B) (one : ℕ → Tokens → Result (Front A) Fault) → IsSound one → IsSound (λ p ts. mapped f (one p ts))
 mapped_sound f one sound p ts = mapped_stands 1 p ts f (one p ts) (sound p ts)
@@ -486,14 +451,6 @@ unfolding declaration_at
 declaration_stands p ts =
     stands_then 1 1 p ts (items_at p ts) (λ x. taken is_semicolon SemicolonExpected x.next x.rest >>= λ rest. read_as x.value (x.next + 1) rest) (items_sound p ts)
     (λ x s. taken_then is_semicolon SemicolonExpected refl 0 x.next x.rest (λ rest. read_as x.value (x.next + 1) rest) (λ us. passes_none (x.next + 1) us))
-
--- of a fault
-err_same : {A : Type 0} {x y : Fault} → ◌≡◌ {A = Result A Fault} (Err x) (Err y) → x ≡ y
-err_same h = cc
-
-pub fault_of : {A : Type 0} (least p : ℕ) (ts : Tokens) (r : Result (Front A) Fault) (f : Fault) → Stands least p ts r → r ≡ Err f → IsToldOf p ts f
-fault_of least p ts (Ok x) f h e = cc
-fault_of least p ts (Err g) f h e = subst (IsToldOf p ts) (err_same e) h
 
 pub items_fault_stands : (p : ℕ) (ts : Tokens) (f : Fault) → items_at p ts ≡ Err f → FaultStands p ts f
 items_fault_stands p ts f h = told_stands p ts f (fault_of 1 p ts (items_at p ts) f (items_sound p ts) h)

@@ -279,7 +279,7 @@ semicolon_ends : (zs : Tokens) → EndsItems (Sign Semicolon ∷ zs)
 unfolding behind attribute_first
 semicolon_ends zs = (refl, refl, refl)
 
-semicolon_taken : (p : ℕ) (zs : Tokens) → taken is_semicolon SemicolonExpected p (Sign Semicolon ∷ zs) ≡ Ok zs
+pub semicolon_taken : (p : ℕ) (zs : Tokens) → taken is_semicolon SemicolonExpected p (Sign Semicolon ∷ zs) ≡ Ok zs
 unfolding taken behind
 semicolon_taken p zs = refl
 

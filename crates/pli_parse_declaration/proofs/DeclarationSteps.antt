@@ -2,7 +2,6 @@
 use Rattle.std.proofs.Common.{◌≡◌, ◌+◌, ℕ, Bool, true, false, cond, [], ◌∷◌, ◌++◌, Option, Some, None, Result, Ok, Err, length, refl, ap, ◌∙◌, sym, arith, append_assoc, length-append}
 use Rattle.std.proofs.lemmas.Bool.{eqb-true}
 use Rattle.pli_base.specs.Words.{Tokens, is_open, is_close, is_comma, is_semicolon, behind, is_colon, is_period}
-use Rattle.pli_base.specs.Results.{◌>>=◌}
 use Rattle.pli_base.specs.Reading.{Front, mapped, taken, taken_or, enclosed}
 use Rattle.pli_base.specs.declared.code.Code.{Code}
 use Rattle.pli_base.specs.declared.code.Code.TheVariants.{ParenthesisExpected}
@@ -53,7 +52,7 @@ colon_is : (t : TokenText) → is_colon t ≡ true → t ≡ Sign Colon
 colon_is (Sign Colon) h = refl
 colon_is t h = cc
 
-semicolon_is : (t : TokenText) → is_semicolon t ≡ true → t ≡ Sign Semicolon
+pub semicolon_is : (t : TokenText) → is_semicolon t ≡ true → t ≡ Sign Semicolon
 semicolon_is (Sign Semicolon) h = refl
 semicolon_is t h = cc
 

@@ -1,12 +1,10 @@
 -- A fault of reading stands at one of the tokens, or at the last where they have ended.
-use Rattle.std.proofs.Common.{◌≡◌, ◌<◌, ◌≤◌, ◌+◌, ℕ, suc, zero, nat_lt, Bool, true, false, cond, [], ◌∷◌, Option, Some, None, Result, Ok, Err, option_map, length, refl, ap, subst, arith}
+use Rattle.std.proofs.Common.{◌≡◌, ◌<◌, ◌+◌, ℕ, suc, zero, nat_lt, Bool, true, false, cond, [], ◌∷◌, Option, Some, None, Result, Err, option_map, length, refl, ap, arith}
 use Rattle.pli_base.specs.Name.{Name}
 use Rattle.pli_base.specs.Syntax.{Expression, Referred, Parenthesized, Prefix, Infix, Reference, Named, JoinedParts, Joined, Arguments, Given, Expressions, Empty, Listed}
-use Rattle.pli_base.specs.FaultPlaces.{FaultStands, Passes}
-use Rattle.pli_base.specs.laws.FaultPlaceLaws.{passes_none, passes_one, passes_on}
-use Rattle.pli_parse_fault.specs.FaultCodes.{is_of_part, IsToldOf}
-use Rattle.pli_parse_fault.proofs.ToldFaults.{told_first, told_ended, told_behind, told_stands}
-use Rattle.pli_base.specs.declared.code.Code.{Code}
+use Rattle.pli_base.specs.FaultPlaces.{FaultStands}
+use Rattle.pli_base.specs.laws.FaultPlaceLaws.{passes_none, passes_one}
+use Rattle.pli_parse_fault.proofs.ToldFaults.{told_first, told_stands}
 use Rattle.pli_base.specs.declared.code.Code.TheVariants.{ExpressionExpected, ParenthesisExpected, NameExpected, NestedTooDeep}
 use Rattle.pli_base.specs.declared.syntax.PrefixOperator.{PrefixOperator}
 use Rattle.pli_base.specs.declared.syntax.PrefixOperator.TheVariants as prefixes
@@ -18,47 +16,18 @@ use Rattle.pli_base.specs.declared.token.TokenText.{TokenText}
 use Rattle.pli_base.specs.declared.token.TokenText.TheVariants.{Word, Decimal, Binary, Characters, Bits, Sign}
 use Rattle.pli_parse_expression.specs.Operators.{operator_limit, level_of, operator_at, joining_at, begins_expression}
 use Rattle.pli_base.specs.Words.{Tokens, name_first, behind, is_comma}
-use Rattle.pli_parse_expression.specs.Reading.{ExpressionFront, Reader, limited, opened, closed, operand_then, grouped, infix_from, expression_of, listed_behind, further_from, listed_at, list_at, arguments_at, part_behind, parts_behind, joined_from, reference_behind, reference_of, prefix_of, parenthesis_of, constant_at, operand_of, inside, operand_at, expression_at, argument_of, reference_at}
+use Rattle.pli_base.specs.Reading.{Front}
+use Rattle.pli_parse_expression.specs.declared.counted.Counted.{Counted}
+use Rattle.pli_parse_expression.specs.Reading.{counted, counting, Reader, limited, opened, closed, operand_then, grouped, infix_from, expression_of, listed_behind, further_from, listed_at, list_at, arguments_at, part_behind, parts_behind, joined_from, reference_behind, reference_of, prefix_of, parenthesis_of, constant_at, operand_of, inside, operand_at, expression_at, argument_of, reference_at}
 use Rattle.pli_base.specs.Results.{◌>>=◌}
-use Rattle.pli_base.specs.Reading.{at_fault, misfit, taken}
+use Rattle.pli_base.specs.Reading.{at_fault, taken}
+use Rattle.pli_parse_fault.proofs.ReadingFaults.{Stands, misfit_stands, at_least, stands_behind, stands_then, stands_made, fault_of}
 use Rattle.pli_parse_expression.proofs.ReadingTools.{operator_ok, joining_ok, name_ok, comma_ok}
 
--- what was read passes over so many tokens at least, and a fault stands at one of them
-abbrev pub Stands : {A : Type 0} → (least p : ℕ) → Tokens → Result (ExpressionFront A) Fault → Type 0
-Stands least p ts (Ok x) = Passes least p ts x.next x.rest
-Stands least p ts (Err f) = IsToldOf p ts f
-
-pub misfit_stands : (code : Code) → is_of_part code ≡ true → (p : ℕ) (ts : Tokens) → IsToldOf p ts (misfit code p ts)
-unfolding misfit
-misfit_stands code part p [] = told_ended p
-misfit_stands code part p (t ∷ ts) = told_first code part p (t ∷ ts) (omega arith)
-
--- with less passed over
-pub at_least : {A : Type 0} (most least p : ℕ) (ts : Tokens) (r : Result (ExpressionFront A) Fault) → least ≤ most → Stands most p ts r → Stands least p ts r
-at_least most least p ts (Ok x) less h = (omega (arith, h.0), h.1)
-at_least most least p ts (Err f) less h = h
-
--- behind tokens that were passed over
-pub stands_behind : {A : Type 0} (a b p q : ℕ) (ts us : Tokens) (r : Result (ExpressionFront A) Fault) → Passes a p ts q us → Stands b q us r → Stands (a + b) p ts r
-stands_behind a b p q ts us (Ok x) passed h = passes_on a b p q x.next ts us x.rest passed h
-stands_behind a b p q ts us (Err f) passed h = told_behind a p q ts us f passed h
-
--- one step behind another
-pub stands_then : {A B : Type 0} (a b p : ℕ) (ts : Tokens) (r : Result (ExpressionFront A) Fault) (f : ExpressionFront A → Result (ExpressionFront B) Fault)
-    → Stands a p ts r → ((x : ExpressionFront A) → Passes a p ts x.next x.rest → Stands b x.next x.rest (f x)) → Stands (a + b) p ts (r >>= f)
-stands_then a b p ts (Ok x) f h more = stands_behind a b p x.next ts x.rest (f x) h (more x h)
-stands_then a b p ts (Err e) f h more = h
-
--- where something is made of what was read
-pub stands_made : {A B : Type 0} (a p : ℕ) (ts : Tokens) (r : Result (ExpressionFront A) Fault) (value : ExpressionFront A → B) (count : ExpressionFront A → ℕ)
-    → Stands a p ts r → Stands a p ts (r >>= λ x. Ok (record { value = value x; count = count x; next = x.next; rest = x.rest }))
-stands_made a p ts (Ok x) value count h = h
-stands_made a p ts (Err e) value count h = h
-
-limited_stands : {A : Type 0} (least count p : ℕ) (ts : Tokens) (r : Result (ExpressionFront A) Fault) → 0 < length ts → Stands least p ts r → Stands least p ts (limited count p r)
+limited_stands : {A : Type 0} (least count p : ℕ) (ts : Tokens) (r : Result (Front (Counted A)) Fault) → 0 < length ts → Stands least p ts r → Stands least p ts (limited count p r)
 limited_stands {A = A} least count p ts r some h = by (nat_lt count operator_limit)
   where
-    by : (b : Bool) → Stands {A = A} least p ts (cond b r (at_fault NestedTooDeep p))
+    by : (b : Bool) → Stands {A = Counted A} least p ts (cond b r (at_fault NestedTooDeep p))
     by true = h
     by false = told_first NestedTooDeep refl p ts some
 
@@ -82,14 +51,14 @@ module _ (operand : Reader) (sound : IsSound operand) where
   step_stands bound more min count left p ts small (Some x) found =
       let one : length ts ≡ suc (length x.1) = ap length (operator_ok min ts x found).0 in
       let top : ℕ = level_of x.0 + 1 in
-      let right : Result (ExpressionFront Expression) Fault = operand_then operand (infix_from operand bound) top (count + 1) (p + 1) x.1 in
-      let behind : ExpressionFront Expression → Result (ExpressionFront Expression) Fault = λ y. infix_from operand bound min y.count (Infix x.0 p left y.value) y.next y.rest in
+      let right : Result (Front (Counted Expression)) Fault = operand_then operand (infix_from operand bound) top (count + 1) (p + 1) x.1 in
+      let behind : Front (Counted Expression) → Result (Front (Counted Expression)) Fault = λ y. infix_from operand bound min y.value.count (Infix x.0 p left y.value.tree) y.next y.rest in
       let right_stands : Stands 1 (p + 1) x.1 right =
-      stands_then 1 0 (p + 1) x.1 (operand (count + 1) (p + 1) x.1) (λ z. infix_from operand bound top z.count z.value z.next z.rest) (sound (count + 1) (p + 1) x.1)
-      (λ z s. more top z.count z.value z.next z.rest (omega (arith, s.0, s.1)))
+      stands_then 1 0 (p + 1) x.1 (operand (count + 1) (p + 1) x.1) (λ z. infix_from operand bound top z.value.count z.value.tree z.next z.rest) (sound (count + 1) (p + 1) x.1)
+      (λ z s. more top z.value.count z.value.tree z.next z.rest (omega (arith, s.0, s.1)))
       in
       let whole : Stands 1 (p + 1) x.1 (right >>= behind) =
-      stands_then 1 0 (p + 1) x.1 right behind right_stands (λ y s. more min y.count (Infix x.0 p left y.value) y.next y.rest (omega (arith, s.0, s.1)))
+      stands_then 1 0 (p + 1) x.1 right behind right_stands (λ y s. more min y.value.count (Infix x.0 p left y.value.tree) y.next y.rest (omega (arith, s.0, s.1)))
       in
       limited_stands 0 count p ts (right >>= behind) (omega arith)
       (at_least 2 0 p ts (right >>= behind) (omega arith) (stands_behind 1 1 p (p + 1) ts x.1 (right >>= behind) (passes_one p ts x.1 one) whole))
@@ -102,8 +71,8 @@ module _ (operand : Reader) (sound : IsSound operand) where
   pub expression_sound : IsSound (expression_of operand)
   unfolding expression_of
   expression_sound count p ts =
-      stands_then 1 0 p ts (operand count p ts) (λ z. infix_from operand (length ts + 1) 0 z.count z.value z.next z.rest) (sound count p ts)
-      (λ z s. loop_stands (length ts + 1) 0 z.count z.value z.next z.rest (omega (arith, s.0, s.1)))
+      stands_then 1 0 p ts (operand count p ts) (λ z. infix_from operand (length ts + 1) 0 z.value.count z.value.tree z.next z.rest) (sound count p ts)
+      (λ z s. loop_stands (length ts + 1) 0 z.value.count z.value.tree z.next z.rest (omega (arith, s.0, s.1)))
 
 module _ (one : Reader) (sound : IsSound one) where
   abbrev FurtherStands : ℕ → Type 0
@@ -113,10 +82,10 @@ module _ (one : Reader) (sound : IsSound one) where
   further_step bound more count p ts small None found = passes_none p ts
   further_step bound more count p ts small (Some us) found =
       let comma : length ts ≡ suc (length us) = ap length (comma_ok ts us found) in
-      let read : Result (ExpressionFront Expressions) Fault = listed_behind one (further_from one bound) count p ts (Some us) in
+      let read : Result (Front (Counted Expressions)) Fault = listed_behind one (further_from one bound) count p ts (Some us) in
       let read_stands : Stands 1 (p + 1) us read =
-      stands_then 1 0 (p + 1) us (one count (p + 1) us) (λ x. further_from one bound x.count x.next x.rest >>= λ y. Ok (record { value = Listed x.value y.value; count = y.count; next = y.next; rest = y.rest })) (sound count (p + 1) us)
-      (λ x s. stands_made 0 x.next x.rest (further_from one bound x.count x.next x.rest) (λ y. Listed x.value y.value) (λ y. y.count) (more x.count x.next x.rest (omega (arith, s.0, s.1))))
+      stands_then 1 0 (p + 1) us (one count (p + 1) us) (λ x. further_from one bound x.value.count x.next x.rest >>= λ y. counted (Listed x.value.tree y.value.tree) y.value.count y.next y.rest) (sound count (p + 1) us)
+      (λ x s. stands_made 0 x.next x.rest (further_from one bound x.value.count x.next x.rest) (λ y. counting (Listed x.value.tree y.value.tree) y.value.count) (more x.value.count x.next x.rest (omega (arith, s.0, s.1))))
       in
       at_least 2 0 p ts read (omega arith) (stands_behind 1 1 p (p + 1) ts us read (passes_one p ts us comma) read_stands)
 
@@ -128,10 +97,10 @@ module _ (one : Reader) (sound : IsSound one) where
   pub listed_stands : (count p : ℕ) (ts : Tokens) → Stands 1 p ts (listed_at one count p ts)
   unfolding listed_at
   listed_stands count p ts =
-      stands_then 1 0 p ts (one count p ts) (λ x. further_from one (length x.rest + 1) x.count x.next x.rest >>= λ y. closed (Listed x.value y.value) y.count y.next y.rest) (sound count p ts)
-      (λ x s. at_least 1 0 x.next x.rest (further_from one (length x.rest + 1) x.count x.next x.rest >>= λ y. closed (Listed x.value y.value) y.count y.next y.rest) (omega arith)
-      (stands_then 0 1 x.next x.rest (further_from one (length x.rest + 1) x.count x.next x.rest) (λ y. closed (Listed x.value y.value) y.count y.next y.rest)
-      (further_stands (length x.rest + 1) x.count x.next x.rest (omega arith)) (λ y t. closed_stands (Listed x.value y.value) y.count y.next y.rest)))
+      stands_then 1 0 p ts (one count p ts) (λ x. further_from one (length x.rest + 1) x.value.count x.next x.rest >>= λ y. closed (Listed x.value.tree y.value.tree) y.value.count y.next y.rest) (sound count p ts)
+      (λ x s. at_least 1 0 x.next x.rest (further_from one (length x.rest + 1) x.value.count x.next x.rest >>= λ y. closed (Listed x.value.tree y.value.tree) y.value.count y.next y.rest) (omega arith)
+      (stands_then 0 1 x.next x.rest (further_from one (length x.rest + 1) x.value.count x.next x.rest) (λ y. closed (Listed x.value.tree y.value.tree) y.value.count y.next y.rest)
+      (further_stands (length x.rest + 1) x.value.count x.next x.rest (omega arith)) (λ y t. closed_stands (Listed x.value.tree y.value.tree) y.value.count y.next y.rest)))
 
   pub list_stands : (count p : ℕ) (ts : Tokens) → Stands 1 p ts (list_at one count p ts)
   unfolding list_at
@@ -147,13 +116,13 @@ IsSoundWhere None = Unit {0}
 IsSoundWhere (Some one) = IsSound one
 
 opened_arguments : (one : Option Reader) → IsSoundWhere one → (count p : ℕ) (ts : Tokens)
-    → Stands 0 p (Sign signs.OpenParenthesis ∷ ts) (opened one p (λ one. list_at one count (p + 1) ts >>= λ x. Ok (record { value = Given x.value; count = x.count; next = x.next; rest = x.rest })))
+    → Stands 0 p (Sign signs.OpenParenthesis ∷ ts) (opened one p (λ one. list_at one count (p + 1) ts >>= λ x. counted (Given x.value.tree) x.value.count x.next x.rest))
 opened_arguments None sound count p ts = told_first NestedTooDeep refl p (Sign signs.OpenParenthesis ∷ ts) (omega arith)
 opened_arguments (Some one) sound count p ts =
-    let read : Result (ExpressionFront Arguments) Fault = list_at one count (p + 1) ts >>= λ x. Ok (record { value = Given x.value; count = x.count; next = x.next; rest = x.rest }) in
+    let read : Result (Front (Counted Arguments)) Fault = list_at one count (p + 1) ts >>= λ x. counted (Given x.value.tree) x.value.count x.next x.rest in
     let us : Tokens = Sign signs.OpenParenthesis ∷ ts in
     at_least 2 0 p us read (omega arith)
-    (stands_behind 1 1 p (p + 1) us ts read (passes_one p us ts (omega arith)) (stands_made 1 (p + 1) ts (list_at one count (p + 1) ts) (λ x. Given x.value) (λ x. x.count) (list_stands one sound count (p + 1) ts)))
+    (stands_behind 1 1 p (p + 1) us ts read (passes_one p us ts (omega arith)) (stands_made 1 (p + 1) ts (list_at one count (p + 1) ts) (λ x. counting (Given x.value.tree) x.value.count) (list_stands one sound count (p + 1) ts)))
 
 pub arguments_stand : (one : Option Reader) → IsSoundWhere one → (count p : ℕ) (ts : Tokens) → Stands 0 p ts (arguments_at one count p ts)
 unfolding arguments_at
@@ -171,13 +140,13 @@ module _ (one : Option Reader) (sound : IsSoundWhere one) where
   part_stands bound more joining count p ts small None found = misfit_stands NameExpected refl p ts
   part_stands bound more joining count p ts small (Some n) found =
       let name : length ts ≡ suc (length n.1) = ap length (name_ok ts n found) in
-      let read : Result (ExpressionFront JoinedParts) Fault = part_behind one (joined_from one bound) joining count p ts (Some n) in
+      let read : Result (Front (Counted JoinedParts)) Fault = part_behind one (joined_from one bound) joining count p ts (Some n) in
       let read_stands : Stands 0 (p + 1) n.1 read =
       stands_then 0 0 (p + 1) n.1 (arguments_at one count (p + 1) n.1)
-      (λ x. joined_from one bound x.count x.next x.rest >>= λ y. Ok (record { value = Joined joining (record { name = n.0; at = p }) x.value y.value; count = y.count; next = y.next; rest = y.rest }))
+      (λ x. joined_from one bound x.value.count x.next x.rest >>= λ y. counted (Joined joining (record { name = n.0; at = p }) x.value.tree y.value.tree) y.value.count y.next y.rest)
       (arguments_stand one sound count (p + 1) n.1)
-      (λ x s. stands_made 0 x.next x.rest (joined_from one bound x.count x.next x.rest) (λ y. Joined joining (record { name = n.0; at = p }) x.value y.value) (λ y. y.count)
-      (more x.count x.next x.rest (omega (arith, s.0, s.1))))
+      (λ x s. stands_made 0 x.next x.rest (joined_from one bound x.value.count x.next x.rest) (λ y. counting (Joined joining (record { name = n.0; at = p }) x.value.tree y.value.tree) y.value.count)
+      (more x.value.count x.next x.rest (omega (arith, s.0, s.1))))
       in
       at_least 1 0 p ts read (omega arith) (stands_behind 1 0 p (p + 1) ts n.1 read (passes_one p ts n.1 name) read_stands)
 
@@ -185,7 +154,7 @@ module _ (one : Option Reader) (sound : IsSoundWhere one) where
   parts_step bound more count p ts small None found = passes_none p ts
   parts_step bound more count p ts small (Some j) found =
       let sign : length ts ≡ suc (length j.1) = ap length (joining_ok ts j found) in
-      let read : Result (ExpressionFront JoinedParts) Fault = part_behind one (joined_from one bound) j.0 count (p + 1) j.1 (name_first j.1) in
+      let read : Result (Front (Counted JoinedParts)) Fault = part_behind one (joined_from one bound) j.0 count (p + 1) j.1 (name_first j.1) in
       at_least 1 0 p ts read (omega arith) (stands_behind 1 0 p (p + 1) ts j.1 read (passes_one p ts j.1 sign) (part_stands bound more j.0 count (p + 1) j.1 (omega arith) (name_first j.1) refl))
 
   parts_stand : (bound : ℕ) → PartsStand bound
@@ -197,13 +166,13 @@ module _ (one : Option Reader) (sound : IsSoundWhere one) where
   reference_step count p ts None found = misfit_stands NameExpected refl p ts
   reference_step count p ts (Some n) found =
       let name : length ts ≡ suc (length n.1) = ap length (name_ok ts n found) in
-      let read : Result (ExpressionFront Reference) Fault = reference_behind one count p ts (Some n) in
+      let read : Result (Front (Counted Reference)) Fault = reference_behind one count p ts (Some n) in
       let read_stands : Stands 0 (p + 1) n.1 read =
       stands_then 0 0 (p + 1) n.1 (arguments_at one count (p + 1) n.1)
-      (λ x. joined_from one (length x.rest + 1) x.count x.next x.rest >>= λ y. Ok (record { value = Named (record { name = n.0; at = p }) x.value y.value; count = y.count; next = y.next; rest = y.rest }))
+      (λ x. joined_from one (length x.rest + 1) x.value.count x.next x.rest >>= λ y. counted (Named (record { name = n.0; at = p }) x.value.tree y.value.tree) y.value.count y.next y.rest)
       (arguments_stand one sound count (p + 1) n.1)
-      (λ x s. stands_made 0 x.next x.rest (joined_from one (length x.rest + 1) x.count x.next x.rest) (λ y. Named (record { name = n.0; at = p }) x.value y.value) (λ y. y.count)
-      (parts_stand (length x.rest + 1) x.count x.next x.rest (omega arith)))
+      (λ x s. stands_made 0 x.next x.rest (joined_from one (length x.rest + 1) x.value.count x.next x.rest) (λ y. counting (Named (record { name = n.0; at = p }) x.value.tree y.value.tree) y.value.count)
+      (parts_stand (length x.rest + 1) x.value.count x.next x.rest (omega arith)))
       in
       stands_behind 1 0 p (p + 1) ts n.1 read (passes_one p ts n.1 name) read_stands
 
@@ -220,20 +189,20 @@ unfolding prefix_of
 prefix_stands None sound operator count p t ts =
     limited_stands 1 count p (t ∷ ts) (at_fault NestedTooDeep p) (omega arith) (told_first NestedTooDeep refl p (t ∷ ts) (omega arith))
 prefix_stands (Some operand) sound operator count p t ts =
-    let read : Result (ExpressionFront Expression) Fault = operand (count + 1) (p + 1) ts >>= λ x. Ok (record { value = Prefix operator p x.value; count = x.count; next = x.next; rest = x.rest }) in
+    let read : Result (Front (Counted Expression)) Fault = operand (count + 1) (p + 1) ts >>= λ x. counted (Prefix operator p x.value.tree) x.value.count x.next x.rest in
     limited_stands 1 count p (t ∷ ts) read (omega arith)
     (at_least 2 1 p (t ∷ ts) read (omega arith)
-    (stands_behind 1 1 p (p + 1) (t ∷ ts) ts read (passes_one p (t ∷ ts) ts (omega arith)) (stands_made 1 (p + 1) ts (operand (count + 1) (p + 1) ts) (λ x. Prefix operator p x.value) (λ x. x.count) (sound (count + 1) (p + 1) ts))))
+    (stands_behind 1 1 p (p + 1) (t ∷ ts) ts read (passes_one p (t ∷ ts) ts (omega arith)) (stands_made 1 (p + 1) ts (operand (count + 1) (p + 1) ts) (λ x. counting (Prefix operator p x.value.tree) x.value.count) (sound (count + 1) (p + 1) ts))))
 
 parenthesis_stands : (one : Option Reader) → IsSoundWhere one → (count p : ℕ) (t : TokenText) (ts : Tokens) → Stands 1 p (t ∷ ts) (parenthesis_of one count p ts)
 unfolding parenthesis_of
 parenthesis_stands None sound count p t ts = told_first NestedTooDeep refl p (t ∷ ts) (omega arith)
 parenthesis_stands (Some operand) sound count p t ts =
-    let read : Result (ExpressionFront Expression) Fault = expression_of operand count (p + 1) ts >>= λ x. closed (Parenthesized p x.value) x.count x.next x.rest in
+    let read : Result (Front (Counted Expression)) Fault = expression_of operand count (p + 1) ts >>= λ x. closed (Parenthesized p x.value.tree) x.value.count x.next x.rest in
     at_least 3 1 p (t ∷ ts) read (omega arith)
     (stands_behind 1 2 p (p + 1) (t ∷ ts) ts read (passes_one p (t ∷ ts) ts (omega arith))
-    (stands_then 1 1 (p + 1) ts (expression_of operand count (p + 1) ts) (λ x. closed (Parenthesized p x.value) x.count x.next x.rest) (expression_sound operand sound count (p + 1) ts)
-    (λ x s. closed_stands (Parenthesized p x.value) x.count x.next x.rest)))
+    (stands_then 1 1 (p + 1) ts (expression_of operand count (p + 1) ts) (λ x. closed (Parenthesized p x.value.tree) x.value.count x.next x.rest) (expression_sound operand sound count (p + 1) ts)
+    (λ x s. closed_stands (Parenthesized p x.value.tree) x.value.count x.next x.rest)))
 
 constant_stands : IsSound constant_at
 unfolding constant_at
@@ -248,7 +217,7 @@ pub operand_stands : (one : Option Reader) → IsSoundWhere one → IsSound (ope
 unfolding operand_of
 operand_stands one sound count p [] = constant_stands count p []
 operand_stands one sound count p (Word n ∷ ts) =
-    stands_made 1 p (Word n ∷ ts) (reference_of (option_map expression_of one) count p (Word n ∷ ts)) (λ x. Referred x.value) (λ x. x.count) (reference_stands (option_map expression_of one) (mapped_sound one sound) count p (Word n ∷ ts))
+    stands_made 1 p (Word n ∷ ts) (reference_of (option_map expression_of one) count p (Word n ∷ ts)) (λ x. counting (Referred x.value.tree) x.value.count) (reference_stands (option_map expression_of one) (mapped_sound one sound) count p (Word n ∷ ts))
 operand_stands one sound count p (Sign signs.OpenParenthesis ∷ ts) = parenthesis_stands one sound count p (Sign signs.OpenParenthesis) ts
 operand_stands one sound count p (Sign signs.Plus ∷ ts) = prefix_stands one sound prefixes.Plus count p (Sign signs.Plus) ts
 operand_stands one sound count p (Sign signs.Minus ∷ ts) = prefix_stands one sound prefixes.Minus count p (Sign signs.Minus) ts
@@ -267,7 +236,7 @@ expression_at_sound levels = expression_sound (operand_at levels) (operand_stand
 argument_sound : (one : Option Reader) → IsSoundWhere one → IsSoundWhere (option_map (argument_of true) one)
 argument_sound None sound = tt
 argument_sound (Some operand) sound = λ count p ts.
-    stands_made 1 p ts (expression_of operand 0 p ts) (λ x. x.value) (λ x. count) (expression_sound operand sound 0 p ts)
+    stands_made 1 p ts (expression_of operand 0 p ts) (λ x. counting x.value.tree count) (expression_sound operand sound 0 p ts)
 
 pub arguments_sound : (levels : ℕ) → IsSoundWhere (option_map (argument_of true) (inside levels))
 arguments_sound levels = argument_sound (inside levels) (inside_sound levels)
@@ -275,14 +244,6 @@ arguments_sound levels = argument_sound (inside levels) (inside_sound levels)
 pub reference_at_stands : (levels p : ℕ) (ts : Tokens) → Stands 1 p ts (reference_at levels p ts)
 unfolding reference_at
 reference_at_stands levels p ts = reference_stands (option_map (argument_of true) (inside levels)) (arguments_sound levels) 0 p ts
-
--- of a fault
-err_same : {A : Type 0} {x y : Fault} → ◌≡◌ {A = Result A Fault} (Err x) (Err y) → x ≡ y
-err_same h = cc
-
-pub fault_of : {A : Type 0} (least p : ℕ) (ts : Tokens) (r : Result (ExpressionFront A) Fault) (f : Fault) → Stands least p ts r → r ≡ Err f → IsToldOf p ts f
-fault_of least p ts (Ok x) f h e = cc
-fault_of least p ts (Err g) f h e = subst (IsToldOf p ts) (err_same e) h
 
 pub expression_fault_stands : (levels p : ℕ) (ts : Tokens) (f : Fault) → expression_at levels 0 p ts ≡ Err f → FaultStands p ts f
 expression_fault_stands levels p ts f h = told_stands p ts f (fault_of 1 p ts (expression_at levels 0 p ts) f (expression_at_sound levels 0 p ts) h)

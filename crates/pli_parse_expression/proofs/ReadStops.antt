@@ -22,20 +22,23 @@ use Rattle.pli_parse_fault.proofs.OnePlace.{one_place}
 use Rattle.pli_parse_fault.proofs.ReadingStops.{Reads, SameFirst, Completes, Stops, EndsBehind, meets_again, behind_token, rebound, misfit_stops, fault_stops, token_stops, nothing_stops, first_decides, stops_made, stops_then, is_first, whole_spells}
 use Rattle.pli_parse_expression.specs.Operators.{operator_limit, level_of, prefix_sign, infix_sign, joining_sign, infix_of, not_below, operator_at, joining_at, begins_expression}
 use Rattle.pli_parse_expression.specs.Expressions.{operators, EndsExpression, SpellsOutermost, SpellsReferenceAlone}
-use Rattle.pli_parse_expression.specs.Reading.{ExpressionFront, Reader, limited, opened, closed, operand_then, grouped, infix_from, expression_of, listed_behind, further_from, listed_at, list_at, arguments_at, part_behind, parts_behind, joined_from, reference_behind, reference_of, prefix_of, parenthesis_of, constant_at, operand_of, inside, operand_at, expression_at, argument_of, reference_at}
+use Rattle.pli_base.specs.Reading.{Front}
+use Rattle.pli_parse_expression.specs.declared.counted.Counted.{Counted}
+use Rattle.pli_parse_expression.specs.Reading.{counted, Reader, limited, opened, closed, operand_then, grouped, infix_from, expression_of, listed_behind, further_from, listed_at, list_at, arguments_at, part_behind, parts_behind, joined_from, reference_behind, reference_of, prefix_of, parenthesis_of, constant_at, operand_of, inside, operand_at, expression_at, argument_of, reference_at}
 use Rattle.pli_parse_expression.specs.Ends.{NoneGoesOn, NoInfix, goes_on_behind}
 use Rattle.pli_parse_expression.proofs.EndTools.{NotOpen, not_joined}
 use Rattle.pli_parse_expression.proofs.ReadingTools.{operator_ok, joining_ok, name_ok, comma_ok}
-use Rattle.pli_parse_expression.proofs.ReadFaults.{Stands, IsSound, IsSoundWhere, stands_then, loop_stands, operand_stands, inside_sound, mapped_sound, arguments_sound, arguments_stand, closed_stands, listed_stands}
+use Rattle.pli_parse_fault.proofs.ReadingFaults.{Stands, stands_then}
+use Rattle.pli_parse_expression.proofs.ReadFaults.{IsSound, IsSoundWhere, loop_stands, operand_stands, inside_sound, mapped_sound, arguments_sound, arguments_stand, closed_stands, listed_stands}
 use Rattle.pli_parse_expression.proofs.ReadIsSpelled.{expression_spelled, reference_spelled}
-use Rattle.pli_parse_expression.proofs.SpelledIsRead.{all_read, infix_is_none, infix_ends, operator_there, no_arguments, joining_there, prefix_there, expression_ends_read, reference_ends_read}
+use Rattle.pli_parse_expression.proofs.SpelledIsRead.{infix_is_none, infix_ends, operator_there, no_arguments, joining_there, prefix_there, expression_ends_read, reference_ends_read}
 
-abbrev fronts : {A : Type 0} → Reads (ExpressionFront A)
+abbrev fronts : {A : Type 0} → Reads (Front (Counted A))
 fronts {A = A} =
     record {
       next = λ x. x.next;
       rest = λ x. x.rest;
-      put = λ x us. record { value = x.value; count = x.count; next = x.next; rest = us };
+      put = λ x us. record { value = record { tree = x.value.tree; count = x.value.count }; next = x.next; rest = us };
     }
 
 -- any tokens
@@ -125,7 +128,7 @@ same_begin (Sign signs.Not ∷ ts) us same = meets_again begins_expression (Sign
 same_begin (t ∷ ts) us same = meets_again begins_expression t ts us (begins_expression (t ∷ ts)) (λ vs. refl) same
 
 -- what was passed over
-passes_of : {A : Type 0} (least p : ℕ) (ts : Tokens) (r : Result (ExpressionFront A) Fault) (x : ExpressionFront A) → Stands least p ts r → r ≡ Ok x → Passes least p ts x.next x.rest
+passes_of : {A : Type 0} (least p : ℕ) (ts : Tokens) (r : Result (Front (Counted A)) Fault) (x : Front (Counted A)) → Stands least p ts r → r ≡ Ok x → Passes least p ts x.next x.rest
 passes_of least p ts r x h e = subst (Stands least p ts) e h
 
 -- a reader stops at a token that cannot stand
@@ -137,16 +140,16 @@ closed_stops : {A : Type 0} (First Last : Tokens → Type 0) → ((us : Tokens) 
 unfolding taken behind misfit
 closed_stops {A = A} First Last first value count p ts = by ts
   where
-    end : Completes {X = ExpressionFront A} fronts (λ b us. closed value count p us) First Last []
+    end : Completes {X = Front (Counted A)} fronts (λ b us. closed value count p us) First Last []
     end = (
       Sign signs.CloseParenthesis ∷ [],
-      (λ us last. (record { value = value; count = count; next = p + 1; rest = us }, λ b small. refl)),
+      (λ us last. (record { value = record { tree = value; count = count }; next = p + 1; rest = us }, λ b small. refl)),
       (λ none us last. first us),
     )
 
     by : (ts : Tokens) → Stops fronts (λ b us. closed value count p us) First Last p ts (closed value count p ts)
     by [] = misfit_stops fronts (λ b us. closed value count p us) First Last ParenthesisExpected p [] (λ us same. absurd same) end
-    by (Sign signs.CloseParenthesis ∷ ts) = token_stops fronts (λ b us. closed value count p us) First Last p (Sign signs.CloseParenthesis) (record { value = value; count = count; next = p + 1; rest = ts }) refl (λ us b small. refl)
+    by (Sign signs.CloseParenthesis ∷ ts) = token_stops fronts (λ b us. closed value count p us) First Last p (Sign signs.CloseParenthesis) (record { value = record { tree = value; count = count }; next = p + 1; rest = ts }) refl (λ us b small. refl)
     by (t ∷ ts) = fault_stops fronts (λ b us. closed value count p us) First Last (record { code = ParenthesisExpected; at = p }) t ts (λ us b small. refl) end
 
 module _ (operand : Reader) (stops : IsStopping operand) (sound : IsSound operand) where
@@ -155,14 +158,14 @@ module _ (operand : Reader) (stops : IsStopping operand) (sound : IsSound operan
       → Stops fronts (λ b us. infix_from operand b min count left p us) EndsExpression EndsExpression p ts (infix_from operand bound min count left p ts)
 
   -- a loop ends before what continues no expression
-  loop_ends : (min : ℕ) (made : ExpressionFront Expression → Expression) → EndsBehind fronts fronts (λ b z. infix_from operand b min z.count (made z) z.next z.rest) EndsExpression EndsExpression
+  loop_ends : (min : ℕ) (made : Front (Counted Expression) → Expression) → EndsBehind fronts fronts (λ b z. infix_from operand b min z.value.count (made z) z.next z.rest) EndsExpression EndsExpression
   loop_ends min made = (
     [],
     (λ us last. last),
     (λ z us last.
-        let w : ExpressionFront Expression = record { value = z.value; count = z.count; next = z.next; rest = us } in (
-          record { value = made w; count = z.count; next = z.next; rest = us },
-          λ b small. infix_ends operand b min z.count (made w) z.next us small (infix_is_none min us (ends_infix us last)),
+        let w : Front (Counted Expression) = record { value = record { tree = z.value.tree; count = z.value.count }; next = z.next; rest = us } in (
+          record { value = record { tree = made w; count = z.value.count }; next = z.next; rest = us },
+          λ b small. infix_ends operand b min z.value.count (made w) z.next us small (infix_is_none min us (ends_infix us last)),
         )),
   )
 
@@ -173,46 +176,46 @@ module _ (operand : Reader) (stops : IsStopping operand) (sound : IsSound operan
   limit_stops min count left p o high many us zero small = absurd (omega (arith, small))
   limit_stops min count left p o high many us (suc b) small =
       ap (grouped operand (infix_from operand b) min count left p (Sign (infix_sign o) ∷ us)) (operator_there min o us high)
-      ∙ ap (λ q. cond q (operand_then operand (infix_from operand b) (level_of o + 1) (count + 1) (p + 1) us >>= λ y. infix_from operand b min y.count (Infix o p left y.value) y.next y.rest) (at_fault NestedTooDeep p)) many
+      ∙ ap (λ q. cond q (operand_then operand (infix_from operand b) (level_of o + 1) (count + 1) (p + 1) us >>= λ y. infix_from operand b min y.value.count (Infix o p left y.value.tree) y.next y.rest) (at_fault NestedTooDeep p)) many
 
   -- behind an infix operator
   operator_behind : (min count : ℕ) (left : Expression) (p : ℕ) (o : InfixOperator) → min ≤ level_of o → nat_lt count operator_limit ≡ true → (b : ℕ) (us : Tokens) → length (Sign (infix_sign o) ∷ us) < b
       → (c : ℕ) × (length us < c) × (infix_from operand b min count left p (Sign (infix_sign o) ∷ us)
-      ≡ (operand_then operand (infix_from operand c) (level_of o + 1) (count + 1) (p + 1) us >>= λ y. infix_from operand c min y.count (Infix o p left y.value) y.next y.rest))
+      ≡ (operand_then operand (infix_from operand c) (level_of o + 1) (count + 1) (p + 1) us >>= λ y. infix_from operand c min y.value.count (Infix o p left y.value.tree) y.next y.rest))
   unfolding infix_from
   operator_behind min count left p o high few zero us small = absurd (omega (arith, small))
   operator_behind min count left p o high few (suc b) us small = (
     b,
     omega (arith, small),
     ap (grouped operand (infix_from operand b) min count left p (Sign (infix_sign o) ∷ us)) (operator_there min o us high)
-        ∙ ap (λ q. cond q (operand_then operand (infix_from operand b) (level_of o + 1) (count + 1) (p + 1) us >>= λ y. infix_from operand b min y.count (Infix o p left y.value) y.next y.rest) (at_fault NestedTooDeep p)) few,
+        ∙ ap (λ q. cond q (operand_then operand (infix_from operand b) (level_of o + 1) (count + 1) (p + 1) us >>= λ y. infix_from operand b min y.value.count (Infix o p left y.value.tree) y.next y.rest) (at_fault NestedTooDeep p)) few,
   )
 
   right_stops : (bound : ℕ) → LoopStops bound → (min count : ℕ) (left : Expression) (p : ℕ) (o : InfixOperator) (ts : Tokens) → length ts < bound
-      → Stops fronts (λ b us. operand_then operand (infix_from operand b) (level_of o + 1) (count + 1) (p + 1) us >>= λ y. infix_from operand b min y.count (Infix o p left y.value) y.next y.rest) Any EndsExpression (p + 1) ts
-      (operand_then operand (infix_from operand bound) (level_of o + 1) (count + 1) (p + 1) ts >>= λ y. infix_from operand bound min y.count (Infix o p left y.value) y.next y.rest)
+      → Stops fronts (λ b us. operand_then operand (infix_from operand b) (level_of o + 1) (count + 1) (p + 1) us >>= λ y. infix_from operand b min y.value.count (Infix o p left y.value.tree) y.next y.rest) Any EndsExpression (p + 1) ts
+      (operand_then operand (infix_from operand bound) (level_of o + 1) (count + 1) (p + 1) ts >>= λ y. infix_from operand bound min y.value.count (Infix o p left y.value.tree) y.next y.rest)
   right_stops bound more min count left p o ts small =
       let top : ℕ = level_of o + 1 in
-      let first : Result (ExpressionFront Expression) Fault = operand (count + 1) (p + 1) ts in
-      let right : Result (ExpressionFront Expression) Fault = operand_then operand (infix_from operand bound) top (count + 1) (p + 1) ts in
+      let first : Result (Front (Counted Expression)) Fault = operand (count + 1) (p + 1) ts in
+      let right : Result (Front (Counted Expression)) Fault = operand_then operand (infix_from operand bound) top (count + 1) (p + 1) ts in
       let passes : Stands 1 (p + 1) ts right =
-      stands_then 1 0 (p + 1) ts first (λ z. infix_from operand bound top z.count z.value z.next z.rest) (sound (count + 1) (p + 1) ts)
-      (λ z s. loop_stands operand sound bound top z.count z.value z.next z.rest (omega (arith, s.0, s.1, small)))
+      stands_then 1 0 (p + 1) ts first (λ z. infix_from operand bound top z.value.count z.value.tree z.next z.rest) (sound (count + 1) (p + 1) ts)
+      (λ z s. loop_stands operand sound bound top z.value.count z.value.tree z.next z.rest (omega (arith, s.0, s.1, small)))
       in
       let right_stops : Stops fronts (λ b us. operand_then operand (infix_from operand b) top (count + 1) (p + 1) us) Any EndsExpression (p + 1) ts right =
-      stops_then fronts fronts (λ b us. operand (count + 1) (p + 1) us) (λ b z. infix_from operand b top z.count z.value z.next z.rest) (λ b us. operand_then operand (infix_from operand b) top (count + 1) (p + 1) us)
-      Any EndsExpression EndsExpression (p + 1) ts (λ b us less. (b, less, refl)) (loop_ends top (λ z. z.value)) first (λ z. infix_from operand bound top z.count z.value z.next z.rest) (stops (count + 1) (p + 1) ts)
-      (λ z e. let s = passes_of 1 (p + 1) ts first z (sound (count + 1) (p + 1) ts) e in more top z.count z.value z.next z.rest (omega (arith, s.0, s.1, small)))
+      stops_then fronts fronts (λ b us. operand (count + 1) (p + 1) us) (λ b z. infix_from operand b top z.value.count z.value.tree z.next z.rest) (λ b us. operand_then operand (infix_from operand b) top (count + 1) (p + 1) us)
+      Any EndsExpression EndsExpression (p + 1) ts (λ b us less. (b, less, refl)) (loop_ends top (λ z. z.value.tree)) first (λ z. infix_from operand bound top z.value.count z.value.tree z.next z.rest) (stops (count + 1) (p + 1) ts)
+      (λ z e. let s = passes_of 1 (p + 1) ts first z (sound (count + 1) (p + 1) ts) e in more top z.value.count z.value.tree z.next z.rest (omega (arith, s.0, s.1, small)))
       in
-      stops_then fronts fronts (λ b us. operand_then operand (infix_from operand b) top (count + 1) (p + 1) us) (λ b y. infix_from operand b min y.count (Infix o p left y.value) y.next y.rest)
-      (λ b us. operand_then operand (infix_from operand b) top (count + 1) (p + 1) us >>= λ y. infix_from operand b min y.count (Infix o p left y.value) y.next y.rest)
-      Any EndsExpression EndsExpression (p + 1) ts (λ b us less. (b, less, refl)) (loop_ends min (λ y. Infix o p left y.value)) right (λ y. infix_from operand bound min y.count (Infix o p left y.value) y.next y.rest) right_stops
-      (λ y e. let s = passes_of 1 (p + 1) ts right y passes e in more min y.count (Infix o p left y.value) y.next y.rest (omega (arith, s.0, s.1, small)))
+      stops_then fronts fronts (λ b us. operand_then operand (infix_from operand b) top (count + 1) (p + 1) us) (λ b y. infix_from operand b min y.value.count (Infix o p left y.value.tree) y.next y.rest)
+      (λ b us. operand_then operand (infix_from operand b) top (count + 1) (p + 1) us >>= λ y. infix_from operand b min y.value.count (Infix o p left y.value.tree) y.next y.rest)
+      Any EndsExpression EndsExpression (p + 1) ts (λ b us less. (b, less, refl)) (loop_ends min (λ y. Infix o p left y.value.tree)) right (λ y. infix_from operand bound min y.value.count (Infix o p left y.value.tree) y.next y.rest) right_stops
+      (λ y e. let s = passes_of 1 (p + 1) ts right y passes e in more min y.value.count (Infix o p left y.value.tree) y.next y.rest (omega (arith, s.0, s.1, small)))
 
   step_stops : (bound : ℕ) → LoopStops bound → (min count : ℕ) (left : Expression) (p : ℕ) (ts : Tokens) → length ts < suc bound → (o : Option (InfixOperator × Tokens)) → operator_at min ts ≡ o
       → Stops fronts (λ b us. infix_from operand b min count left p us) EndsExpression EndsExpression p ts (grouped operand (infix_from operand bound) min count left p ts o)
   step_stops bound more min count left p ts small None found =
-      nothing_stops fronts (λ b us. infix_from operand b min count left p us) EndsExpression EndsExpression (λ us last. last) p (record { value = left; count = count; next = p; rest = ts }) refl
+      nothing_stops fronts (λ b us. infix_from operand b min count left p us) EndsExpression EndsExpression (λ us last. last) p (record { value = record { tree = left; count = count }; next = p; rest = ts }) refl
       (λ us goes b less. infix_ends operand b min count left p us less
       (⊎_elim (λ same. same_operator min ts us found same) (λ last. infix_is_none min us (ends_infix us last)) goes))
   step_stops bound more min count left p ts small (Some x) found =
@@ -224,17 +227,17 @@ module _ (operand : Reader) (stops : IsStopping operand) (sound : IsSound operan
       less : length x.1 < bound
       less = omega (arith, small, ap length shape.0)
 
-      read : Result (ExpressionFront Expression) Fault
-      read = operand_then operand (infix_from operand bound) (level_of x.0 + 1) (count + 1) (p + 1) x.1 >>= λ y. infix_from operand bound min y.count (Infix x.0 p left y.value) y.next y.rest
+      read : Result (Front (Counted Expression)) Fault
+      read = operand_then operand (infix_from operand bound) (level_of x.0 + 1) (count + 1) (p + 1) x.1 >>= λ y. infix_from operand bound min y.value.count (Infix x.0 p left y.value.tree) y.next y.rest
 
       by : (b : Bool) → nat_lt count operator_limit ≡ b
           → Stops fronts (λ b us. infix_from operand b min count left p us) EndsExpression EndsExpression p (Sign (infix_sign x.0) ∷ x.1) (cond b read (at_fault NestedTooDeep p))
       by true few =
-          behind_token fronts (Sign (infix_sign x.0)) (λ b us. operand_then operand (infix_from operand b) (level_of x.0 + 1) (count + 1) (p + 1) us >>= λ y. infix_from operand b min y.count (Infix x.0 p left y.value) y.next y.rest)
+          behind_token fronts (Sign (infix_sign x.0)) (λ b us. operand_then operand (infix_from operand b) (level_of x.0 + 1) (count + 1) (p + 1) us >>= λ y. infix_from operand b min y.value.count (Infix x.0 p left y.value.tree) y.next y.rest)
           (λ b us. infix_from operand b min count left p us) Any EndsExpression EndsExpression p x.1 read (operator_behind min count left p x.0 shape.1 few) (right_stops bound more min count left p x.0 x.1 less)
       by false many =
           fault_stops fronts (λ b us. infix_from operand b min count left p us) EndsExpression EndsExpression (record { code = NestedTooDeep; at = p }) (Sign (infix_sign x.0)) x.1 (λ us b less. limit_stops min count left p x.0 shape.1 many us b less)
-          ([], (λ us last. (record { value = left; count = count; next = p; rest = us }, λ b less. infix_ends operand b min count left p us less (infix_is_none min us (ends_infix us last)))), (λ none us last. last))
+          ([], (λ us last. (record { value = record { tree = left; count = count }; next = p; rest = us }, λ b less. infix_ends operand b min count left p us less (infix_is_none min us (ends_infix us last)))), (λ none us last. last))
 
   loop_stops : (bound : ℕ) → LoopStops bound
   unfolding infix_from
@@ -244,12 +247,12 @@ module _ (operand : Reader) (stops : IsStopping operand) (sound : IsSound operan
   pub expression_stops : IsStopping (expression_of operand)
   unfolding expression_of
   expression_stops count p ts =
-      stops_then fronts fronts (λ b us. operand count p us) (λ b z. infix_from operand b 0 z.count z.value z.next z.rest) (λ b us. expression_of operand count p us)
-      Any EndsExpression EndsExpression p ts (λ b us less. (length us + 1, omega arith, refl)) (loop_ends 0 (λ z. z.value)) (operand count p ts) (λ z. infix_from operand (length ts + 1) 0 z.count z.value z.next z.rest) (stops count p ts)
-      (λ z e. let s = passes_of 1 p ts (operand count p ts) z (sound count p ts) e in loop_stops (length ts + 1) 0 z.count z.value z.next z.rest (omega (arith, s.0, s.1)))
+      stops_then fronts fronts (λ b us. operand count p us) (λ b z. infix_from operand b 0 z.value.count z.value.tree z.next z.rest) (λ b us. expression_of operand count p us)
+      Any EndsExpression EndsExpression p ts (λ b us less. (length us + 1, omega arith, refl)) (loop_ends 0 (λ z. z.value.tree)) (operand count p ts) (λ z. infix_from operand (length ts + 1) 0 z.value.count z.value.tree z.next z.rest) (stops count p ts)
+      (λ z e. let s = passes_of 1 p ts (operand count p ts) z (sound count p ts) e in loop_stops (length ts + 1) 0 z.value.count z.value.tree z.next z.rest (omega (arith, s.0, s.1)))
 
 -- a list ends before what does not begin with a comma
-further_ends : (one : Reader) (b count p : ℕ) (us : Tokens) → length us < b → behind is_comma us ≡ None → further_from one b count p us ≡ all_read Empty count p us
+further_ends : (one : Reader) (b count p : ℕ) (us : Tokens) → length us < b → behind is_comma us ≡ None → further_from one b count p us ≡ counted Empty count p us
 unfolding further_from
 further_ends one zero count p us small none = absurd (omega (arith, small))
 further_ends one (suc b) count p us small none = ap (listed_behind one (further_from one b) count p us) none
@@ -268,27 +271,27 @@ module _ (one : Reader) (stops : IsStopping one) (sound : IsSound one) where
   further_step : (bound : ℕ) → FurtherStops bound → (count p : ℕ) (ts : Tokens) → length ts < suc bound → (o : Option Tokens) → behind is_comma ts ≡ o
       → Stops fronts (λ b us. further_from one b count p us) EndsExpression Closes p ts (listed_behind one (further_from one bound) count p ts o)
   further_step bound more count p ts small None found =
-      nothing_stops fronts (λ b us. further_from one b count p us) EndsExpression Closes closes_ends p (record { value = Empty; count = count; next = p; rest = ts }) refl
+      nothing_stops fronts (λ b us. further_from one b count p us) EndsExpression Closes closes_ends p (record { value = record { tree = Empty; count = count }; next = p; rest = ts }) refl
       (λ us goes b less. further_ends one b count p us less (⊎_elim (λ same. same_behind is_comma ts us found same) (λ last. closes_comma us last) goes))
   further_step bound more count p ts small (Some vs) found =
       let comma : ts ≡ Sign signs.Comma ∷ vs = comma_ok ts vs found in
       let less : length vs < bound = omega (arith, small, ap length comma) in
       let behind_one : Stops fronts (λ b us. listed_behind one (further_from one b) count p us (Some us)) Any Closes (p + 1) vs (listed_behind one (further_from one bound) count p vs (Some vs)) =
       stops_then fronts fronts (λ b us. one count (p + 1) us)
-      (λ b x. further_from one b x.count x.next x.rest >>= λ y. Ok (record { value = Listed x.value y.value; count = y.count; next = y.next; rest = y.rest }))
+      (λ b x. further_from one b x.value.count x.next x.rest >>= λ y. counted (Listed x.value.tree y.value.tree) y.value.count y.next y.rest)
       (λ b us. listed_behind one (further_from one b) count p us (Some us)) Any EndsExpression Closes (p + 1) vs (λ b us less. (b, less, refl)) (
         [],
         closes_ends,
         (λ x us last. (
-          record { value = Listed x.value Empty; count = x.count; next = x.next; rest = us },
-          λ b less. ap (λ r. r >>= λ y. all_read (Listed x.value y.value) y.count y.next y.rest) (further_ends one b x.count x.next us less (closes_comma us last)),
+          record { value = record { tree = Listed x.value.tree Empty; count = x.value.count }; next = x.next; rest = us },
+          λ b less. ap (λ r. r >>= λ y. counted (Listed x.value.tree y.value.tree) y.value.count y.next y.rest) (further_ends one b x.value.count x.next us less (closes_comma us last)),
         )),
       )
-      (one count (p + 1) vs) (λ x. further_from one bound x.count x.next x.rest >>= λ y. Ok (record { value = Listed x.value y.value; count = y.count; next = y.next; rest = y.rest })) (stops count (p + 1) vs)
+      (one count (p + 1) vs) (λ x. further_from one bound x.value.count x.next x.rest >>= λ y. counted (Listed x.value.tree y.value.tree) y.value.count y.next y.rest) (stops count (p + 1) vs)
       (λ x e.
       let s = passes_of 1 (p + 1) vs (one count (p + 1) vs) x (sound count (p + 1) vs) e in
-      stops_made fronts fronts (λ b us. further_from one b x.count x.next us) (λ y. record { value = Listed x.value y.value; count = y.count; next = y.next; rest = y.rest }) EndsExpression Closes x.next x.rest (further_from one bound x.count x.next x.rest)
-      (λ y. refl) (λ y. refl) (λ y us. refl) (more x.count x.next x.rest (omega (arith, s.0, s.1, less))))
+      stops_made fronts fronts (λ b us. further_from one b x.value.count x.next us) (λ y. record { value = record { tree = Listed x.value.tree y.value.tree; count = y.value.count }; next = y.next; rest = y.rest }) EndsExpression Closes x.next x.rest (further_from one bound x.value.count x.next x.rest)
+      (λ y. refl) (λ y. refl) (λ y us. refl) (more x.value.count x.next x.rest (omega (arith, s.0, s.1, less))))
       in
       subst (λ us. Stops fronts (λ b us. further_from one b count p us) EndsExpression Closes p us (listed_behind one (further_from one bound) count p vs (Some vs))) (sym comma)
       (behind_token fronts (Sign signs.Comma) (λ b us. listed_behind one (further_from one b) count p us (Some us)) (λ b us. further_from one b count p us) Any EndsExpression Closes p vs
@@ -302,35 +305,35 @@ module _ (one : Reader) (stops : IsStopping one) (sound : IsSound one) where
   listed_stops : (Last : Tokens → Type 0) (count p : ℕ) (ts : Tokens) → Stops fronts (λ b us. listed_at one count p us) Any Last p ts (listed_at one count p ts)
   unfolding listed_at taken behind
   listed_stops Last count p ts =
-      stops_then fronts fronts (λ b us. one count p us) (λ b x. further_from one (length x.rest + 1) x.count x.next x.rest >>= λ y. closed (Listed x.value y.value) y.count y.next y.rest) (λ b us. listed_at one count p us)
+      stops_then fronts fronts (λ b us. one count p us) (λ b x. further_from one (length x.rest + 1) x.value.count x.next x.rest >>= λ y. closed (Listed x.value.tree y.value.tree) y.value.count y.next y.rest) (λ b us. listed_at one count p us)
       Any EndsExpression Last p ts (λ b us less. (b, less, refl)) (
         Sign signs.CloseParenthesis ∷ [],
         (λ us last. (refl, refl)),
         (λ x us last. (
-          record { value = Listed x.value Empty; count = x.count; next = x.next + 1; rest = us },
-          λ b less. ap (λ r. r >>= λ y. closed (Listed x.value y.value) y.count y.next y.rest)
-              (further_ends one (length (Sign signs.CloseParenthesis ∷ us) + 1) x.count x.next (Sign signs.CloseParenthesis ∷ us) (omega arith) refl),
+          record { value = record { tree = Listed x.value.tree Empty; count = x.value.count }; next = x.next + 1; rest = us },
+          λ b less. ap (λ r. r >>= λ y. closed (Listed x.value.tree y.value.tree) y.value.count y.next y.rest)
+              (further_ends one (length (Sign signs.CloseParenthesis ∷ us) + 1) x.value.count x.next (Sign signs.CloseParenthesis ∷ us) (omega arith) refl),
         )),
       )
-      (one count p ts) (λ x. further_from one (length x.rest + 1) x.count x.next x.rest >>= λ y. closed (Listed x.value y.value) y.count y.next y.rest) (stops count p ts)
+      (one count p ts) (λ x. further_from one (length x.rest + 1) x.value.count x.next x.rest >>= λ y. closed (Listed x.value.tree y.value.tree) y.value.count y.next y.rest) (stops count p ts)
       (λ x e.
-      stops_then fronts fronts (λ b us. further_from one (length us + 1) x.count x.next us) (λ b y. closed (Listed x.value y.value) y.count y.next y.rest)
-      (λ b us. further_from one (length us + 1) x.count x.next us >>= λ y. closed (Listed x.value y.value) y.count y.next y.rest) EndsExpression Closes Last x.next x.rest (λ b us less. (b, less, refl)) (
+      stops_then fronts fronts (λ b us. further_from one (length us + 1) x.value.count x.next us) (λ b y. closed (Listed x.value.tree y.value.tree) y.value.count y.next y.rest)
+      (λ b us. further_from one (length us + 1) x.value.count x.next us >>= λ y. closed (Listed x.value.tree y.value.tree) y.value.count y.next y.rest) EndsExpression Closes Last x.next x.rest (λ b us less. (b, less, refl)) (
         Sign signs.CloseParenthesis ∷ [],
         (λ us last. tt),
-        (λ y us last. (record { value = Listed x.value y.value; count = y.count; next = y.next + 1; rest = us }, λ b less. refl)),
+        (λ y us last. (record { value = record { tree = Listed x.value.tree y.value.tree; count = y.value.count }; next = y.next + 1; rest = us }, λ b less. refl)),
       )
-      (further_from one (length x.rest + 1) x.count x.next x.rest) (λ y. closed (Listed x.value y.value) y.count y.next y.rest)
-      (rebound fronts (λ b us. further_from one b x.count x.next us) (λ b us. further_from one (length us + 1) x.count x.next us) EndsExpression Closes x.next x.rest (further_from one (length x.rest + 1) x.count x.next x.rest)
-      (λ b us less. (length us + 1, omega arith, refl)) (further_stops (length x.rest + 1) x.count x.next x.rest (omega arith)))
-      (λ y g. closed_stops Closes Last (λ us. tt) (Listed x.value y.value) y.count y.next y.rest))
+      (further_from one (length x.rest + 1) x.value.count x.next x.rest) (λ y. closed (Listed x.value.tree y.value.tree) y.value.count y.next y.rest)
+      (rebound fronts (λ b us. further_from one b x.value.count x.next us) (λ b us. further_from one (length us + 1) x.value.count x.next us) EndsExpression Closes x.next x.rest (further_from one (length x.rest + 1) x.value.count x.next x.rest)
+      (λ b us less. (length us + 1, omega arith, refl)) (further_stops (length x.rest + 1) x.value.count x.next x.rest (omega arith)))
+      (λ y g. closed_stops Closes Last (λ us. tt) (Listed x.value.tree y.value.tree) y.value.count y.next y.rest))
 
   -- `)` alone
-  list_completes : (Last : Tokens → Type 0) (count p : ℕ) → Completes {X = ExpressionFront Expressions} fronts (λ b us. list_at one count p us) Any Last []
+  list_completes : (Last : Tokens → Type 0) (count p : ℕ) → Completes {X = Front (Counted Expressions)} fronts (λ b us. list_at one count p us) Any Last []
   unfolding list_at begins_expression taken behind
   list_completes Last count p = (
     Sign signs.CloseParenthesis ∷ [],
-    (λ us last. (record { value = Empty; count = count; next = p + 1; rest = us }, λ b less. refl)),
+    (λ us last. (record { value = record { tree = Empty; count = count }; next = p + 1; rest = us }, λ b less. refl)),
     (λ none us last. tt),
   )
 
@@ -341,7 +344,7 @@ module _ (one : Reader) (stops : IsStopping one) (sound : IsSound one) where
   list_stops : (Last : Tokens → Type 0) (count p : ℕ) (ts : Tokens) → Stops fronts (λ b us. list_at one count p us) Any Last p ts (list_at one count p ts)
   list_stops Last count p ts = subst (Stops fronts (λ b us. list_at one count p us) Any Last p ts) (sym (list_here count p ts (begins_expression ts) refl)) (by (begins_expression ts) refl)
     where
-      passes : (r : Result (ExpressionFront Expressions) Fault) → Stands 1 p ts r → (x : ExpressionFront Expressions) → r ≡ Ok x → p < x.next
+      passes : (r : Result (Front (Counted Expressions)) Fault) → Stands 1 p ts r → (x : Front (Counted Expressions)) → r ≡ Ok x → p < x.next
       passes r s x e = let less = passes_of 1 p ts r x s e in omega (arith, less.0)
 
       by : (c : Bool) → begins_expression ts ≡ c → Stops fronts (λ b us. list_at one count p us) Any Last p ts (cond c (listed_at one count p ts) (closed Empty count p ts))
@@ -357,24 +360,24 @@ abbrev StopsWhere : Option Reader → Type 0
 StopsWhere None = Unit {0}
 StopsWhere (Some one) = IsStopping one
 
-abbrev ArgumentsStop : (one : Option Reader) (count p : ℕ) (ts : Tokens) → Result (ExpressionFront Arguments) Fault → Type 0
+abbrev ArgumentsStop : (one : Option Reader) (count p : ℕ) (ts : Tokens) → Result (Front (Counted Arguments)) Fault → Type 0
 ArgumentsStop one count p ts r = Stops fronts (λ b us. arguments_at one count p us) EndsExpression EndsExpression p ts r
 
 opened_stop : (one : Option Reader) → StopsWhere one → IsSoundWhere one → (count p : ℕ) (ts : Tokens)
-    → ArgumentsStop one count p (Sign signs.OpenParenthesis ∷ ts) (opened one p (λ one. list_at one count (p + 1) ts >>= λ x. Ok (record { value = Given x.value; count = x.count; next = x.next; rest = x.rest })))
+    → ArgumentsStop one count p (Sign signs.OpenParenthesis ∷ ts) (opened one p (λ one. list_at one count (p + 1) ts >>= λ x. counted (Given x.value.tree) x.value.count x.next x.rest))
 unfolding arguments_at
 opened_stop None stops sound count p ts =
     fault_stops fronts (λ b us. arguments_at None count p us) EndsExpression EndsExpression (record { code = NestedTooDeep; at = p }) (Sign signs.OpenParenthesis) ts (λ us b less. refl)
-    ([], (λ us last. (record { value = Absent; count = count; next = p; rest = us }, λ b less. no_arguments None count p us (ends_open us last))), (λ none us last. last))
+    ([], (λ us last. (record { value = record { tree = Absent; count = count }; next = p; rest = us }, λ b less. no_arguments None count p us (ends_open us last))), (λ none us last. last))
 opened_stop (Some one) stops sound count p ts =
-    behind_token fronts (Sign signs.OpenParenthesis) (λ b us. list_at one count (p + 1) us >>= λ x. Ok (record { value = Given x.value; count = x.count; next = x.next; rest = x.rest })) (λ b us. arguments_at (Some one) count p us)
-    Any EndsExpression EndsExpression p ts (list_at one count (p + 1) ts >>= λ x. Ok (record { value = Given x.value; count = x.count; next = x.next; rest = x.rest })) (λ b us less. (length us + 1, omega arith, refl))
-    (stops_made fronts fronts (λ b us. list_at one count (p + 1) us) (λ x. record { value = Given x.value; count = x.count; next = x.next; rest = x.rest }) Any EndsExpression (p + 1) ts (list_at one count (p + 1) ts)
+    behind_token fronts (Sign signs.OpenParenthesis) (λ b us. list_at one count (p + 1) us >>= λ x. counted (Given x.value.tree) x.value.count x.next x.rest) (λ b us. arguments_at (Some one) count p us)
+    Any EndsExpression EndsExpression p ts (list_at one count (p + 1) ts >>= λ x. counted (Given x.value.tree) x.value.count x.next x.rest) (λ b us less. (length us + 1, omega arith, refl))
+    (stops_made fronts fronts (λ b us. list_at one count (p + 1) us) (λ x. record { value = record { tree = Given x.value.tree; count = x.value.count }; next = x.next; rest = x.rest }) Any EndsExpression (p + 1) ts (list_at one count (p + 1) ts)
     (λ x. refl) (λ x. refl) (λ x us. refl) (list_stops one stops sound EndsExpression count (p + 1) ts))
 
-absent_stop : (one : Option Reader) (count p : ℕ) (ts : Tokens) → NotOpen ts → ArgumentsStop one count p ts (all_read Absent count p ts)
+absent_stop : (one : Option Reader) (count p : ℕ) (ts : Tokens) → NotOpen ts → ArgumentsStop one count p ts (counted Absent count p ts)
 absent_stop one count p ts none =
-    nothing_stops fronts (λ b us. arguments_at one count p us) EndsExpression EndsExpression (λ us last. last) p (record { value = Absent; count = count; next = p; rest = ts }) refl
+    nothing_stops fronts (λ b us. arguments_at one count p us) EndsExpression EndsExpression (λ us last. last) p (record { value = record { tree = Absent; count = count }; next = p; rest = ts }) refl
     (λ us goes b less. no_arguments one count p us (⊎_elim (λ same. same_open ts us none same) (λ last. ends_open us last) goes))
 
 arguments_stop : (one : Option Reader) → StopsWhere one → IsSoundWhere one → (count p : ℕ) (ts : Tokens) → ArgumentsStop one count p ts (arguments_at one count p ts)
@@ -384,7 +387,7 @@ arguments_stop one stops sound count p (Sign signs.OpenParenthesis ∷ ts) = ope
 arguments_stop one stops sound count p (t ∷ ts) = absent_stop one count p (t ∷ ts) tt
 
 -- parts end before what joins none
-joined_ends : (one : Option Reader) (b count p : ℕ) (us : Tokens) → length us < b → joining_at us ≡ None → joined_from one b count p us ≡ all_read Alone count p us
+joined_ends : (one : Option Reader) (b count p : ℕ) (us : Tokens) → length us < b → joining_at us ≡ None → joined_from one b count p us ≡ counted Alone count p us
 unfolding joined_from
 joined_ends one zero count p us small none = absurd (omega (arith, small))
 joined_ends one (suc b) count p us small none = ap (parts_behind one (joined_from one b) count p us) none
@@ -401,16 +404,16 @@ abbrev IsBound : (ℕ → Tokens → ℕ) → Type 0
 IsBound size = (b : ℕ) (us : Tokens) → length us < b → length us < size b us
 
 -- the arguments behind a name, and further parts
-abbrev behind_name : {A : Type 0} (one : Option Reader) (size : ℕ → Tokens → ℕ) (make : Arguments → JoinedParts → A) (count p b : ℕ) → Tokens → Result (ExpressionFront A) Fault
+abbrev behind_name : {A : Type 0} (one : Option Reader) (size : ℕ → Tokens → ℕ) (make : Arguments → JoinedParts → A) (count p b : ℕ) → Tokens → Result (Front (Counted A)) Fault
 behind_name one size make count p b us =
-    arguments_at one count p us >>= λ x. joined_from one (size b x.rest) x.count x.next x.rest >>= λ y. Ok (record { value = make x.value y.value; count = y.count; next = y.next; rest = y.rest })
+    arguments_at one count p us >>= λ x. joined_from one (size b x.rest) x.value.count x.next x.rest >>= λ y. counted (make x.value.tree y.value.tree) y.value.count y.next y.rest
 
 -- the part without arguments, where nothing goes on
 name_alone : {A : Type 0} (one : Option Reader) (size : ℕ → Tokens → ℕ) → IsBound size → (make : Arguments → JoinedParts → A) (count p b : ℕ) (us : Tokens) → length us < b → EndsExpression us
-    → behind_name one size make count p b us ≡ all_read (make Absent Alone) count p us
+    → behind_name one size make count p b us ≡ counted (make Absent Alone) count p us
 name_alone one size bounds make count p b us less last =
-    ap (λ r. r >>= λ x. joined_from one (size b x.rest) x.count x.next x.rest >>= λ y. all_read (make x.value y.value) y.count y.next y.rest) (no_arguments one count p us (ends_open us last))
-    ∙ ap (λ r. r >>= λ y. all_read (make Absent y.value) y.count y.next y.rest) (joined_ends one (size b us) count p us (bounds b us less) (ends_joining us last))
+    ap (λ r. r >>= λ x. joined_from one (size b x.rest) x.value.count x.next x.rest >>= λ y. counted (make x.value.tree y.value.tree) y.value.count y.next y.rest) (no_arguments one count p us (ends_open us last))
+    ∙ ap (λ r. r >>= λ y. counted (make Absent y.value.tree) y.value.count y.next y.rest) (joined_ends one (size b us) count p us (bounds b us less) (ends_joining us last))
 
 module _ (one : Option Reader) (stops : StopsWhere one) (sound : IsSoundWhere one) where
   abbrev PartsStop : ℕ → Type 0
@@ -420,31 +423,31 @@ module _ (one : Option Reader) (stops : StopsWhere one) (sound : IsSoundWhere on
       → ((us : Tokens) → length us ≤ length ts → PartsStop (size bound us)) → length ts < bound
       → Stops fronts (λ b us. behind_name one size make count p b us) EndsExpression EndsExpression p ts (behind_name one size make count p bound ts)
   named_stops make size bounds bound count p ts more small =
-      stops_then fronts fronts (λ b us. arguments_at one count p us) (λ b x. joined_from one (size b x.rest) x.count x.next x.rest >>= λ y. Ok (record { value = make x.value y.value; count = y.count; next = y.next; rest = y.rest }))
+      stops_then fronts fronts (λ b us. arguments_at one count p us) (λ b x. joined_from one (size b x.rest) x.value.count x.next x.rest >>= λ y. counted (make x.value.tree y.value.tree) y.value.count y.next y.rest)
       (λ b us. behind_name one size make count p b us) EndsExpression EndsExpression EndsExpression p ts (λ b us less. (b, less, refl)) (
         [],
         (λ us last. last),
         (λ x us last. (
-          record { value = make x.value Alone; count = x.count; next = x.next; rest = us },
-          λ b less. ap (λ r. r >>= λ y. all_read (make x.value y.value) y.count y.next y.rest) (joined_ends one (size b us) x.count x.next us (bounds b us less) (ends_joining us last)),
+          record { value = record { tree = make x.value.tree Alone; count = x.value.count }; next = x.next; rest = us },
+          λ b less. ap (λ r. r >>= λ y. counted (make x.value.tree y.value.tree) y.value.count y.next y.rest) (joined_ends one (size b us) x.value.count x.next us (bounds b us less) (ends_joining us last)),
         )),
       )
-      (arguments_at one count p ts) (λ x. joined_from one (size bound x.rest) x.count x.next x.rest >>= λ y. Ok (record { value = make x.value y.value; count = y.count; next = y.next; rest = y.rest })) (arguments_stop one stops sound count p ts)
+      (arguments_at one count p ts) (λ x. joined_from one (size bound x.rest) x.value.count x.next x.rest >>= λ y. counted (make x.value.tree y.value.tree) y.value.count y.next y.rest) (arguments_stop one stops sound count p ts)
       (λ x e.
       let s = passes_of 0 p ts (arguments_at one count p ts) x (arguments_stand one sound count p ts) e in
       let few : length x.rest ≤ length ts = omega (arith, s.0, s.1) in
-      stops_made fronts fronts (λ b us. joined_from one (size b us) x.count x.next us) (λ y. record { value = make x.value y.value; count = y.count; next = y.next; rest = y.rest }) EndsExpression EndsExpression x.next x.rest (joined_from one (size bound x.rest) x.count x.next x.rest)
+      stops_made fronts fronts (λ b us. joined_from one (size b us) x.value.count x.next us) (λ y. record { value = record { tree = make x.value.tree y.value.tree; count = y.value.count }; next = y.next; rest = y.rest }) EndsExpression EndsExpression x.next x.rest (joined_from one (size bound x.rest) x.value.count x.next x.rest)
       (λ y. refl) (λ y. refl) (λ y us. refl)
-      (rebound fronts (λ b us. joined_from one b x.count x.next us) (λ b us. joined_from one (size b us) x.count x.next us) EndsExpression EndsExpression x.next x.rest (joined_from one (size bound x.rest) x.count x.next x.rest)
-      (λ b us less. (size b us, bounds b us less, refl)) (more x.rest few x.count x.next x.rest (bounds bound x.rest (omega (arith, few, small))))))
+      (rebound fronts (λ b us. joined_from one b x.value.count x.next us) (λ b us. joined_from one (size b us) x.value.count x.next us) EndsExpression EndsExpression x.next x.rest (joined_from one (size bound x.rest) x.value.count x.next x.rest)
+      (λ b us less. (size b us, bounds b us less, refl)) (more x.rest few x.value.count x.next x.rest (bounds bound x.rest (omega (arith, few, small))))))
 
   -- a name alone
-  part_completes : (joining : Joining) (count p : ℕ) → Completes {X = ExpressionFront JoinedParts} fronts (λ b us. part_behind one (joined_from one b) joining count p us (name_first us)) Any EndsExpression []
+  part_completes : (joining : Joining) (count p : ℕ) → Completes {X = Front (Counted JoinedParts)} fronts (λ b us. part_behind one (joined_from one b) joining count p us (name_first us)) Any EndsExpression []
   unfolding name_first
   part_completes joining count p = (
     a_name ∷ [],
     (λ us last. (
-      record { value = Joined joining (record { name = codes "A"; at = p }) Absent Alone; count = count; next = p + 1; rest = us },
+      record { value = record { tree = Joined joining (record { name = codes "A"; at = p }) Absent Alone; count = count }; next = p + 1; rest = us },
       λ b less. name_alone one (λ b us. b) (λ b us small. small) (Joined joining (record { name = codes "A"; at = p })) count (p + 1) b us (omega (arith, less)) last,
     )),
     (λ none us last. tt),
@@ -475,7 +478,7 @@ module _ (one : Option Reader) (stops : StopsWhere one) (sound : IsSoundWhere on
   parts_step : (bound : ℕ) → PartsStop bound → (count p : ℕ) (ts : Tokens) → length ts < suc bound → (o : Option (Joining × Tokens)) → joining_at ts ≡ o
       → Stops fronts (λ b us. joined_from one b count p us) EndsExpression EndsExpression p ts (parts_behind one (joined_from one bound) count p ts o)
   parts_step bound more count p ts small None found =
-      nothing_stops fronts (λ b us. joined_from one b count p us) EndsExpression EndsExpression (λ us last. last) p (record { value = Alone; count = count; next = p; rest = ts }) refl
+      nothing_stops fronts (λ b us. joined_from one b count p us) EndsExpression EndsExpression (λ us last. last) p (record { value = record { tree = Alone; count = count }; next = p; rest = ts }) refl
       (λ us goes b less. joined_ends one b count p us less (⊎_elim (λ same. same_joining ts us found same) (λ last. ends_joining us last) goes))
   parts_step bound more count p ts small (Some j) found =
       let sign : ts ≡ Sign (joining_sign j.0) ∷ j.1 = joining_ok ts j found in
@@ -495,7 +498,7 @@ module _ (one : Option Reader) (stops : StopsWhere one) (sound : IsSoundWhere on
       misfit_stops fronts (λ b us. reference_of one count p us) Any EndsExpression NameExpected p ts (λ us same b less. ap (reference_behind one count p us) (same_name ts us found same)) (
         a_name ∷ [],
         (λ us last. (
-          record { value = Named (record { name = codes "A"; at = p }) Absent Alone; count = count; next = p + 1; rest = us },
+          record { value = record { tree = Named (record { name = codes "A"; at = p }) Absent Alone; count = count }; next = p + 1; rest = us },
           λ b less. name_alone one (λ b us. length us + 1) (λ b us small. omega arith) (Named (record { name = codes "A"; at = p })) count (p + 1) b us (omega (arith, less)) last,
         )),
         (λ none us last. tt),
@@ -516,22 +519,22 @@ mapped_stops None stops sound = tt
 mapped_stops (Some operand) stops sound = expression_stops operand stops sound
 
 -- a constant alone
-operand_completes : (one : Option Reader) (count p : ℕ) → Completes {X = ExpressionFront Expression} fronts (λ b us. operand_of one count p us) Any EndsExpression []
+operand_completes : (one : Option Reader) (count p : ℕ) → Completes {X = Front (Counted Expression)} fronts (λ b us. operand_of one count p us) Any EndsExpression []
 unfolding operand_of constant_at
 operand_completes one count p = (
   Decimal 1 1 ∷ [],
-  (λ us last. (record { value = Constant p (constants.Decimal 1 1); count = count; next = p + 1; rest = us }, λ b less. refl)),
+  (λ us last. (record { value = record { tree = Constant p (constants.Decimal 1 1); count = count }; next = p + 1; rest = us }, λ b less. refl)),
   (λ none us last. tt),
 )
 
-abbrev OperandStops : (one : Option Reader) (count p : ℕ) (ts : Tokens) → Result (ExpressionFront Expression) Fault → Type 0
+abbrev OperandStops : (one : Option Reader) (count p : ℕ) (ts : Tokens) → Result (Front (Counted Expression)) Fault → Type 0
 OperandStops one count p ts r = Stops fronts (λ b us. operand_of one count p us) Any EndsExpression p ts r
 
 prefix_stops : (one : Option Reader) → StopsWhere one → (operator : PrefixOperator) (count p : ℕ) (ts : Tokens) → OperandStops one count p (Sign (prefix_sign operator) ∷ ts) (prefix_of one operator count p ts)
 unfolding prefix_of
 prefix_stops None stops operator count p ts = by (nat_lt count operator_limit) refl
   where
-    deep : (b : Bool) (r : Result (ExpressionFront Expression) Fault) → r ≡ at_fault NestedTooDeep p → cond b r (at_fault NestedTooDeep p) ≡ at_fault NestedTooDeep p
+    deep : (b : Bool) (r : Result (Front (Counted Expression)) Fault) → r ≡ at_fault NestedTooDeep p → cond b r (at_fault NestedTooDeep p) ≡ at_fault NestedTooDeep p
     deep true r e = e
     deep false r e = refl
 
@@ -544,14 +547,14 @@ prefix_stops None stops operator count p ts = by (nat_lt count operator_limit) r
         (λ us b less. prefix_there None operator count p us ∙ deep (nat_lt count operator_limit) (at_fault NestedTooDeep p) refl) (operand_completes None count p)
 prefix_stops (Some operand) stops operator count p ts = by (nat_lt count operator_limit) refl
   where
-    read : Tokens → Result (ExpressionFront Expression) Fault
-    read us = operand (count + 1) (p + 1) us >>= λ x. Ok (record { value = Prefix operator p x.value; count = x.count; next = x.next; rest = x.rest })
+    read : Tokens → Result (Front (Counted Expression)) Fault
+    read us = operand (count + 1) (p + 1) us >>= λ x. counted (Prefix operator p x.value.tree) x.value.count x.next x.rest
 
     by : (b : Bool) → nat_lt count operator_limit ≡ b → OperandStops (Some operand) count p (Sign (prefix_sign operator) ∷ ts) (cond b (read ts) (at_fault NestedTooDeep p))
     by true few =
         behind_token fronts (Sign (prefix_sign operator)) (λ b us. read us) (λ b us. operand_of (Some operand) count p us) Any Any EndsExpression p ts (read ts)
         (λ b us less. (length us + 1, omega arith, prefix_there (Some operand) operator count p us ∙ ap (λ c. cond c (read us) (at_fault NestedTooDeep p)) few))
-        (stops_made fronts fronts (λ b us. operand (count + 1) (p + 1) us) (λ x. record { value = Prefix operator p x.value; count = x.count; next = x.next; rest = x.rest }) Any EndsExpression (p + 1) ts (operand (count + 1) (p + 1) ts)
+        (stops_made fronts fronts (λ b us. operand (count + 1) (p + 1) us) (λ x. record { value = record { tree = Prefix operator p x.value.tree; count = x.value.count }; next = x.next; rest = x.rest }) Any EndsExpression (p + 1) ts (operand (count + 1) (p + 1) ts)
         (λ x. refl) (λ x. refl) (λ x us. refl) (stops (count + 1) (p + 1) ts))
     by false many =
         fault_stops fronts (λ b us. operand_of (Some operand) count p us) Any EndsExpression (record { code = NestedTooDeep; at = p }) (Sign (prefix_sign operator)) ts
@@ -562,37 +565,37 @@ unfolding operand_of parenthesis_of taken behind
 parenthesis_stops None stops sound count p ts =
     fault_stops fronts (λ b us. operand_of None count p us) Any EndsExpression (record { code = NestedTooDeep; at = p }) (Sign signs.OpenParenthesis) ts (λ us b less. refl) (operand_completes None count p)
 parenthesis_stops (Some operand) stops sound count p ts =
-    behind_token fronts (Sign signs.OpenParenthesis) (λ b us. expression_of operand count (p + 1) us >>= λ x. closed (Parenthesized p x.value) x.count x.next x.rest) (λ b us. operand_of (Some operand) count p us) Any Any EndsExpression p ts
-    (expression_of operand count (p + 1) ts >>= λ x. closed (Parenthesized p x.value) x.count x.next x.rest) (λ b us less. (length us + 1, omega arith, refl))
-    (stops_then fronts fronts (λ b us. expression_of operand count (p + 1) us) (λ b x. closed (Parenthesized p x.value) x.count x.next x.rest)
-    (λ b us. expression_of operand count (p + 1) us >>= λ x. closed (Parenthesized p x.value) x.count x.next x.rest) Any EndsExpression EndsExpression (p + 1) ts (λ b us less. (b, less, refl)) (
+    behind_token fronts (Sign signs.OpenParenthesis) (λ b us. expression_of operand count (p + 1) us >>= λ x. closed (Parenthesized p x.value.tree) x.value.count x.next x.rest) (λ b us. operand_of (Some operand) count p us) Any Any EndsExpression p ts
+    (expression_of operand count (p + 1) ts >>= λ x. closed (Parenthesized p x.value.tree) x.value.count x.next x.rest) (λ b us less. (length us + 1, omega arith, refl))
+    (stops_then fronts fronts (λ b us. expression_of operand count (p + 1) us) (λ b x. closed (Parenthesized p x.value.tree) x.value.count x.next x.rest)
+    (λ b us. expression_of operand count (p + 1) us >>= λ x. closed (Parenthesized p x.value.tree) x.value.count x.next x.rest) Any EndsExpression EndsExpression (p + 1) ts (λ b us less. (b, less, refl)) (
       Sign signs.CloseParenthesis ∷ [],
       (λ us last. (refl, refl)),
-      (λ x us last. (record { value = Parenthesized p x.value; count = x.count; next = x.next + 1; rest = us }, λ b less. refl)),
+      (λ x us last. (record { value = record { tree = Parenthesized p x.value.tree; count = x.value.count }; next = x.next + 1; rest = us }, λ b less. refl)),
     )
-    (expression_of operand count (p + 1) ts) (λ x. closed (Parenthesized p x.value) x.count x.next x.rest) (expression_stops operand stops sound count (p + 1) ts)
-    (λ x e. closed_stops EndsExpression EndsExpression (λ us. (refl, refl)) (Parenthesized p x.value) x.count x.next x.rest))
+    (expression_of operand count (p + 1) ts) (λ x. closed (Parenthesized p x.value.tree) x.value.count x.next x.rest) (expression_stops operand stops sound count (p + 1) ts)
+    (λ x e. closed_stops EndsExpression EndsExpression (λ us. (refl, refl)) (Parenthesized p x.value.tree) x.value.count x.next x.rest))
 
-constant_stops : (one : Option Reader) (count p : ℕ) (t : TokenText) (v : ConstantValue) (ts : Tokens) → ((us : Tokens) → operand_of one count p (t ∷ us) ≡ all_read (Constant p v) count (p + 1) us)
-    → OperandStops one count p (t ∷ ts) (all_read (Constant p v) count (p + 1) ts)
+constant_stops : (one : Option Reader) (count p : ℕ) (t : TokenText) (v : ConstantValue) (ts : Tokens) → ((us : Tokens) → operand_of one count p (t ∷ us) ≡ counted (Constant p v) count (p + 1) us)
+    → OperandStops one count p (t ∷ ts) (counted (Constant p v) count (p + 1) ts)
 constant_stops one count p t v ts all =
-    token_stops fronts (λ b us. operand_of one count p us) Any EndsExpression p t (record { value = Constant p v; count = count; next = p + 1; rest = ts }) refl (λ us b less. all us)
+    token_stops fronts (λ b us. operand_of one count p us) Any EndsExpression p t (record { value = record { tree = Constant p v; count = count }; next = p + 1; rest = ts }) refl (λ us b less. all us)
 
 word_here : (one : Option Reader) (n : Name) (count p : ℕ) (ts us : Tokens) → SameFirst (Word n ∷ ts) us
-    → operand_of one count p us ≡ (reference_of (option_map expression_of one) count p us >>= λ x. all_read (Referred x.value) x.count x.next x.rest)
+    → operand_of one count p us ≡ (reference_of (option_map expression_of one) count p us >>= λ x. counted (Referred x.value.tree) x.value.count x.next x.rest)
 unfolding operand_of
 word_here one n count p ts [] same = absurd same
 word_here one n count p ts (u ∷ us) same =
-    subst (λ v. operand_of one count p (v ∷ us) ≡ (reference_of (option_map expression_of one) count p (v ∷ us) >>= λ x. all_read (Referred x.value) x.count x.next x.rest)) same refl
+    subst (λ v. operand_of one count p (v ∷ us) ≡ (reference_of (option_map expression_of one) count p (v ∷ us) >>= λ x. counted (Referred x.value.tree) x.value.count x.next x.rest)) same refl
 
 operand_stops : (one : Option Reader) → StopsWhere one → IsSoundWhere one → IsStopping (operand_of one)
 unfolding operand_of constant_at misfit
 operand_stops one stops sound count p [] = misfit_stops fronts (λ b us. operand_of one count p us) Any EndsExpression ExpressionExpected p [] (λ us same. absurd same) (operand_completes one count p)
 operand_stops one stops sound count p (Word n ∷ ts) =
-    first_decides fronts (λ b us. reference_of (option_map expression_of one) count p us >>= λ x. Ok (record { value = Referred x.value; count = x.count; next = x.next; rest = x.rest })) (λ b us. operand_of one count p us) Any EndsExpression p (Word n ∷ ts)
+    first_decides fronts (λ b us. reference_of (option_map expression_of one) count p us >>= λ x. counted (Referred x.value.tree) x.value.count x.next x.rest) (λ b us. operand_of one count p us) Any EndsExpression p (Word n ∷ ts)
     (operand_of one count p (Word n ∷ ts)) (λ us same b. word_here one n count p ts us same)
     (λ x e. let s = passes_of 1 p (Word n ∷ ts) (operand_of one count p (Word n ∷ ts)) x (operand_stands one sound count p (Word n ∷ ts)) e in omega (arith, s.0)) (operand_completes one count p)
-    (stops_made fronts fronts (λ b us. reference_of (option_map expression_of one) count p us) (λ x. record { value = Referred x.value; count = x.count; next = x.next; rest = x.rest }) Any EndsExpression p (Word n ∷ ts) (reference_of (option_map expression_of one) count p (Word n ∷ ts))
+    (stops_made fronts fronts (λ b us. reference_of (option_map expression_of one) count p us) (λ x. record { value = record { tree = Referred x.value.tree; count = x.value.count }; next = x.next; rest = x.rest }) Any EndsExpression p (Word n ∷ ts) (reference_of (option_map expression_of one) count p (Word n ∷ ts))
     (λ x. refl) (λ x. refl) (λ x us. refl) (reference_stops (option_map expression_of one) (mapped_stops one stops sound) (mapped_sound one sound) count p (Word n ∷ ts)))
 operand_stops one stops sound count p (Decimal v d ∷ ts) = constant_stops one count p (Decimal v d) (constants.Decimal v d) ts (λ us. refl)
 operand_stops one stops sound count p (Binary v d ∷ ts) = constant_stops one count p (Binary v d) (constants.Binary v d) ts (λ us. refl)
@@ -617,7 +620,7 @@ expression_at_stops levels = expression_stops (operand_at levels) (operand_stops
 argument_stops : (one : Option Reader) → StopsWhere one → IsSoundWhere one → StopsWhere (option_map (argument_of true) one)
 argument_stops None stops sound = tt
 argument_stops (Some operand) stops sound = λ count p ts.
-    stops_made fronts fronts (λ b us. expression_of operand 0 p us) (λ x. record { value = x.value; count = count; next = x.next; rest = x.rest }) Any EndsExpression p ts (expression_of operand 0 p ts)
+    stops_made fronts fronts (λ b us. expression_of operand 0 p us) (λ x. record { value = record { tree = x.value.tree; count = count }; next = x.next; rest = x.rest }) Any EndsExpression p ts (expression_of operand 0 p ts)
     (λ x. refl) (λ x. refl) (λ x us. refl) (expression_stops operand stops sound 0 p ts)
 
 reference_at_stops : (levels p : ℕ) (ts : Tokens) → Stops fronts (λ b us. reference_at levels p us) Any EndsExpression p ts (reference_at levels p ts)
@@ -627,9 +630,9 @@ reference_at_stops levels p ts = reference_stops (option_map (argument_of true) 
 pub expression_first_fault : (levels p : ℕ) (ts : Tokens) (f : Fault) → expression_at levels 0 p ts ≡ Err f → IsFirstFault (SpellsOutermost levels) p ts f
 expression_first_fault levels p ts f h =
     is_first fronts (SpellsOutermost levels) (expression_at levels 0 p) Any EndsExpression tt (λ x. refl) p ts f
-    (λ us x read none. let s = expression_spelled levels p us x read in (x.value, whole_spells (SpellsOutermost levels) p us s.0 x.rest x.value s.1 none s.3))
+    (λ us x read none. let s = expression_spelled levels p us x read in (x.value.tree, whole_spells (SpellsOutermost levels) p us s.0 x.rest x.value.tree s.1 none s.3))
     (λ us e spelled. (
-      record { value = e; count = operators e; next = p + length us; rest = [] },
+      record { value = record { tree = e; count = operators e }; next = p + length us; rest = [] },
       ap (expression_at levels 0 p) (sym (append-nil us)) ∙ expression_ends_read levels p us [] e spelled (tt, tt),
     ))
     (subst (Stops fronts (λ b us. expression_at levels 0 p us) Any EndsExpression p ts) h (expression_at_stops levels 0 p ts))
@@ -637,9 +640,9 @@ expression_first_fault levels p ts f h =
 pub reference_first_fault : (levels p : ℕ) (ts : Tokens) (f : Fault) → reference_at levels p ts ≡ Err f → IsFirstFault (SpellsReferenceAlone levels) p ts f
 reference_first_fault levels p ts f h =
     is_first fronts (SpellsReferenceAlone levels) (reference_at levels p) Any EndsExpression tt (λ x. refl) p ts f
-    (λ us x read none. let s = reference_spelled levels p us x read in (x.value, whole_spells (SpellsReferenceAlone levels) p us s.0 x.rest x.value s.1 none s.3))
+    (λ us x read none. let s = reference_spelled levels p us x read in (x.value.tree, whole_spells (SpellsReferenceAlone levels) p us s.0 x.rest x.value.tree s.1 none s.3))
     (λ us r spelled. (
-      record { value = r; count = 0; next = p + length us; rest = [] },
+      record { value = record { tree = r; count = 0 }; next = p + length us; rest = [] },
       ap (reference_at levels p) (sym (append-nil us)) ∙ reference_ends_read levels p us [] r spelled tt,
     ))
     (subst (Stops fronts (λ b us. reference_at levels p us) Any EndsExpression p ts) h (reference_at_stops levels p ts))

@@ -5,14 +5,16 @@ use Rattle.pli_base.specs.Name.{Name}
 use Rattle.pli_base.specs.declared.code.Code.{Code}
 use Rattle.pli_base.specs.declared.code.Code.TheVariants.{NestedTooDeep, ParenthesisExpected}
 use Rattle.pli_base.specs.declared.syntax.InfixOperator.{InfixOperator}
-use Rattle.pli_base.specs.declared.syntax.InfixOperator.TheVariants.{Or, And, NotEqual, Less, LessOrEqual, Greater, GreaterOrEqual, Concatenate}
+use Rattle.pli_base.specs.declared.syntax.InfixOperator.TheVariants.{Or}
 use Rattle.pli_base.specs.declared.syntax.Joining.{Joining}
 use Rattle.pli_base.specs.declared.token.Fault.{Fault}
 use Rattle.pli_base.specs.declared.token.Sign.TheVariants as signs
 use Rattle.pli_base.specs.declared.token.TokenText.{TokenText}
 use Rattle.pli_base.specs.declared.token.TokenText.TheVariants.{Word, Sign}
 use Rattle.pli_parse_expression.specs.Operators.{operator_limit, operand_level, level_of, infix_sign, joining_sign, infix_of, not_below, operator_at, joining_at}
-use Rattle.pli_parse_expression.specs.Reading.{ExpressionFront, limited, closed}
+use Rattle.pli_base.specs.Reading.{Front}
+use Rattle.pli_parse_expression.specs.declared.counted.Counted.{Counted}
+use Rattle.pli_parse_expression.specs.Reading.{limited, closed}
 use Rattle.pli_base.specs.Words.{Tokens, name_first, behind, is_comma, is_close}
 use Rattle.pli_base.specs.Reading.{expected, taken}
 use Rattle.pli_parse_fault.proofs.StepLemmas.{same_ok, some_same, bind_ok}
@@ -34,8 +36,8 @@ close_ok p [] us h = cc
 close_ok p (Sign signs.CloseParenthesis ∷ ts) us h = ap (λ vs. Sign signs.CloseParenthesis ∷ vs) (same_ok h)
 close_ok p (t ∷ ts) us h = cc
 
-pub closed_ok : {A : Type 0} (value : A) (count p : ℕ) (ts : Tokens) (x : ExpressionFront A) → closed value count p ts ≡ Ok x
-    → (us : Tokens) × (ts ≡ Sign signs.CloseParenthesis ∷ us) × (◌≡◌ {A = ExpressionFront A} (record { value = value; count = count; next = p + 1; rest = us }) x)
+pub closed_ok : {A : Type 0} (value : A) (count p : ℕ) (ts : Tokens) (x : Front (Counted A)) → closed value count p ts ≡ Ok x
+    → (us : Tokens) × (ts ≡ Sign signs.CloseParenthesis ∷ us) × (◌≡◌ {A = Front (Counted A)} (record { value = record { tree = value; count = count }; next = p + 1; rest = us }) x)
 closed_ok value count p ts x h = let b = bind_ok (taken is_close ParenthesisExpected p ts) _ x h in (b.0, close_ok p ts b.0 b.1, same_ok b.2)
 
 -- the sign of the infix operator that a token is, or the token

@@ -8,7 +8,9 @@ use Rattle.pli_base.specs.declared.token.TokenText.TheVariants.{Sign}
 use Rattle.pli_parse_expression.specs.Operators.{infix_sign}
 use Rattle.pli_base.specs.Words.{Tokens}
 use Rattle.pli_parse_expression.specs.Expressions.{SpellsExpression, SpellsReference, SpellsJoined, SpellsArguments, SpellsListed, SpellsFurther}
-use Rattle.pli_parse_expression.specs.Reading.{ExpressionFront, expression_at, reference_at}
+use Rattle.pli_base.specs.Reading.{Front}
+use Rattle.pli_parse_expression.specs.declared.counted.Counted.{Counted}
+use Rattle.pli_parse_expression.specs.Reading.{expression_at, reference_at}
 use Rattle.pli_parse_expression.proofs.ReadIsSpelled.{expression_spelled, reference_spelled}
 
 -- the arguments of a part, and the parts behind it
@@ -73,12 +75,12 @@ mutual
       (rises_within (expression_tokens e) (p + 1) p (p + 1 + length front) (p + 1 + length front) (omega arith) (omega arith) (expression_rises (p + 1) front e spelled))
       (rises_within (listed_tokens more) (p + 1 + length front) (p + 1 + length front) (p + 1 + length front + length rest) (p + length ts) (omega arith) (omega (arith, ap length shape, length-append front rest)) (further_rise (p + 1 + length front) rest more later))
 
-pub expression_read_rises : (levels p : ℕ) (ts : Tokens) (x : ExpressionFront Expression) → expression_at levels 0 p ts ≡ Ok x → Rises p (expression_tokens x.value) x.next
+pub expression_read_rises : (levels p : ℕ) (ts : Tokens) (x : Front (Counted Expression)) → expression_at levels 0 p ts ≡ Ok x → Rises p (expression_tokens x.value.tree) x.next
 expression_read_rises levels p ts x h =
     let f = expression_spelled levels p ts x h in
-    rises_within (expression_tokens x.value) p p (p + length f.0) x.next (omega arith) (omega (arith, f.2)) (expression_rises p f.0 x.value f.3.0)
+    rises_within (expression_tokens x.value.tree) p p (p + length f.0) x.next (omega arith) (omega (arith, f.2)) (expression_rises p f.0 x.value.tree f.3.0)
 
-pub reference_read_rises : (levels p : ℕ) (ts : Tokens) (x : ExpressionFront Reference) → reference_at levels p ts ≡ Ok x → Rises p (reference_tokens x.value) x.next
+pub reference_read_rises : (levels p : ℕ) (ts : Tokens) (x : Front (Counted Reference)) → reference_at levels p ts ≡ Ok x → Rises p (reference_tokens x.value.tree) x.next
 reference_read_rises levels p ts x h =
     let f = reference_spelled levels p ts x h in
-    rises_within (reference_tokens x.value) p p (p + length f.0) x.next (omega arith) (omega (arith, f.2)) (reference_rises p f.0 x.value f.3.0)
+    rises_within (reference_tokens x.value.tree) p p (p + length f.0) x.next (omega arith) (omega (arith, f.2)) (reference_rises p f.0 x.value.tree f.3.0)

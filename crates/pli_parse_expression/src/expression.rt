@@ -5,16 +5,17 @@ ghost use Rattle.pli_base.specs.views.SyntaxView.{expression_view, reference_vie
 ghost use Rattle.pli_parse_expression.specs.Operators.{infix_of, level_of, operator_at, joining_at, begins_expression};
 ghost use Rattle.pli_parse_expression.specs.Reading.{infix_from, right_of, operand_at, inside, expression_at, expression_of, argument_of, listed_at, list_at, arguments_at, joined_from, reference_of, reference_at, prefix_of, parenthesis_of, constant_at};
 ghost use Rattle.pli_base.specs.answers.FailureAnswers.{Gives};
-ghost use Rattle.pli_parse_expression.specs.answers.Answers.{front_view, Advances, Stays};
+ghost use Rattle.pli_base.specs.answers.ReadingAnswers.{front_view, Advances, Continues};
+ghost use Rattle.pli_parse_expression.specs.answers.Answers.{counted_view};
 ghost use Rattle.pli_base.specs.views.SyntaxView.{expressions_view, arguments_view, joined_view};
 
-use crate::front::ExpressionFront;
+use crate::counted::Counted;
 use pli_base::syntax::{
     ConstantValue, Expression, Identifier, InfixOperator, JoinedPart, Joining, Part,
     PrefixOperator, Reference,
 };
 use pli_base::{
-    Code, ParseError, Sign, TokenText, behind_comma, close_taken, fault, misfit, name_first,
+    Code, Front, ParseError, Sign, TokenText, behind_comma, close_taken, fault, misfit, name_first,
 };
 use std::alloc::{AllocError, Global};
 
@@ -116,9 +117,9 @@ fn expression_at<'a>(
     operators: u32,
     at: u32,
     texts: &'a [TokenText],
-) -> Result<ExpressionFront<'a, Expression>, ParseError>
+) -> Result<Front<'a, Counted<Expression>>, ParseError>
     requires { at + length texts.now ≤ 200000 }
-    ensures value { Gives (front_view expression_view) result (expression_of (operand_at levels) operators at texts.now) }
+    ensures value { Gives (front_view (counted_view expression_view)) result (expression_of (operand_at levels) operators at texts.now) }
     ensures place { IfOk result (Advances at texts.now) }
 {
     let first = operand_at(alloc, levels, operators, at, texts)?;
@@ -126,8 +127,8 @@ fn expression_at<'a>(
         alloc,
         levels,
         0,
-        first.value,
-        first.operators,
+        first.value.tree,
+        first.value.count,
         first.next,
         first.rest,
     )
@@ -145,12 +146,12 @@ fn infix_from<'a>(
     operators: u32,
     at: u32,
     texts: &'a [TokenText],
-) -> Result<ExpressionFront<'a, Expression>, ParseError>
+) -> Result<Front<'a, Counted<Expression>>, ParseError>
     requires place { at + length texts.now ≤ 200000 }
     requires low { min < 8 }
     ensures value { (bound : ℕ) → length texts.now < bound →
-        Gives (front_view expression_view) result (infix_from (operand_at levels) bound min operators (expression_view left) at texts.now) }
-    ensures place { IfOk result (Stays at texts.now) }
+        Gives (front_view (counted_view expression_view)) result (infix_from (operand_at levels) bound min operators (expression_view left) at texts.now) }
+    ensures place { IfOk result (Continues at texts.now) }
 {
     let mut sum = left;
     let mut operators = operators;
@@ -158,12 +159,12 @@ fn infix_from<'a>(
     let mut rest = texts;
     while let Some((operator, behind)) = operator_at(min, rest) {
         let right = right_of(alloc, levels, operator, operators, next, behind)?;
-        sum = infix(alloc, operator, next, sum, right.value)?;
-        operators = right.operators;
+        operators = right.value.count;
+        sum = infix(alloc, operator, next, sum, right.value.tree)?;
         next = right.next;
         rest = right.rest;
     }
-    Ok(ExpressionFront::new(sum, operators, next, rest))
+    Ok(Counted::front(sum, operators, next, rest))
 }
 
 /// Behind the infix operator at `at`: its right operand, which takes all that binds tighter.
@@ -176,9 +177,9 @@ fn right_of<'a>(
     operators: u32,
     at: u32,
     behind: &'a [TokenText],
-) -> Result<ExpressionFront<'a, Expression>, ParseError>
+) -> Result<Front<'a, Counted<Expression>>, ParseError>
     requires { at + 1 + length behind.now ≤ 200000 }
-    ensures value { (bound : ℕ) → length behind.now < bound → Gives (front_view expression_view) result (right_of (operand_at levels) bound operator operators at behind.now) }
+    ensures value { (bound : ℕ) → length behind.now < bound → Gives (front_view (counted_view expression_view)) result (right_of (operand_at levels) bound operator operators at behind.now) }
     ensures place { IfOk result (Advances (at + 1) behind.now) }
 {
     if operators >= OPERATOR_LIMIT {
@@ -189,8 +190,8 @@ fn right_of<'a>(
         alloc,
         levels,
         level_of(operator) + 1,
-        operand.value,
-        operand.operators,
+        operand.value.tree,
+        operand.value.count,
         operand.next,
         operand.rest,
     )
@@ -224,17 +225,17 @@ fn operand_at<'a>(
     operators: u32,
     at: u32,
     texts: &'a [TokenText],
-) -> Result<ExpressionFront<'a, Expression>, ParseError>
+) -> Result<Front<'a, Counted<Expression>>, ParseError>
     requires { at + length texts.now ≤ 200000 }
-    ensures value { Gives (front_view expression_view) result (operand_at levels operators at texts.now) }
+    ensures value { Gives (front_view (counted_view expression_view)) result (operand_at levels operators at texts.now) }
     ensures place { IfOk result (Advances at texts.now) }
 {
     match texts {
         [TokenText::Word(_), ..] => {
             let reference = reference_of(alloc, false, levels, operators, at, texts)?;
-            Ok(ExpressionFront::new(
-                Expression::Reference(reference.value),
-                reference.operators,
+            Ok(Counted::front(
+                Expression::Reference(reference.value.tree),
+                reference.value.count,
                 reference.next,
                 reference.rest,
             ))
@@ -262,9 +263,9 @@ fn constant_at<'a>(
     operators: u32,
     at: u32,
     texts: &'a [TokenText],
-) -> Result<ExpressionFront<'a, Expression>, ParseError>
+) -> Result<Front<'a, Counted<Expression>>, ParseError>
     requires { at + length texts.now ≤ 200000 }
-    ensures value { Gives (front_view expression_view) result (constant_at operators at texts.now) }
+    ensures value { Gives (front_view (counted_view expression_view)) result (constant_at operators at texts.now) }
     ensures place { IfOk result (Advances at texts.now) }
 {
     let [first, rest @ ..] = texts else {
@@ -283,7 +284,7 @@ fn constant_at<'a>(
         TokenText::Bits(string) => ConstantValue::Bits(string.copy(alloc)?),
         _ => return Err(misfit(Code::ExpressionExpected, at, texts)),
     };
-    Ok(ExpressionFront::new(Expression::Constant { at, value }, operators, at + 1, rest))
+    Ok(Counted::front(Expression::Constant { at, value }, operators, at + 1, rest))
 }
 
 /// A prefix operator at `at`, which opens a level, and its operand.
@@ -296,22 +297,24 @@ fn prefix_of<'a>(
     operators: u32,
     at: u32,
     rest: &'a [TokenText],
-) -> Result<ExpressionFront<'a, Expression>, ParseError>
+) -> Result<Front<'a, Counted<Expression>>, ParseError>
     requires { at + 1 + length rest.now ≤ 200000 }
-    ensures value { Gives (front_view expression_view) result (prefix_of (inside levels) operator operators at rest.now) }
+    ensures value { Gives (front_view (counted_view expression_view)) result (prefix_of (inside levels) operator operators at rest.now) }
     ensures place { IfOk result (Advances (at + 1) rest.now) }
 {
     if operators >= OPERATOR_LIMIT || levels == 0 {
         return Err(fault(Code::NestedTooDeep, at));
     }
     let operand = operand_at(alloc, levels - 1, operators + 1, at + 1, rest)?;
-    Ok(ExpressionFront::new(
+    let operators = operand.value.count;
+    let inner = Box::new(alloc, operand.value.tree)?;
+    Ok(Counted::front(
         Expression::Prefix {
             operator,
             at,
-            operand: Box::new(alloc, operand.value)?,
+            operand: inner,
         },
-        operand.operators,
+        operators,
         operand.next,
         operand.rest,
     ))
@@ -326,9 +329,9 @@ fn parenthesis_of<'a>(
     operators: u32,
     at: u32,
     rest: &'a [TokenText],
-) -> Result<ExpressionFront<'a, Expression>, ParseError>
+) -> Result<Front<'a, Counted<Expression>>, ParseError>
     requires { at + 1 + length rest.now ≤ 200000 }
-    ensures value { Gives (front_view expression_view) result (parenthesis_of (inside levels) operators at rest.now) }
+    ensures value { Gives (front_view (counted_view expression_view)) result (parenthesis_of (inside levels) operators at rest.now) }
     ensures place { IfOk result (Advances (at + 1) rest.now) }
 {
     if levels == 0 {
@@ -342,10 +345,11 @@ fn parenthesis_of<'a>(
             return Err(error);
         }
     };
-    let inner = Box::new(alloc, read.value)?;
-    Ok(ExpressionFront::new(
+    let operators = read.value.count;
+    let inner = Box::new(alloc, read.value.tree)?;
+    Ok(Counted::front(
         Expression::Parenthesized { at, inner },
-        read.operators,
+        operators,
         read.next + 1,
         behind,
     ))
@@ -361,9 +365,9 @@ fn reference_of<'a>(
     operators: u32,
     at: u32,
     texts: &'a [TokenText],
-) -> Result<ExpressionFront<'a, Reference>, ParseError>
+) -> Result<Front<'a, Counted<Reference>>, ParseError>
     requires { at + length texts.now ≤ 200000 }
-    ensures value { Gives (front_view reference_view) result (reference_of (option_map (argument_of outermost) (inside levels)) operators at texts.now) }
+    ensures value { Gives (front_view (counted_view reference_view)) result (reference_of (option_map (argument_of outermost) (inside levels)) operators at texts.now) }
     ensures place { IfOk result (Advances at texts.now) }
 {
     let Some(named) = name_first(texts) else {
@@ -374,22 +378,22 @@ fn reference_of<'a>(
     let list = arguments_at(alloc, outermost, levels, operators, at + 1, rest)?;
     let first = Part {
         name,
-        arguments: list.value,
+        arguments: list.value.tree,
     };
     let joined = joined_from(
         alloc,
         outermost,
         levels,
-        list.operators,
+        list.value.count,
         list.next,
         list.rest,
     )?;
-    Ok(ExpressionFront::new(
+    Ok(Counted::front(
         Reference {
             first,
-            joined: joined.value,
+            joined: joined.value.tree,
         },
-        joined.operators,
+        joined.value.count,
         joined.next,
         joined.rest,
     ))
@@ -405,10 +409,10 @@ fn joined_from<'a>(
     operators: u32,
     at: u32,
     texts: &'a [TokenText],
-) -> Result<ExpressionFront<'a, Vec<JoinedPart>>, ParseError>
+) -> Result<Front<'a, Counted<Vec<JoinedPart>>>, ParseError>
     requires { at + length texts.now ≤ 200000 }
-    ensures value { (bound : ℕ) → length texts.now < bound → Gives (front_view (λ v. joined_view v.items)) result (joined_from (option_map (argument_of outermost) (inside levels)) bound operators at texts.now) }
-    ensures place { IfOk result (Stays at texts.now) }
+    ensures value { (bound : ℕ) → length texts.now < bound → Gives (front_view (counted_view (λ v. joined_view v.items))) result (joined_from (option_map (argument_of outermost) (inside levels)) bound operators at texts.now) }
+    ensures place { IfOk result (Continues at texts.now) }
 {
     let mut parts = Vec::new(alloc);
     let mut operators = operators;
@@ -422,16 +426,16 @@ fn joined_from<'a>(
         let (name, more) = named;
         let name = Identifier { name, at };
         let list = arguments_at(alloc, outermost, levels, operators, at + 1, more)?;
+        operators = list.value.count;
         let part = Part {
             name,
-            arguments: list.value,
+            arguments: list.value.tree,
         };
         parts.push(JoinedPart { joining, part })?;
-        operators = list.operators;
         next = list.next;
         rest = list.rest;
     }
-    Ok(ExpressionFront::new(parts, operators, next, rest))
+    Ok(Counted::front(parts, operators, next, rest))
 }
 
 /// What stands in parentheses behind a name, if there are some.
@@ -444,19 +448,24 @@ fn arguments_at<'a>(
     operators: u32,
     at: u32,
     texts: &'a [TokenText],
-) -> Result<ExpressionFront<'a, Option<Vec<Expression>>>, ParseError>
+) -> Result<Front<'a, Counted<Option<Vec<Expression>>>>, ParseError>
     requires { at + length texts.now ≤ 200000 }
-    ensures value { Gives (front_view arguments_view) result (arguments_at (option_map (argument_of outermost) (inside levels)) operators at texts.now) }
-    ensures place { IfOk result (Stays at texts.now) }
+    ensures value { Gives (front_view (counted_view arguments_view)) result (arguments_at (option_map (argument_of outermost) (inside levels)) operators at texts.now) }
+    ensures place { IfOk result (Continues at texts.now) }
 {
     let [TokenText::Sign(Sign::OpenParenthesis), rest @ ..] = texts else {
-        return Ok(ExpressionFront::new(None, operators, at, texts));
+        return Ok(Counted::front(None, operators, at, texts));
     };
     if levels == 0 {
         return Err(fault(Code::NestedTooDeep, at));
     }
     let list = list_at(alloc, outermost, levels - 1, operators, at + 1, rest)?;
-    Ok(ExpressionFront::new(Some(list.value), list.operators, list.next, list.rest))
+    Ok(Counted::front(
+        Some(list.value.tree),
+        list.value.count,
+        list.next,
+        list.rest,
+    ))
 }
 
 /// Behind `(`: expressions and `)`, or `)` alone.
@@ -469,16 +478,16 @@ fn list_at<'a>(
     operators: u32,
     at: u32,
     texts: &'a [TokenText],
-) -> Result<ExpressionFront<'a, Vec<Expression>>, ParseError>
+) -> Result<Front<'a, Counted<Vec<Expression>>>, ParseError>
     requires { at + length texts.now ≤ 200000 }
-    ensures value { Gives (front_view (λ v. expressions_view v.items)) result (list_at (argument_of outermost (operand_at levels)) operators at texts.now) }
+    ensures value { Gives (front_view (counted_view (λ v. expressions_view v.items))) result (list_at (argument_of outermost (operand_at levels)) operators at texts.now) }
     ensures place { IfOk result (Advances at texts.now) }
 {
     if begins_expression(texts) {
         return listed_at(alloc, outermost, levels, operators, at, texts);
     }
     let behind = close_taken(at, texts)?;
-    Ok(ExpressionFront::new(Vec::new(alloc), operators, at + 1, behind))
+    Ok(Counted::front(Vec::new(alloc), operators, at + 1, behind))
 }
 
 /// One expression or more, with commas between, and `)`.
@@ -491,26 +500,26 @@ fn listed_at<'a>(
     operators: u32,
     at: u32,
     texts: &'a [TokenText],
-) -> Result<ExpressionFront<'a, Vec<Expression>>, ParseError>
+) -> Result<Front<'a, Counted<Vec<Expression>>>, ParseError>
     requires { at + length texts.now ≤ 200000 }
-    ensures value { Gives (front_view (λ v. expressions_view v.items)) result (listed_at (argument_of outermost (operand_at levels)) operators at texts.now) }
+    ensures value { Gives (front_view (counted_view (λ v. expressions_view v.items))) result (listed_at (argument_of outermost (operand_at levels)) operators at texts.now) }
     ensures place { IfOk result (Advances at texts.now) }
 {
     let first = argument_at(alloc, outermost, levels, operators, at, texts)?;
     let mut list = Vec::new(alloc);
-    list.push(first.value)?;
-    let mut operators = first.operators;
+    let mut operators = first.value.count;
+    list.push(first.value.tree)?;
     let mut next = first.next;
     let mut rest = first.rest;
     while let Some(behind) = behind_comma(rest) {
         let one = argument_at(alloc, outermost, levels, operators, next + 1, behind)?;
-        list.push(one.value)?;
-        operators = one.operators;
+        operators = one.value.count;
+        list.push(one.value.tree)?;
         next = one.next;
         rest = one.rest;
     }
     let behind = close_taken(next, rest)?;
-    Ok(ExpressionFront::new(list, operators, next + 1, behind))
+    Ok(Counted::front(list, operators, next + 1, behind))
 }
 
 /// An argument: an outermost expression, or a part of one.
@@ -523,23 +532,16 @@ fn argument_at<'a>(
     operators: u32,
     at: u32,
     texts: &'a [TokenText],
-) -> Result<ExpressionFront<'a, Expression>, ParseError>
+) -> Result<Front<'a, Counted<Expression>>, ParseError>
     requires { at + length texts.now ≤ 200000 }
-    ensures value { Gives (front_view expression_view) result (argument_of outermost (operand_at levels) operators at texts.now) }
+    ensures value { Gives (front_view (counted_view expression_view)) result (argument_of outermost (operand_at levels) operators at texts.now) }
     ensures place { IfOk result (Advances at texts.now) }
 {
-    let before = if outermost { 0 } else { operators };
-    let argument = expression_at(alloc, levels, before, at, texts)?;
-    Ok(ExpressionFront::new(
-        argument.value,
-        if outermost {
-            operators
-        } else {
-            argument.operators
-        },
-        argument.next,
-        argument.rest,
-    ))
+    if !outermost {
+        return expression_at(alloc, levels, operators, at, texts);
+    }
+    let argument = expression_at(alloc, levels, 0, at, texts)?;
+    Ok(Counted::front(argument.value.tree, operators, argument.next, argument.rest))
 }
 
 /// An outermost expression: the longest at the front. The tokens are counted from 0, of which `at` is the first here; so many
@@ -551,9 +553,9 @@ pub fn outermost_expression_at<'a>(
     levels: u32,
     at: u32,
     texts: &'a [TokenText],
-) -> Result<ExpressionFront<'a, Expression>, ParseError>
+) -> Result<Front<'a, Counted<Expression>>, ParseError>
     requires { at + length texts.now ≤ 200000 }
-    ensures value { Gives (front_view expression_view) result (expression_at levels 0 at texts.now) }
+    ensures value { Gives (front_view (counted_view expression_view)) result (expression_at levels 0 at texts.now) }
     ensures place { IfOk result (Advances at texts.now) }
 {
     expression_at(alloc, levels, 0, at, texts)
@@ -566,9 +568,9 @@ pub fn reference_at<'a>(
     levels: u32,
     at: u32,
     texts: &'a [TokenText],
-) -> Result<ExpressionFront<'a, Reference>, ParseError>
+) -> Result<Front<'a, Counted<Reference>>, ParseError>
     requires { at + length texts.now ≤ 200000 }
-    ensures value { Gives (front_view reference_view) result (reference_at levels at texts.now) }
+    ensures value { Gives (front_view (counted_view reference_view)) result (reference_at levels at texts.now) }
     ensures place { IfOk result (Advances at texts.now) }
 {
     reference_of(alloc, true, levels, 0, at, texts)
@@ -582,10 +584,10 @@ pub fn outermost_arguments_at<'a>(
     levels: u32,
     at: u32,
     texts: &'a [TokenText],
-) -> Result<ExpressionFront<'a, Option<Vec<Expression>>>, ParseError>
+) -> Result<Front<'a, Counted<Option<Vec<Expression>>>>, ParseError>
     requires { at + length texts.now ≤ 200000 }
-    ensures value { Gives (front_view arguments_view) result (arguments_at (option_map (argument_of true) (inside levels)) 0 at texts.now) }
-    ensures place { IfOk result (Stays at texts.now) }
+    ensures value { Gives (front_view (counted_view arguments_view)) result (arguments_at (option_map (argument_of true) (inside levels)) 0 at texts.now) }
+    ensures place { IfOk result (Continues at texts.now) }
 {
     arguments_at(alloc, true, levels, 0, at, texts)
 }

@@ -7,7 +7,9 @@ ghost use Rattle.pli_base.specs.declared.token.Fault.{Fault};
 ghost use Rattle.pli_parse_fault.specs.FirstFaults.{IsFirstFault};
 ghost use Rattle.pli_parse_expression.specs.Expressions.{operators, SpellsOutermost, SpellsReferenceAlone, EndsExpression, EndsReference};
 ghost use Rattle.pli_parse_expression.specs.Ends.{ExpressionEnds, ReferenceEnds};
-ghost use Rattle.pli_parse_expression.specs.Reading.{ExpressionFront, expression_at, reference_at};
+ghost use Rattle.pli_base.specs.Reading.{Front};
+ghost use Rattle.pli_parse_expression.specs.declared.counted.Counted.{Counted};
+ghost use Rattle.pli_parse_expression.specs.Reading.{counted, expression_at, reference_at};
 ghost use Rattle.pli_parse_expression.specs.laws.Laws.{FrontSpells};
 ghost use Rattle.pli_parse_expression.specs.Assignments.{IsAssignment, is_assignment};
 ghost use Rattle.pli_parse_expression.specs.examples.Examples.{SignAndSum, Differences, AllLevels, Comparisons, Alternatives, LocatedMember, NoArguments, InParentheses, TwoLists, TextEnds, NoOperand, NotClosed, NoListThere, NothingBehindComma, NoMember, NothingLocated, DeepestList, TooDeepList, TooDeepSign, LastOperator, TooManyOperators, Target};
@@ -43,7 +45,7 @@ pub fn worked_examples()
 /// A law: the front of the tokens spells the expression that is read there, within the limits.
 #[tactic(auto, using(crate::proofs::ReadIsSpelled::expression_spelled))]
 pub fn expressions_read_are_spelled()
-    ensures { (levels p : ℕ) (ts : Tokens) (x : ExpressionFront Expression) →
+    ensures { (levels p : ℕ) (ts : Tokens) (x : Front (Counted Expression)) →
         expression_at levels 0 p ts ≡ Ok x → FrontSpells (SpellsOutermost levels) p ts x }
 {}
 
@@ -51,7 +53,7 @@ pub fn expressions_read_are_spelled()
 #[tactic(auto, using(crate::proofs::SpelledIsRead::expression_is_read))]
 pub fn expressions_spelled_are_read()
     ensures { (levels p : ℕ) (ts more : Tokens) (e : Expression) → SpellsOutermost levels p ts e → EndsExpression more →
-        expression_at levels 0 p (ts ++ more) ≡ Ok (record { value = e; count = operators e; next = p + length ts; rest = more }) }
+        expression_at levels 0 p (ts ++ more) ≡ counted e (operators e) (p + length ts) more }
 {}
 
 /// A law: tokens spell one expression at most.
@@ -64,7 +66,7 @@ pub fn one_expression()
 /// A law: the front of the tokens spells the reference that is read there, within the limits.
 #[tactic(auto, using(crate::proofs::ReadIsSpelled::reference_spelled))]
 pub fn references_read_are_spelled()
-    ensures { (levels p : ℕ) (ts : Tokens) (x : ExpressionFront Reference) →
+    ensures { (levels p : ℕ) (ts : Tokens) (x : Front (Counted Reference)) →
         reference_at levels p ts ≡ Ok x → FrontSpells (SpellsReferenceAlone levels) p ts x }
 {}
 
@@ -72,7 +74,7 @@ pub fn references_read_are_spelled()
 #[tactic(auto, using(crate::proofs::SpelledIsRead::reference_is_read))]
 pub fn references_spelled_are_read()
     ensures { (levels p : ℕ) (ts more : Tokens) (r : Reference) → SpellsReferenceAlone levels p ts r → EndsReference more →
-        reference_at levels p (ts ++ more) ≡ Ok (record { value = r; count = 0; next = p + length ts; rest = more }) }
+        reference_at levels p (ts ++ more) ≡ counted r 0 (p + length ts) more }
 {}
 
 /// A law: tokens spell one reference at most.
@@ -113,10 +115,10 @@ pub fn first_faults()
 /// A law: the tokens of the tree that is read rise in the order of the text, from the first that is read to the last.
 #[tactic(auto, using(crate::proofs::TokensRise::expression_read_rises, crate::proofs::TokensRise::reference_read_rises))]
 pub fn tokens_of_trees_rise()
-    ensures expressions { (levels p : ℕ) (ts : Tokens) (x : ExpressionFront Expression) →
-        expression_at levels 0 p ts ≡ Ok x → Rises p (expression_tokens x.value) x.next }
-    ensures references { (levels p : ℕ) (ts : Tokens) (x : ExpressionFront Reference) →
-        reference_at levels p ts ≡ Ok x → Rises p (reference_tokens x.value) x.next }
+    ensures expressions { (levels p : ℕ) (ts : Tokens) (x : Front (Counted Expression)) →
+        expression_at levels 0 p ts ≡ Ok x → Rises p (expression_tokens x.value.tree) x.next }
+    ensures references { (levels p : ℕ) (ts : Tokens) (x : Front (Counted Reference)) →
+        reference_at levels p ts ≡ Ok x → Rises p (reference_tokens x.value.tree) x.next }
 {}
 
 /// A law: an expression that is spelled within the limits is read exactly before tokens that do not continue it, which its last
@@ -124,10 +126,10 @@ pub fn tokens_of_trees_rise()
 #[tactic(auto, using(crate::proofs::SpelledIsRead::expression_ends_read, crate::proofs::ReadEnds::expression_at_ends, crate::proofs::ReadEnds::expression_longest))]
 pub fn longest_expressions()
     ensures ended { (levels p : ℕ) (ts more : Tokens) (e : Expression) → SpellsOutermost levels p ts e → ExpressionEnds e more →
-        expression_at levels 0 p (ts ++ more) ≡ Ok (record { value = e; count = operators e; next = p + length ts; rest = more }) }
-    ensures left { (levels p : ℕ) (ts : Tokens) (x : ExpressionFront Expression) →
-        expression_at levels 0 p ts ≡ Ok x → ExpressionEnds x.value x.rest }
-    ensures longest { (levels p : ℕ) (ts : Tokens) (x : ExpressionFront Expression) → expression_at levels 0 p ts ≡ Ok x →
+        expression_at levels 0 p (ts ++ more) ≡ counted e (operators e) (p + length ts) more }
+    ensures left { (levels p : ℕ) (ts : Tokens) (x : Front (Counted Expression)) →
+        expression_at levels 0 p ts ≡ Ok x → ExpressionEnds x.value.tree x.rest }
+    ensures longest { (levels p : ℕ) (ts : Tokens) (x : Front (Counted Expression)) → expression_at levels 0 p ts ≡ Ok x →
         (longer more : Tokens) (e : Expression) → ts ≡ longer ++ more → SpellsOutermost levels p longer e → p + length longer ≤ x.next }
 {}
 
@@ -135,9 +137,9 @@ pub fn longest_expressions()
 #[tactic(auto, using(crate::proofs::SpelledIsRead::reference_ends_read, crate::proofs::ReadEnds::reference_at_ends, crate::proofs::ReadEnds::reference_longest))]
 pub fn longest_references()
     ensures ended { (levels p : ℕ) (ts more : Tokens) (r : Reference) → SpellsReferenceAlone levels p ts r → ReferenceEnds r more →
-        reference_at levels p (ts ++ more) ≡ Ok (record { value = r; count = 0; next = p + length ts; rest = more }) }
-    ensures left { (levels p : ℕ) (ts : Tokens) (x : ExpressionFront Reference) →
-        reference_at levels p ts ≡ Ok x → ReferenceEnds x.value x.rest }
-    ensures longest { (levels p : ℕ) (ts : Tokens) (x : ExpressionFront Reference) → reference_at levels p ts ≡ Ok x →
+        reference_at levels p (ts ++ more) ≡ counted r 0 (p + length ts) more }
+    ensures left { (levels p : ℕ) (ts : Tokens) (x : Front (Counted Reference)) →
+        reference_at levels p ts ≡ Ok x → ReferenceEnds x.value.tree x.rest }
+    ensures longest { (levels p : ℕ) (ts : Tokens) (x : Front (Counted Reference)) → reference_at levels p ts ≡ Ok x →
         (longer more : Tokens) (r : Reference) → ts ≡ longer ++ more → SpellsReferenceAlone levels p longer r → p + length longer ≤ x.next }
 {}

@@ -3,13 +3,13 @@
 #![tactic(auto)]
 
 mod assignment;
+mod counted;
 mod expression;
-mod front;
 mod laws;
 
 pub use assignment::is_assignment;
+pub use counted::Counted;
 pub use expression::{outermost_arguments_at, outermost_expression_at, reference_at};
-pub use front::ExpressionFront;
 pub use laws::{
     assignments_are_recognized, expressions_read_are_spelled, expressions_spelled_are_read,
     faults_stand_at_tokens, first_faults, longest_expressions, longest_references, one_expression,

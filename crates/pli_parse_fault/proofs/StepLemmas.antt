@@ -6,6 +6,9 @@ use Rattle.pli_base.specs.declared.token.Fault.{Fault}
 pub same_ok : {A : Type 0} {x y : A} → ◌≡◌ {A = Result A Fault} (Ok x) (Ok y) → x ≡ y
 same_ok h = cc
 
+pub same_err : {A : Type 0} {x y : Fault} → ◌≡◌ {A = Result A Fault} (Err x) (Err y) → x ≡ y
+same_err h = cc
+
 pub some_same : {A : Type 0} {x y : A} → ◌≡◌ {A = Option A} (Some x) (Some y) → x ≡ y
 some_same h = cc
 

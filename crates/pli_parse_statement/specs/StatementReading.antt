@@ -3,7 +3,7 @@
 -- the number of the next. A part that need not stand is passed over, so a fault is about what must stand
 -- next.
 use Rattle.std.specs.Prelude.{ℕ, zero, suc, ◌+◌, ◌-◌, Bool, true, false, ◌||◌, Option, Some, None, Result, Ok}
-use Rattle.std.specs.Prelude.{Err, List, [], ◌∷◌, length, option_map, is_some, codes, if◌then◌else◌}
+use Rattle.std.specs.Prelude.{List, [], ◌∷◌, length, option_map, is_some, codes, if◌then◌else◌}
 use Rattle.pli_base.specs.Name.{Name}
 use Rattle.pli_base.specs.Words.{Tokens, same_name, is_word, is_open, is_semicolon, behind}
 use Rattle.pli_base.specs.Results.{◌>>=◌}
@@ -23,6 +23,7 @@ use Rattle.pli_base.specs.declared.token.TokenText.{TokenText}
 use Rattle.pli_base.specs.declared.token.TokenText.TheVariants.{Word, Sign}
 use Rattle.pli_parse_expression.specs.Operators.{nesting_limit}
 use Rattle.pli_parse_expression.specs.Reading.{expression_at, reference_at, arguments_at, argument_of}
+use Rattle.pli_parse_expression.specs.declared.counted.Counted.{Counted}
 use Rattle.pli_parse_expression.specs.Reading as expressions
 use Rattle.pli_parse_declaration.specs.DeclarationReading.{list_at, declaration_at, returned_at}
 use Rattle.pli_parse_declaration.specs.DeclarationReading.{identifier_at}
@@ -50,9 +51,8 @@ use Rattle.pli_parse_declaration.specs.declared.list.Separator.TheVariants.{Comm
 -- parts of statements; so many levels may still be opened in their expressions
 
 -- what a reader of expressions gives, without its count of operators
-abbrev pub uncounted : {A : Type 0} → Result (expressions.ExpressionFront A) Fault → Result (Front A) Fault
-uncounted (Ok x) = read_as x.value x.next x.rest
-uncounted (Err e) = Err e
+abbrev pub uncounted : {A : Type 0} → Result (Front (Counted A)) Fault → Result (Front A) Fault
+uncounted read = mapped (λ counted. counted.tree) read
 
 -- an outermost expression
 unfoldable pub expression_in : (levels p : ℕ) → Tokens → Result (Front Expression) Fault

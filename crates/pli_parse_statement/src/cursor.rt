@@ -18,7 +18,7 @@ use pli_base::syntax::{Expression, Reference};
 use pli_base::{Code, Front, Name, ParseError, Sign, TokenText, close_taken, misfit, open_taken};
 use pli_parse_declaration::{ListReader, Separator, list_at};
 use pli_parse_expression::{
-    ExpressionFront, outermost_arguments_at, outermost_expression_at, reference_at,
+    Counted, outermost_arguments_at, outermost_expression_at, reference_at,
 };
 use std::alloc::Global;
 
@@ -58,10 +58,10 @@ pub fn equals_taken(code: Code, at: u32, texts: &[TokenText]) -> Result<&[TokenT
 }
 
 /// What was read, without the count of operators.
-fn uncounted<T>(read: ExpressionFront<'_, T>) -> Front<'_, T>
-    ensures { result ≡ record { value = read.entry.value; next = read.entry.next; rest = read.entry.rest } }
+fn uncounted<T>(read: Front<'_, Counted<T>>) -> Front<'_, T>
+    ensures { result ≡ record { value = read.entry.value.tree; next = read.entry.next; rest = read.entry.rest } }
 {
-    Front::new(read.value, read.next, read.rest)
+    Front::new(read.value.tree, read.next, read.rest)
 }
 
 /// An outermost expression.

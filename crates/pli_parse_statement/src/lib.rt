@@ -3,16 +3,15 @@
 #![tactic(auto)]
 
 mod control;
-mod counted;
 mod cursor;
 mod first;
 mod heading;
 mod keyword;
+mod listing;
 mod simple;
 mod word;
 
 pub use control::control_at;
-pub use counted::{Counted, Listing};
 pub use cursor::{expression_in, is_name};
 pub use first::{
     Context, Misplacement, NextStatement, StatementKind, bad_label, else_first, has_semicolon,
@@ -20,4 +19,5 @@ pub use first::{
 };
 pub use heading::{Heading, heading_at, word_taken};
 pub use keyword::{Keyword, StatementStanding, named_condition, statement_keyword};
+pub use listing::Listing;
 pub use simple::{assignment_at, condition_at, simple_at};

@@ -1,5 +1,5 @@
 -- Worked examples: what is read at the front of tokens, and the faults.
-use Rattle.std.specs.Prelude.{◌≡◌, ℕ, [], ◌∷◌, Ok, codes}
+use Rattle.std.specs.Prelude.{◌≡◌, ℕ, [], ◌∷◌, codes}
 use Rattle.pli_base.specs.Name.{Name}
 use Rattle.pli_base.specs.Syntax.{Expression, Referred, Constant, Parenthesized, Prefix, Infix, Named, Alone}
 use Rattle.pli_base.specs.Syntax.{Joined, Absent, Given, Empty, Listed}
@@ -11,7 +11,7 @@ use Rattle.pli_base.specs.declared.syntax.InfixOperator.TheVariants.{Subtract, M
 use Rattle.pli_base.specs.declared.syntax.Joining.TheVariants.{Member, Located}
 use Rattle.pli_base.specs.declared.token.Sign.TheVariants as signs
 use Rattle.pli_base.specs.declared.token.TokenText.TheVariants.{Word, Decimal, Characters, Sign}
-use Rattle.pli_parse_expression.specs.Reading.{expression_at, reference_at}
+use Rattle.pli_parse_expression.specs.Reading.{counted, expression_at, reference_at}
 use Rattle.pli_base.specs.Reading.{at_fault}
 
 -- a name alone
@@ -23,66 +23,41 @@ abbrev pub SignAndSum : Type 0
 SignAndSum =
     expression_at 64 0 0 (Sign signs.Minus ∷ Word (codes "A") ∷ Sign signs.Plus ∷ Word (codes "B")
     ∷ Sign signs.Times ∷ Word (codes "C") ∷ [])
-    ≡ Ok (record {
-      value = Infix Add 2 (Prefix prefixes.Minus 0 (plain (codes "A") 1))
-          (Infix Multiply 4 (plain (codes "B") 3) (plain (codes "C") 5));
-      count = 3;
-      next = 6;
-      rest = [];
-    })
+    ≡ counted (Infix Add 2 (Prefix prefixes.Minus 0 (plain (codes "A") 1))
+    (Infix Multiply 4 (plain (codes "B") 3) (plain (codes "C") 5))) 3 6 []
 
 -- A - B - C is (A - B) - C
 abbrev pub Differences : Type 0
 Differences =
     expression_at 64 0 0 (Word (codes "A") ∷ Sign signs.Minus ∷ Word (codes "B") ∷ Sign signs.Minus
     ∷ Word (codes "C") ∷ [])
-    ≡ Ok (record {
-      value = Infix Subtract 3 (Infix Subtract 1 (plain (codes "A") 0) (plain (codes "B") 2))
-          (plain (codes "C") 4);
-      count = 2;
-      next = 5;
-      rest = [];
-    })
+    ≡ counted (Infix Subtract 3 (Infix Subtract 1 (plain (codes "A") 0) (plain (codes "B") 2))
+    (plain (codes "C") 4)) 2 5 []
 
 -- 'AB' || C = D & ^ E is (('AB' || C) = D) & (^ E)
 abbrev pub AllLevels : Type 0
 AllLevels =
     expression_at 64 0 0 (Characters (codes "AB") ∷ Sign signs.Concatenate ∷ Word (codes "C")
     ∷ Sign signs.Equals ∷ Word (codes "D") ∷ Sign signs.And ∷ Sign signs.Not ∷ Word (codes "E") ∷ [])
-    ≡ Ok (record {
-      value = Infix And 5
-          (Infix Equal 3
-          (Infix Concatenate 1 (Constant 0 (constants.Characters (codes "AB"))) (plain (codes "C") 2))
-          (plain (codes "D") 4)) (Prefix prefixes.Not 6 (plain (codes "E") 7));
-      count = 4;
-      next = 8;
-      rest = [];
-    })
+    ≡ counted (Infix And 5
+    (Infix Equal 3 (Infix Concatenate 1 (Constant 0 (constants.Characters (codes "AB")))
+    (plain (codes "C") 2)) (plain (codes "D") 4)) (Prefix prefixes.Not 6 (plain (codes "E") 7))) 4 8 []
 
 -- A < B = C is (A < B) = C
 abbrev pub Comparisons : Type 0
 Comparisons =
     expression_at 64 0 0 (Word (codes "A") ∷ Sign signs.Less ∷ Word (codes "B") ∷ Sign signs.Equals
     ∷ Word (codes "C") ∷ [])
-    ≡ Ok (record {
-      value = Infix Equal 3 (Infix Less 1 (plain (codes "A") 0) (plain (codes "B") 2))
-          (plain (codes "C") 4);
-      count = 2;
-      next = 5;
-      rest = [];
-    })
+    ≡ counted (Infix Equal 3 (Infix Less 1 (plain (codes "A") 0) (plain (codes "B") 2))
+    (plain (codes "C") 4)) 2 5 []
 
 -- A | B & C is A | (B & C), and ends at a semicolon
 abbrev pub Alternatives : Type 0
 Alternatives =
     expression_at 64 0 0 (Word (codes "A") ∷ Sign signs.Or ∷ Word (codes "B") ∷ Sign signs.And
     ∷ Word (codes "C") ∷ Sign signs.Semicolon ∷ [])
-    ≡ Ok (record {
-      value = Infix Or 1 (plain (codes "A") 0) (Infix And 3 (plain (codes "B") 2) (plain (codes "C") 4));
-      count = 2;
-      next = 5;
-      rest = Sign signs.Semicolon ∷ [];
-    })
+    ≡ counted (Infix Or 1 (plain (codes "A") 0)
+    (Infix And 3 (plain (codes "B") 2) (plain (codes "C") 4))) 2 5 (Sign signs.Semicolon ∷ [])
 
 -- P -> S.X(I, J)
 abbrev pub LocatedMember : Type 0
@@ -90,40 +65,22 @@ LocatedMember =
     expression_at 64 0 0 (Word (codes "P") ∷ Sign signs.Arrow ∷ Word (codes "S") ∷ Sign signs.Period
     ∷ Word (codes "X") ∷ Sign signs.OpenParenthesis ∷ Word (codes "I") ∷ Sign signs.Comma ∷ Word (codes "J")
     ∷ Sign signs.CloseParenthesis ∷ [])
-    ≡ Ok (record {
-      value = Referred (Named (record {
-        name = codes "P";
-        at =
-            0;
-      }) Absent (Joined Located (record {
-        name = codes "S";
-        at =
-            2;
-      }) Absent (Joined Member (record {
-        name = codes "X";
-        at = 4;
-      }) (Given (Listed (plain (codes "I") 6) (Listed (plain (codes "J") 8) Empty))) Alone)));
-      count = 0;
-      next = 10;
-      rest = [];
-    })
+    ≡ counted (Referred (Named (record { name = codes "P"; at = 0 }) Absent
+    (Joined Located (record { name = codes "S"; at = 2 }) Absent
+    (Joined Member (record { name = codes "X"; at = 4 })
+    (Given (Listed (plain (codes "I") 6) (Listed (plain (codes "J") 8) Empty))) Alone)))) 0 10 []
 
 -- F() is not F
 abbrev pub NoArguments : Type 0
 NoArguments =
     expression_at 64 0 0 (Word (codes "F") ∷ Sign signs.OpenParenthesis ∷ Sign signs.CloseParenthesis ∷ [])
-    ≡ Ok (record {
-      value = Referred (Named (record { name = codes "F"; at = 0 }) (Given Empty) Alone);
-      count = 0;
-      next = 3;
-      rest = [];
-    })
+    ≡ counted (Referred (Named (record { name = codes "F"; at = 0 }) (Given Empty) Alone)) 0 3 []
 
 -- (A) is not A
 abbrev pub InParentheses : Type 0
 InParentheses =
     expression_at 64 0 0 (Sign signs.OpenParenthesis ∷ Word (codes "A") ∷ Sign signs.CloseParenthesis ∷ [])
-    ≡ Ok (record { value = Parenthesized 0 (plain (codes "A") 1); count = 0; next = 3; rest = [] })
+    ≡ counted (Parenthesized 0 (plain (codes "A") 1)) 0 3 []
 
 -- A(1)(2) ends before the second list
 abbrev pub TwoLists : Type 0
@@ -131,15 +88,9 @@ TwoLists =
     expression_at 64 0 0 (Word (codes "A") ∷ Sign signs.OpenParenthesis ∷ Decimal 1 1
     ∷ Sign signs.CloseParenthesis ∷ Sign signs.OpenParenthesis ∷ Decimal 2 1 ∷ Sign signs.CloseParenthesis
     ∷ [])
-    ≡ Ok (record {
-      value = Referred (Named (record {
-        name = codes "A";
-        at = 0;
-      }) (Given (Listed (Constant 2 (constants.Decimal 1 1)) Empty)) Alone);
-      count = 0;
-      next = 4;
-      rest = Sign signs.OpenParenthesis ∷ Decimal 2 1 ∷ Sign signs.CloseParenthesis ∷ [];
-    })
+    ≡ counted (Referred (Named (record { name = codes "A"; at = 0 })
+    (Given (Listed (Constant 2 (constants.Decimal 1 1)) Empty)) Alone)) 0 4
+    (Sign signs.OpenParenthesis ∷ Decimal 2 1 ∷ Sign signs.CloseParenthesis ∷ [])
 
 -- where the text ends, the fault stands at its last token
 abbrev pub TextEnds : Type 0
@@ -185,15 +136,8 @@ abbrev pub DeepestList : Type 0
 DeepestList =
     expression_at 2 0 0 (Word (codes "A") ∷ Sign signs.OpenParenthesis ∷ Sign signs.OpenParenthesis
     ∷ Word (codes "B") ∷ Sign signs.CloseParenthesis ∷ Sign signs.CloseParenthesis ∷ [])
-    ≡ Ok (record {
-      value = Referred (Named (record {
-        name = codes "A";
-        at = 0;
-      }) (Given (Listed (Parenthesized 2 (plain (codes "B") 3)) Empty)) Alone);
-      count = 0;
-      next = 6;
-      rest = [];
-    })
+    ≡ counted (Referred (Named (record { name = codes "A"; at = 0 })
+    (Given (Listed (Parenthesized 2 (plain (codes "B") 3)) Empty)) Alone)) 0 6 []
 
 -- A((B)) where only one level may be opened
 abbrev pub TooDeepList : Type 0
@@ -210,12 +154,7 @@ TooDeepSign = expression_at 1 0 0 (Sign signs.Minus ∷ Sign signs.Minus ∷ Wor
 -- the thousandth operator
 abbrev pub LastOperator : Type 0
 LastOperator = expression_at 64 999 0 (Word (codes "A") ∷ Sign signs.Plus ∷ Word (codes "B") ∷ [])
-    ≡ Ok (record {
-      value = Infix Add 1 (plain (codes "A") 0) (plain (codes "B") 2);
-      count = 1000;
-      next = 3;
-      rest = [];
-    })
+    ≡ counted (Infix Add 1 (plain (codes "A") 0) (plain (codes "B") 2)) 1000 3 []
 
 -- the next one, whatever stands behind it
 abbrev pub TooManyOperators : Type 0
@@ -227,12 +166,6 @@ abbrev pub Target : Type 0
 Target =
     reference_at 64 0 (Word (codes "X") ∷ Sign signs.OpenParenthesis ∷ Word (codes "A") ∷ Sign signs.Plus
     ∷ Word (codes "B") ∷ Sign signs.CloseParenthesis ∷ Sign signs.Equals ∷ Decimal 1 1 ∷ [])
-    ≡ Ok (record {
-      value = Named (record {
-        name = codes "X";
-        at = 0;
-      }) (Given (Listed (Infix Add 3 (plain (codes "A") 2) (plain (codes "B") 4)) Empty)) Alone;
-      count = 0;
-      next = 6;
-      rest = Sign signs.Equals ∷ Decimal 1 1 ∷ [];
-    })
+    ≡ counted (Named (record { name = codes "X"; at = 0 })
+    (Given (Listed (Infix Add 3 (plain (codes "A") 2) (plain (codes "B") 4)) Empty)) Alone) 0 6
+    (Sign signs.Equals ∷ Decimal 1 1 ∷ [])

@@ -2,6 +2,7 @@
 use Rattle.std.specs.Prelude.{◌≡◌, ◌+◌, ◌<◌, ◌≤◌, ℕ, Result, length, map}
 use Rattle.pli_base.specs.Words.{Tokens}
 use Rattle.pli_base.specs.Reading.{Front, mapped, read_as}
+use Rattle.pli_base.specs.declared.reading.Front as made
 use Rattle.pli_base.specs.declared.token.Fault.{Fault}
 use Rattle.pli_base.specs.declared.syntax.Identifier.{Identifier}
 use Rattle.pli_parse_declaration.specs.DeclarationReading.{returned_at}
@@ -22,8 +23,8 @@ use Rattle.pli_parse_statement.specs.declared.keyword.Keyword.{Keyword}
 use Rattle.pli_parse_statement.specs.declared.keyword.Keyword.TheVariants.{GoTo}
 use Rattle.pli_parse_statement.specs.declared.control.SpecificationStart.{SpecificationStart}
 use Rattle.pli_parse_statement.specs.declared.control.SpecificationStart.TheVariants as specifieds
-use Rattle.pli_parse_statement.specs.declared.counted.Counted.{Counted}
-use Rattle.pli_parse_statement.specs.declared.counted.Listing.{Listing}
+use Rattle.pli_parse_expression.specs.declared.counted.Counted.{Counted}
+use Rattle.pli_parse_statement.specs.declared.listing.Listing.{Listing}
 use Rattle.pli_parse_statement.specs.declared.word.PlaceWord.{PlaceWord}
 use Rattle.pli_parse_statement.specs.declared.word.PlaceWord.TheVariants as places
 use Rattle.pli_parse_statement.specs.declared.word.PutWord.{PutWord}
@@ -119,13 +120,14 @@ abbrev pub BehindNext : ℕ → NextStatement → Type 0
 BehindNext n (nexts.EndsHere rest) = length rest.now + 1 ≡ n
 BehindNext n nexts.Another = Unit {0}
 
--- what was read, apart from where it lies in memory
-abbrev pub counted_view : {X Y : Type 0} → (X → Y) → Counted X → Front Y
-counted_view view x = record { value = view x.value; next = x.next; rest = x.rest.now }
+-- the tree, apart from where it lies in memory, without the count
+abbrev pub tree_view : {X Y : Type 0} → (X → Y) → Counted X → Y
+tree_view view x = view x.tree
 
 -- one statement was counted or more, and no more than tokens were passed over; the rest is left
-abbrev pub Counts : {X : Type 0} → (p k : ℕ) → Tokens → Counted X → Type 0
-Counts p k ts x = (k < x.number) × (x.number + p ≤ x.next + k) × (x.next + length x.rest.now ≡ p + length ts)
+abbrev pub Counts : {X : Type 0} → (p k : ℕ) → Tokens → made.Front (Counted X) → Type 0
+Counts p k ts x =
+    (k < x.value.count) × (x.value.count + p ≤ x.next + k) × (x.next + length x.rest.now ≡ p + length ts)
 
 -- what reads inside one level more, where so many may be opened there
 abbrev pub inside_at : ℕ → reading.Inside
