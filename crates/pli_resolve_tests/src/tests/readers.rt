@@ -117,7 +117,7 @@ fn put_expression(shown: &mut Shown, alloc: Global, levels: u32, tokens: &[Token
 {
     match outermost_expression_at(alloc, levels, 0, tokens) {
         Ok(front) => {
-            show_expression(shown, &front.value);
+            show_expression(shown, &front.value.tree);
             shown.put_number(" ", u64::from(front.next));
             drop(front);
         }
@@ -131,9 +131,9 @@ fn put_reference(shown: &mut Shown, alloc: Global, tokens: &[TokenText])
 {
     match reference_at(alloc, 64, 0, tokens) {
         Ok(front) => {
-            show_reference(shown, &front.value);
+            show_reference(shown, &front.value.tree);
             shown.put_number(" ", u64::from(front.next));
-            shown.put_number(" ", u64::from(front.operators));
+            shown.put_number(" ", u64::from(front.value.count));
             shown.put_number(" of ", tokens.len() as u64);
             drop(front);
         }
