@@ -1,9 +1,9 @@
 #!/usr/bin/env python3
 """gate.py [LOG]: what the gate costs, measured, as the table of docs/GATE.md.
 
-Runs `rt ci --anew` on a clean clone of what is committed here, with nothing else beside it, and writes each line with the seconds since the start to LOG (gate.log, if none is
-given). While it runs, it looks twice a second at the prover's processes, and so knows for each crate what its proof, its tests and its must-fail edits cost.
-If the gate passes, the table in docs/GATE.md is replaced. The status is the gate's. Takes as long as the gate.
+Runs .ci/run on a clean clone of what is committed here, with nothing else beside it, and writes each line with the seconds since the start to LOG (gate.log, if none is given). While
+it runs, it looks twice a second at the prover's processes, and so knows for each crate what its proof, its tests and its must-fail edits cost.
+If the gate passes, the table in docs/GATE.md is replaced. The status is the gate's. Takes as long as the gate, and says too little where the kit keeps what earlier runs proved.
 """
 import os
 import re
@@ -154,7 +154,7 @@ def main():
         started = time.monotonic()
         looking = threading.Thread(target=watch.run, args=(started,), daemon=True)
         looking.start()
-        with subprocess.Popen(['rt', 'ci', '--anew'], cwd=f'{room}/juranikko', stdout=subprocess.PIPE, stderr=subprocess.STDOUT, stdin=subprocess.DEVNULL, errors='replace', text=True) as run:
+        with subprocess.Popen(['bash', '.ci/run'], cwd=f'{room}/juranikko', stdout=subprocess.PIPE, stderr=subprocess.STDOUT, stdin=subprocess.DEVNULL, errors='replace', text=True) as run:
             for line in run.stdout:
                 out.write('%7.0f %s' % (time.monotonic() - started, line))
                 out.flush()
