@@ -62,7 +62,7 @@ def main():
         print(f'{crate} {found[1]} {found[2]} -> {count}')
         return f'`{found[1]}`{found[0][len(found[1]) + 2:-len(found[2])]}{count}'
 
-    new = re.sub(r'`(\w+)`(?:\s(\d+)(?=[,;)\s]))?', renewed, text)
+    new = re.sub(r'`(\w+)`(?:\s+(\d+)(?=[,;:)\s]))?', renewed, text)
     files = reached()
     lines = [line.strip() for path in files for line in lines_of(path)]
     own = [line for line in lines if line and not line.startswith(('--', 'use ', 'pub mod'))]
