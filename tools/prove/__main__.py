@@ -1,10 +1,12 @@
-"""prove [--plan] [--places N] [CRATE]: proves and builds a program, by default pliwb, with all crates that it stands on.
+"""prove [--plan] [--places N] [CRATE]: proves and builds a program, by default pliwb, and all that it stands on.
 
-Crates are proved side by side, one on each processor, as many as fit into memory, and those first on which the longest chain waits. What was proved
-before and has not changed is not proved again. A run that is stopped goes on where it was the next time. --places N proves N at a time; --plan
-shows when each crate would begin and end, and proves nothing. A line for each crate goes to standard error.
+Crates are proved side by side, one on each processor, as many as fit into memory, and those first on which the longest
+chain waits. What was proved before and has not changed is not proved again. A run that is stopped goes on where it was
+the next time. --places N proves N at a time; --plan shows when each crate would begin and end, and proves nothing. A
+line for each crate goes to standard error.
 
-Status 0: it is proved and built. 1: a crate is refused, or sources changed meanwhile. 2: words that are no call. 130 or 143: it was stopped.
+Status 0: it is proved and built. 1: a crate is refused, or sources changed meanwhile. 2: words that are no call. 129,
+130 or 143: it was stopped by a signal.
 """
 import contextlib
 import fcntl
@@ -23,6 +25,7 @@ TOP = Path(__file__).resolve().parent.parent.parent
 ROOMS = TOP / "out" / "prove"
 PARTS = ("src", "specs", "proofs")
 CHECK = 4_100_000_000  # bytes of the greatest process of a proof
+SIGNALS = (signal.SIGINT, signal.SIGTERM, signal.SIGHUP)
 
 
 def tell(text):
@@ -55,7 +58,6 @@ class Repository:
         self.uses = {name: every[name] for name in schedule.below(every, crate)}
         known = schedule.measured((TOP / "docs" / "GATE.md").read_text())
         self.minutes = {name: known.get(name) or schedule.guessed(self.folder(name)) for name in self.uses}
-        self.version = subprocess.run(["rt", "version"], stdout=subprocess.PIPE, check=True).stdout
 
     def folder(self, name):
         return TOP / "crates" / name
@@ -65,27 +67,38 @@ class Repository:
         return self.folder(name) / "out" / name if (self.folder(name) / "src" / "main.rt").exists() else None
 
     def lines(self, names):
-        return "".join(line + "\n" for line in self.text.splitlines() if line.partition(":")[0].strip() in names)
+        """The lines of these crates in the list of crates."""
+        return "".join(line + "\n" for line in self.text.splitlines() if {*line.partition(":")[0].split()} & {*names})
 
     def sums(self):
         """For each crate a sum of all that its proof rests on."""
-        found = {}
+        version, found = subprocess.run(["rt", "version"], stdout=subprocess.PIPE, check=True).stdout, {}
         for name in self.uses:
-            made = hashlib.sha256(repr((self.version, self.lines([name]), [found[it] for it in self.uses[name]])).encode())
+            under = [found[it] for it in self.uses[name]]
+            made = hashlib.sha256(repr((version, self.lines([name]), under)).encode())
             for part in PARTS:
                 for file in sorted(it for it in (self.folder(name) / part).rglob("*") if it.is_file()):
                     made.update(f"{file.relative_to(TOP)} {file.stat().st_size}\n".encode() + file.read_bytes())
             found[name] = made.hexdigest()
         return found
 
-    def mark(self, name):
-        """Where it is kept which sum a crate was proved at: among what a new proof begins by removing."""
-        made = self.folder(name) / "out"
-        return made / "proved" if self.program(name) else made / "rlib" / "proved"
+    def note(self, name, sums):
+        """Where and by which words it is noted that a crate was proved at its sum. rt removes a library with its note
+        before it makes it anew; the note of a program tells which program."""
+        program, made = self.program(name), self.folder(name) / "out"
+        if not program:
+            return made / "rlib" / "proved", sums[name]
+        bytes_of = program.read_bytes() if program.exists() else b""
+        return made / "proved", f"{sums[name]} {hashlib.sha256(bytes_of).hexdigest()}"
 
     def proved(self, sums):
         """The crates that stand."""
-        return {name for name in self.uses if self.mark(name).exists() and self.mark(name).read_text() == sums[name]}
+        notes = {name: self.note(name, sums) for name in self.uses}
+        return {name for name, (file, words) in notes.items() if file.exists() and file.read_text() == words}
+
+    def write_note(self, name, sums):
+        file, words = self.note(name, sums)
+        file.write_text(words)
 
     @contextlib.contextmanager
     def held(self):
@@ -112,7 +125,7 @@ def take_turn(holder, folder):
 class Check:
     """A crate that is being proved, in a room of its own: rt lets one check at a time into the crates that it reads.
 
-    The room has copies of the sources, links to the libraries below, and the crate's own folder out, which goes back."""
+    In it are copies of the sources, links to the libraries below, and the crate's own folder out, which goes back."""
 
     def __init__(self, repository, name):
         self.name, self.room, self.began = name, ROOMS / name, time.monotonic()
@@ -121,8 +134,8 @@ class Check:
             self.furnish(repository.folder(each), self.room / "crates" / each, each != name)
         (self.room / "crates.txt").write_text(repository.lines(names))
         self.said = open(self.room / "said", "w+", errors="replace")
-        self.process = subprocess.Popen(["rt", "lib", "--jobs", "1"], cwd=self.room / "crates" / name, stdin=subprocess.DEVNULL,
-                                        stdout=self.said, stderr=subprocess.STDOUT)
+        how = {"stdin": subprocess.DEVNULL, "stdout": self.said, "stderr": subprocess.STDOUT}
+        self.process = subprocess.Popen(["rt", "lib", "--jobs", "1"], cwd=self.room / "crates" / name, **how)
 
     @staticmethod
     def furnish(folder, place, stands):
@@ -157,7 +170,7 @@ def leave(room):
 
 
 def leave_all():
-    """Empties the rooms of a run that was killed, once its checks have ended."""
+    """Empties the rooms that are left, as those of a run that was killed, once what works there has ended."""
     for room in sorted(ROOMS.iterdir()) if ROOMS.exists() else ():
         folder = room / "crates" / room.name
         if folder.exists():
@@ -187,7 +200,8 @@ class Run:
 
     def tell(self, what):
         gone = time.monotonic() - self.started
-        tell(f"{what}, {len(self.done)} of {len(self.repository.uses)}, {gone // 60:.0f} min {gone % 60:.0f} s; some {clock(self.left())} left")
+        stand = f"{len(self.done)} of {len(self.repository.uses)} stand"
+        tell(f"{what}: {stand}, {gone // 60:.0f} min {gone % 60:.0f} s; some {clock(self.left())} left")
 
     def begin(self):
         """Begins what can begin, unless a crate was refused; whether anything runs."""
@@ -204,11 +218,11 @@ class Run:
         if status:
             self.failed.append(name)
             print(said, end="", file=sys.stderr)
-            tell(f"{name} is refused" if status == 1 else f"the check of {name} broke off with status {status}, and judged nothing")
+            tell(f"{name} is refused" if status == 1 else f"the check of {name} broke off with status {status}")
             if self.checks:
                 tell(f"no other is begun; first {' '.join(self.checks)} will end")
             return
-        self.repository.mark(name).write_text(self.sums[name])
+        self.repository.write_note(name, self.sums)
         self.done.add(name)
         self.taken, self.reckoned = self.taken + minutes, self.reckoned + self.repository.minutes[name]
         self.tell(f"{name} proved")
@@ -225,6 +239,7 @@ class Run:
         finally:
             for check in self.checks.values():
                 check.close()
+            leave_all()
         return not self.failed
 
 
@@ -243,8 +258,9 @@ def build(run):
     if not unchanged(run):
         return False
     if program and crate not in run.done:
-        ran = subprocess.run(["rt", "run", "--jobs", "1"], cwd=repository.folder(crate), stdin=subprocess.DEVNULL,
-                             stdout=subprocess.PIPE, stderr=subprocess.STDOUT, errors="replace")
+        run.tell(f"proving and building {crate}")
+        how = {"stdin": subprocess.DEVNULL, "stdout": subprocess.PIPE, "stderr": subprocess.STDOUT, "errors": "replace"}
+        ran = subprocess.run(["rt", "run", "--jobs", "1"], cwd=repository.folder(crate), **how)
     if ran and ran.returncode:
         print(ran.stdout, end="", file=sys.stderr)
         tell(f"{crate} is refused, or did not run")
@@ -252,7 +268,7 @@ def build(run):
     if program and not unchanged(run):
         return False
     if program:
-        repository.mark(crate).write_text(run.sums[crate])
+        repository.write_note(crate, run.sums)
         # What changes from now on is newer than the program.
         os.utime(program)
     return True
@@ -260,14 +276,18 @@ def build(run):
 
 def show_plan(repository, places):
     uses, minutes = repository.uses, repository.minutes
-    for name, (begins, ends) in sorted(schedule.times(uses, minutes, places).items(), key=lambda it: it[1]):
+    planned = schedule.times(uses, minutes, places)
+    for name, (begins, ends) in sorted(planned.items(), key=lambda it: it[1]):
         print(f"{begins:6.1f} {ends:6.1f}  {name}")
     chain, whole = max(schedule.chains(uses, minutes).values()), sum(minutes.values())
-    print(f"{schedule.length(uses, minutes, places):.1f} minutes, {places} crates at a time; the longest chain {chain:.1f}; all one after the other {whole:.1f}")
+    print(f"{schedule.length(uses, minutes, places):.1f} minutes, {places} crates at a time")
+    print(f"the longest chain takes {chain:.1f}, all crates one after the other {whole:.1f}")
 
 
 def stop(number, _):
     """Ends the run at a signal, as at an error: what is under way is put away first."""
+    for it in SIGNALS:
+        signal.signal(it, signal.SIG_IGN)
     sys.exit(128 + number)
 
 
@@ -285,29 +305,38 @@ def words(given):
     return plan, places and int(places), named[0]
 
 
+def prove(repository, places):
+    """Whether all stands in the end."""
+    started = time.monotonic()
+    with repository.held():
+        leave_all()
+        run = Run(repository, places, started)
+        run.tell(f"{places} crates at a time")
+        stands = run.prove()
+    stands = stands and build(run)
+    if stands:
+        tell(f"{repository.crate} stands, {(time.monotonic() - started) / 60:.1f} min")
+    return stands
+
+
 def main():
     call = words(sys.argv[1:])
     if not call:
         print(__doc__.strip(), file=sys.stderr)
         return 2
     plan, places, crate = call
-    started, repository = time.monotonic(), Repository(crate)
+    repository = Repository(crate)
     places = places or max(min(len(os.sched_getaffinity(0)), free_memory() // CHECK), 1)
     if plan:
         show_plan(repository, places)
         return 0
-    for it in (signal.SIGINT, signal.SIGTERM, signal.SIGHUP):
+    for it in SIGNALS:
         signal.signal(it, stop)
-    with repository.held():
-        leave_all()
-        run = Run(repository, places, started)
-        run.tell(f"{crate}: {places} crates at a time, and what stands already")
-        if not run.prove():
-            return 1
-    if not build(run):
+    try:
+        return 0 if prove(repository, places) else 1
+    except (OSError, shutil.Error) as error:
+        tell(error)
         return 1
-    tell(f"{crate} stands, {(time.monotonic() - started) / 60:.1f} min")
-    return 0
 
 
 if __name__ == "__main__":

@@ -1,4 +1,4 @@
-"""The order in which crates are proved: what each waits for, what its proof is reckoned at, and how long all of it takes."""
+"""The order in which crates are proved: what each waits for, what its proof is reckoned at, how long all takes."""
 import re
 from pathlib import Path
 
@@ -45,7 +45,7 @@ def guessed(folder):
 
 
 def chains(uses, minutes):
-    """For each crate the minutes of the longest chain of proofs that begins with it, and goes on with those that wait for it."""
+    """For each crate the minutes of the longest chain of proofs that begins with it, each waiting for the last."""
     lengths = {}
     for name in reversed([*uses]):
         above = [lengths[it] for it in lengths if name in uses[it]]
