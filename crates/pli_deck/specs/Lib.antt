@@ -8,6 +8,7 @@ pub mod Instructions
 pub mod ModuleFields
 pub mod ModuleSpelling
 pub mod ModuleView
+pub mod Numbered
 pub mod Spelling
 pub mod Whole
 pub mod examples
