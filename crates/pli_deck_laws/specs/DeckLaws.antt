@@ -1,5 +1,5 @@
--- What a deck says of its unit: where units are well formed, no number is wider than its field, the deck is one
--- that bytes spell, and it says each value as the code has it.
+-- What a deck says of its unit: where units are well formed, no number is wider than its field, the deck is
+-- one that bytes spell, and it says each value as the code has it.
 use Rattle.std.specs.Prelude.{◌≡◌, ℕ, Bool, false, Some, get_or, slice_get}
 use Rattle.std.specs.List.{list_any}
 use Rattle.pli_deck.specs.DeckFaults.{scalar_at}
