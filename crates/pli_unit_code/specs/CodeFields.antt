@@ -1,5 +1,5 @@
--- Code whose numbers are within the fields that its bytes have for them (own). An instruction of the code of a
--- unit has numbers that are never wider; here they are numbers, and these tests say how wide they may be.
+-- Code whose numbers are within the fields that its bytes have for them (own). An instruction in memory never
+-- has a wider one; definitions speak of numbers of any size, and these tests say how large they may be.
 use Rattle.std.specs.Prelude.{ℕ, nat_le, nat_lt, Bool, true, ◌&&◌, Option, Some, None}
 use Rattle.pli_unit_code.specs.CodeTables.{CodedBlock}
 use Rattle.pli_unit_code.specs.declared.instruction.Instruction.{Instruction}
@@ -13,8 +13,8 @@ is_byte n = nat_le n 255
 abbrev pub is_short : ℕ → Bool
 is_short n = nat_le n 65535
 
--- blocks, globals, slots and temporaries are numbers of two bytes, arguments and static links of one; numbers of
--- entries and targets are kept within two bytes by the limits of tables
+-- blocks, globals, slots and temporaries are numbers of two bytes, arguments and static links of one; the limits
+-- of tables keep numbers of entries and targets within two bytes
 abbrev pub instruction_fits : Instruction → Bool
 instruction_fits (coded.Goto outward target) = is_byte outward
 instruction_fits (coded.Call block arguments) = is_short block && is_byte arguments
