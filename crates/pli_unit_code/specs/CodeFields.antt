@@ -13,8 +13,8 @@ is_byte n = nat_le n 255
 abbrev pub is_short : ℕ → Bool
 is_short n = nat_le n 65535
 
--- blocks, globals, slots and temporaries are numbers of two bytes, arguments and static links of one; the limits
--- of tables keep numbers of entries and targets within two bytes
+-- blocks, globals, slots and temporaries are numbers of two bytes, arguments and static links of one; numbers
+-- of entries and targets are within two bytes by the limits of tables
 abbrev pub instruction_fits : Instruction → Bool
 instruction_fits (coded.Goto outward target) = is_byte outward
 instruction_fits (coded.Call block arguments) = is_short block && is_byte arguments
