@@ -3,6 +3,7 @@ pub mod DeckFields
 pub mod DeckView
 pub mod Decks
 pub mod Descriptions
+pub mod FaultNumbers
 pub mod Fields
 pub mod Instructions
 pub mod ModuleFields
