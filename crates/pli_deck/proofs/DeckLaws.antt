@@ -22,6 +22,7 @@ use Rattle.pli_deck.proofs.FieldLaws.{AreBytes-drop, bind_ok, held_ok, guard_ok,
 use Rattle.pli_deck.proofs.FormLaws.{AllRead, unknown_reads, made_reads, made_again, tagged_law}
 use Rattle.pli_deck.proofs.DescriptionLaws.{description_law}
 use Rattle.pli_deck.proofs.InstructionLaws.{instruction_law}
+use Rattle.pli_deck.proofs.NumberedLaws.{block_kind_law}
 
 -- ---- names, flags and numbers that may be absent
 
@@ -240,9 +241,6 @@ globals_again (ExternalEntry n s) rest h = made_again (name ⊗ signature) (name
 global_law : IsField global
 unfolding global
 global_law = tagged_law global_form global_readers globals_read globals_again
-
-block_kind_law : IsField block_kind
-block_kind_law = from_to_law 0 2 u1 byte_law
 
 block_law : IsField block
 unfolding block

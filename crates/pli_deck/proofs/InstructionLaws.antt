@@ -1,29 +1,21 @@
 -- The laws of the field of instructions.
 use Rattle.std.proofs.Common.{◌≡◌, ℕ, true, List, ◌++◌, get_or, Ok, refl}
-use Rattle.pli_deck.specs.declared.instruction.DeckInstruction.{DeckInstruction}
-use Rattle.pli_deck.specs.declared.instruction.DeckInstruction.TheVariants as op
+use Rattle.pli_unit_code.specs.declared.instruction.Instruction.{Instruction}
+use Rattle.pli_unit_code.specs.declared.instruction.Instruction.TheVariants as op
 use Rattle.pli_deck.specs.Fields.{BothWays, nothing, ◌⊗◌, form, made, unknown, u1, u2, u4}
 use Rattle.pli_deck.specs.Descriptions.{precision, bound}
 use Rattle.pli_deck.specs.Instructions.{error, relation, condition, instruction_form, instruction_readers, instruction}
-use Rattle.pli_deck.proofs.FieldLaws.{IsField, byte_law, u2_law, u4_law, nothing_law, from_to_law, pair_law, both_ways}
+use Rattle.pli_deck.proofs.FieldLaws.{IsField, byte_law, u2_law, u4_law, nothing_law, pair_law, both_ways}
 use Rattle.pli_deck.proofs.FormLaws.{AllRead, Reads, unknown_reads, made_reads, made_again, tagged_law}
 use Rattle.pli_deck.proofs.DescriptionLaws.{precision_law, bound_law}
-
-error_law : IsField error
-error_law = from_to_law 1 13 u1 byte_law
-
-relation_law : IsField relation
-relation_law = from_to_law 0 5 u1 byte_law
-
-condition_law : IsField condition
-condition_law = from_to_law 0 2 u1 byte_law
+use Rattle.pli_deck.proofs.NumberedLaws.{error_law, relation_law, condition_law}
 
 -- what has no operand
-bare : (i : DeckInstruction) (tag : ℕ) → instruction_form i ≡ form tag nothing tt → Reads instruction_form tag (made (λ (u : Unit {0}). i) nothing)
+bare : (i : Instruction) (tag : ℕ) → instruction_form i ≡ form tag nothing tt → Reads instruction_form tag (made (λ (u : Unit {0}). i) nothing)
 bare i tag same = made_reads nothing nothing_law (λ (u : Unit {0}). i) instruction_form tag (λ x. same)
 
 -- what has one operand of two bytes
-short : (to : ℕ → DeckInstruction) (tag : ℕ) → ((n : ℕ) → instruction_form (to n) ≡ form tag u2 n) → Reads instruction_form tag (made to u2)
+short : (to : ℕ → Instruction) (tag : ℕ) → ((n : ℕ) → instruction_form (to n) ≡ form tag u2 n) → Reads instruction_form tag (made to u2)
 short to tag same = made_reads u2 u2_law to instruction_form tag same
 
 -- each reader reads its form
@@ -97,10 +89,10 @@ forms_read =
     & bare op.Skip 60 refl
     & short op.SetTemporary 61 (λ n. refl)
     & short op.TakeTemporary 62 (λ n. refl)
-    & bare op.IsWithin 63 refl
+    & bare op.Within 63 refl
     & tt
 
-again : (i : DeckInstruction) (rest : List ℕ) → (instruction_form i).fits ≡ true → get_or instruction_readers (instruction_form i).tag unknown ((instruction_form i).bytes ++ rest) ≡ Ok (i, rest)
+again : (i : Instruction) (rest : List ℕ) → (instruction_form i).fits ≡ true → get_or instruction_readers (instruction_form i).tag unknown ((instruction_form i).bytes ++ rest) ≡ Ok (i, rest)
 again (op.Step statement) rest h = made_again u4 u4_law op.Step statement rest h
 again (op.Line statement) rest h = made_again u4 u4_law op.Line statement rest h
 again (op.Jump target) rest h = made_again u2 u2_law op.Jump target rest h

@@ -8,6 +8,7 @@ pub mod InstructionLaws
 pub mod LowBytes
 pub mod ModuleLaws
 pub mod ModulePuts
+pub mod NumberedLaws
 pub mod PutLemmas
 pub mod SpellingLaws
 pub mod WholeLaws

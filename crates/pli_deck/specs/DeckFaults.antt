@@ -10,11 +10,12 @@ use Rattle.pli_map.specs.Sizes.{alignment_of, size_of, stride_of}
 use Rattle.pli_value.specs.Numbers.{has_digits}
 use Rattle.pli_deck.specs.declared.fault.DeckFault.{DeckFault}
 use Rattle.pli_deck.specs.declared.fault.DeckFault.TheVariants.{BadJump, BadNumber, OverLimit}
-use Rattle.pli_deck.specs.declared.instruction.DeckInstruction.{DeckInstruction}
-use Rattle.pli_deck.specs.declared.instruction.DeckInstruction.TheVariants as op
+use Rattle.pli_unit_code.specs.CodeTables.{CodedBlock}
+use Rattle.pli_unit_code.specs.declared.instruction.Instruction.{Instruction}
+use Rattle.pli_unit_code.specs.declared.instruction.Instruction.TheVariants as op
 use Rattle.pli_deck.specs.Decks.{Constant, Number, Characters, Bits, NullPointer, NullOffset, Initial}
 use Rattle.pli_deck.specs.Decks.{DeckTemplate, DeckSignature, Global, Static, Controlled, ExternalStatic}
-use Rattle.pli_deck.specs.Decks.{ExternalControlled, ExternalEntry, DeckBlock, Deck}
+use Rattle.pli_deck.specs.Decks.{ExternalControlled, ExternalEntry, Deck}
 
 -- what an item of a deck names by a number: an entry of a table, or an instruction at which a block begins
 pub data Naming : Type 0 where
@@ -52,11 +53,11 @@ named_by_parent None = []
 named_by_parent (Some b) = OfBlock b ∷ []
 
 -- a block names the one around it, the templates of its variables, and its first instruction
-abbrev pub named_by_block : DeckBlock → List Naming
+abbrev pub named_by_block : CodedBlock → List Naming
 named_by_block b = named_by_parent b.parent ++ map OfTemplate b.variables ++ OfInstruction b.entry ∷ []
 
 -- what an instruction names, save by a jump
-abbrev pub named_by_instruction : DeckInstruction → List Naming
+abbrev pub named_by_instruction : Instruction → List Naming
 named_by_instruction (op.Call b _) = OfBlock b ∷ []
 named_by_instruction (op.CallExternal g _) = OfGlobal g ∷ []
 named_by_instruction (op.Begin b) = OfBlock b ∷ []
@@ -98,7 +99,7 @@ is_there d (OfBlock n) = nat_lt n (length d.blocks)
 is_there d (OfInstruction n) = nat_lt n (length d.instructions)
 
 -- where an instruction may jump
-abbrev pub targets_of : DeckInstruction → List ℕ
+abbrev pub targets_of : Instruction → List ℕ
 targets_of (op.Jump i) = i ∷ []
 targets_of (op.JumpUnless i) = i ∷ []
 targets_of (op.Goto _ i) = i ∷ []

@@ -9,7 +9,9 @@ use Rattle.pli_map.specs.Description.{Description}
 use Rattle.pli_value.specs.Packing.{packed, unpacked}
 use Rattle.pli_deck.specs.declared.fault.DeckFault.TheVariants.{Truncated, BadMagic, BadVersion}
 use Rattle.pli_deck.specs.declared.fault.DeckFault.{DeckFault}
-use Rattle.pli_deck.specs.declared.instruction.DeckInstruction.{DeckInstruction}
+use Rattle.pli_machine_step.specs.Program.{BlockKind}
+use Rattle.pli_unit_code.specs.CodeTables.{CodedBlock}
+use Rattle.pli_unit_code.specs.declared.instruction.Instruction.{Instruction}
 use Rattle.pli_base.specs.Results.{◌>>=◌}
 use Rattle.pli_deck.specs.Fields.{Field, Form, Reader, byte_at, nothing, checked, held, signed, ◌⊗◌}
 use Rattle.pli_deck.specs.Fields.{shaped, list_of, form, made, unknown, tagged, byte, u1, u2, u4, from_to}
@@ -17,9 +19,10 @@ use Rattle.pli_deck.specs.Fields.{count_of_one}
 use Rattle.pli_deck.specs.Fields.{list}
 use Rattle.pli_deck.specs.Decks.{Constant, Number, Characters, Bits, NullPointer, NullOffset, Initial}
 use Rattle.pli_deck.specs.Decks.{DeckTemplate, DeckSignature, Global, Static, Controlled, ExternalStatic}
-use Rattle.pli_deck.specs.Decks.{ExternalControlled, ExternalEntry, DeckBlock, Deck}
+use Rattle.pli_deck.specs.Decks.{ExternalControlled, ExternalEntry, Deck}
 use Rattle.pli_deck.specs.Descriptions.{description}
 use Rattle.pli_deck.specs.Instructions.{instruction}
+use Rattle.pli_deck.specs.Numbered.{kind_number, kind_of}
 
 -- a text is this name, as it is written in upper case
 abbrev pub is_written : Option Name → List ℕ → Bool
@@ -158,12 +161,12 @@ global_readers =
 unfoldable pub global : Field Global
 global = tagged global_form global_readers
 
--- the kind of a block, 0 to 2
-abbrev pub block_kind : Field ℕ
-block_kind = from_to 0 2 u1
+-- the kind of a block, by its number from 0 to 2
+abbrev pub block_kind : Field BlockKind
+block_kind = shaped kind_of kind_number (from_to 0 2 u1)
 
 -- a block of its parts
-abbrev pub block_of : ℕ × (Option ℕ × (ℕ × (List ℕ × (ℕ × (ℕ × ℕ))))) → DeckBlock
+abbrev pub block_of : BlockKind × (Option ℕ × (ℕ × (List ℕ × (ℕ × (ℕ × ℕ))))) → CodedBlock
 block_of p = record {
   kind = p.0;
   parent = p.1.0;
@@ -175,12 +178,12 @@ block_of p = record {
 }
 
 -- its parts: kind, parent, parameters, AUTOMATIC variables, temporaries, first instruction, statement
-abbrev pub block_parts : DeckBlock → ℕ × (Option ℕ × (ℕ × (List ℕ × (ℕ × (ℕ × ℕ)))))
+abbrev pub block_parts : CodedBlock → BlockKind × (Option ℕ × (ℕ × (List ℕ × (ℕ × (ℕ × ℕ)))))
 block_parts b =
     (b.kind, (b.parent, (b.parameters, (b.variables, (b.temporaries, (b.entry, b.statement))))))
 
 -- a block
-unfoldable pub block : Field DeckBlock
+unfoldable pub block : Field CodedBlock
 block = shaped block_of block_parts
     (block_kind ⊗ optional ⊗ parameter_number ⊗ list u2 ⊗ u2 ⊗ u2 ⊗ u4)
 
@@ -222,8 +225,8 @@ after_version f = record {
 -- the tables of a deck and its instructions, in the order of their bytes
 abbrev pub Tables : Type 0
 Tables =
-    List Description × (List DeckTemplate × (List Constant × (List Global × (List DeckBlock
-    × List DeckInstruction))))
+    List Description × (List DeckTemplate × (List Constant × (List Global × (List CodedBlock
+    × List Instruction))))
 
 -- a deck of its parts
 abbrev pub deck_of : Name × (Bool × (DeckSignature × Tables)) → Deck

@@ -1,6 +1,7 @@
 -- What a deck of the program says, apart from where it lies in memory.
 use Rattle.std.specs.Prelude.{map}
 use Rattle.pli_map.specs.views.DescriptionView.{description_view}
+use Rattle.pli_unit_code.specs.views.CodeView.{block_view}
 use Rattle.pli_deck.specs.Decks as plain
 use Rattle.pli_deck.specs.declared.deck.Constant.{Constant}
 use Rattle.pli_deck.specs.declared.deck.Constant.TheVariants as constants
@@ -9,7 +10,6 @@ use Rattle.pli_deck.specs.declared.deck.DeckTemplate.{DeckTemplate}
 use Rattle.pli_deck.specs.declared.deck.DeckSignature.{DeckSignature}
 use Rattle.pli_deck.specs.declared.deck.Global.{Global}
 use Rattle.pli_deck.specs.declared.deck.Global.TheVariants as globals
-use Rattle.pli_deck.specs.declared.deck.DeckBlock.{DeckBlock}
 use Rattle.pli_deck.specs.declared.deck.Deck.{Deck}
 
 -- a constant or an initial value
@@ -39,18 +39,6 @@ global_view (globals.Controlled t) = plain.Controlled t
 global_view (globals.ExternalStatic n t) = plain.ExternalStatic n t
 global_view (globals.ExternalControlled n t) = plain.ExternalControlled n t
 global_view (globals.ExternalEntry n s) = plain.ExternalEntry n (signature_view s)
-
--- a block
-abbrev pub block_view : DeckBlock → plain.DeckBlock
-block_view b = record {
-  kind = b.kind;
-  parent = b.parent;
-  parameters = b.parameters;
-  variables = b.variables.items;
-  temporaries = b.temporaries;
-  entry = b.entry;
-  statement = b.statement;
-}
 
 -- a deck
 abbrev pub deck_view : Deck → plain.Deck

@@ -2,7 +2,8 @@
 use Rattle.std.specs.Prelude.{ℕ, Bool, ℤ, List, Option}
 use Rattle.pli_base.specs.Name.{Name}
 use Rattle.pli_map.specs.Description.{Description}
-use Rattle.pli_deck.specs.declared.instruction.DeckInstruction.{DeckInstruction}
+use Rattle.pli_unit_code.specs.CodeTables.{CodedBlock}
+use Rattle.pli_unit_code.specs.declared.instruction.Instruction.{Instruction}
 
 -- constants and initial values
 pub data Constant : Type 0 where
@@ -35,16 +36,6 @@ pub data Global : Type 0 where
   ExternalControlled : Name → (template : ℕ) → Global
   ExternalEntry : Name → DeckSignature → Global
 
--- a block; its kind is 0 for a procedure, 1 for a BEGIN block and 2 for an ON-unit
-pub record DeckBlock : Type 0 where
-  pub kind : ℕ
-  pub parent : Option ℕ
-  pub parameters : ℕ
-  pub variables : List ℕ
-  pub temporaries : ℕ
-  pub entry : ℕ
-  pub statement : ℕ
-
 -- a deck: the name of the unit's procedure, whether it is a main one, what it takes and gives, the tables,
 -- and the instructions
 pub record Deck : Type 0 where
@@ -55,5 +46,5 @@ pub record Deck : Type 0 where
   pub templates : List DeckTemplate
   pub values : List Constant
   pub globals : List Global
-  pub blocks : List DeckBlock
-  pub instructions : List DeckInstruction
+  pub blocks : List CodedBlock
+  pub instructions : List Instruction

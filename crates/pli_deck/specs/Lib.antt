@@ -3,11 +3,13 @@ pub mod DeckFields
 pub mod DeckView
 pub mod Decks
 pub mod Descriptions
+pub mod FaultNumbers
 pub mod Fields
 pub mod Instructions
 pub mod ModuleFields
 pub mod ModuleSpelling
 pub mod ModuleView
+pub mod Numbered
 pub mod Spelling
 pub mod Whole
 pub mod examples

@@ -1,7 +1,7 @@
 //! Decks: the code of a unit with its tables.
-use crate::instruction::DeckInstruction;
 use pli_base::Name;
 use pli_map::Description;
+use pli_unit_code::{Block, Instruction};
 use pli_value::bit::Bits;
 
 /// A constant or an initial value.
@@ -56,23 +56,6 @@ pub enum Global {
     },
 }
 
-/// A block of a unit.
-#[derive(Drop)]
-pub struct DeckBlock {
-    /// 0 for a procedure, 1 for a BEGIN block, 2 for an ON-unit.
-    pub kind: u8,
-    pub parent: Option<u16>,
-    /// From 0 to 64.
-    pub parameters: u8,
-    /// The templates of its AUTOMATIC variables in the order of the text.
-    pub variables: Vec<u16>,
-    pub temporaries: u16,
-    /// Its first instruction.
-    pub entry: u16,
-    /// Its PROCEDURE, BEGIN or ON.
-    pub statement: u32,
-}
-
 /// The code of a unit with its tables.
 #[derive(Drop)]
 pub struct Deck {
@@ -83,6 +66,6 @@ pub struct Deck {
     pub templates: Vec<DeckTemplate>,
     pub values: Vec<Constant>,
     pub globals: Vec<Global>,
-    pub blocks: Vec<DeckBlock>,
-    pub instructions: Vec<DeckInstruction>,
+    pub blocks: Vec<Block>,
+    pub instructions: Vec<Instruction>,
 }

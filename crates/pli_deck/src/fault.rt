@@ -1,4 +1,7 @@
 //! Why bytes are no deck.
+ghost use Rattle.std.specs.Prelude.{◌≡◌};
+ghost use Rattle.pli_deck.specs.FaultNumbers.{fault_number};
+
 /// What is wrong with the bytes of a deck or of a module (own). The first four numbers and the fifth are met in reading
 /// from the front; then the others are looked for in the order of their numbers.
 #[derive(Clone, Copy, Debug, PartialEq, Eq)]
@@ -20,4 +23,22 @@ pub enum DeckFault {
     /// 8: a template that is too large, templates with initial values that are too large together, or an initial value
     /// that fits no element where it stands.
     OverLimit,
+}
+
+impl DeckFault {
+    /// Its number, from 1 to 8, by which it is cited behind K for a deck and behind L for a module.
+    pub fn number(self) -> u8
+        ensures { result ≡ fault_number self }
+    {
+        match self {
+            DeckFault::BadMagic => 1,
+            DeckFault::BadVersion => 2,
+            DeckFault::Truncated => 3,
+            DeckFault::Trailing => 4,
+            DeckFault::OutOfRange => 5,
+            DeckFault::BadJump => 6,
+            DeckFault::BadNumber => 7,
+            DeckFault::OverLimit => 8,
+        }
+    }
 }

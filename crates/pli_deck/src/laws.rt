@@ -4,7 +4,7 @@ ghost use Rattle.pli_deck.specs.Descriptions.{description};
 ghost use Rattle.pli_deck.specs.Instructions.{instruction};
 ghost use Rattle.pli_deck.specs.Spelling.{ReadIsSpelled, SpelledIsRead, OneSpelling, OneDeck};
 ghost use Rattle.pli_deck.specs.ModuleSpelling.{ReadModuleIsSpelled, SpelledModuleIsRead, OneModule};
-ghost use Rattle.pli_deck.specs.examples.DeckExamples.{WrittenSo, ReadSo};
+ghost use Rattle.pli_deck.specs.examples.DeckExamples.{WrittenSo, NumberedSo, ReadSo};
 ghost use Rattle.pli_deck.specs.examples.FaultExamples.{DeckFaultsAre};
 ghost use Rattle.pli_deck.specs.examples.ModuleExamples.{ModulesWrittenSo, ModulesReadSo, ModuleFaultsAre};
 
@@ -43,6 +43,7 @@ pub fn modules_both_ways()
 #[tactic(auto, unfolding(crate::specs::Fields::byte_at, crate::specs::Fields::number_at, crate::specs::Fields::many, crate::specs::Descriptions::description_within, crate::specs::Instructions::instruction, crate::specs::DeckFields::name, crate::specs::DeckFields::optional, crate::specs::DeckFields::bits_at, crate::specs::DeckFields::bit_string, crate::specs::DeckFields::characters, crate::specs::DeckFields::constant, crate::specs::DeckFields::initial, crate::specs::DeckFields::template, crate::specs::DeckFields::signature, crate::specs::DeckFields::global, crate::specs::DeckFields::block, crate::specs::DeckFields::tables, crate::specs::DeckFields::contents, crate::specs::DeckFields::deck, crate::specs::Spelling::deck_read))]
 pub fn worked_decks()
     ensures written { WrittenSo }
+    ensures numbered { NumberedSo }
     ensures read { ReadSo }
     ensures faults { DeckFaultsAre }
 {}

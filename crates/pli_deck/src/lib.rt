@@ -5,18 +5,17 @@ mod coding;
 mod deck;
 mod describing;
 mod fault;
-mod instruction;
 mod laws;
 mod module;
 mod modules;
+mod numbered;
 mod putting;
 mod write;
 mod writing;
 
-pub use deck::{Constant, Deck, DeckBlock, DeckSignature, DeckTemplate, Global, Initial};
+pub use deck::{Constant, Deck, DeckSignature, DeckTemplate, Global, Initial};
 pub use describing::LEVELS;
 pub use fault::DeckFault;
-pub use instruction::DeckInstruction;
 pub use laws::{
     decks_both_ways, descriptions_both_ways, instructions_both_ways, modules_both_ways,
     worked_decks, worked_modules,

@@ -5,13 +5,17 @@ ghost use Rattle.byteorder.specs.Endian.{big_bytes};
 ghost use Rattle.pli_deck.specs.Fields.{u2};
 ghost use Rattle.pli_deck.specs.Decks as plain;
 ghost use Rattle.pli_deck.specs.DeckFields as deck_fields;
-ghost use Rattle.pli_deck.specs.DeckView.{constant_view, initial_view, template_view, signature_view, global_view, block_view};
+ghost use Rattle.pli_deck.specs.DeckView.{constant_view, initial_view, template_view, signature_view, global_view};
+ghost use Rattle.pli_unit_code.specs.CodeTables.{CodedBlock};
+ghost use Rattle.pli_unit_code.specs.views.CodeView.{block_view};
 
-use crate::deck::{Constant, DeckBlock, DeckSignature, DeckTemplate, Global, Initial};
+use crate::deck::{Constant, DeckSignature, DeckTemplate, Global, Initial};
+use crate::numbered::kind_number;
 use crate::writing::{
     PutsOne, put_all, put_bits, put_byte, put_characters, put_large_count, put_list, put_name,
     put_optional, put_short, put_signed, put_small_count, put_with_short, put_word,
 };
+use pli_unit_code::Block;
 use std::alloc::AllocError;
 
 /// Puts a number of two bytes.
@@ -176,17 +180,17 @@ impl PutsOne for Globals {
 pub struct Blocks;
 
 impl PutsOne for Blocks {
-    type Value = DeckBlock;
+    type Value = Block;
 
-    ghost Said = { plain.DeckBlock };
+    ghost Said = { CodedBlock };
 
     ghost say = { block_view };
 
     ghost bytes_of = { deck_fields.block.bytes_of };
 
     #[tactic(auto, unfolding(crate::specs::DeckFields::block))]
-    fn put(&self, out: &mut Vec<u8>, value: &DeckBlock) -> Result<(), AllocError> {
-        put_byte(out, value.kind)?;
+    fn put(&self, out: &mut Vec<u8>, value: &Block) -> Result<(), AllocError> {
+        put_byte(out, kind_number(value.kind))?;
         put_optional(out, value.parent)?;
         put_byte(out, value.parameters)?;
         put_numbers(out, value.variables.as_slice())?;

@@ -1,18 +1,15 @@
 //! Signatures, globals, blocks, and the deck of a unit.
 ghost use Rattle.std.specs.Prelude.{◌≡◌, map, IfOk};
 ghost use Rattle.pli_deck.specs.DeckView as view;
-ghost use Rattle.pli_unit_code.specs.views.CodeView.{kind_view, signature_view, global_view, block_view, code_view};
-ghost use Rattle.pli_deck_code.specs.CodeDecks.{kind_number, signature_of, global_of, block_of, deck_of};
+ghost use Rattle.pli_unit_code.specs.views.CodeView.{signature_view, global_view, block_view, code_view};
+ghost use Rattle.pli_deck_code.specs.CodeDecks.{signature_of, global_of, deck_of};
 
 use crate::constants::constants_of;
 use crate::descriptions::copied_descriptions;
-use crate::instructions::instructions_of;
-use crate::numbers::{byte, short};
 use crate::templates::templates_of;
 use pli_base::Name;
-use pli_deck::{Deck, DeckBlock, DeckSignature, Global};
-use pli_unit_code as code;
-use pli_unit_code::{BlockKind, Code, CodedGlobal, CodedSignature};
+use pli_deck::{Deck, DeckSignature, Global};
+use pli_unit_code::{Block, Code, CodedGlobal, CodedSignature};
 use std::alloc;
 use std::alloc::AllocError;
 
@@ -57,44 +54,30 @@ fn globals_of(alloc: alloc::Global, globals: &[CodedGlobal]) -> Result<Vec<Globa
     Ok(made)
 }
 
-/// The number of a kind of blocks.
-fn kind_number(kind: BlockKind) -> u8
-    ensures { result ≡ kind_number (kind_view kind) }
+/// A copy of a block.
+fn copied_block(alloc: alloc::Global, block: &Block) -> Result<Block, AllocError>
+    ensures { IfOk result (λ copy. block_view copy ≡ block_view block.now) }
 {
-    match kind {
-        BlockKind::Procedure => 0,
-        BlockKind::Begin => 1,
-        BlockKind::OnUnit => 2,
-    }
-}
-
-/// A block with its numbers in their fields.
-fn block_of(alloc: alloc::Global, block: &code::Block) -> Result<DeckBlock, AllocError>
-    ensures { IfOk result (λ made. view.block_view made ≡ block_of (block_view block.now)) }
-{
-    Ok(DeckBlock {
-        kind: kind_number(block.kind),
-        parent: match block.parent {
-            None => None,
-            Some(parent) => Some(short(u64::from(parent))),
-        },
-        parameters: byte(block.parameters),
+    Ok(Block {
+        kind: block.kind,
+        parent: block.parent,
+        parameters: block.parameters,
         variables: Vec::from_slice(alloc, &block.variables)?,
-        temporaries: short(u64::from(block.temporaries)),
+        temporaries: block.temporaries,
         entry: block.entry,
         statement: block.statement,
     })
 }
 
-/// Blocks with their numbers in their fields.
-fn blocks_of(alloc: alloc::Global, blocks: &[code::Block]) -> Result<Vec<DeckBlock>, AllocError>
-    ensures { IfOk result (λ made. map view.block_view made.items ≡ map block_of (map block_view blocks.now)) }
+/// Copies of blocks, in their order; `AllocError` where memory is refused.
+pub fn copied_blocks(alloc: alloc::Global, blocks: &[Block]) -> Result<Vec<Block>, AllocError>
+    ensures { IfOk result (λ v. map block_view v.items ≡ map block_view blocks.now) }
 {
-    let mut made = Vec::with_capacity(alloc, blocks.len())?;
+    let mut copies = Vec::with_capacity(alloc, blocks.len())?;
     for block in blocks {
-        made.push(block_of(alloc, block)?)?;
+        copies.push(copied_block(alloc, block)?)?;
     }
-    Ok(made)
+    Ok(copies)
 }
 
 /// The deck of a unit's code, whose external procedure has this name and is a main procedure or not. Takes time in
@@ -115,7 +98,7 @@ pub fn deck_of(
         templates: templates_of(alloc, &code.descriptions, &code.templates)?,
         values: constants_of(alloc, &code.values)?,
         globals: globals_of(alloc, &code.globals)?,
-        blocks: blocks_of(alloc, &code.blocks)?,
-        instructions: instructions_of(alloc, &code.instructions)?,
+        blocks: copied_blocks(alloc, &code.blocks)?,
+        instructions: Vec::from_slice(alloc, &code.instructions)?,
     })
 }

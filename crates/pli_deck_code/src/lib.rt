@@ -6,7 +6,6 @@ mod constants;
 mod descriptions;
 mod examples;
 mod externals;
-mod instructions;
 mod laws;
 mod links;
 mod modules;
@@ -14,7 +13,7 @@ mod numbers;
 mod offsets;
 mod templates;
 
-pub use blocks::deck_of;
+pub use blocks::{copied_blocks, deck_of};
 pub use descriptions::{copied_descriptions, description_at};
 pub use examples::worked_modules;
 pub use laws::offsets_are_places;

@@ -1,13 +1,6 @@
 //! Numbers in their fields: the greatest of a field stands for every greater one, which code within its limits has not.
 ghost use Rattle.std.specs.Prelude.{◌≡◌};
-ghost use Rattle.pli_deck_code.specs.CodeDecks.{byte, short, near_number};
-
-/// A number in one byte.
-pub fn byte(number: u32) -> u8
-    ensures { result ≡ byte number }
-{
-    number.min(255) as u8
-}
+ghost use Rattle.pli_deck_code.specs.CodeDecks.{short, near_number};
 
 /// A number in two bytes.
 pub fn short(number: u64) -> u16

@@ -1,10 +1,11 @@
 -- Instructions that name nothing, and those that do not jump.
 use Rattle.std.proofs.Common.{◌≡◌, ℕ, [], refl}
-use Rattle.pli_deck.specs.declared.instruction.DeckInstruction.{DeckInstruction}
-use Rattle.pli_deck.specs.declared.instruction.DeckInstruction.TheVariants as op
+use Rattle.pli_base.specs.declared.statement.Condition.{Condition}
+use Rattle.pli_unit_code.specs.declared.instruction.Instruction.{Instruction}
+use Rattle.pli_unit_code.specs.declared.instruction.Instruction.TheVariants as op
 use Rattle.pli_deck.specs.DeckFaults.{named_by_instruction, targets_of}
 
-pub names_nothing : (i : DeckInstruction) → ((x0 x1 : ℕ) → i ≡ op.Call x0 x1 → ⊥)
+pub names_nothing : (i : Instruction) → ((x0 x1 : ℕ) → i ≡ op.Call x0 x1 → ⊥)
     → ((x0 x1 : ℕ) → i ≡ op.CallExternal x0 x1 → ⊥)
     → ((x0 : ℕ) → i ≡ op.Begin x0 → ⊥)
     → ((x0 : ℕ) → i ≡ op.Global x0 → ⊥)
@@ -19,7 +20,7 @@ pub names_nothing : (i : DeckInstruction) → ((x0 x1 : ℕ) → i ≡ op.Call x
     → ((x0 : ℕ) → i ≡ op.AllocateBased x0 → ⊥)
     → ((x0 x1 : ℕ) → i ≡ op.AllocateInArea x0 x1 → ⊥)
     → ((x0 : ℕ) → i ≡ op.FreeBased x0 → ⊥)
-    → ((x0 x1 : ℕ) → i ≡ op.On x0 x1 → ⊥)
+    → ((x0 : Condition) (x1 : ℕ) → i ≡ op.On x0 x1 → ⊥)
     → named_by_instruction i ≡ []
 names_nothing (op.Call x0 x1) h0 _ _ _ _ _ _ _ _ _ _ _ _ _ _ _ = absurd (h0 x0 x1 refl)
 names_nothing (op.CallExternal x0 x1) _ h1 _ _ _ _ _ _ _ _ _ _ _ _ _ _ = absurd (h1 x0 x1 refl)
@@ -39,7 +40,7 @@ names_nothing (op.FreeBased x0) _ _ _ _ _ _ _ _ _ _ _ _ _ _ h14 _ = absurd (h14 
 names_nothing (op.On x0 x1) _ _ _ _ _ _ _ _ _ _ _ _ _ _ _ h15 = absurd (h15 x0 x1 refl)
 names_nothing other _ _ _ _ _ _ _ _ _ _ _ _ _ _ _ _ = refl
 
-pub jumps_nowhere : (i : DeckInstruction) → ((x0 : ℕ) → i ≡ op.Jump x0 → ⊥)
+pub jumps_nowhere : (i : Instruction) → ((x0 : ℕ) → i ≡ op.Jump x0 → ⊥)
     → ((x0 : ℕ) → i ≡ op.JumpUnless x0 → ⊥)
     → ((x0 x1 : ℕ) → i ≡ op.Goto x0 x1 → ⊥)
     → ((x0 x1 : ℕ) → i ≡ op.AllocateInArea x0 x1 → ⊥)

@@ -3,9 +3,11 @@ ghost use Rattle.std.specs.Prelude.{◌≡◌, ◌++◌, ◌∷◌, [], nat_lt, 
 ghost use Rattle.std.specs.List.{flat_map, list_all};
 ghost use Rattle.pli_deck.specs.DeckFaults as faults;
 ghost use Rattle.pli_deck.specs.DeckFaults.{OfDescription, OfTemplate, OfValue, OfGlobal, OfBlock, OfInstruction};
-ghost use Rattle.pli_deck.specs.DeckView.{deck_view, signature_view, template_view, global_view, block_view};
+ghost use Rattle.pli_deck.specs.DeckView.{deck_view, signature_view, template_view, global_view};
+ghost use Rattle.pli_unit_code.specs.views.CodeView.{block_view};
 
-use pli_deck::{Deck, DeckBlock, DeckInstruction, DeckSignature, DeckTemplate, Global};
+use pli_deck::{Deck, DeckSignature, DeckTemplate, Global};
+use pli_unit_code::{Block, Instruction};
 
 /// Whether a description of this number is there.
 #[tactic(auto, using(crate::proofs::CountLemmas::mapped_length))]
@@ -172,14 +174,14 @@ fn frame_stands(deck: &Deck, variables: &[u16], entry: u16) -> bool
 
 /// Whether what a block names is there.
 #[tactic(auto, using(crate::proofs::CountLemmas::both_pass))]
-fn block_stands(deck: &Deck, block: &DeckBlock) -> bool
+fn block_stands(deck: &Deck, block: &Block) -> bool
     ensures { result ≡ list_all (faults.is_there (deck_view deck.now)) (faults.named_by_block (block_view block.now)) }
 {
     parent_stands(deck, block.parent) && frame_stands(deck, &block.variables, block.entry)
 }
 
 /// Whether what blocks name is there.
-fn blocks_stand(deck: &Deck, blocks: &[DeckBlock]) -> bool
+fn blocks_stand(deck: &Deck, blocks: &[Block]) -> bool
     ensures { result ≡ list_all (λ b. list_all (faults.is_there (deck_view deck.now)) (faults.named_by_block b)) (map block_view blocks.now) }
 {
     for block in blocks {
@@ -192,32 +194,32 @@ fn blocks_stand(deck: &Deck, blocks: &[DeckBlock]) -> bool
 
 /// Whether what an instruction names is there.
 #[tactic(auto, using(crate::proofs::CountLemmas::alone))]
-fn instruction_stands(deck: &Deck, instruction: &DeckInstruction) -> bool
+fn instruction_stands(deck: &Deck, instruction: &Instruction) -> bool
     ensures { result ≡ list_all (faults.is_there (deck_view deck.now)) (faults.named_by_instruction instruction.now) }
 {
     match *instruction {
-        DeckInstruction::Call { block, .. } => has_block(deck, block),
-        DeckInstruction::CallExternal { global, .. } => has_global(deck, global),
-        DeckInstruction::Begin { block } => has_block(deck, block),
-        DeckInstruction::Global { global } => has_global(deck, global),
-        DeckInstruction::Based { description } => has_description(deck, description),
-        DeckInstruction::Field { description, .. } => has_description(deck, description),
-        DeckInstruction::Constant { value } => has_value(deck, value),
-        DeckInstruction::MakeDummy { template } => has_template(deck, template),
-        DeckInstruction::Fit { description } => has_description(deck, description),
-        DeckInstruction::AllocateControlled { global } => has_global(deck, global),
-        DeckInstruction::FreeControlled { global } => has_global(deck, global),
-        DeckInstruction::CountGenerations { global } => has_global(deck, global),
-        DeckInstruction::AllocateBased { template } => has_template(deck, template),
-        DeckInstruction::AllocateInArea { template, .. } => has_template(deck, template),
-        DeckInstruction::FreeBased { description } => has_description(deck, description),
-        DeckInstruction::On { block, .. } => has_block(deck, block),
+        Instruction::Call { block, .. } => has_block(deck, block),
+        Instruction::CallExternal { global, .. } => has_global(deck, global),
+        Instruction::Begin { block } => has_block(deck, block),
+        Instruction::Global { number } => has_global(deck, number),
+        Instruction::Based { description } => has_description(deck, description),
+        Instruction::Field { description, .. } => has_description(deck, description),
+        Instruction::Constant { value } => has_value(deck, value),
+        Instruction::MakeDummy { template } => has_template(deck, template),
+        Instruction::Fit { description } => has_description(deck, description),
+        Instruction::AllocateControlled { global } => has_global(deck, global),
+        Instruction::FreeControlled { global } => has_global(deck, global),
+        Instruction::CountGenerations { global } => has_global(deck, global),
+        Instruction::AllocateBased { template } => has_template(deck, template),
+        Instruction::AllocateInArea { template, .. } => has_template(deck, template),
+        Instruction::FreeBased { description } => has_description(deck, description),
+        Instruction::On { block, .. } => has_block(deck, block),
         _ => true,
     }
 }
 
 /// Whether what instructions name is there.
-fn instructions_stand(deck: &Deck, instructions: &[DeckInstruction]) -> bool
+fn instructions_stand(deck: &Deck, instructions: &[Instruction]) -> bool
     ensures { result ≡ list_all (λ i. list_all (faults.is_there (deck_view deck.now)) (faults.named_by_instruction i)) instructions.now }
 {
     for instruction in instructions {
@@ -263,20 +265,20 @@ pub fn all_stand(deck: &Deck) -> bool
 
 /// Whether an instruction jumps to one of so many, if it jumps.
 #[tactic(auto, using(crate::proofs::CountLemmas::alone))]
-fn jump_stands(count: usize, instruction: &DeckInstruction) -> bool
+fn jump_stands(count: usize, instruction: &Instruction) -> bool
     ensures { result ≡ list_all (λ i. nat_lt i count) (faults.targets_of instruction.now) }
 {
     match *instruction {
-        DeckInstruction::Jump { target } => usize::from(target) < count,
-        DeckInstruction::JumpUnless { target } => usize::from(target) < count,
-        DeckInstruction::Goto { target, .. } => usize::from(target) < count,
-        DeckInstruction::AllocateInArea { target, .. } => usize::from(target) < count,
+        Instruction::Jump { target } => usize::from(target) < count,
+        Instruction::JumpUnless { target } => usize::from(target) < count,
+        Instruction::Goto { target, .. } => usize::from(target) < count,
+        Instruction::AllocateInArea { target, .. } => usize::from(target) < count,
         _ => true,
     }
 }
 
 /// Whether instructions jump to one of so many, where they jump.
-fn jumps_within(count: usize, instructions: &[DeckInstruction]) -> bool
+fn jumps_within(count: usize, instructions: &[Instruction]) -> bool
     ensures { result ≡ list_all (λ i. list_all (λ target. nat_lt target count) (faults.targets_of i)) instructions.now }
 {
     for instruction in instructions {

@@ -1,5 +1,5 @@
 -- The deck of a well-formed unit is one that bytes spell, and says its numbers.
-use Rattle.std.proofs.Common.{◌≡◌, ℕ, zero, suc, ◌+◌, ◌<◌, ◌≤◌, not, Bool, true, false, nat_le, nat_lt, if◌then◌else◌, Option, Some, None, List, [], ◌∷◌, ◌++◌, length, map, slice_get, refl, ap, sym, subst, ◌∙◌, arith}
+use Rattle.std.proofs.Common.{◌≡◌, ℕ, suc, ◌+◌, ◌<◌, ◌≤◌, not, Bool, true, false, nat_le, nat_lt, if◌then◌else◌, Option, Some, None, List, [], ◌∷◌, ◌++◌, length, map, slice_get, refl, ap, sym, subst, ◌∙◌, arith}
 use Rattle.std.specs.Prelude.{fold}
 use Rattle.std.specs.List.{flat_map, list_all, list_any, sum_by, AllByRecursion}
 use Rattle.std.proofs.lemmas.Bool.{lt-ltb, le-leb}
@@ -11,13 +11,11 @@ use Rattle.pli_machine_step.specs.Program as op
 use Rattle.pli_type_tree.specs.Templates.{InitialScalar, Template}
 use Rattle.pli_type_tree.specs.TypedTree.{Global, TypedUnit}
 use Rattle.pli_unit_code.specs.CodeTables.{CodedTemplate, CodedBlock}
-use Rattle.pli_gen_emit.specs.TreeTranslation.{BlockTree, behind, block_code, blocks_code, blocks_of, places_of, statement_place, with_target, instructions_of}
-use Rattle.pli_gen_emit.proofs.JumpLemmas.{behind_is}
+use Rattle.pli_gen_emit.specs.TreeTranslation.{BlockTree, blocks_of, instructions_of}
 use Rattle.pli_gen_tree.specs.Encoding.{NumberedTables, tables_for, descriptions_named, templates_named, values_named, description_number, template_code, global_code, instruction_code, coded_blocks, code_of}
 use Rattle.pli_gen_tree.specs.Limits.{has_many_members, bytes_of, initial_bytes_of, is_too_long}
 use Rattle.pli_gen_tree.specs.WellNumbered.{IsWellNumbered}
-use Rattle.pli_gen_tree.proofs.SimpleCode.{all_both, behind_both}
-use Rattle.pli_gen_tree.proofs.StepPlaces.{steps_are_places}
+use Rattle.pli_gen_tree.proofs.SimpleCode.{all_both}
 use Rattle.pli_gen_tree.proofs.TableNumbers.{number_stands}
 use Rattle.pli_gen_tree.proofs.UnitLemmas.{tables_stand}
 use Rattle.pli_gen_tree.specs.laws.ListLaws.{all_front, all_back}
@@ -33,41 +31,26 @@ use Rattle.pli_deck.specs.DeckFaults.{Naming, OfDescription, OfTemplate, OfValue
 use Rattle.pli_deck.specs.DeckFaults.{is_there, targets_of, jumps_within, is_good_template, within_limits}
 use Rattle.pli_deck.specs.DeckFaults as fault
 use Rattle.pli_deck.specs.Spelling.{IsDeck}
-use Rattle.pli_deck_code.specs.CodeDecks.{constant_of, initial_of, offsets_in, template_of, global_of, block_of, instruction_of, deck_of}
+use Rattle.pli_deck_code.specs.CodeDecks.{constant_of, initial_of, offsets_in, template_of, global_of, deck_of}
 use Rattle.pli_deck_laws.specs.DeckLaws.{UnitsAreSaid}
-use Rattle.pli_deck_laws.specs.KeptNumbers.{IsNear, KeepsBlock, KeepsTemplate, KeepsInstruction, KeepsNumbers}
+use Rattle.pli_deck_laws.specs.KeptNumbers.{IsNear, KeepsTemplate, KeepsNumbers}
 use Rattle.pli_deck_laws.specs.Limits.{level_limit, IsDescription, IsConstant, IsTemplate}
 use Rattle.pli_deck_laws.specs.UnitTypes.{IsName, HasBytes, BeginsWithBytes, IsTypedCode}
-use Rattle.pli_deck_laws.specs.WellFormed.{slots_of, IsHead, HasBlock, HasSlot, IsWellFormed}
+use Rattle.pli_deck_laws.specs.WellFormed.{IsHead, IsWellFormed}
 use Rattle.pli_deck_laws.proofs.AllowedLemmas.{Allowed}
-use Rattle.pli_deck_laws.proofs.AllowedCode.{GoodBlock, blocks_allowed}
-use Rattle.pli_deck_laws.proofs.CodeGrows.{block_is_some}
-use Rattle.pli_gen_tree.proofs.CodeEnds.{grows}
-use Rattle.pli_gen_tree.proofs.CodeFits.{begins_within}
 use Rattle.pli_gen_tree.proofs.LimitLemmas.{Short, short_parts, blocks_counted}
 use Rattle.pli_deck_laws.proofs.FieldsFit.{both_hold, each_holds, all_mapped, fits_short, fits_list, fits_name, fits_description, fits_constant}
-use Rattle.pli_deck_laws.proofs.InstructionsFit.{leads, Named, HasDescription, HasTemplate, HasValue, GoodInstruction, instruction_good}
-use Rattle.pli_deck_laws.proofs.PartsFit.{is_near, GoodTemplate, template_good, GoodSignature, signature_good, GoodGlobal, globals_good, BlockWithin, GoodCodedBlock, blocks_good}
+use Rattle.pli_deck_laws.proofs.InstructionsFit.{Named, HasDescription, HasTemplate, HasValue, GoodInstruction, instruction_good}
+use Rattle.pli_deck_laws.proofs.PartsFit.{is_near, GoodTemplate, template_good, GoodSignature, signature_good, GoodGlobal, globals_good, GoodCodedBlock, blocks_good}
 use Rattle.pli_deck_laws.proofs.TablesFit.{all_joined, descriptions_good, templates_good, values_good, StandsDescription, StandsTemplate, StandsValue, description_within, template_within, value_within, AllStand, all_stand, none_of, few_slots}
-use Rattle.pli_deck_laws.proofs.UnitBlocks.{all_as, all_pairs, block_named, slot_there, one_block, good_blocks}
+use Rattle.pli_deck_laws.proofs.UnitBlocks.{all_as, all_pairs, one_block}
+use Rattle.pli_deck_laws.proofs.UnitCode.{Final, BlockWithin, HasFew, IsWithin, code_within}
 
 -- ---- instructions
 
--- a GOTO leads to an instruction
-module _ (globals blocks last : ℕ) (places : List (ℕ × ℕ)) (within : (label : ℕ) → statement_place places label ≤ last) where
-  abbrev Final : op.Instruction → Type 0
-  Final i = Allowed globals blocks last i × (leads i ≤ last)
-
-  final : (i : op.Instruction) → Allowed globals blocks last i → Final (with_target places i)
-  final (op.Goto outward label) h = (h, within label)
-  final i h = (h, omega arith)
-
-  all_final : (is : List op.Instruction) → AllByRecursion (Allowed globals blocks last) is → AllByRecursion Final (map (with_target places) is)
-  all_final is h = all_mapped (with_target places) (Allowed globals blocks last) Final final is h
-
 module _ (tables : NumberedTables) (globals blocks last : ℕ) (few_descriptions : length tables.descriptions ≤ 65535) (few_templates : length tables.templates ≤ 65535) (few_values : length tables.values ≤ 65535)
     (few_globals : globals ≤ 65535) (few_blocks : blocks ≤ 65535) (few_instructions : last ≤ 65535) where
-  all_instructions : (is : List op.Instruction) → AllByRecursion (λ i. Allowed globals blocks last i × (leads i ≤ last)) is → AllByRecursion (StandsDescription tables) (flat_map descriptions_named is)
+  all_instructions : (is : List op.Instruction) → AllByRecursion (Final globals blocks last) is → AllByRecursion (StandsDescription tables) (flat_map descriptions_named is)
       → AllByRecursion (StandsTemplate tables) (flat_map templates_named is) → AllByRecursion (StandsValue tables) (flat_map values_named is)
       → AllByRecursion (λ i. GoodInstruction tables globals blocks last (instruction_code tables i)) is
   all_instructions [] h ds ts vs = tt
@@ -228,20 +211,6 @@ module _ (tables : NumberedTables) (globals blocks last : ℕ) (d : Deck) (g : G
 
 -- ---- units
 
-some_last : (n : ℕ) → 1 ≤ n → (last : ℕ) × (n ≡ suc last)
-some_last zero h = absurd (omega (arith, h))
-some_last (suc n) h = (n, refl)
-
-some_code : (bs : List BlockTree) (p : ℕ) → 1 ≤ length bs → suc p ≤ behind (blocks_code bs p) p
-some_code [] p h = absurd (omega (arith, h))
-some_code (b ∷ bs) p h =
-    let code = block_code b p in
-    let q = behind code p in
-    let e : behind (code ++ blocks_code bs q) p ≡ behind (blocks_code bs q) q = behind_both code (blocks_code bs q) p in
-    let g : q ≤ behind (blocks_code bs q) q = grows (blocks_code bs q) q in
-    let some : suc p ≤ q = block_is_some b p in
-    omega (arith, e, g, some)
-
 unmapped : {X Y : Type 0} (f : X → Y) (P : Y → Type 0) (xs : List X) → AllByRecursion P (map f xs) → AllByRecursion (λ x. P (f x)) xs
 unmapped f P [] h = tt
 unmapped f P (x ∷ xs) h = (h.0, unmapped f P xs h.1)
@@ -258,9 +227,6 @@ module _ (t : TypedUnit) (is_main : Bool) (well : IsWellNumbered t) (formed : Is
   abbrev bs : List BlockTree
   bs = blocks_of t
 
-  abbrev plain : List op.Instruction
-  plain = blocks_code bs 0
-
   abbrev all_code : List op.Instruction
   all_code = instructions_of bs
 
@@ -276,45 +242,24 @@ module _ (t : TypedUnit) (is_main : Bool) (well : IsWellNumbered t) (formed : Is
   short : Short tables t bs all_code
   short = short_parts tables t bs all_code fits_in
 
-  named : (n : ℕ) → HasBlock t n → n < B
-  named n h = block_named t well n h
+  few : HasFew t
+  few = record { globals = short.globals; blocks = short.blocks; instructions = short.instructions; slots = few_slots tables bs 0 short.slots }
 
-  slotted : (n : ℕ) → HasSlot t n → n ≤ 65535
-  slotted n h = slot_there t well (few_slots tables bs 0 short.slots) n h
-
-  module _ (last : ℕ) (size : length plain ≡ suc last) where
-    end : behind plain 0 ≤ suc last
-    end = let e = behind_is plain 0 in omega (arith, e, size)
-
+  module _ (last : ℕ) (within : IsWithin t last) where
     few_last : suc last ≤ 65535
     few_last =
-        let count : length all_code ≡ length plain = length-map plain (with_target (places_of bs 0)) in
+        let size = within.size in
         let limit = short.instructions in
-        omega (arith, count, limit, size)
+        omega (arith, limit, size)
 
     last_few : last ≤ 65535
     last_few = let h = few_last in omega (arith, h)
 
-    abbrev Good : BlockTree → Type 0
-    Good b = GoodBlock G B last t refl named slotted b
-
-    good : AllByRecursion Good bs
-    good = good_blocks G last t refl named slotted well formed
-
-    within : (label : ℕ) → statement_place (places_of bs 0) label ≤ last
-    within label = subst (λ n. n ≤ last) (steps_are_places bs label) (begins_within plain 0 label last end)
-
-    abbrev Finished : op.Instruction → Type 0
-    Finished i = Allowed G B last i × (leads i ≤ last)
-
-    finals : AllByRecursion Finished all_code
-    finals = all_final G B last (places_of bs 0) within plain (blocks_allowed G B last t refl named slotted bs 0 few_last good end)
-
     allowed : AllByRecursion (Allowed G B last) all_code
-    allowed = all_as Finished (Allowed G B last) (λ i h. h.0) all_code finals
+    allowed = all_as (Final G B last) (Allowed G B last) (λ i h. h.0) all_code within.instructions
 
     heads : AllByRecursion (λ b. IsHead b.head b.statements) bs
-    heads = all_as Good (λ b. IsHead b.head b.statements) (λ b g. g.head) bs good
+    heads = all_as (BlockWithin B) (λ b. IsHead b.head b.statements) (λ b w. w.head) bs within.blocks
 
     values : AllByRecursion IsConstant tables.values
     values = values_good G B last t bs all_code formed.signature formed.globals heads allowed
@@ -345,7 +290,7 @@ module _ (t : TypedUnit) (is_main : Bool) (well : IsWellNumbered t) (formed : Is
 
     instrs : AllByRecursion GoodI all_code
     instrs =
-        all_instructions tables G B last short.descriptions short.templates short.values short.globals short.blocks last_few all_code finals stand.descriptions stand.templates stand.values
+        all_instructions tables G B last short.descriptions short.templates short.values short.globals short.blocks last_few all_code within.instructions stand.descriptions stand.templates stand.values
 
     sign : GoodSignature tables G B last short.descriptions short.templates t.signature
     sign = signature_good tables G B last short.descriptions short.templates t.signature formed.signature stand.signature
@@ -361,10 +306,7 @@ module _ (t : TypedUnit) (is_main : Bool) (well : IsWellNumbered t) (formed : Is
 
     inside : AllByRecursion GoodB (coded_blocks tables bs 0)
     inside =
-        blocks_good tables G B last short.descriptions short.templates short.blocks few_last bs 0 end
-        (all_pairs Good (λ b. slots_of b ≤ 65535) (BlockWithin tables G B last short.descriptions short.templates)
-        (λ b g s. record { parent = g.parent; parameters = g.parameters; head = g.head; slots = s }) bs good (few_slots tables bs 0 short.slots))
-        stand.variables
+        blocks_good tables G B last short.descriptions short.templates short.blocks few_last bs 0 within.end within.blocks stand.variables
 
     described : AllByRecursion (λ d. description.fits d ≡ true) tables.descriptions
     described =
@@ -378,7 +320,6 @@ module _ (t : TypedUnit) (is_main : Bool) (well : IsWellNumbered t) (formed : Is
     good_deck =
         let T = template_code tables in
         let S = template_of tables.descriptions in
-        let I = instruction_code tables in
         let N = Named tables G B last in
         let sums = bytes_summed tables tables.templates in
         let bytes = short.bytes in
@@ -387,8 +328,8 @@ module _ (t : TypedUnit) (is_main : Bool) (well : IsWellNumbered t) (formed : Is
           templates = length_twice T S tables.templates;
           values = length-map tables.values constant_of;
           count_globals = length_twice (global_code tables) global_of t.globals;
-          count_blocks = length-map (coded_blocks tables bs 0) block_of ∙ blocks_counted tables bs 0;
-          instructions = length_twice I instruction_of all_code ∙ length-map plain (with_target (places_of bs 0)) ∙ size;
+          count_blocks = blocks_counted tables bs 0;
+          instructions = length-map all_code (instruction_code tables) ∙ within.size;
           few_descriptions = short.descriptions;
           few_templates = short.templates;
           few_values = short.values;
@@ -403,14 +344,14 @@ module _ (t : TypedUnit) (is_main : Bool) (well : IsWellNumbered t) (formed : Is
           values_fit = all_mapped constant_of (λ v. IsConstant v × HasBytes v) (λ x. constant.fits x ≡ true) (λ v h. fits_constant v h.0 h.1) tables.values
               (all_pairs IsConstant HasBytes (λ v. IsConstant v × HasBytes v) (λ v h k. (h, k)) tables.values values typed.values);
           globals_fit = all_twice (global_code tables) global_of GoodG (λ x. global.fits x ≡ true) (λ x g. g.fits) t.globals outside;
-          blocks_fit = all_mapped block_of GoodB (λ x. block.fits x ≡ true) (λ x g. g.fits) (coded_blocks tables bs 0) inside;
-          instructions_fit = all_twice I instruction_of GoodI (λ x. instruction.fits x ≡ true) (λ x g. g.fits) all_code instrs;
+          blocks_fit = all_as GoodB (λ x. block.fits x ≡ true) (λ x g. g.fits) (coded_blocks tables bs 0) inside;
+          instructions_fit = all_mapped (instruction_code tables) GoodI (λ x. instruction.fits x ≡ true) (λ x g. g.fits) all_code instrs;
           signature_named = sign.names;
           templates_named = all_twice T S GoodT (λ x. AllByRecursion N (named_by_template x)) (λ x g. g.names) tables.templates made;
           globals_named = all_twice (global_code tables) global_of GoodG (λ x. AllByRecursion N (named_by_global x)) (λ x g. g.names) t.globals outside;
-          blocks_named = all_mapped block_of GoodB (λ x. AllByRecursion N (named_by_block x)) (λ x g. g.names) (coded_blocks tables bs 0) inside;
-          instructions_named = all_twice I instruction_of GoodI (λ x. AllByRecursion N (named_by_instruction x)) (λ x g. g.names) all_code instrs;
-          jumps = all_twice I instruction_of GoodI (λ x. AllByRecursion (λ n. n ≤ last) (targets_of x)) (λ x g. g.jumps) all_code instrs;
+          blocks_named = all_as GoodB (λ x. AllByRecursion N (named_by_block x)) (λ x g. g.names) (coded_blocks tables bs 0) inside;
+          instructions_named = all_mapped (instruction_code tables) GoodI (λ x. AllByRecursion N (named_by_instruction x)) (λ x g. g.names) all_code instrs;
+          jumps = all_mapped (instruction_code tables) GoodI (λ x. AllByRecursion (λ n. n ≤ last) (targets_of x)) (λ x g. g.jumps) all_code instrs;
           templates_good = all_twice T S GoodT (λ (x : deck.DeckTemplate). is_good_template (slice_get tables.descriptions x.description) x.initial ≡ true) (λ x g. g.is) tables.templates made;
           bytes = omega (arith, sums, bytes);
         }
@@ -419,19 +360,13 @@ module _ (t : TypedUnit) (is_main : Bool) (well : IsWellNumbered t) (formed : Is
     keeps = record {
       templates = all_mapped (template_code tables) GoodT (KeepsTemplate tables.descriptions) (λ x g. g.keeps) tables.templates made;
       values = all_as IsConstant IsNear is_near tables.values values;
-      blocks = all_as GoodB KeepsBlock (λ b g. g.keeps) (coded_blocks tables bs 0) inside;
-      instructions = all_mapped (instruction_code tables) GoodI KeepsInstruction (λ i g. g.kept) all_code instrs;
     }
 
     both : IsDeck D × KeepsNumbers (code_of t)
     both = (good_is_deck tables G B last D good_deck, keeps)
 
   said : IsDeck (deck_of is_main t.procedure (code_of t)) × KeepsNumbers (code_of t)
-  said =
-      let e = behind_is plain 0 in
-      let some = some_code bs 0 (one_block t well formed.some) in
-      let r = some_last (length plain) (omega (arith, e, some)) in
-      both r.0 r.1
+  said = let r = code_within t well formed few in both r.0 r.1
 
 pub units_are_said : UnitsAreSaid
 units_are_said t u is_main well formed fits_in of typed =

@@ -1,4 +1,4 @@
--- Instructions whose numbers are within limits fit the fields of a deck, name what is there, and keep their numbers.
+-- Instructions whose numbers are within limits fit the fields of a deck, and name what is there.
 use Rattle.std.proofs.Common.{◌≡◌, ℕ, ◌<◌, ◌≤◌, true, length, refl, arith}
 use Rattle.std.specs.List.{AllByRecursion}
 use Rattle.pli_code.specs.declared.ending.RunError.{RunError}
@@ -16,40 +16,18 @@ use Rattle.pli_deck.specs.Fields.{u1, u2, u4, ◌⊗◌}
 use Rattle.pli_deck.specs.Descriptions.{bound}
 use Rattle.pli_deck.specs.Instructions.{error, relation, instruction}
 use Rattle.pli_deck.specs.DeckFaults.{Naming, OfDescription, OfTemplate, OfValue, OfGlobal, OfBlock, OfInstruction, named_by_instruction, targets_of}
-use Rattle.pli_deck_code.specs.CodeDecks.{byte, short, error_number, relation_number, instruction_of}
-use Rattle.pli_deck_laws.specs.Limits.{link_limit, IsOperation}
-use Rattle.pli_deck_laws.specs.KeptNumbers.{IsByte, IsShort, KeepsInstruction}
+use Rattle.pli_deck_laws.specs.Limits.{link_limit, parameter_limit, IsOperation}
 use Rattle.pli_deck_laws.proofs.AllowedLemmas.{Allowed}
+use Rattle.pli_deck_laws.proofs.UnitCode.{leads}
 use Rattle.pli_deck_laws.proofs.FieldsFit.{fits_byte, fits_short, fits_word, fits_pair, fits_bound, fits_precision}
 
-error_fits : (e : RunError) → error.fits (error_number e) ≡ true
+error_fits : (e : RunError) → error.fits e ≡ true
 error_fits errors.SubscriptRange = refl
 error_fits e = refl
 
-relation_fits : (r : Relation) → relation.fits (relation_number (relation_code r)) ≡ true
+relation_fits : (r : Relation) → relation.fits (relation_code r) ≡ true
 relation_fits calculate.Equal = refl
 relation_fits r = refl
-
--- fields of one byte and of two take what is cut to them
-byte_fits : (n : ℕ) → u1.fits (byte n) ≡ true
-byte_fits n = fits_byte (byte n) (omega arith)
-
-short_fits : (n : ℕ) → u2.fits (short n) ≡ true
-short_fits n = fits_short (short n) (omega arith)
-
-pub is_byte : (n : ℕ) → n ≤ 255 → IsByte n
-is_byte n h = omega (arith, h)
-
-pub is_short : (n : ℕ) → n ≤ 65535 → IsShort n
-is_short n h = omega (arith, h)
-
-cut_below : (n m : ℕ) → n < m → short n < m
-cut_below n m h = omega (arith, h)
-
--- where a jump of an instruction leads, if it is a GOTO
-abbrev pub leads : op.Instruction → ℕ
-leads (op.Goto outward target) = target
-leads i = 0
 
 module _ (tables : NumberedTables) (globals blocks last : ℕ) where
   -- what is named is there
@@ -72,10 +50,9 @@ module _ (tables : NumberedTables) (globals blocks last : ℕ) where
   HasValue v = number_in same_value tables.values v < length tables.values
 
   pub record GoodInstruction (i : Instruction) : Type 0 where
-    pub fits : instruction.fits (instruction_of i) ≡ true
-    pub jumps : AllByRecursion (λ n. n ≤ last) (targets_of (instruction_of i))
-    pub names : AllByRecursion Named (named_by_instruction (instruction_of i))
-    pub kept : KeepsInstruction i
+    pub fits : instruction.fits i ≡ true
+    pub jumps : AllByRecursion (λ n. n ≤ last) (targets_of i)
+    pub names : AllByRecursion Named (named_by_instruction i)
 
   -- lengths are within limits
   module _ (few_descriptions : length tables.descriptions ≤ 65535) (few_templates : length tables.templates ≤ 65535) (few_values : length tables.values ≤ 65535)
@@ -85,14 +62,23 @@ module _ (tables : NumberedTables) (globals blocks last : ℕ) where
 
     operation_good : (o : Operation) → IsOperation o → AllByRecursion HasDescription (fitted_by o) → GoodInstruction (operation_code tables o)
     unfolding instruction
-    operation_good (calculate.Fit d) h has = record { fits = description_fits (description_number tables d) has.0; jumps = tt; names = (has.0, tt); kept = (tt, tt) }
-    operation_good (calculate.ToCharacters width) h has = record { fits = fits_byte width h; jumps = tt; names = tt; kept = (tt, tt) }
-    operation_good (calculate.Divide p) h has = record { fits = fits_precision p h; jumps = tt; names = tt; kept = (tt, tt) }
-    operation_good (calculate.Compare r) h has = record { fits = relation_fits r; jumps = tt; names = tt; kept = (tt, tt) }
-    operation_good o h has = record { fits = refl; jumps = tt; names = tt; kept = (tt, tt) }
+    operation_good (calculate.Fit d) h has = record { fits = description_fits (description_number tables d) has.0; jumps = tt; names = (has.0, tt) }
+    operation_good (calculate.ToCharacters width) h has = record { fits = fits_byte width h; jumps = tt; names = tt }
+    operation_good (calculate.Divide p) h has = record { fits = fits_precision p h; jumps = tt; names = tt }
+    operation_good (calculate.Compare r) h has = record { fits = relation_fits r; jumps = tt; names = tt }
+    operation_good o h has = record { fits = refl; jumps = tt; names = tt }
 
-    link : (n : ℕ) → n ≤ link_limit → IsByte n
-    link n h = is_byte n (omega (arith, h))
+    link : (n : ℕ) → n ≤ link_limit → u1.fits n ≡ true
+    link n h = fits_byte n (omega (arith, h))
+
+    few_arguments : (n : ℕ) → n ≤ parameter_limit → u1.fits n ≡ true
+    few_arguments n h = fits_byte n (omega (arith, h))
+
+    block_fits : (n : ℕ) → n < blocks → u2.fits n ≡ true
+    block_fits n h = fits_short n (omega (arith, h, few_blocks))
+
+    global_fits : (n : ℕ) → n < globals → u2.fits n ≡ true
+    global_fits n h = fits_short n (omega (arith, h, few_globals))
 
     target : (n : ℕ) → n ≤ last → u2.fits n ≡ true
     target n h = fits_short n (omega (arith, h, few_instructions))
@@ -100,71 +86,48 @@ module _ (tables : NumberedTables) (globals blocks last : ℕ) where
     pub instruction_good : (i : op.Instruction) → Allowed globals blocks last i → leads i ≤ last → AllByRecursion HasDescription (descriptions_named i)
         → AllByRecursion HasTemplate (templates_named i) → AllByRecursion HasValue (values_named i) → GoodInstruction (instruction_code tables i)
     unfolding instruction
-    instruction_good (op.Step s) h to ds ts vs = record { fits = fits_word s h; jumps = tt; names = tt; kept = (tt, tt) }
-    instruction_good (op.Line s) h to ds ts vs = record { fits = fits_word s h; jumps = tt; names = tt; kept = (tt, tt) }
-    instruction_good (op.Jump n) h to ds ts vs = record { fits = target n h; jumps = (h, tt); names = tt; kept = (tt, tt) }
-    instruction_good (op.JumpUnless n) h to ds ts vs = record { fits = target n h; jumps = (h, tt); names = tt; kept = (tt, tt) }
+    instruction_good (op.Step s) h to ds ts vs = record { fits = fits_word s h; jumps = tt; names = tt }
+    instruction_good (op.Line s) h to ds ts vs = record { fits = fits_word s h; jumps = tt; names = tt }
+    instruction_good (op.Jump n) h to ds ts vs = record { fits = target n h; jumps = (h, tt); names = tt }
+    instruction_good (op.JumpUnless n) h to ds ts vs = record { fits = target n h; jumps = (h, tt); names = tt }
     instruction_good (op.Goto outward n) h to ds ts vs =
-        record { fits = fits_pair u1 u2 (byte outward) n (byte_fits outward) (target n to); jumps = (to, tt); names = tt; kept = ((link outward h, tt), tt) }
+        record { fits = fits_pair u1 u2 outward n (link outward h) (target n to); jumps = (to, tt); names = tt }
     instruction_good (op.Call block arguments) h to ds ts vs =
-        let b = h.0 in
-        let a = h.1 in
-        record {
-          fits = fits_pair u2 u1 (short block) (byte arguments) (short_fits block) (byte_fits arguments);
-          jumps = tt;
-          names = (cut_below block blocks b, tt);
-          kept = ((is_byte arguments (omega (arith, a)), tt), (is_short block (omega (arith, b, few_blocks)), tt));
-        }
+        record { fits = fits_pair u2 u1 block arguments (block_fits block h.0) (few_arguments arguments h.1); jumps = tt; names = (h.0, tt) }
     instruction_good (op.CallExternal global arguments) h to ds ts vs =
-        let g = h.0 in
-        let a = h.1 in
-        record {
-          fits = fits_pair u2 u1 (short global) (byte arguments) (short_fits global) (byte_fits arguments);
-          jumps = tt;
-          names = (cut_below global globals g, tt);
-          kept = ((is_byte arguments (omega (arith, a)), tt), (is_short global (omega (arith, g, few_globals)), tt));
-        }
-    instruction_good (op.Begin block) h to ds ts vs =
-        record { fits = short_fits block; jumps = tt; names = (cut_below block blocks h, tt); kept = (tt, (is_short block (omega (arith, h, few_blocks)), tt)) }
-    instruction_good (op.Return outward) h to ds ts vs = record { fits = byte_fits outward; jumps = tt; names = tt; kept = ((link outward h, tt), tt) }
-    instruction_good (op.ReturnValue outward) h to ds ts vs = record { fits = byte_fits outward; jumps = tt; names = tt; kept = ((link outward h, tt), tt) }
-    instruction_good (op.Raise e) h to ds ts vs = record { fits = error_fits e; jumps = tt; names = tt; kept = (tt, tt) }
-    instruction_good op.Stop h to ds ts vs = record { fits = refl; jumps = tt; names = tt; kept = (tt, tt) }
+        record { fits = fits_pair u2 u1 global arguments (global_fits global h.0) (few_arguments arguments h.1); jumps = tt; names = (h.0, tt) }
+    instruction_good (op.Begin block) h to ds ts vs = record { fits = block_fits block h; jumps = tt; names = (h, tt) }
+    instruction_good (op.Return outward) h to ds ts vs = record { fits = link outward h; jumps = tt; names = tt }
+    instruction_good (op.ReturnValue outward) h to ds ts vs = record { fits = link outward h; jumps = tt; names = tt }
+    instruction_good (op.Raise e) h to ds ts vs = record { fits = error_fits e; jumps = tt; names = tt }
+    instruction_good op.Stop h to ds ts vs = record { fits = refl; jumps = tt; names = tt }
     instruction_good (op.Local outward slot) h to ds ts vs =
-        record {
-          fits = fits_pair u1 u2 (byte outward) (short slot) (byte_fits outward) (short_fits slot);
-          jumps = tt;
-          names = tt;
-          kept = ((link outward h.0, tt), (is_short slot h.1, tt));
-        }
-    instruction_good (op.Global number) h to ds ts vs =
-        record { fits = short_fits number; jumps = tt; names = (cut_below number globals h, tt); kept = (tt, (is_short number (omega (arith, h, few_globals)), tt)) }
+        record { fits = fits_pair u1 u2 outward slot (link outward h.0) (fits_short slot h.1); jumps = tt; names = tt }
+    instruction_good (op.Global number) h to ds ts vs = record { fits = global_fits number h; jumps = tt; names = (h, tt) }
     instruction_good (op.Field offset d) h to ds ts vs =
         record {
           fits = fits_pair u4 u2 offset (description_number tables d) (fits_word offset h.0) (description_fits (description_number tables d) ds.0);
           jumps = tt;
           names = (ds.0, tt);
-          kept = (tt, tt);
         }
     instruction_good (op.Subscript low high multiplier) h to ds ts vs =
         record {
           fits = fits_pair bound (bound ⊗ u4) low (high, multiplier) (fits_bound low h.0) (fits_pair bound u4 high multiplier (fits_bound high h.1) (fits_word multiplier h.2));
           jumps = tt;
           names = tt;
-          kept = (tt, tt);
         }
     instruction_good (op.Constant v) h to ds ts vs =
         let has = vs.0 in
-        record { fits = fits_short (number_in same_value tables.values v) (omega (arith, has, few_values)); jumps = tt; names = (has, tt); kept = (tt, tt) }
-    instruction_good op.Load h to ds ts vs = record { fits = refl; jumps = tt; names = tt; kept = (tt, tt) }
-    instruction_good op.Store h to ds ts vs = record { fits = refl; jumps = tt; names = tt; kept = (tt, tt) }
-    instruction_good op.Copy h to ds ts vs = record { fits = refl; jumps = tt; names = tt; kept = (tt, tt) }
+        record { fits = fits_short (number_in same_value tables.values v) (omega (arith, has, few_values)); jumps = tt; names = (has, tt) }
+    instruction_good op.Load h to ds ts vs = record { fits = refl; jumps = tt; names = tt }
+    instruction_good op.Store h to ds ts vs = record { fits = refl; jumps = tt; names = tt }
+    instruction_good op.Copy h to ds ts vs = record { fits = refl; jumps = tt; names = tt }
     instruction_good (op.MakeDummy d) h to ds ts vs =
         let has = ts.0 in
-        record { fits = fits_short (template_number tables (dummy d)) (omega (arith, has, few_templates)); jumps = tt; names = (has, tt); kept = (tt, tt) }
+        record { fits = fits_short (template_number tables (dummy d)) (omega (arith, has, few_templates)); jumps = tt; names = (has, tt) }
     instruction_good (op.Operate operation) h to ds ts vs = operation_good operation h ds
-    instruction_good op.Put h to ds ts vs = record { fits = refl; jumps = tt; names = tt; kept = (tt, tt) }
-    instruction_good op.Skip h to ds ts vs = record { fits = refl; jumps = tt; names = tt; kept = (tt, tt) }
-    instruction_good (op.SetTemporary number) h to ds ts vs = record { fits = short_fits number; jumps = tt; names = tt; kept = (tt, (is_short number h, tt)) }
-    instruction_good (op.TakeTemporary number) h to ds ts vs = record { fits = short_fits number; jumps = tt; names = tt; kept = (tt, (is_short number h, tt)) }
+    instruction_good op.Put h to ds ts vs = record { fits = refl; jumps = tt; names = tt }
+    instruction_good op.Skip h to ds ts vs = record { fits = refl; jumps = tt; names = tt }
+    instruction_good (op.SetTemporary number) h to ds ts vs = record { fits = fits_short number h; jumps = tt; names = tt }
+    instruction_good (op.TakeTemporary number) h to ds ts vs = record { fits = fits_short number h; jumps = tt; names = tt }
     instruction_good op.Nothing h to ds ts vs = absurd h

@@ -5,9 +5,11 @@ pub mod DecksSay
 pub mod FieldsFit
 pub mod InstructionsFit
 pub mod KeptTemporaries
+pub mod NumbersFit
 pub mod PartsFit
 pub mod ScalarsStand
 pub mod TablesFit
 pub mod UnitBlocks
+pub mod UnitCode
 pub mod WorkedUnit
 pub mod TypesSay

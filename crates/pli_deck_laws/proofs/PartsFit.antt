@@ -22,19 +22,19 @@ use Rattle.pli_deck.specs.Fields.{u1, u2, u4, list_of, ◌⊗◌}
 use Rattle.pli_deck.specs.DeckFields.{name, constant, initial, template, signature, global, block_kind, optional, block}
 use Rattle.pli_deck.specs.DeckFaults.{Naming, OfDescription, OfTemplate, OfInstruction, named_by_result, named_by_signature, named_by_template, named_by_global, named_by_parent, named_by_block}
 use Rattle.pli_deck.specs.DeckFaults.{scalar_at, is_fitted, fits_scalar, is_good_template}
-use Rattle.pli_deck_code.specs.CodeDecks.{byte, short, constant_of, initial_of, offsets_in, template_of, signature_of, global_of, kind_number, block_of}
+use Rattle.pli_deck_code.specs.CodeDecks.{constant_of, initial_of, offsets_in, template_of, signature_of, global_of}
 use Rattle.pli_deck_code.specs.ScalarOffsets.{offsets_of}
-use Rattle.pli_deck_laws.specs.KeptNumbers.{IsByte, IsShort, IsNear, KeepsBlock, KeepsInitial, KeepsTemplate}
-use Rattle.pli_deck_laws.specs.Limits.{level_limit, parameter_limit, IfThere, IsConstant, IsMade, IsInitial, IsTemplate, IsSignature, IsGlobal}
-use Rattle.pli_deck_laws.specs.WellFormed.{slots_of, IsHead}
+use Rattle.pli_deck_laws.specs.KeptNumbers.{IsNear, KeepsInitial, KeepsTemplate}
+use Rattle.pli_deck_laws.specs.Limits.{level_limit, IfThere, IsConstant, IsMade, IsInitial, IsTemplate, IsSignature, IsGlobal}
 use Rattle.pli_deck_laws.proofs.FieldsFit.{both_hold, each_holds, all_mapped, fits_byte, fits_short, fits_word, fits_range, fits_pair, fits_list, fits_optional, fits_name, near, fits_constant, fits_signature}
-use Rattle.pli_deck_laws.proofs.InstructionsFit.{Named, is_byte, is_short}
+use Rattle.pli_deck_laws.proofs.InstructionsFit.{Named}
 use Rattle.pli_deck_laws.proofs.ScalarsStand.{scalar_found}
 use Rattle.pli_deck_laws.proofs.TablesFit.{StandsDescription, StandsTemplate, description_within, template_within}
 use Rattle.pli_deck_laws.proofs.CodeGrows.{block_is_some}
 use Rattle.pli_gen_tree.proofs.CodeEnds.{both_within}
 use Rattle.pli_deck_laws.proofs.KeptTemporaries.{few_temporaries}
 use Rattle.pli_deck_laws.proofs.UnitBlocks.{all_as, all_pairs}
+use Rattle.pli_deck_laws.proofs.UnitCode.{BlockWithin}
 use Rattle.pli_deck_laws.specs.UnitTypes.{HasBytes, BeginsWithBytes, HasName}
 
 -- ---- initial values
@@ -184,37 +184,25 @@ module _ (tables : NumberedTables) (globals blocks last : ℕ) (few_descriptions
 
   -- ---- blocks
 
-  -- what is asked of a block
-  pub record BlockWithin (b : BlockTree) : Type 0 where
-    pub parent : IfThere (λ n. n < blocks) b.parent
-    pub parameters : b.parameters ≤ parameter_limit
-    pub head : IsHead b.head b.statements
-    pub slots : slots_of b ≤ 65535
-
   pub record GoodCodedBlock (b : code.CodedBlock) : Type 0 where
-    pub fits : block.fits (block_of b) ≡ true
-    pub names : AllByRecursion IsNamed (named_by_block (block_of b))
-    pub keeps : KeepsBlock b
+    pub fits : block.fits b ≡ true
+    pub names : AllByRecursion IsNamed (named_by_block b)
 
-  kind_fits : (k : op.BlockKind) → block_kind.fits (kind_number k) ≡ true
+  kind_fits : (k : op.BlockKind) → block_kind.fits k ≡ true
   kind_fits op.Procedure = refl
   kind_fits op.BeginBlock = refl
   kind_fits op.OnUnit = refl
 
   module _ (few_blocks : blocks ≤ 65535) (few_instructions : suc last ≤ 65535) where
-    parent_fits : (o : Option ℕ) → IfThere (λ n. n < blocks) o → optional.fits (option_map short o) ≡ true
+    parent_fits : (o : Option ℕ) → IfThere (λ n. n < blocks) o → optional.fits o ≡ true
     parent_fits None h = fits_optional None tt
-    parent_fits (Some n) h = fits_optional (Some (short n)) (omega (arith, h, few_blocks))
+    parent_fits (Some n) h = fits_optional (Some n) (omega (arith, h, few_blocks))
 
-    parent_named : (o : Option ℕ) → IfThere (λ n. n < blocks) o → AllByRecursion IsNamed (named_by_parent (option_map short o))
+    parent_named : (o : Option ℕ) → IfThere (λ n. n < blocks) o → AllByRecursion IsNamed (named_by_parent o)
     parent_named None h = tt
-    parent_named (Some n) h = (omega (arith, h), tt)
+    parent_named (Some n) h = (h, tt)
 
-    parent_kept : (o : Option ℕ) → IfThere (λ n. n < blocks) o → IfThere IsShort o
-    parent_kept None h = tt
-    parent_kept (Some n) h = is_short n (omega (arith, h, few_blocks))
-
-    block_good : (b : BlockTree) (p : ℕ) → p ≤ last → b.head.temporaries ≤ 65535 → BlockWithin b → AllByRecursion (StandsTemplate tables) b.head.variables → GoodCodedBlock (coded_block tables b p)
+    block_good : (b : BlockTree) (p : ℕ) → p ≤ last → b.head.temporaries ≤ 65535 → BlockWithin blocks b → AllByRecursion (StandsTemplate tables) b.head.variables → GoodCodedBlock (coded_block tables b p)
     unfolding block
     block_good b p entry temporaries h stand =
         let numbers = map (template_number tables) b.head.variables in
@@ -222,21 +210,19 @@ module _ (tables : NumberedTables) (globals blocks last : ℕ) (few_descriptions
         let slots = h.slots in
         let all : AllByRecursion (λ n. n < length tables.templates) numbers = all_mapped (template_number tables) (StandsTemplate tables) (λ n. n < length tables.templates) (template_within tables) b.head.variables stand in
         let count : length numbers ≡ length b.head.variables = length-map b.head.variables (template_number tables) in
-        let kept : IsByte b.parameters = is_byte b.parameters (omega (arith, few)) in
         let last_parts = fits_pair u2 u4 p b.head.statement (fits_short p (omega (arith, entry, few_instructions))) (fits_word b.head.statement h.head.0) in
-        let four = fits_pair u2 (u2 ⊗ u4) (short b.head.temporaries) (p, b.head.statement) (fits_short (short b.head.temporaries) (omega arith)) last_parts in
+        let four = fits_pair u2 (u2 ⊗ u4) b.head.temporaries (p, b.head.statement) (fits_short b.head.temporaries temporaries) last_parts in
         let variables = fits_list u2 u2 numbers (fits_short (length numbers) (omega (arith, count, slots)))
         (each_holds u2.fits (λ n. n < length tables.templates) (λ n e. fits_short n (omega (arith, e, few_templates))) numbers all) in
-        let parameters = fits_range 0 64 (byte b.parameters) u1 (fits_byte (byte b.parameters) (omega arith)) (omega arith) (omega (arith, few)) in
+        let parameters = fits_range 0 64 b.parameters u1 (fits_byte b.parameters (omega (arith, few))) (omega arith) few in
         record {
           fits = both_hold _ _ (kind_fits b.kind) (both_hold _ _ (parent_fits b.parent h.parent) (both_hold _ _ parameters (both_hold _ _ variables four)));
-          names = all_both IsNamed (named_by_parent (option_map short b.parent) ++ map OfTemplate numbers) (OfInstruction p ∷ [])
-              (all_both IsNamed (named_by_parent (option_map short b.parent)) (map OfTemplate numbers) (parent_named b.parent h.parent)
+          names = all_both IsNamed (named_by_parent b.parent ++ map OfTemplate numbers) (OfInstruction p ∷ [])
+              (all_both IsNamed (named_by_parent b.parent) (map OfTemplate numbers) (parent_named b.parent h.parent)
               (all_mapped OfTemplate (λ n. n < length tables.templates) IsNamed (λ n e. e) numbers all)) (entry, tt);
-          keeps = (parent_kept b.parent h.parent, kept, is_short b.head.temporaries temporaries);
         }
 
-    pub blocks_good : (bs : List BlockTree) (p : ℕ) → behind (blocks_code bs p) p ≤ suc last → AllByRecursion BlockWithin bs → AllByRecursion (StandsTemplate tables) (block_templates bs)
+    pub blocks_good : (bs : List BlockTree) (p : ℕ) → behind (blocks_code bs p) p ≤ suc last → AllByRecursion (BlockWithin blocks) bs → AllByRecursion (StandsTemplate tables) (block_templates bs)
         → AllByRecursion GoodCodedBlock (coded_blocks tables bs p)
     blocks_good [] p end h stand = tt
     blocks_good (b ∷ bs) p end h stand =

@@ -1,5 +1,5 @@
 //! Laws of what a deck says of its unit.
-ghost use Rattle.pli_deck_laws.specs.DeckLaws.{ScalarsAreFound, UnitsAreSaid};
+ghost use Rattle.pli_deck_laws.specs.DeckLaws.{ScalarsAreFound, NumbersFit, UnitsAreSaid};
 ghost use Rattle.pli_deck_laws.specs.examples.DeckUnits.{WorkedIsWellFormed};
 
 /// A law: where a scalar of a description within the limits of the language stands, there the description has it.
@@ -8,9 +8,17 @@ pub fn scalars_are_found()
     ensures { ScalarsAreFound }
 {}
 
+/// A law: the code of a unit that is well formed and numbered well has no number that is wider than its field, where the
+/// globals, the blocks, their slots and the instructions are within the limits of tables. So it is too long only where it
+/// is over one of the other limits.
+#[tactic(auto, using(crate::proofs::NumbersFit::numbers_fit))]
+pub fn numbers_fit()
+    ensures { NumbersFit }
+{}
+
 /// A law: the deck of a unit that is well formed, numbered well and not too long is one that bytes spell: each of its
 /// numbers is in the range of its field, what it names is there, its jumps lead to instructions, and its templates are
-/// within their limits. And it says each number as the code has it.
+/// within their limits. And it says each value as the code has it.
 pub fn units_are_said()
     ensures { UnitsAreSaid }
 {}

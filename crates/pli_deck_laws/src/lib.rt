@@ -4,5 +4,5 @@
 mod laws;
 mod typed;
 
-pub use laws::{scalars_are_found, units_are_said, worked_unit};
+pub use laws::{numbers_fit, scalars_are_found, units_are_said, worked_unit};
 pub use typed::units_are_typed;

@@ -1,25 +1,19 @@
 -- The deck of what is made of a deck is that deck, where it fits its bytes.
-use Rattle.std.proofs.Common.{◌≡◌, ℕ, zero, suc, ◌+◌, ◌<◌, nat_eq, nat_lt, Bool, true, false, ◌&&◌, cond, List, [], ◌∷◌, length, map, get_or, slice_get, Option, Some, None, option_map, refl, ap, subst, ◌∙◌, arith}
+use Rattle.std.proofs.Common.{◌≡◌, ℕ, suc, ◌+◌, ◌<◌, nat_eq, nat_lt, Bool, true, false, cond, List, [], ◌∷◌, length, map, get_or, slice_get, Option, Some, None, option_map, refl, ap, subst, ◌∙◌, arith}
 use Rattle.std.specs.List.{list_all}
 use Rattle.std.specs.Option.{option_and_then}
 use Rattle.std.specs.Prelude.{pos}
-use Rattle.std.specs.Int.{is_in_range}
-use Rattle.std.proofs.lemmas.Bool.{and_parts, and_from, ltb-true, lt-ltb, le-leb, eqb-true}
+use Rattle.std.proofs.lemmas.Bool.{and_parts, and_from, lt-ltb, eqb-true}
 use Rattle.std.proofs.lemmas.Option.{same_Some, none-some}
 use Rattle.pli_deck.specs.Decks as deck
-use Rattle.pli_deck.specs.DeckFields.{constant, initial, template, block, block_kind, optional, parameter_number, is_number_if}
-use Rattle.pli_deck.specs.Fields.{u1, u2, u4, list}
-use Rattle.pli_deck.specs.Instructions.{instruction}
-use Rattle.pli_deck.specs.declared.instruction.DeckInstruction as deck_instruction
-use Rattle.pli_deck.specs.declared.instruction.DeckInstruction.TheVariants as op
-use Rattle.pli_deck_code.specs.CodeDecks.{byte, short, error_number, relation_number, kind_number, instruction_of, constant_of, initial_of, offsets_in, template_of, global_of, block_of}
+use Rattle.pli_deck.specs.DeckFields.{constant, initial, template}
+use Rattle.pli_deck.specs.Fields.{u2, u4}
+use Rattle.pli_deck_code.specs.CodeDecks.{constant_of, initial_of, offsets_in, template_of, global_of}
 use Rattle.pli_map.specs.Description.{Description}
 use Rattle.pli_type_tree.specs.Templates.{InitialScalar}
-use Rattle.pli_unit_code.specs.declared.instruction.Instruction.{Instruction}
-use Rattle.pli_unit_code.specs.declared.instruction.Instruction.TheVariants as coded
 use Rattle.pli_value.specs.Value.{Value}
-use Rattle.pli_deck_load.specs.CodeFields.{is_byte, is_short, instruction_fits, value_fits, initial_fits, template_fits, parent_fits, block_fits}
-use Rattle.pli_deck_load.specs.DeckCodes.{all_of, error_from, relation_from, kind_from, instruction_from, value_from, initial_from, initials_from, template_from, global_from, block_from}
+use Rattle.pli_deck_load.specs.CodeFields.{value_fits, initial_fits, template_fits}
+use Rattle.pli_deck_load.specs.DeckCodes.{all_of, value_from, initial_from, initials_from, template_from, global_from}
 use Rattle.pli_deck_load.specs.Scalars.{rises, scalar_from}
 use Rattle.pli_deck_load.proofs.DecksBack.{counted}
 
@@ -64,138 +58,7 @@ all_forth f g q p each (x ∷ xs) h =
     (λ ys are. (ap (λ z. z ∷ map g ys) is.0 ∙ ap (λ zs. x ∷ zs) are.0, and_from (p y) (list_all p ys) is.1 are.1)) (all_forth f g q p each xs both.1))
     (each x both.0)
 
--- ---- numbers
-
-byte_kept : (n : ℕ) → u1.fits n ≡ true → (byte n ≡ n) × (is_byte n ≡ true)
-byte_kept n h =
-    let lt : n < 256 = ltb-true n 256 h in
-    (omega (arith, lt), le-leb n 255 (omega (arith, lt)))
-
-short_kept : (n : ℕ) → u2.fits n ≡ true → (short n ≡ n) × (is_short n ≡ true)
-short_kept n h =
-    let lt : n < 65536 = ltb-true n 65536 h in
-    (omega (arith, lt), le-leb n 65535 (omega (arith, lt)))
-
-error_forth : (n : ℕ) → OfMade (λ e. error_number e ≡ n) (error_from n)
-error_forth zero = tt
-error_forth (suc zero) = refl
-error_forth (suc (suc zero)) = refl
-error_forth (suc (suc (suc zero))) = refl
-error_forth (suc (suc (suc (suc zero)))) = refl
-error_forth (suc (suc (suc (suc (suc zero))))) = refl
-error_forth (suc (suc (suc (suc (suc (suc zero)))))) = refl
-error_forth (suc (suc (suc (suc (suc (suc (suc zero))))))) = refl
-error_forth (suc (suc (suc (suc (suc (suc (suc (suc zero)))))))) = refl
-error_forth (suc (suc (suc (suc (suc (suc (suc (suc (suc zero))))))))) = refl
-error_forth (suc (suc (suc (suc (suc (suc (suc (suc (suc (suc zero)))))))))) = refl
-error_forth (suc (suc (suc (suc (suc (suc (suc (suc (suc (suc (suc zero))))))))))) = refl
-error_forth (suc (suc (suc (suc (suc (suc (suc (suc (suc (suc (suc (suc zero)))))))))))) = refl
-error_forth (suc (suc (suc (suc (suc (suc (suc (suc (suc (suc (suc (suc (suc zero))))))))))))) = refl
-error_forth (suc (suc (suc (suc (suc (suc (suc (suc (suc (suc (suc (suc (suc (suc n)))))))))))))) = tt
-
-relation_forth : (n : ℕ) → OfMade (λ r. relation_number r ≡ n) (relation_from n)
-relation_forth zero = refl
-relation_forth (suc zero) = refl
-relation_forth (suc (suc zero)) = refl
-relation_forth (suc (suc (suc zero))) = refl
-relation_forth (suc (suc (suc (suc zero)))) = refl
-relation_forth (suc (suc (suc (suc (suc zero))))) = refl
-relation_forth (suc (suc (suc (suc (suc (suc n)))))) = tt
-
-kind_forth : (n : ℕ) → OfMade (λ k. kind_number k ≡ n) (kind_from n)
-kind_forth zero = refl
-kind_forth (suc zero) = refl
-kind_forth (suc (suc zero)) = refl
-kind_forth (suc (suc (suc n))) = tt
-
--- ---- instructions
-
-abbrev pub IsInstruction : deck_instruction.DeckInstruction → Instruction → Type 0
-IsInstruction i c = (instruction_of c ≡ i) × (instruction_fits c ≡ true)
-
-pub instruction_forth : (i : deck_instruction.DeckInstruction) → instruction.fits i ≡ true → OfMade (IsInstruction i) (instruction_from i)
-unfolding instruction
-instruction_forth (op.Step s) h = (refl, refl)
-instruction_forth (op.Line s) h = (refl, refl)
-instruction_forth (op.Jump t) h = (refl, refl)
-instruction_forth (op.JumpUnless t) h = (refl, refl)
-instruction_forth (op.Field o d) h = (refl, refl)
-instruction_forth (op.Subscript l u m) h = (refl, refl)
-instruction_forth (op.Constant v) h = (refl, refl)
-instruction_forth (op.MakeDummy t) h = (refl, refl)
-instruction_forth (op.Fit d) h = (refl, refl)
-instruction_forth (op.ToCharacters w) h = (refl, refl)
-instruction_forth (op.Divide p) h = (refl, refl)
-instruction_forth (op.Goto outward target) h =
-    let n = byte_kept outward (and_parts (u1.fits outward) (u2.fits target) h).0 in
-    (ap (λ k. op.Goto k target) n.0, n.1)
-instruction_forth (op.Call b a) h =
-    let both = and_parts (u2.fits b) (u1.fits a) h in
-    let m = short_kept b both.0 in
-    let n = byte_kept a both.1 in
-    (ap (λ k. op.Call k (byte a)) m.0 ∙ ap (op.Call b) n.0, and_from (is_short b) (is_byte a) m.1 n.1)
-instruction_forth (op.CallExternal b a) h =
-    let both = and_parts (u2.fits b) (u1.fits a) h in
-    let m = short_kept b both.0 in
-    let n = byte_kept a both.1 in
-    (ap (λ k. op.CallExternal k (byte a)) m.0 ∙ ap (op.CallExternal b) n.0, and_from (is_short b) (is_byte a) m.1 n.1)
-instruction_forth (op.Local outward slot) h =
-    let both = and_parts (u1.fits outward) (u2.fits slot) h in
-    let m = byte_kept outward both.0 in
-    let n = short_kept slot both.1 in
-    (ap (λ k. op.Local k (short slot)) m.0 ∙ ap (op.Local outward) n.0, and_from (is_byte outward) (is_short slot) m.1 n.1)
-instruction_forth (op.Begin k) h = let n = short_kept k h in (ap op.Begin n.0, n.1)
-instruction_forth (op.Global k) h = let n = short_kept k h in (ap op.Global n.0, n.1)
-instruction_forth (op.SetTemporary k) h = let n = short_kept k h in (ap op.SetTemporary n.0, n.1)
-instruction_forth (op.TakeTemporary k) h = let n = short_kept k h in (ap op.TakeTemporary n.0, n.1)
-instruction_forth (op.Return k) h = let n = byte_kept k h in (ap op.Return n.0, n.1)
-instruction_forth (op.ReturnValue k) h = let n = byte_kept k h in (ap op.ReturnValue n.0, n.1)
-instruction_forth (op.Raise e) h =
-    mapped (λ x. error_number x ≡ e) (IsInstruction (op.Raise e)) coded.Raise (error_from e) (λ x is. (ap op.Raise is, refl)) (error_forth e)
-instruction_forth (op.Compare r) h =
-    mapped (λ x. relation_number x ≡ r) (IsInstruction (op.Compare r)) coded.Compare (relation_from r) (λ x is. (ap op.Compare is, refl)) (relation_forth r)
-instruction_forth op.Stop h = (refl, refl)
-instruction_forth op.Load h = (refl, refl)
-instruction_forth op.Store h = (refl, refl)
-instruction_forth op.Copy h = (refl, refl)
-instruction_forth op.FromBits h = (refl, refl)
-instruction_forth op.Negate h = (refl, refl)
-instruction_forth op.Absolute h = (refl, refl)
-instruction_forth op.Sign h = (refl, refl)
-instruction_forth op.Not h = (refl, refl)
-instruction_forth op.LengthOf h = (refl, refl)
-instruction_forth op.Add h = (refl, refl)
-instruction_forth op.Subtract h = (refl, refl)
-instruction_forth op.Multiply h = (refl, refl)
-instruction_forth op.Modulo h = (refl, refl)
-instruction_forth op.Greatest h = (refl, refl)
-instruction_forth op.Least h = (refl, refl)
-instruction_forth op.Concatenate h = (refl, refl)
-instruction_forth op.And h = (refl, refl)
-instruction_forth op.Or h = (refl, refl)
-instruction_forth op.Index h = (refl, refl)
-instruction_forth op.Rest h = (refl, refl)
-instruction_forth op.Substring h = (refl, refl)
-instruction_forth op.IsWithin h = (refl, refl)
-instruction_forth op.Put h = (refl, refl)
-instruction_forth op.Skip h = (refl, refl)
-instruction_forth (op.Based d) h = tt
-instruction_forth op.AddressOf h = tt
-instruction_forth op.ToPointer h = tt
-instruction_forth op.ToOffset h = tt
-instruction_forth (op.AllocateControlled g) h = tt
-instruction_forth (op.FreeControlled g) h = tt
-instruction_forth (op.CountGenerations g) h = tt
-instruction_forth (op.AllocateBased t) h = tt
-instruction_forth (op.AllocateInArea t i) h = tt
-instruction_forth (op.FreeBased d) h = tt
-instruction_forth op.AssignArea h = tt
-instruction_forth op.EmptyArea h = tt
-instruction_forth (op.On c b) h = tt
-instruction_forth (op.Revert c) h = tt
-instruction_forth (op.Signal c) h = tt
-
--- ---- values, globals and blocks
+-- ---- values and globals
 
 pub value_forth : (c : deck.Constant) → constant.fits c ≡ true → OfMade (λ v. (constant_of v ≡ c) × (value_fits v ≡ true)) (value_from c)
 unfolding constant
@@ -211,36 +74,6 @@ global_forth (deck.Controlled t) h = tt
 global_forth (deck.ExternalStatic name t) h = (refl, refl)
 global_forth (deck.ExternalControlled name t) h = tt
 global_forth (deck.ExternalEntry name s) h = (refl, refl)
-
-parent_kept : (o : Option ℕ) → is_number_if o ≡ true → (option_map short o ≡ o) × (parent_fits o ≡ true)
-parent_kept None h = (refl, refl)
-parent_kept (Some b) h =
-    let lt : b < 65535 = ltb-true b 65535 h in
-    let e : short b ≡ b = omega (arith, lt) in
-    (ap Some e, le-leb b 65535 (omega (arith, lt)))
-
-pub block_forth : (b : deck.DeckBlock) → block.fits b ≡ true → OfMade (λ c. (block_of c ≡ b) × (block_fits c ≡ true)) (block_from b)
-unfolding block optional
-block_forth b h =
-    let kind = and_parts (block_kind.fits b.kind) _ h in
-    let parent = and_parts (is_number_if b.parent) _ kind.1 in
-    let parameters = and_parts (parameter_number.fits b.parameters) _ parent.1 in
-    let variables = and_parts ((list u2).fits b.variables) _ parameters.1 in
-    let temporaries = and_parts (u2.fits b.temporaries) _ variables.1 in
-    let p = parent_kept b.parent parent.0 in
-    let n = byte_kept b.parameters (and_parts (u1.fits b.parameters) (is_in_range 0 64 b.parameters) parameters.0).0 in
-    let t = short_kept b.temporaries temporaries.0 in
-    let made : ℕ → Option ℕ → ℕ → ℕ → deck.DeckBlock = λ k o m s.
-    record { kind = k; parent = o; parameters = m; variables = b.variables; temporaries = s; entry = b.entry; statement = b.statement } in
-    mapped (λ k. kind_number k ≡ b.kind) (λ c. (block_of c ≡ b) × (block_fits c ≡ true)) _ (kind_from b.kind)
-    (λ k is. (
-      ap (λ x. made x (option_map short b.parent) (byte b.parameters) (short b.temporaries)) is
-          ∙ ap (λ x. made b.kind x (byte b.parameters) (short b.temporaries)) p.0
-          ∙ ap (λ x. made b.kind b.parent x (short b.temporaries)) n.0
-          ∙ ap (λ x. made b.kind b.parent b.parameters x) t.0,
-      and_from (parent_fits b.parent) (is_byte b.parameters && is_short b.temporaries) p.1 (and_from (is_byte b.parameters) (is_short b.temporaries) n.1 t.1),
-    ))
-    (kind_forth b.kind)
 
 -- ---- templates
 

@@ -7,28 +7,27 @@ use Rattle.pli_base.specs.Name.{Name}
 use Rattle.pli_deck.specs.Decks as deck
 use Rattle.pli_deck.specs.Decks.{Deck}
 use Rattle.pli_deck.specs.DeckFaults.{fault_of, jumps_within, named_by, is_there, within_limits, is_good_template}
-use Rattle.pli_deck.specs.DeckFields.{name, flag, signature, tables, contents, template, constant, global, block}
+use Rattle.pli_deck.specs.DeckFields.{name, flag, signature, tables, contents, template, constant}
 use Rattle.pli_deck.specs.DeckFields as fields
 use Rattle.pli_deck.specs.Descriptions.{description}
 use Rattle.pli_deck.specs.Fields.{list, u2, u4}
-use Rattle.pli_deck.specs.Instructions.{instruction}
 use Rattle.pli_deck.specs.ModuleFields as modules
-use Rattle.pli_deck.specs.ModuleFields.{Member, is_none, sized_deck, module_field, module_contents}
+use Rattle.pli_deck.specs.ModuleFields.{Member, is_none, sized_deck, module_field}
 use Rattle.pli_deck.specs.Spelling.{deck_bytes}
 use Rattle.pli_deck.specs.declared.fault.DeckFault.{DeckFault}
 use Rattle.pli_deck.specs.declared.fault.DeckFault.TheVariants.{BadJump, BadNumber, OverLimit}
 use Rattle.pli_deck.proofs.ModuleLaws.{one_module}
-use Rattle.pli_deck_code.specs.CodeDecks.{constant_of, global_of, block_of, instruction_of, deck_of}
+use Rattle.pli_deck_code.specs.CodeDecks.{constant_of, global_of, deck_of}
 use Rattle.pli_deck_code.specs.CodeModules.{links_of, member, members_of, module_of}
 use Rattle.pli_unit_code.specs.CodeTables as code
 use Rattle.pli_unit_code.specs.Modules as linked
 use Rattle.pli_unit_code.specs.Modules.{LinkedUnit}
-use Rattle.pli_deck_load.specs.CodeFields.{instruction_fits, value_fits, template_fits, block_fits, code_fits, entries_in, unit_fits}
-use Rattle.pli_deck_load.specs.DeckCodes.{all_of, template_from, value_from, global_from, block_from, instruction_from}
+use Rattle.pli_deck_load.specs.CodeFields.{value_fits, template_fits, code_fits, entries_in, unit_fits}
+use Rattle.pli_deck_load.specs.DeckCodes.{all_of, template_from, value_from, global_from}
 use Rattle.pli_deck_load.specs.LinkedBytes.{IsLinked}
 use Rattle.pli_deck_load.specs.ModuleUnits.{code_from, entries_from, unit_from, module_from}
 use Rattle.pli_deck_load.specs.laws.LoadLaws.{OneLinkedModule}
-use Rattle.pli_deck_load.proofs.DecksBack.{made_more, all_back, templates_back, value_back, global_back, block_back, instruction_back}
+use Rattle.pli_deck_load.proofs.DecksBack.{made_more, all_back, templates_back, value_back, global_back}
 
 -- ---- what a deck without a fault has
 
@@ -54,8 +53,6 @@ pub record Fits (d : Deck) : Type 0 where
   pub descriptions : list_all description.fits d.descriptions ≡ true
   pub templates : list_all template.fits d.templates ≡ true
   pub values : list_all constant.fits d.values ≡ true
-  pub blocks : list_all block.fits d.blocks ≡ true
-  pub instructions : list_all instruction.fits d.instructions ≡ true
 
 pub tables_fit : (d : Deck) → fields.deck.fits d ≡ true → Fits d
 unfolding fields.deck contents tables
@@ -66,14 +63,10 @@ tables_fit d h =
     let descriptions = and_parts ((list description).fits d.descriptions) _ signed.1 in
     let templates = and_parts ((list template).fits d.templates) _ descriptions.1 in
     let values = and_parts ((list constant).fits d.values) _ templates.1 in
-    let globals = and_parts ((list global).fits d.globals) _ values.1 in
-    let blocks = and_parts ((list block).fits d.blocks) ((list instruction).fits d.instructions) globals.1 in
     record {
       descriptions = (and_parts (u2.fits (length d.descriptions)) (list_all description.fits d.descriptions) descriptions.0).1;
       templates = (and_parts (u2.fits (length d.templates)) (list_all template.fits d.templates) templates.0).1;
       values = (and_parts (u2.fits (length d.values)) (list_all constant.fits d.values) values.0).1;
-      blocks = (and_parts (u2.fits (length d.blocks)) (list_all block.fits d.blocks) blocks.0).1;
-      instructions = (and_parts (u2.fits (length d.instructions)) (list_all instruction.fits d.instructions) blocks.1).1;
     }
 
 -- ---- code
@@ -81,7 +74,7 @@ tables_fit d h =
 -- code of all its parts
 parts : (d : Deck) (c : code.Code) → c.signature ≡ record { parameters = d.signature.parameters; result = d.signature.result }
     → d.descriptions ≡ c.descriptions → all_of (template_from d.descriptions) d.templates ≡ Some c.templates → all_of value_from d.values ≡ Some c.values
-    → all_of global_from d.globals ≡ Some c.globals → all_of block_from d.blocks ≡ Some c.blocks → all_of instruction_from d.instructions ≡ Some c.instructions → code_from d ≡ Some c
+    → all_of global_from d.globals ≡ Some c.globals → d.blocks ≡ c.blocks → d.instructions ≡ c.instructions → code_from d ≡ Some c
 parts d c s p q r t u v = rw (q, r, t, u, v, p, ← s) refl
 
 globals_same : (gs : List code.CodedGlobal) → all_of global_from (map global_of gs) ≡ Some gs
@@ -92,14 +85,10 @@ code_back : (is_main : Bool) (procedure : Name) (c : code.Code) → code_fits c 
     → fault_of (deck_of is_main procedure c) ≡ None → code_from (deck_of is_main procedure c) ≡ Some c
 code_back is_main procedure c fits spelled faultless =
     let d = deck_of is_main procedure c in
-    let templates = and_parts (list_all (template_fits c.descriptions) c.templates) _ fits in
-    let constants = and_parts (list_all value_fits c.values) _ templates.1 in
-    let blocks = and_parts (list_all block_fits c.blocks) (list_all instruction_fits c.instructions) constants.1 in
+    let both = and_parts (list_all (template_fits c.descriptions) c.templates) (list_all value_fits c.values) fits in
     parts d c refl refl
-    (templates_back c.descriptions (tables_fit d spelled).descriptions c.templates templates.0 (good_templates d faultless))
-    (all_back value_from constant_of value_fits value_back c.values constants.0) (globals_same c.globals)
-    (all_back block_from block_of block_fits block_back c.blocks blocks.0)
-    (all_back instruction_from instruction_of instruction_fits instruction_back c.instructions blocks.1)
+    (templates_back c.descriptions (tables_fit d spelled).descriptions c.templates both.0 (good_templates d faultless))
+    (all_back value_from constant_of value_fits value_back c.values both.1) (globals_same c.globals) refl refl
 
 -- ---- units
 

@@ -6,23 +6,22 @@ use Rattle.std.proofs.lemmas.Bool.{and_parts, and_from, leb-true, eq-eqb}
 use Rattle.pli_base.specs.Name.{Name}
 use Rattle.pli_deck.specs.Decks as deck
 use Rattle.pli_deck.specs.Decks.{Deck}
-use Rattle.pli_deck.specs.DeckFields.{name, template, constant, block}
+use Rattle.pli_deck.specs.DeckFields.{name, template, constant}
 use Rattle.pli_deck.specs.DeckFields as fields
 use Rattle.pli_deck.specs.Fields.{u2, from_to}
-use Rattle.pli_deck.specs.Instructions.{instruction}
 use Rattle.pli_deck.specs.ModuleFields as modules
 use Rattle.pli_deck.specs.ModuleFields.{External, Member, is_external, sized_deck, module_field}
-use Rattle.pli_deck_code.specs.CodeDecks.{constant_of, template_of, signature_of, global_of, block_of, instruction_of, deck_of}
+use Rattle.pli_deck_code.specs.CodeDecks.{constant_of, template_of, signature_of, global_of, deck_of}
 use Rattle.pli_deck_code.specs.CodeModules.{links_of, member, members_of, module_of, declarations}
 use Rattle.std.specs.Map.{keys_of}
 use Rattle.pli_unit_code.specs.CodeTables as code
 use Rattle.pli_unit_code.specs.Modules as linked
 use Rattle.pli_unit_code.specs.Modules.{LinkedUnit}
-use Rattle.pli_deck_load.specs.CodeFields.{instruction_fits, value_fits, template_fits, block_fits, code_fits, entries_in, unit_fits, module_fits}
-use Rattle.pli_deck_load.specs.DeckCodes.{all_of, template_from, value_from, global_from, block_from, instruction_from, signature_from}
+use Rattle.pli_deck_load.specs.CodeFields.{value_fits, template_fits, code_fits, entries_in, unit_fits, module_fits}
+use Rattle.pli_deck_load.specs.DeckCodes.{all_of, template_from, value_from, global_from, signature_from}
 use Rattle.pli_deck_load.specs.ModuleUnits.{code_from, entries_from, unit_from, module_from}
 use Rattle.pli_deck_load.specs.answers.Linkings.{mark_of, linking_of}
-use Rattle.pli_deck_load.proofs.DecksForth.{OfMade, of_some, mapped, chained, bound, made_of, AreKept, all_forth, instruction_forth, value_forth, global_forth, block_forth, template_forth}
+use Rattle.pli_deck_load.proofs.DecksForth.{OfMade, of_some, mapped, chained, bound, made_of, AreKept, all_forth, value_forth, global_forth, template_forth}
 use Rattle.pli_deck_load.proofs.ModulesBack.{tables_fit, has_deck, members_fit}
 
 -- ---- a deck
@@ -34,24 +33,22 @@ record Parts (d : Deck) (c : code.Code) : Type 0 where
   templates : all_of (template_from d.descriptions) d.templates ≡ Some c.templates
   values : all_of value_from d.values ≡ Some c.values
   globals : all_of global_from d.globals ≡ Some c.globals
-  blocks : all_of block_from d.blocks ≡ Some c.blocks
-  instructions : all_of instruction_from d.instructions ≡ Some c.instructions
+  blocks : c.blocks ≡ d.blocks
+  instructions : c.instructions ≡ d.instructions
 
 code_parts : (d : Deck) (c : code.Code) → code_from d ≡ Some c → Parts d c
 code_parts d c e =
     let b = bound _ (all_of (template_from d.descriptions) d.templates) c e in
     let v = bound _ (all_of value_from d.values) c b.2 in
-    let g = bound _ (all_of global_from d.globals) c v.2 in
-    let k = bound _ (all_of block_from d.blocks) c g.2 in
-    let i = made_of _ (all_of instruction_from d.instructions) c k.2 in
+    let g = made_of _ (all_of global_from d.globals) c v.2 in
     record {
-      signature = sym (ap (λ (x : code.Code). x.signature) i.2);
-      descriptions = sym (ap (λ (x : code.Code). x.descriptions) i.2);
-      templates = b.1 ∙ ap (λ (x : code.Code). Some x.templates) i.2;
-      values = v.1 ∙ ap (λ (x : code.Code). Some x.values) i.2;
-      globals = g.1 ∙ ap (λ (x : code.Code). Some x.globals) i.2;
-      blocks = k.1 ∙ ap (λ (x : code.Code). Some x.blocks) i.2;
-      instructions = i.1 ∙ ap (λ (x : code.Code). Some x.instructions) i.2;
+      signature = sym (ap (λ (x : code.Code). x.signature) g.2);
+      descriptions = sym (ap (λ (x : code.Code). x.descriptions) g.2);
+      templates = b.1 ∙ ap (λ (x : code.Code). Some x.templates) g.2;
+      values = v.1 ∙ ap (λ (x : code.Code). Some x.values) g.2;
+      globals = g.1 ∙ ap (λ (x : code.Code). Some x.globals) g.2;
+      blocks = sym (ap (λ (x : code.Code). x.blocks) g.2);
+      instructions = sym (ap (λ (x : code.Code). x.instructions) g.2);
     }
 
 all_pass : {X : Type 0} (xs : List X) → list_all (λ x. true) xs ≡ true
@@ -63,7 +60,7 @@ record IsCode (d : Deck) (c : code.Code) : Type 0 where
   fits : code_fits c ≡ true
 
 same_deck : (d : Deck) (c : code.Code) → signature_of c.signature ≡ d.signature → c.descriptions ≡ d.descriptions → map (template_of c.descriptions) c.templates ≡ d.templates
-    → map constant_of c.values ≡ d.values → map global_of c.globals ≡ d.globals → map block_of c.blocks ≡ d.blocks → map instruction_of c.instructions ≡ d.instructions
+    → map constant_of c.values ≡ d.values → map global_of c.globals ≡ d.globals → c.blocks ≡ d.blocks → c.instructions ≡ d.instructions
     → deck_of d.is_main d.name c ≡ d
 same_deck d c s ds ts vs gs bs is = rw (s, ts, vs, gs, bs, is, ds) refl
 
@@ -77,14 +74,10 @@ code_forth d c h e =
     (all_forth value_from constant_of constant.fits value_fits value_forth d.values f.values) p.values in
     let globals = of_some (AreKept global_of (λ g. true) d.globals) (all_of global_from d.globals) c.globals
     (all_forth global_from global_of (λ g. true) (λ g. true) global_forth d.globals (all_pass d.globals)) p.globals in
-    let blocks = of_some (AreKept block_of block_fits d.blocks) (all_of block_from d.blocks) c.blocks
-    (all_forth block_from block_of block.fits block_fits block_forth d.blocks f.blocks) p.blocks in
-    let instructions = of_some (AreKept instruction_of instruction_fits d.instructions) (all_of instruction_from d.instructions) c.instructions
-    (all_forth instruction_from instruction_of instruction.fits instruction_fits instruction_forth d.instructions f.instructions) p.instructions in
     record {
-      deck = same_deck d c (ap signature_of p.signature) p.descriptions (ap (λ ds. map (template_of ds) c.templates) p.descriptions ∙ templates.0) values.0 globals.0 blocks.0 instructions.0;
-      fits = and_from (list_all (template_fits c.descriptions) c.templates) _ (ap (λ ds. list_all (template_fits ds) c.templates) p.descriptions ∙ templates.1)
-          (and_from (list_all value_fits c.values) _ values.1 (and_from (list_all block_fits c.blocks) (list_all instruction_fits c.instructions) blocks.1 instructions.1));
+      deck = same_deck d c (ap signature_of p.signature) p.descriptions (ap (λ ds. map (template_of ds) c.templates) p.descriptions ∙ templates.0) values.0 globals.0 p.blocks p.instructions;
+      fits = and_from (list_all (template_fits c.descriptions) c.templates) (list_all value_fits c.values)
+          (ap (λ ds. list_all (template_fits ds) c.templates) p.descriptions ∙ templates.1) values.1;
     }
 
 -- ---- a unit

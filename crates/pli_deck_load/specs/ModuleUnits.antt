@@ -8,26 +8,22 @@ use Rattle.pli_deck.specs.ModuleFields.{Member, DeckModule, is_external}
 use Rattle.pli_unit_code.specs.CodeTables.{Code}
 use Rattle.pli_unit_code.specs.Modules as linked
 use Rattle.pli_unit_code.specs.Modules.{LinkedUnit}
-use Rattle.pli_deck_load.specs.DeckCodes.{all_of, template_from, value_from, signature_from}
-use Rattle.pli_deck_load.specs.DeckCodes.{global_from, block_from, instruction_from}
+use Rattle.pli_deck_load.specs.DeckCodes.{all_of, template_from, value_from, signature_from, global_from}
 
--- the code of a deck, if there is one of each of its items
+-- the code of a deck, if there is a template of each of its templates, and so with its values and globals
 abbrev pub code_from : Deck → Option Code
 code_from d =
     option_and_then (λ templates.
     option_and_then (λ values.
-    option_and_then (λ globals.
-    option_and_then (λ blocks.
-    option_map (λ instructions. record {
+    option_map (λ globals. record {
       signature = signature_from d.signature;
       descriptions = d.descriptions;
       templates = templates;
       values = values;
       globals = globals;
-      blocks = blocks;
-      instructions = instructions;
-    }) (all_of instruction_from d.instructions))
-    (all_of block_from d.blocks))
+      blocks = d.blocks;
+      instructions = d.instructions;
+    })
     (all_of global_from d.globals))
     (all_of value_from d.values))
     (all_of (template_from d.descriptions) d.templates)

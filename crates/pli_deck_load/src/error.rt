@@ -12,8 +12,9 @@ use std::alloc::{AllocError, AllocFailed};
 pub enum LoadError {
     Memory,
     Fault(DeckFault),
-    /// The bytes are a module that the machine does not run yet: one with null pointers or offsets, controlled
-    /// variables, or instructions of storage or of conditions; or one that is linked otherwise than by names.
+    /// The bytes are a module that the machine does not run yet: one with null pointers or offsets among its constants, or
+    /// with controlled variables; or one that is linked otherwise than by names alone. A module with instructions of
+    /// storage or of conditions is loaded, and a run that comes to one ends as a fault of the machine.
     NotYet,
 }
 

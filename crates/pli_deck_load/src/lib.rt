@@ -2,12 +2,10 @@
 #![tactic(auto)]
 
 mod bare;
-mod blocks;
 mod constants;
 mod error;
 mod globals;
 mod initials;
-mod instructions;
 mod laws;
 mod linkings;
 mod lists;

@@ -9,15 +9,13 @@ ghost use Rattle.pli_deck_load.specs.DeckCodes.{all_of};
 ghost use Rattle.pli_deck_load.specs.ModuleUnits.{code_from, unit_in, links_behind, entries_from, unit_from};
 ghost use Rattle.pli_deck_load.specs.answers.Answers.{Makes};
 
-use crate::blocks::blocks_from;
 use crate::constants::values_from;
 use crate::error::LoadError;
 use crate::globals::{globals_from, signature_from};
-use crate::instructions::instructions_from;
 use crate::lists::{MakesOne, all_of};
 use crate::templates::templates_from;
 use pli_deck::{Deck, Global, Member};
-use pli_deck_code::copied_descriptions;
+use pli_deck_code::{copied_blocks, copied_descriptions};
 use pli_unit_code::{Code, LinkedUnit};
 use std::alloc;
 use std::alloc::AllocError;
@@ -30,8 +28,8 @@ fn code_from(alloc: alloc::Global, deck: &Deck) -> Result<Code, LoadError>
     let templates = templates_from(alloc, &deck.descriptions, &deck.templates)?;
     let values = values_from(alloc, &deck.values)?;
     let globals = globals_from(alloc, &deck.globals)?;
-    let blocks = blocks_from(alloc, &deck.blocks)?;
-    let instructions = instructions_from(alloc, &deck.instructions)?;
+    let blocks = copied_blocks(alloc, &deck.blocks)?;
+    let instructions = Vec::from_slice(alloc, &deck.instructions)?;
     Ok(Code {
         signature: signature_from(alloc, &deck.signature)?,
         descriptions,

@@ -4,7 +4,7 @@ use Rattle.pli_base.specs.declared.failure.Failure.{Failure}
 use Rattle.pli_deck.specs.declared.fault.DeckFault.{DeckFault}
 use Rattle.pli_base.specs.declared.failure.Failure.TheVariants as errors
 use Rattle.std.proofs.lemmas.List.{get_or_past}
-use Rattle.pli_deck.specs.declared.instruction.DeckInstruction.{DeckInstruction}
+use Rattle.pli_unit_code.specs.declared.instruction.Instruction.{Instruction}
 use Rattle.pli_deck.specs.Instructions.{instruction_readers, reader_of}
 use Rattle.pli_base.specs.Results.{◌>>=◌}
 use Rattle.pli_deck.specs.Fields.{Reader, Field, ◌⊗◌, made, nothing, unknown}
@@ -56,7 +56,7 @@ of_both f g (Err d) x between y behind h k =
     record { is_read = e }
 
 -- no instruction has a number over 63
-pub none_beyond : (code : ℕ) (before : Result (List ℕ) (Failure DeckFault)) (x : DeckInstruction) (behind : Result (List ℕ) (Failure DeckFault)) → 63 < code → Reads unknown before x behind → Reads (reader_of code) before x behind
+pub none_beyond : (code : ℕ) (before : Result (List ℕ) (Failure DeckFault)) (x : Instruction) (behind : Result (List ℕ) (Failure DeckFault)) → 63 < code → Reads unknown before x behind → Reads (reader_of code) before x behind
 unfolding reader_of
 none_beyond code before x behind over h = rw (beyond code over) h
   where

@@ -6,6 +6,7 @@ mod described;
 mod error;
 mod module;
 mod modules;
+mod numbered;
 mod operands;
 mod operations;
 mod read;

@@ -1,12 +1,18 @@
 //! The operands of an instruction, one behind another.
 ghost use Rattle.std.specs.Prelude.{◌≡◌};
 ghost use Rattle.pli_deck.specs.Fields.{Reader, u1, u2, u4, from_to, signed, unknown};
+ghost use Rattle.pli_deck.specs.Instructions as instruction_fields;
 ghost use Rattle.pli_deck_read.specs.Operands.{operands_view, kept, Reads};
 ghost use Rattle.pli_base.specs.answers.FailureAnswers.{Gives};
 
 use crate::error::ReadError;
+use crate::numbered::{condition_of, error_of, relation_of};
 use crate::reading::{byte_of, byte_within, short_of, signed_within, word_of};
-use pli_deck::{DeckFault, DeckInstruction};
+use pli_base::statement::Condition;
+use pli_code::RunError;
+use pli_deck::DeckFault;
+use pli_operation::Relation;
+use pli_unit_code::Instruction;
 
 /// The bytes from which operands are read. The first error is kept, and what is read behind it says nothing: so whether
 /// all went well is asked once, behind the last operand.
@@ -86,11 +92,35 @@ impl<'a> Operands<'a> {
         self.taken(given, 0)
     }
 
+    /// An error that ends a run.
+    #[tactic(auto, using(crate::proofs::OperandReading::of_one))]
+    pub fn run_error(&mut self) -> RunError
+        ensures { Reads instruction_fields.error.read (operands_view self.old) result (operands_view self.new) }
+    {
+        error_of(self.byte_within(1, 13))
+    }
+
+    /// What a comparison asks.
+    #[tactic(auto, using(crate::proofs::OperandReading::of_one))]
+    pub fn relation(&mut self) -> Relation
+        ensures { Reads instruction_fields.relation.read (operands_view self.old) result (operands_view self.new) }
+    {
+        relation_of(self.byte_within(0, 5))
+    }
+
+    /// A condition.
+    #[tactic(auto, using(crate::proofs::OperandReading::of_one))]
+    pub fn condition(&mut self) -> Condition
+        ensures { Reads instruction_fields.condition.read (operands_view self.old) result (operands_view self.new) }
+    {
+        condition_of(self.byte_within(0, 2))
+    }
+
     /// No instruction has the code: that is an error, and any instruction stands for it.
-    pub fn unknown(&mut self) -> DeckInstruction
+    pub fn unknown(&mut self) -> Instruction
         ensures { Reads unknown (operands_view self.old) result (operands_view self.new) }
     {
         self.failed(ReadError::Fault(DeckFault::OutOfRange));
-        DeckInstruction::Stop
+        Instruction::Stop
     }
 }

@@ -8,10 +8,10 @@ ghost use Rattle.pli_base.specs.answers.FailureAnswers.{Gives};
 
 use crate::error::ReadError;
 use crate::operands::Operands;
-use pli_deck::DeckInstruction;
+use pli_unit_code::Instruction;
 
 /// The instruction of this code, with what stands behind it.
-pub fn operation_of(code: u8, bytes: &[u8]) -> Result<(DeckInstruction, &[u8]), ReadError>
+pub fn operation_of(code: u8, bytes: &[u8]) -> Result<(Instruction, &[u8]), ReadError>
     ensures { Gives (λ x. (x.0, x.1.now)) result (reader_of code bytes.now) }
 {
     let mut operands = Operands {
@@ -27,7 +27,7 @@ pub fn operation_of(code: u8, bytes: &[u8]) -> Result<(DeckInstruction, &[u8]), 
 
 /// The instruction of this code, with these operands.
 #[tactic(auto, using(crate::proofs::OperandReading::none_beyond))]
-fn instruction_of(code: u8, operands: &mut Operands<'_>) -> DeckInstruction
+fn instruction_of(code: u8, operands: &mut Operands<'_>) -> Instruction
     ensures { Reads (reader_of code) (operands_view operands.old) result (operands_view operands.new) }
 {
     if code <= 8 {
@@ -52,36 +52,36 @@ fn instruction_of(code: u8, operands: &mut Operands<'_>) -> DeckInstruction
 }
 
 /// The instruction of a code from 0 to 8.
-fn step_or_call(code: u8, operands: &mut Operands<'_>) -> DeckInstruction
+fn step_or_call(code: u8, operands: &mut Operands<'_>) -> Instruction
     requires { (0 ≤ code) × (code ≤ 8) }
     ensures { Reads (reader_of code) (operands_view operands.old) result (operands_view operands.new) }
 {
     match code {
-        1 => DeckInstruction::Step {
+        1 => Instruction::Step {
             statement: operands.word(),
         },
-        2 => DeckInstruction::Line {
+        2 => Instruction::Line {
             statement: operands.word(),
         },
-        3 => DeckInstruction::Jump {
+        3 => Instruction::Jump {
             target: operands.short(),
         },
-        4 => DeckInstruction::JumpUnless {
+        4 => Instruction::JumpUnless {
             target: operands.short(),
         },
-        5 => DeckInstruction::Goto {
+        5 => Instruction::Goto {
             outward: operands.byte(),
             target: operands.short(),
         },
-        6 => DeckInstruction::Call {
+        6 => Instruction::Call {
             block: operands.short(),
             arguments: operands.byte(),
         },
-        7 => DeckInstruction::CallExternal {
+        7 => Instruction::CallExternal {
             global: operands.short(),
             arguments: operands.byte(),
         },
-        8 => DeckInstruction::Begin {
+        8 => Instruction::Begin {
             block: operands.short(),
         },
         _ => operands.unknown(),
@@ -89,32 +89,30 @@ fn step_or_call(code: u8, operands: &mut Operands<'_>) -> DeckInstruction
 }
 
 /// The instruction of a code from 9 to 16.
-fn end_or_place(code: u8, operands: &mut Operands<'_>) -> DeckInstruction
+fn end_or_place(code: u8, operands: &mut Operands<'_>) -> Instruction
     requires { (9 ≤ code) × (code ≤ 16) }
     ensures { Reads (reader_of code) (operands_view operands.old) result (operands_view operands.new) }
 {
     match code {
-        9 => DeckInstruction::Return {
+        9 => Instruction::Return {
             outward: operands.byte(),
         },
-        10 => DeckInstruction::ReturnValue {
+        10 => Instruction::ReturnValue {
             outward: operands.byte(),
         },
-        11 => DeckInstruction::Raise {
-            error: operands.byte_within(1, 13),
-        },
-        12 => DeckInstruction::Stop,
-        13 => DeckInstruction::Local {
+        11 => Instruction::Raise(operands.run_error()),
+        12 => Instruction::Stop,
+        13 => Instruction::Local {
             outward: operands.byte(),
             slot: operands.short(),
         },
-        14 => DeckInstruction::Global {
-            global: operands.short(),
+        14 => Instruction::Global {
+            number: operands.short(),
         },
-        15 => DeckInstruction::Based {
+        15 => Instruction::Based {
             description: operands.short(),
         },
-        16 => DeckInstruction::Field {
+        16 => Instruction::Field {
             offset: operands.word(),
             description: operands.short(),
         },
@@ -123,29 +121,29 @@ fn end_or_place(code: u8, operands: &mut Operands<'_>) -> DeckInstruction
 }
 
 /// The instruction of a code from 17 to 24.
-fn place_or_value(code: u8, operands: &mut Operands<'_>) -> DeckInstruction
+fn place_or_value(code: u8, operands: &mut Operands<'_>) -> Instruction
     requires { (17 ≤ code) × (code ≤ 24) }
     ensures { Reads (reader_of code) (operands_view operands.old) result (operands_view operands.new) }
 {
     match code {
-        17 => DeckInstruction::Subscript {
+        17 => Instruction::Subscript {
             low: operands.signed_within(32767),
             high: operands.signed_within(32767),
             multiplier: operands.word(),
         },
-        18 => DeckInstruction::Constant {
+        18 => Instruction::Constant {
             value: operands.short(),
         },
-        19 => DeckInstruction::Load,
-        20 => DeckInstruction::Store,
-        21 => DeckInstruction::Copy,
-        22 => DeckInstruction::MakeDummy {
+        19 => Instruction::Load,
+        20 => Instruction::Store,
+        21 => Instruction::Copy,
+        22 => Instruction::MakeDummy {
             template: operands.short(),
         },
-        23 => DeckInstruction::Fit {
+        23 => Instruction::Fit {
             description: operands.short(),
         },
-        24 => DeckInstruction::ToCharacters {
+        24 => Instruction::ToCharacters {
             width: operands.byte(),
         },
         _ => operands.unknown(),
@@ -153,59 +151,57 @@ fn place_or_value(code: u8, operands: &mut Operands<'_>) -> DeckInstruction
 }
 
 /// The instruction of a code from 25 to 32.
-fn arithmetic(code: u8, operands: &mut Operands<'_>) -> DeckInstruction
+fn arithmetic(code: u8, operands: &mut Operands<'_>) -> Instruction
     requires { (25 ≤ code) × (code ≤ 32) }
     ensures { Reads (reader_of code) (operands_view operands.old) result (operands_view operands.new) }
 {
     match code {
-        25 => DeckInstruction::FromBits,
-        26 => DeckInstruction::Add,
-        27 => DeckInstruction::Subtract,
-        28 => DeckInstruction::Multiply,
-        29 => DeckInstruction::Negate,
-        30 => DeckInstruction::Divide {
+        25 => Instruction::FromBits,
+        26 => Instruction::Add,
+        27 => Instruction::Subtract,
+        28 => Instruction::Multiply,
+        29 => Instruction::Negate,
+        30 => Instruction::Divide {
             precision: operands.byte_within(1, 31),
         },
-        31 => DeckInstruction::Modulo,
-        32 => DeckInstruction::Absolute,
+        31 => Instruction::Modulo,
+        32 => Instruction::Absolute,
         _ => operands.unknown(),
     }
 }
 
 /// The instruction of a code from 33 to 40.
-fn choice_or_string(code: u8, operands: &mut Operands<'_>) -> DeckInstruction
+fn choice_or_string(code: u8, operands: &mut Operands<'_>) -> Instruction
     requires { (33 ≤ code) × (code ≤ 40) }
     ensures { Reads (reader_of code) (operands_view operands.old) result (operands_view operands.new) }
 {
     match code {
-        33 => DeckInstruction::Sign,
-        34 => DeckInstruction::Greatest,
-        35 => DeckInstruction::Least,
-        36 => DeckInstruction::Compare {
-            relation: operands.byte_within(0, 5),
-        },
-        37 => DeckInstruction::Concatenate,
-        38 => DeckInstruction::And,
-        39 => DeckInstruction::Or,
-        40 => DeckInstruction::Not,
+        33 => Instruction::Sign,
+        34 => Instruction::Greatest,
+        35 => Instruction::Least,
+        36 => Instruction::Compare(operands.relation()),
+        37 => Instruction::Concatenate,
+        38 => Instruction::And,
+        39 => Instruction::Or,
+        40 => Instruction::Not,
         _ => operands.unknown(),
     }
 }
 
 /// The instruction of a code from 41 to 48.
-fn string_or_locator(code: u8, operands: &mut Operands<'_>) -> DeckInstruction
+fn string_or_locator(code: u8, operands: &mut Operands<'_>) -> Instruction
     requires { (41 ≤ code) × (code ≤ 48) }
     ensures { Reads (reader_of code) (operands_view operands.old) result (operands_view operands.new) }
 {
     match code {
-        41 => DeckInstruction::LengthOf,
-        42 => DeckInstruction::Index,
-        43 => DeckInstruction::Substring,
-        44 => DeckInstruction::Rest,
-        45 => DeckInstruction::AddressOf,
-        46 => DeckInstruction::ToPointer,
-        47 => DeckInstruction::ToOffset,
-        48 => DeckInstruction::AllocateControlled {
+        41 => Instruction::LengthOf,
+        42 => Instruction::Index,
+        43 => Instruction::Substring,
+        44 => Instruction::Rest,
+        45 => Instruction::AddressOf,
+        46 => Instruction::ToPointer,
+        47 => Instruction::ToOffset,
+        48 => Instruction::AllocateControlled {
             global: operands.short(),
         },
         _ => operands.unknown(),
@@ -213,31 +209,31 @@ fn string_or_locator(code: u8, operands: &mut Operands<'_>) -> DeckInstruction
 }
 
 /// The instruction of a code from 49 to 56.
-fn storage(code: u8, operands: &mut Operands<'_>) -> DeckInstruction
+fn storage(code: u8, operands: &mut Operands<'_>) -> Instruction
     requires { (49 ≤ code) × (code ≤ 56) }
     ensures { Reads (reader_of code) (operands_view operands.old) result (operands_view operands.new) }
 {
     match code {
-        49 => DeckInstruction::FreeControlled {
+        49 => Instruction::FreeControlled {
             global: operands.short(),
         },
-        50 => DeckInstruction::CountGenerations {
+        50 => Instruction::CountGenerations {
             global: operands.short(),
         },
-        51 => DeckInstruction::AllocateBased {
+        51 => Instruction::AllocateBased {
             template: operands.short(),
         },
-        52 => DeckInstruction::AllocateInArea {
+        52 => Instruction::AllocateInArea {
             template: operands.short(),
             target: operands.short(),
         },
-        53 => DeckInstruction::FreeBased {
+        53 => Instruction::FreeBased {
             description: operands.short(),
         },
-        54 => DeckInstruction::AssignArea,
-        55 => DeckInstruction::EmptyArea,
-        56 => DeckInstruction::On {
-            condition: operands.byte_within(0, 2),
+        54 => Instruction::AssignArea,
+        55 => Instruction::EmptyArea,
+        56 => Instruction::On {
+            condition: operands.condition(),
             block: operands.short(),
         },
         _ => operands.unknown(),
@@ -245,26 +241,26 @@ fn storage(code: u8, operands: &mut Operands<'_>) -> DeckInstruction
 }
 
 /// The instruction of a code from 57 to 63.
-fn condition_or_print(code: u8, operands: &mut Operands<'_>) -> DeckInstruction
+fn condition_or_print(code: u8, operands: &mut Operands<'_>) -> Instruction
     requires { (57 ≤ code) × (code ≤ 63) }
     ensures { Reads (reader_of code) (operands_view operands.old) result (operands_view operands.new) }
 {
     match code {
-        57 => DeckInstruction::Revert {
-            condition: operands.byte_within(0, 2),
+        57 => Instruction::Revert {
+            condition: operands.condition(),
         },
-        58 => DeckInstruction::Signal {
-            condition: operands.byte_within(0, 2),
+        58 => Instruction::Signal {
+            condition: operands.condition(),
         },
-        59 => DeckInstruction::Put,
-        60 => DeckInstruction::Skip,
-        61 => DeckInstruction::SetTemporary {
+        59 => Instruction::Put,
+        60 => Instruction::Skip,
+        61 => Instruction::SetTemporary {
             number: operands.short(),
         },
-        62 => DeckInstruction::TakeTemporary {
+        62 => Instruction::TakeTemporary {
             number: operands.short(),
         },
-        63 => DeckInstruction::IsWithin,
+        63 => Instruction::Within,
         _ => operands.unknown(),
     }
 }

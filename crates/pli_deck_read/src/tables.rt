@@ -3,17 +3,21 @@ ghost use Rattle.std.specs.Prelude.{◌≡◌, ℕ, List, map, if◌then◌else�
 ghost use Rattle.pli_deck.specs.Fields.{Field, many, u2, list, made, ◌⊗◌};
 ghost use Rattle.pli_deck.specs.Decks as plain;
 ghost use Rattle.pli_deck.specs.DeckFields as deck_fields;
-ghost use Rattle.pli_deck.specs.DeckView.{signature_view, global_view, block_view};
+ghost use Rattle.pli_deck.specs.DeckView.{signature_view, global_view};
 ghost use Rattle.pli_deck.specs.Instructions.{instruction};
+ghost use Rattle.pli_unit_code.specs.CodeTables.{CodedBlock};
+ghost use Rattle.pli_unit_code.specs.views.CodeView.{kind_view, block_view};
 ghost use Rattle.pli_base.specs.answers.FailureAnswers.{Gives};
 
 use crate::error::ReadError;
+use crate::numbered::kind_of;
 use crate::operations::operation_of;
 use crate::reading::{
     ReadsOne, byte_of, byte_within, count_within, list_at, many_of, name_text_of, optional_of,
     short_of, upper_name, word_of,
 };
-use pli_deck::{DeckBlock, DeckFault, DeckInstruction, DeckSignature, Global as DeckGlobal};
+use pli_deck::{DeckFault, DeckSignature, Global as DeckGlobal};
+use pli_unit_code::{Block, BlockKind, Instruction};
 use std::alloc::Global;
 
 /// Reads a number of two bytes.
@@ -131,21 +135,29 @@ impl ReadsOne for Globals {
     }
 }
 
+/// The kind of a block.
+fn block_kind_of(bytes: &[u8]) -> Result<(BlockKind, &[u8]), ReadError>
+    ensures { Gives (λ x. (kind_view x.0, x.1.now)) result (deck_fields.block_kind.read bytes.now) }
+{
+    let (number, rest) = byte_within(bytes, 0, 2)?;
+    Ok((kind_of(number), rest))
+}
+
 /// Reads a block.
 pub struct Blocks;
 
 impl ReadsOne for Blocks {
-    type Value = DeckBlock;
+    type Value = Block;
 
-    ghost Said = { plain.DeckBlock };
+    ghost Said = { CodedBlock };
 
     ghost say = { block_view };
 
     ghost field = { deck_fields.block };
 
     #[tactic(auto, unfolding(pli_deck::specs::DeckFields::block))]
-    fn read<'a>(&self, alloc: Global, bytes: &'a [u8]) -> Result<(DeckBlock, &'a [u8]), ReadError> {
-        let (kind, rest) = byte_within(bytes, 0, 2)?;
+    fn read<'a>(&self, alloc: Global, bytes: &'a [u8]) -> Result<(Block, &'a [u8]), ReadError> {
+        let (kind, rest) = block_kind_of(bytes)?;
         let (parent, rest) = optional_of(rest)?;
         let (parameters, rest) = byte_within(rest, 0, 64)?;
         let (variables, rest) = number_list_of(alloc, rest)?;
@@ -153,7 +165,7 @@ impl ReadsOne for Blocks {
         let (entry, rest) = short_of(rest)?;
         let (statement, rest) = word_of(rest)?;
         Ok((
-            DeckBlock {
+            Block {
                 kind,
                 parent,
                 parameters,
@@ -171,11 +183,11 @@ impl ReadsOne for Blocks {
 struct Instructions;
 
 impl ReadsOne for Instructions {
-    ghost use Rattle.pli_deck.specs.declared.instruction.DeckInstruction.{DeckInstruction};
+    ghost use Rattle.pli_unit_code.specs.declared.instruction.Instruction.{Instruction};
 
-    type Value = DeckInstruction;
+    type Value = Instruction;
 
-    ghost Said = { DeckInstruction };
+    ghost Said = { Instruction };
 
     ghost say = { λ i. i };
 
@@ -186,17 +198,14 @@ impl ReadsOne for Instructions {
         &self,
         _alloc: Global,
         bytes: &'a [u8],
-    ) -> Result<(DeckInstruction, &'a [u8]), ReadError> {
+    ) -> Result<(Instruction, &'a [u8]), ReadError> {
         let (code, rest) = byte_of(bytes)?;
         operation_of(code, rest)
     }
 }
 
 /// A list of instructions.
-pub fn instructions_of(
-    alloc: Global,
-    bytes: &[u8],
-) -> Result<(Vec<DeckInstruction>, &[u8]), ReadError>
+pub fn instructions_of(alloc: Global, bytes: &[u8]) -> Result<(Vec<Instruction>, &[u8]), ReadError>
     ensures { Gives (λ x. (x.0.items, x.1.now)) result ((list instruction).read bytes.now) }
 {
     list_at(alloc, &Instructions, bytes)

@@ -11,10 +11,9 @@ use crate::described::descriptions_of;
 use crate::error::ReadError;
 use crate::reading::{byte_of, flag_of, list_at, name_text_of, upper_name};
 use crate::tables::{Blocks, Globals, instructions_of, signature_of};
-use pli_deck::{
-    Constant, Deck, DeckBlock, DeckFault, DeckInstruction, DeckTemplate, Global as DeckGlobal,
-};
+use pli_deck::{Constant, Deck, DeckFault, DeckTemplate, Global as DeckGlobal};
 use pli_map::Description;
+use pli_unit_code::{Block, Instruction};
 use std::alloc::Global;
 
 /// The tables of a deck in the order of its bytes.
@@ -24,8 +23,8 @@ pub struct DeckTables {
     pub templates: Vec<DeckTemplate>,
     pub values: Vec<Constant>,
     pub globals: Vec<DeckGlobal>,
-    pub blocks: Vec<DeckBlock>,
-    pub instructions: Vec<DeckInstruction>,
+    pub blocks: Vec<Block>,
+    pub instructions: Vec<Instruction>,
 }
 
 /// The tables of a deck, each with its count.

@@ -1,4 +1,4 @@
--- Targets of jumps and counts of arguments are not past the end of code, and neither are places of statements and entries of blocks.
+-- Targets of jumps are not past the end of code, and neither are places of statements and entries of blocks.
 use Rattle.std.proofs.Common.{◌≡◌, ℕ, zero, suc, ◌≤◌, ◌<◌, nat_eq, Bool, true, false, if◌then◌else◌, Option, Some, None, List, [], ◌∷◌, ◌++◌, get_or, length, refl, ap, sym, subst, arith}
 use Rattle.std.specs.List.{AllByRecursion}
 use Rattle.pli_machine_step.specs.Program as op
@@ -11,7 +11,7 @@ use Rattle.pli_gen_emit.specs.answers.Pieces.{simple_code, entries_of}
 use Rattle.pli_gen_tree.specs.answers.Pieces.{step_place, Fits}
 use Rattle.pli_gen_emit.specs.views.NamingView.{naming_view, naming_code}
 use Rattle.pli_gen_emit.specs.declared.naming.NamingInstruction.{NamingInstruction}
-use Rattle.pli_gen_tree.proofs.IterationCode.{start_simple, advances_simple, tests_fit, back_fits, tests_length}
+use Rattle.pli_gen_tree.proofs.IterationCode.{start_simple, advances_simple, tests_fit, back_fits}
 use Rattle.pli_gen_tree.proofs.CodeEnds.{grows, both_within, one_way_within, two_ways_within, turns_within, iterate_within}
 use Rattle.pli_gen_emit.proofs.JumpLemmas.{behind_is}
 use Rattle.pli_gen_tree.proofs.SimpleCode.{all_both, value_simple, form_simple, simple_fits}
@@ -19,19 +19,9 @@ use Rattle.pli_gen_tree.proofs.SimpleCode.{all_both, value_simple, form_simple, 
 abbrev AllFit : (limit : ℕ) → List op.Instruction → Type 0
 AllFit n is = AllByRecursion (Fits n) is
 
-count_within : (is : List op.Instruction) (p n : ℕ) → behind is p ≤ n → length is ≤ n
-count_within is p n h = let e = behind_is is p in omega (arith, e, h)
-
-form_fits_alone : (f : Form) (p n : ℕ) → behind (simple_code f) p ≤ n → AllFit n (simple_code f)
-form_fits_alone f p n h = simple_fits (simple_code f) n (form_simple f n (count_within (simple_code f) p n h))
-
 -- a test with its jump
-test_part : (test : TypedExpression) (target : ℕ) (code : List op.Instruction) (p n : ℕ) → target ≤ n → behind code (suc (behind (value_code test) p)) ≤ n → AllFit n code
-    → AllFit n (value_code test ++ op.JumpUnless target ∷ code)
-test_part test target code p n t h fits =
-    let g = grows code (suc (behind (value_code test) p)) in
-    all_both (Fits n) (value_code test) (op.JumpUnless target ∷ code)
-    (simple_fits (value_code test) n (value_simple test n (count_within (value_code test) p n (omega (arith, g, h))))) (t, fits)
+test_part : (test : TypedExpression) (target : ℕ) (code : List op.Instruction) (n : ℕ) → target ≤ n → AllFit n code → AllFit n (value_code test ++ op.JumpUnless target ∷ code)
+test_part test target code n t fits = all_both (Fits n) (value_code test) (op.JumpUnless target ∷ code) (simple_fits (value_code test) n (value_simple test)) (t, fits)
 
 mutual
   statement_fits : (s : TypedStatement) (p n : ℕ) → behind (statement_code s p) p ≤ n → AllFit n (statement_code s p)
@@ -41,14 +31,14 @@ mutual
   form_fits number (If test part NoElse) p n h =
       let q = suc (behind (value_code test) p) in
       let last = one_way_within (value_code test) (statement_code part) p n h in
-      test_part test (behind (statement_code part q) q) (statement_code part q) p n last last (statement_fits part q n last)
+      test_part test (behind (statement_code part q) q) (statement_code part q) n last (statement_fits part q n last)
   form_fits number (If test part (Else other)) p n h =
       let q = suc (behind (value_code test) p) in
       let r = suc (behind (statement_code part q) q) in
       let w = two_ways_within (value_code test) (statement_code part) (statement_code other) p n h in
       let first : behind (statement_code part q) q ≤ n = let k = w.0 in omega (arith, k) in
       all_both (Fits n) (value_code test ++ op.JumpUnless r ∷ statement_code part q) (op.Jump (behind (statement_code other r) r) ∷ statement_code other r)
-      (test_part test r (statement_code part q) p n w.0 first (statement_fits part q n first)) (w.1, statement_fits other r n w.1)
+      (test_part test r (statement_code part q) n w.0 (statement_fits part q n first)) (w.1, statement_fits other r n w.1)
   form_fits number (Group statements) p n h = list_fits statements p n h
   form_fits number (While test statements) p n h =
       let q = suc (suc (behind (value_code test) (suc p))) in
@@ -56,7 +46,7 @@ mutual
       let w = turns_within number (value_code test) (list_code statements) p n h in
       let last : behind code q ≤ n = let k = w.1 in omega (arith, k) in
       all_both (Fits n) (op.Line number ∷ value_code test ++ op.JumpUnless (suc (behind code q)) ∷ op.Step number ∷ code) (op.Jump p ∷ [])
-      (tt, test_part test (suc (behind code q)) (op.Step number ∷ code) (suc p) n w.1 last (tt, list_fits statements q n last)) (w.0, tt)
+      (tt, test_part test (suc (behind code q)) (op.Step number ∷ code) n w.1 (tt, list_fits statements q n last)) (w.0, tt)
   form_fits number (Iterate i statements) p n h =
       let turn = turn_place i p in
       let q = list_place i p in
@@ -65,15 +55,13 @@ mutual
       let start = start_code i in
       let tests = tests_code i (behind back (behind code q)) in
       let w = iterate_within number i (list_code statements) p n h in
-      let d = tests_length i (behind back (behind code q)) 0 turn in
       all_both (Fits n) (start ++ tests) (op.Step number ∷ (code ++ back))
-      (all_both (Fits n) start tests (simple_fits start n (start_simple i n (count_within start p n w.0)))
-      (tests_fit i (behind back (behind code q)) n w.3 (count_within tests turn n (let k = w.1 in omega (arith, d, k))))) (
+      (all_both (Fits n) start tests (simple_fits start n (start_simple i)) (tests_fit i (behind back (behind code q)) n w.3)) (
         tt,
         all_both (Fits n) code back (list_fits statements q n w.2)
-            (back_fits (is_iterated i.range) number (advances_code i.range i) turn n w.0 (advances_simple i.range i n) (count_within back (behind code q) n w.3)),
+            (back_fits (is_iterated i.range) number (advances_code i.range i) turn n w.0 (advances_simple i.range i)),
       )
-  form_fits number f p n h = form_fits_alone f p n h
+  form_fits number f p n h = simple_fits (simple_code f) n (form_simple f)
 
   list_fits : (ss : TypedStatements) (p n : ℕ) → behind (list_code ss p) p ≤ n → AllFit n (list_code ss p)
   list_fits NoStatement p n h = tt

@@ -1,5 +1,6 @@
 pub mod CodeEnds
 pub mod CodeFits
+pub mod FieldLemmas
 pub mod GlobalLemmas
 pub mod IterationCode
 pub mod KeyLemmas

@@ -1,8 +1,8 @@
 -- Code that is too long.
-use Rattle.std.proofs.Common.{◌≡◌, ℕ, suc, ◌+◌, ◌≤◌, ◌<◌, ◌||◌, nat_lt, min, Bool, true, false, true≢false, Vec, List, [], ◌∷◌, map, drop, get_or, length, refl, sym, ap, ◌∙◌, arith}
+use Rattle.std.proofs.Common.{◌≡◌, ℕ, suc, ◌+◌, ◌≤◌, ◌<◌, ◌||◌, ◌&&◌, not, nat_lt, min, Bool, true, false, true≢false, Vec, List, [], ◌∷◌, map, drop, get_or, length, refl, sym, ap, ◌∙◌, arith}
 use Rattle.std.specs.Global.{Global}
 use Rattle.std.specs.Prelude.{fold}
-use Rattle.std.specs.List.{list_any, sum_by, AllByRecursion}
+use Rattle.std.specs.List.{list_all, list_any, sum_by, AllByRecursion}
 use Rattle.std.proofs.lemmas.Bool.Decides.{nat_tests}
 use Rattle.std.proofs.lemmas.List.{at_drop_more, length-map}
 use Rattle.pli_map.specs.Description as tree
@@ -18,10 +18,12 @@ use Rattle.pli_map.specs.views.DescriptionView.{description_view, members_view}
 use Rattle.pli_type_tree.specs.Templates.{InitialScalar, Template}
 use Rattle.pli_type_tree.specs.TypedTree as typed
 use Rattle.pli_type_tree.specs.TypedTree.{TypedUnit}
+use Rattle.pli_unit_code.specs.CodeFields as fields
 use Rattle.pli_gen_emit.specs.TreeTranslation.{BlockTree, behind, block_code}
 use Rattle.pli_gen_tree.specs.Encoding.{NumberedTables, number_in, template_number, template_code, global_code, instruction_code, coded_blocks, coded_unit}
-use Rattle.pli_gen_tree.specs.Limits.{is_over, member_count, has_many_members, one_has_many, has_many_slots, bytes_of, initial_bytes_of, initial_bytes, is_too_long}
-use Rattle.pli_gen_tree.specs.answers.Pieces.{takes_many_slots, template_bytes, HaveDescriptions}
+use Rattle.pli_gen_tree.specs.Limits.{is_over, member_count, has_many_members, one_has_many, has_many_slots, bytes_of, initial_bytes_of, initial_bytes, has_wide_number, is_too_long}
+use Rattle.pli_gen_tree.specs.answers.Pieces.{block_fits, instruction_fits, takes_many_slots, template_bytes, HaveDescriptions}
+use Rattle.pli_gen_tree.proofs.FieldLemmas.{blocks_as_coded, instructions_as_coded, both_of}
 use Rattle.pli_gen_tree.proofs.TableNumbers.{Has, number_stands}
 use Rattle.pli_gen_emit.specs.views.BlockView.{block_tree, block_trees}
 use Rattle.pli_type_keys.specs.views.KeyView.{templated}
@@ -114,6 +116,9 @@ or_apart false y z = refl
 three_apart : (x y z w : Bool) → (x || (y || z || w)) ≡ (x || y || z || w)
 three_apart x y z w = or_apart x (y || z) w ∙ ap (λ c. c || w) (or_apart x y z)
 
+four_apart : (x y z w v : Bool) → (x || (y || z || w || v)) ≡ (x || y || z || w || v)
+four_apart x y z w v = or_apart x (y || z || w) v ∙ ap (λ c. c || v) (three_apart x y z w)
+
 -- the limits of a unit, in three parts
 module _ (t : NumberedTables) (u : TypedUnit) (bs : List BlockTree) (code : List op.Instruction) (stand : HaveDescriptions t) where
   abbrev pub long_tables : Bool
@@ -122,13 +127,21 @@ module _ (t : NumberedTables) (u : TypedUnit) (bs : List BlockTree) (code : List
   abbrev pub long_lists : Bool
   long_lists = is_over u.globals || is_over bs || is_over code
 
-  abbrev pub large_parts : Bool
-  large_parts = list_any takes_many_slots bs || list_any has_many_members t.descriptions || nat_lt 16777216 (sum_by template_bytes t.templates)
+  abbrev wide_numbers : Bool
+  wide_numbers = not (list_all block_fits bs && list_all instruction_fits code)
 
-  abbrev whole : (templates globals blocks instructions : ℕ) (slots : Bool) (bytes : ℕ) → Bool
-  whole templates globals blocks instructions slots bytes =
+  abbrev pub large_parts : Bool
+  large_parts = list_any takes_many_slots bs || list_any has_many_members t.descriptions || nat_lt 16777216 (sum_by template_bytes t.templates) || wide_numbers
+
+  wide_as_coded : has_wide_number (coded_unit t u bs code) ≡ wide_numbers
+  wide_as_coded =
+      ap (λ b. not (b && list_all fields.instruction_fits (map (instruction_code t) code))) (blocks_as_coded t bs 0)
+      ∙ ap (λ b. not (list_all block_fits bs && b)) (instructions_as_coded t code)
+
+  abbrev whole : (templates globals blocks instructions : ℕ) (slots : Bool) (bytes : ℕ) (wide : Bool) → Bool
+  whole templates globals blocks instructions slots bytes wide =
       is_over t.descriptions || nat_lt 65535 templates || is_over t.values || nat_lt 65535 globals || nat_lt 65535 blocks || nat_lt 65535 instructions
-      || slots || list_any has_many_members t.descriptions || nat_lt 16777216 bytes
+      || slots || list_any has_many_members t.descriptions || nat_lt 16777216 bytes || wide
 
   pub limits_apart : (long_tables || long_lists || large_parts) ≡ is_too_long (coded_unit t u bs code)
   limits_apart =
@@ -139,17 +152,19 @@ module _ (t : NumberedTables) (u : TypedUnit) (bs : List BlockTree) (code : List
       let s = list_any takes_many_slots bs in
       let coded = coded_blocks t bs 0 in
       let e = sum_by template_bytes t.templates in
-      three_apart (long_tables || long_lists) s (list_any has_many_members t.descriptions) (nat_lt 16777216 e)
-      ∙ ap (λ c. c || s || list_any has_many_members t.descriptions || nat_lt 16777216 e) (three_apart long_tables (is_over u.globals) (is_over bs) (is_over code))
+      let c = coded_unit t u bs code in
+      four_apart (long_tables || long_lists) s (list_any has_many_members t.descriptions) (nat_lt 16777216 e) wide_numbers
+      ∙ ap (λ c. c || s || list_any has_many_members t.descriptions || nat_lt 16777216 e || wide_numbers) (three_apart long_tables (is_over u.globals) (is_over bs) (is_over code))
       ∙ sym (
-      ap (λ m. whole m (length (map (global_code t) u.globals)) (length coded) (length (map (instruction_code t) code)) (list_any has_many_slots coded) (initial_bytes (coded_unit t u bs code)))
+      ap (λ m. whole m (length (map (global_code t) u.globals)) (length coded) (length (map (instruction_code t) code)) (list_any has_many_slots coded) (initial_bytes c) (has_wide_number c))
       (length-map t.templates (template_code t))
-      ∙ ap (λ m. whole n m (length coded) (length (map (instruction_code t) code)) (list_any has_many_slots coded) (initial_bytes (coded_unit t u bs code)))
+      ∙ ap (λ m. whole n m (length coded) (length (map (instruction_code t) code)) (list_any has_many_slots coded) (initial_bytes c) (has_wide_number c))
       (length-map u.globals (global_code t))
-      ∙ ap (λ m. whole n g m (length (map (instruction_code t) code)) (list_any has_many_slots coded) (initial_bytes (coded_unit t u bs code))) (blocks_counted t bs 0)
-      ∙ ap (λ m. whole n g b m (list_any has_many_slots coded) (initial_bytes (coded_unit t u bs code))) (length-map code (instruction_code t))
-      ∙ ap (λ c. whole n g b i c (initial_bytes (coded_unit t u bs code))) (slots_counted t bs 0)
-      ∙ ap (whole n g b i s) (all_bytes t t.templates 0 stand)
+      ∙ ap (λ m. whole n g m (length (map (instruction_code t) code)) (list_any has_many_slots coded) (initial_bytes c) (has_wide_number c)) (blocks_counted t bs 0)
+      ∙ ap (λ m. whole n g b m (list_any has_many_slots coded) (initial_bytes c) (has_wide_number c)) (length-map code (instruction_code t))
+      ∙ ap (λ x. whole n g b i x (initial_bytes c) (has_wide_number c)) (slots_counted t bs 0)
+      ∙ ap (λ x. whole n g b i s x (has_wide_number c)) (all_bytes t t.templates 0 stand)
+      ∙ ap (whole n g b i s e) wide_as_coded
       )
 
 pub lists_viewed : (globals : List typed.Global) (blocks : List BlockSource) (code : List NamingInstruction)
@@ -162,6 +177,10 @@ lists_viewed globals blocks code =
 none_of : (x y : Bool) → (x || y) ≡ false → (x ≡ false) × (y ≡ false)
 none_of true y h = absurd (true≢false h)
 none_of false y h = (refl, h)
+
+negated : (x : Bool) → not x ≡ false → x ≡ true
+negated true h = refl
+negated false h = absurd (true≢false h)
 
 pub few : (limit n : ℕ) → nat_lt limit n ≡ false → n ≤ limit
 few limit n h = grind (arith, nat_tests)
@@ -176,11 +195,15 @@ pub record Short (t : NumberedTables) (u : TypedUnit) (bs : List BlockTree) (cod
   pub slots : list_any has_many_slots (coded_blocks t bs 0) ≡ false
   pub members : list_any has_many_members t.descriptions ≡ false
   pub bytes : initial_bytes (coded_unit t u bs code) ≤ 16777216
+  pub block_numbers : list_all block_fits bs ≡ true
+  pub code_numbers : list_all instruction_fits code ≡ true
 
 pub short_parts : (t : NumberedTables) (u : TypedUnit) (bs : List BlockTree) (code : List op.Instruction) → is_too_long (coded_unit t u bs code) ≡ false → Short t u bs code
 short_parts t u bs code h =
     let c = coded_unit t u bs code in
-    let no_bytes = none_of _ _ h in
+    let no_wide = none_of _ _ h in
+    let narrow = both_of _ _ (negated _ no_wide.1) in
+    let no_bytes = none_of _ _ no_wide.0 in
     let no_members = none_of _ _ no_bytes.0 in
     let no_slots = none_of _ _ no_members.0 in
     let code_too = none_of _ _ no_slots.0 in
@@ -198,4 +221,6 @@ short_parts t u bs code h =
       slots = no_slots.1;
       members = no_members.1;
       bytes = few 16777216 (initial_bytes (coded_unit t u bs code)) no_bytes.1;
+      block_numbers = sym (blocks_as_coded t bs 0) ∙ narrow.0;
+      code_numbers = sym (instructions_as_coded t code) ∙ narrow.1;
     }

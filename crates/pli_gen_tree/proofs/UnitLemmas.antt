@@ -1,6 +1,6 @@
 -- The code of a unit from its parts.
-use Rattle.std.proofs.Common.{◌≡◌, ℕ, ◌||◌, nat_lt, Bool, true, false, if◌then◌else◌, None, List, [], ◌∷◌, ◌++◌, map, length, refl, sym, ap, subst, ◌∙◌}
-use Rattle.std.specs.List.{flat_map, list_any, AllByRecursion}
+use Rattle.std.proofs.Common.{◌≡◌, ℕ, ◌||◌, ◌&&◌, not, nat_lt, Bool, true, false, if◌then◌else◌, None, List, [], ◌∷◌, ◌++◌, map, length, refl, sym, ap, subst, ◌∙◌}
+use Rattle.std.specs.List.{flat_map, list_all, list_any, AllByRecursion}
 use Rattle.std.proofs.lemmas.List.{length-map}
 use Rattle.pli_map.specs.Description.{Description}
 use Rattle.pli_map.specs.Same.{same}
@@ -9,6 +9,7 @@ use Rattle.pli_value.specs.Value.{Value}
 use Rattle.pli_machine_step.specs.Program as op
 use Rattle.pli_type_tree.specs.Templates.{Template}
 use Rattle.pli_type_tree.specs.TypedTree.{Global, OwnVariable, ExternalVariable, EntryPoint, TypedUnit}
+use Rattle.pli_unit_code.specs.CodeFields as fields
 use Rattle.pli_unit_code.specs.CodeTables.{CodedTemplate, CodedBlock, CodedSignature, CodedGlobal, Code}
 use Rattle.pli_unit_code.specs.declared.instruction.Instruction.{Instruction}
 use Rattle.pli_gen_emit.specs.TreeTranslation.{BlockTree, behind, block_code, blocks_code, blocks_of, places_of, statement_place, with_target, instructions_of}
@@ -19,7 +20,8 @@ use Rattle.pli_gen_tree.specs.Encoding.{template_code, signature_code, global_co
 use Rattle.pli_gen_tree.specs.Limits.{is_over, has_many_slots, has_many_members, initial_bytes, is_too_long}
 use Rattle.pli_gen_tree.specs.laws.ListLaws.{all_front, all_back}
 use Rattle.pli_gen_emit.specs.answers.Pieces.{entries_of}
-use Rattle.pli_gen_tree.specs.answers.Pieces.{step_place, retargeted, blocks_with_entries, HaveDescriptions, no_code}
+use Rattle.pli_gen_tree.specs.answers.Pieces.{instruction_fits, step_place, retargeted, blocks_with_entries, HaveDescriptions, no_code}
+use Rattle.pli_gen_tree.proofs.FieldLemmas.{instructions_as_coded}
 use Rattle.pli_gen_tree.proofs.SimpleCode.{all_both}
 use Rattle.pli_gen_tree.proofs.StepPlaces.{steps_are_places}
 use Rattle.pli_gen_tree.proofs.TableNumbers.{Has, has_all}
@@ -97,6 +99,15 @@ module _ (places : List (ℕ × ℕ)) where
   named_again f h [] = refl
   named_again f h (i ∷ is) = ap (λ xs. xs ++ flat_map f (map (with_target places) is)) (h i) ∙ ap (λ xs. f i ++ xs) (named_again f h is)
 
+  same_fields : (i : op.Instruction) → instruction_fits (with_target places i) ≡ instruction_fits i
+  same_fields (op.Goto outward label) = refl
+  same_fields i = refl
+
+  all_fields : (is : List op.Instruction) → list_all instruction_fits (map (with_target places) is) ≡ list_all instruction_fits is
+  all_fields [] = refl
+  all_fields (i ∷ is) =
+      ap (λ b. b && list_all instruction_fits (map (with_target places) is)) (same_fields i) ∙ ap (λ r. instruction_fits i && r) (all_fields is)
+
   -- a table of places
   module _ (place : ℕ → ℕ) (e : (n : ℕ) → place n ≡ statement_place places n) where
     one_target : (i : op.Instruction) → retargeted place i ≡ with_target places i
@@ -153,14 +164,20 @@ tables_again u bs =
     ∙ ap (λ vs. with (flat_map descriptions_named code) (flat_map templates_named code) vs) (named_again places values_named (same_values places) code)
     )
 
--- only how many instructions there are matters to a unit's limits
+-- only how many instructions there are, and whether their numbers fit, matters to a unit's limits
 limits_again : (t : NumberedTables) (u : TypedUnit) (bs : List BlockTree) (code other : List op.Instruction) → length code ≡ length other
+    → list_all instruction_fits code ≡ list_all instruction_fits other
     → is_too_long (coded_unit t u bs code) ≡ is_too_long (coded_unit t u bs other)
-limits_again t u bs code other e =
+limits_again t u bs code other e fit =
     let c = coded_unit t u bs code in
-    let count : length (map (instruction_code t) code) ≡ length (map (instruction_code t) other) = length-map code (instruction_code t) ∙ e ∙ sym (length-map other (instruction_code t)) in
-    ap (λ n. is_over c.descriptions || is_over c.templates || is_over c.values || is_over c.globals || is_over c.blocks || nat_lt 65535 n
-    || list_any has_many_slots c.blocks || list_any has_many_members c.descriptions || nat_lt 16777216 (initial_bytes c)) count
+    let number = instruction_code t in
+    let count : length (map number code) ≡ length (map number other) = length-map code number ∙ e ∙ sym (length-map other number) in
+    let narrow : list_all fields.instruction_fits (map number code) ≡ list_all fields.instruction_fits (map number other) =
+    instructions_as_coded t code ∙ fit ∙ sym (instructions_as_coded t other) in
+    let with : ℕ → Bool → Bool = λ n b. is_over c.descriptions || is_over c.templates || is_over c.values || is_over c.globals || is_over c.blocks || nat_lt 65535 n
+    || list_any has_many_slots c.blocks || list_any has_many_members c.descriptions || nat_lt 16777216 (initial_bytes c)
+    || not (list_all fields.block_fits c.blocks && b) in
+    ap (λ n. with n (list_all fields.instruction_fits (map number code))) count ∙ ap (with (length (map number other))) narrow
 
 -- the parts of a unit, as they are made
 module _ (u : TypedUnit) (bs : List BlockTree) (code : List op.Instruction) (t : NumberedTables)
@@ -180,7 +197,7 @@ module _ (u : TypedUnit) (bs : List BlockTree) (code : List op.Instruction) (t :
   pub limits_are : is_too_long (coded_unit t u bs code) ≡ is_too_long (code_of u)
   limits_are =
       limits_again t u bs code (instructions_of bs) (ap length made ∙ sym (length-map (blocks_code bs 0) (with_target (places_of bs 0))))
-      ∙ ap is_too_long unit_is
+      (ap (list_all instruction_fits) made ∙ sym (all_fields (places_of bs 0) (blocks_code bs 0))) ∙ ap is_too_long unit_is
 
 abbrev signed : List ℕ → CodedSignature
 signed ps = record { parameters = ps; result = None }

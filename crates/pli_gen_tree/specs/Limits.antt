@@ -1,11 +1,12 @@
 -- Which code is too long, so that a unit is G1 (own): a table of more than 65,535 entries, a block of more
--- than 65,535 slots, a structure of more than 65,535 members, or templates with initial values whose sizes
--- come to more than 16,777,216 bytes.
-use Rattle.std.specs.Prelude.{ℕ, suc, ◌+◌, nat_lt, Bool, false, ◌||◌, Option, Some, None, List, [], ◌∷◌}
-use Rattle.std.specs.Prelude.{length, slice_get}
-use Rattle.std.specs.List.{list_any, sum_by}
+-- than 65,535 slots, a structure of more than 65,535 members, templates with initial values whose sizes come
+-- to more than 16,777,216 bytes, or a number that is wider than its field in the bytes of code.
+use Rattle.std.specs.Prelude.{ℕ, suc, ◌+◌, nat_lt, Bool, false, not, ◌&&◌, ◌||◌, Option, Some, None}
+use Rattle.std.specs.Prelude.{List, [], ◌∷◌, length, slice_get}
+use Rattle.std.specs.List.{list_all, list_any, sum_by}
 use Rattle.pli_map.specs.Description.{Description, Array, Structure, Members, NoMembers, MemberThen}
 use Rattle.pli_map.specs.Sizes.{size_of}
+use Rattle.pli_unit_code.specs.CodeFields.{block_fits, instruction_fits}
 use Rattle.pli_unit_code.specs.CodeTables.{CodedTemplate, CodedBlock, Code}
 
 -- the greatest number of entries
@@ -55,9 +56,13 @@ initial_bytes_of descriptions t = bytes_if t.initial
 abbrev pub initial_bytes : Code → ℕ
 initial_bytes c = sum_by (initial_bytes_of c.descriptions) c.templates
 
+-- a number of a block or of an instruction is wider than its field
+abbrev pub has_wide_number : Code → Bool
+has_wide_number c = not (list_all block_fits c.blocks && list_all instruction_fits c.instructions)
+
 -- the code is over one of these limits
 abbrev pub is_too_long : Code → Bool
 is_too_long c =
     is_over c.descriptions || is_over c.templates || is_over c.values || is_over c.globals
     || is_over c.blocks || is_over c.instructions || list_any has_many_slots c.blocks
-    || list_any has_many_members c.descriptions || nat_lt 16777216 (initial_bytes c)
+    || list_any has_many_members c.descriptions || nat_lt 16777216 (initial_bytes c) || has_wide_number c

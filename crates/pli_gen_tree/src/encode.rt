@@ -1,10 +1,10 @@
 //! Instructions with numbers in place of what they name.
-ghost use Rattle.std.specs.Prelude.{◌≡◌, ◌++◌, ℕ, nat_eq, unwrap_or, map, OnOk};
-ghost use Rattle.std.specs.List.{AllByRecursion};
+ghost use Rattle.std.specs.Prelude.{◌≡◌, ◌++◌, ℕ, true, nat_eq, unwrap_or, map, OnOk};
+ghost use Rattle.std.specs.List.{list_all, AllByRecursion};
 ghost use Rattle.std.specs.HashMap.{get};
 ghost use Rattle.pli_operation.specs.views.OperationView.{operation_view};
 ghost use Rattle.pli_gen_tree.specs.Encoding.{operation_code, instruction_code};
-ghost use Rattle.pli_gen_tree.specs.answers.Pieces.{retargeted, Fits};
+ghost use Rattle.pli_gen_tree.specs.answers.Pieces.{retargeted, Fits, instruction_fits};
 ghost use Rattle.pli_gen_emit.specs.views.NamingView.{naming_view, naming_code};
 ghost use Rattle.pli_gen_tree.specs.views.TableView.{tables_view};
 
@@ -55,7 +55,8 @@ fn encode_instruction<'a>(
     numbers: Numbers<'_, 'a>,
     instruction: NamingInstruction<'a>,
 ) -> Instruction
-    requires { Fits 65535 (naming_view instruction) }
+    requires near { Fits 65535 (naming_view instruction) }
+    requires narrow { instruction_fits (naming_view instruction) ≡ true }
     ensures { let place = λ (n : ℕ). unwrap_or (get nat_eq numbers.entry.places.now n) 0 in
         result ≡ instruction_code (tables_view numbers.entry.tables.now) (retargeted place (naming_view instruction.entry)) }
 {
@@ -69,24 +70,35 @@ fn encode_instruction<'a>(
             target: target as u16,
         },
         NamingInstruction::Goto { outward, label } => Instruction::Goto {
-            outward,
+            outward: outward as u8,
             target: numbers.place(label),
         },
         NamingInstruction::Call { block, arguments } => Instruction::Call {
-            block,
-            arguments: arguments as u16,
+            block: block as u16,
+            arguments: arguments as u8,
         },
         NamingInstruction::CallExternal { global, arguments } => Instruction::CallExternal {
-            global,
-            arguments: arguments as u16,
+            global: global as u16,
+            arguments: arguments as u8,
         },
-        NamingInstruction::Begin { block } => Instruction::Begin { block },
-        NamingInstruction::Return { outward } => Instruction::Return { outward },
-        NamingInstruction::ReturnValue { outward } => Instruction::ReturnValue { outward },
+        NamingInstruction::Begin { block } => Instruction::Begin {
+            block: block as u16,
+        },
+        NamingInstruction::Return { outward } => Instruction::Return {
+            outward: outward as u8,
+        },
+        NamingInstruction::ReturnValue { outward } => Instruction::ReturnValue {
+            outward: outward as u8,
+        },
         NamingInstruction::Raise(error) => Instruction::Raise(error),
         NamingInstruction::Stop => Instruction::Stop,
-        NamingInstruction::Local { outward, slot } => Instruction::Local { outward, slot },
-        NamingInstruction::Global { number } => Instruction::Global { number },
+        NamingInstruction::Local { outward, slot } => Instruction::Local {
+            outward: outward as u8,
+            slot: slot as u16,
+        },
+        NamingInstruction::Global { number } => Instruction::Global {
+            number: number as u16,
+        },
         NamingInstruction::Field {
             offset,
             description,
@@ -112,8 +124,12 @@ fn encode_instruction<'a>(
             }),
         },
         NamingInstruction::Operate(operation) => encode_operation(numbers, operation),
-        NamingInstruction::SetTemporary { number } => Instruction::SetTemporary { number },
-        NamingInstruction::TakeTemporary { number } => Instruction::TakeTemporary { number },
+        NamingInstruction::SetTemporary { number } => Instruction::SetTemporary {
+            number: number as u16,
+        },
+        NamingInstruction::TakeTemporary { number } => Instruction::TakeTemporary {
+            number: number as u16,
+        },
         NamingInstruction::One => Instruction::Constant {
             value: numbers.value(numbers.one.value),
         },
@@ -130,7 +146,8 @@ pub(crate) fn encode_code<'a>(
     code: &[NamingInstruction<'a>],
     instructions: &mut Vec<Instruction>,
 ) -> Result<(), AllocError>
-    requires { AllByRecursion (Fits 65535) (naming_code code.now) }
+    requires near { AllByRecursion (Fits 65535) (naming_code code.now) }
+    requires narrow { list_all instruction_fits (naming_code code.now) ≡ true }
     ensures { let place = λ (n : ℕ). unwrap_or (get nat_eq numbers.entry.places.now n) 0 in
         OnOk result
         (instructions.new.items

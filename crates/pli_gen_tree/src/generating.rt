@@ -25,7 +25,8 @@ use thiserror::Error;
 #[derive(Clone, Copy, Debug, PartialEq, Eq, Error)]
 pub enum GenerateError {
     /// G1: a table would have more than 65,535 entries, a block more than 65,535 slots or a structure more than 65,535
-    /// members, or templates with initial values more than 16,777,216 bytes (own).
+    /// members, templates with initial values more than 16,777,216 bytes, or a number more than its field has room for
+    /// (own).
     #[error("code too long")]
     TooLong,
     /// Memory ran out.

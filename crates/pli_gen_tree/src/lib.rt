@@ -4,6 +4,7 @@
 mod encode;
 mod entries;
 mod examples;
+mod fields;
 mod generating;
 mod globals;
 mod laws;

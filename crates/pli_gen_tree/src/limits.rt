@@ -1,6 +1,6 @@
 //! Which code is too long.
-ghost use Rattle.std.specs.Prelude.{◌≡◌, ◌+◌, ◌≤◌, ◌||◌, nat_lt, min, map, length};
-ghost use Rattle.std.specs.List.{list_any, sum_by, AllByRecursion};
+ghost use Rattle.std.specs.Prelude.{◌≡◌, ◌+◌, ◌≤◌, ◌||◌, ◌&&◌, not, nat_lt, min, map, length};
+ghost use Rattle.std.specs.List.{list_all, list_any, sum_by, AllByRecursion};
 ghost use Rattle.pli_map.specs.views.DescriptionView.{description_view, members_view};
 ghost use Rattle.pli_type_tree.specs.views.GlobalView.{global_group_view, globals_view};
 ghost use Rattle.pli_type_tree.specs.views.TemplateView.{groups_view};
@@ -8,11 +8,13 @@ ghost use Rattle.pli_type_tree.specs.views.TypedView.{unit_view};
 ghost use Rattle.pli_gen_tree.specs.Encoding.{coded_unit};
 ghost use Rattle.pli_gen_tree.specs.Limits.{is_over, has_many_members, one_has_many, is_too_long};
 ghost use Rattle.pli_gen_tree.specs.answers.Pieces.{takes_many_slots, template_bytes, HaveDescriptions};
+ghost use Rattle.pli_gen_tree.specs.answers.Pieces.{block_fits, instruction_fits};
 ghost use Rattle.pli_gen_emit.specs.views.BlockView.{block_tree, block_trees};
 ghost use Rattle.pli_type_keys.specs.views.KeyView.{templated};
 ghost use Rattle.pli_gen_emit.specs.views.NamingView.{naming_code};
 ghost use Rattle.pli_gen_tree.specs.views.TableView.{tables_view};
 
+use crate::fields::has_wide_number;
 use crate::table::NumberedTables;
 use pli_gen_emit::{BlockSource, Emitted};
 use pli_map::{Description, far_size};
@@ -159,14 +161,19 @@ fn has_long_list(groups: &[GlobalGroup], emitted: &Emitted<'_>) -> bool
         || emitted.code.len() > ENTRY_LIMIT
 }
 
-/// Whether a part of a unit is too large: a block, a structure, or all initial values.
-fn has_large_part(blocks: &[BlockSource<'_>], tables: &NumberedTables<'_>) -> bool
+/// Whether a part of a unit is too large: a block, a structure, all initial values, or a number.
+fn has_large_part(emitted: &Emitted<'_>, tables: &NumberedTables<'_>) -> bool
     ensures { let t = tables_view tables.now in
+        let blocks = block_trees emitted.now.blocks.items in
         result
-        ≡ list_any takes_many_slots (block_trees blocks.now) || list_any has_many_members t.descriptions
-        || nat_lt 16777216 (sum_by template_bytes t.templates) }
+        ≡ list_any takes_many_slots blocks || list_any has_many_members t.descriptions
+        || nat_lt 16777216 (sum_by template_bytes t.templates)
+        || not (list_all block_fits blocks && list_all instruction_fits (naming_code emitted.now.code.items)) }
 {
-    has_wide_block(blocks) || has_wide_structure(tables) || has_many_bytes(tables)
+    has_wide_block(emitted.blocks.as_slice())
+        || has_wide_structure(tables)
+        || has_many_bytes(tables)
+        || has_wide_number(emitted)
 }
 
 /// Whether a unit's code is too long (G1).
@@ -181,5 +188,5 @@ pub(crate) fn is_too_long(
 {
     has_long_table(tables)
         || has_long_list(unit.globals.as_slice(), emitted)
-        || has_large_part(emitted.blocks.as_slice(), tables)
+        || has_large_part(emitted, tables)
 }

@@ -1,6 +1,8 @@
 //! The code of a unit within its limits.
-ghost use Rattle.std.specs.Prelude.{◌≡◌, ◌≤◌, ◌<◌, ◌++◌, ℕ, false, map, length, slice_index, IfOk, OnOk};
+ghost use Rattle.std.specs.Prelude.{◌≡◌, ◌≤◌, ◌<◌, ◌++◌, ℕ, true, false, map, length, slice_index, IfOk, OnOk};
+ghost use Rattle.std.specs.List.{list_all};
 ghost use Rattle.pli_type_tree.specs.views.TypedView.{unit_view};
+ghost use Rattle.pli_unit_code.specs.CodeFields.{parent_fits};
 ghost use Rattle.pli_unit_code.specs.views.CodeView.{block_view, code_view};
 ghost use Rattle.pli_gen_emit.specs.TreeTranslation.{blocks_code, instructions_of};
 ghost use Rattle.pli_gen_emit.specs.answers.Pieces.{entries_of};
@@ -8,7 +10,7 @@ ghost use Rattle.pli_gen_emit.specs.views.BlockView.{block_tree, block_trees};
 ghost use Rattle.pli_gen_emit.specs.views.NamingView.{naming_code};
 ghost use Rattle.pli_gen_tree.specs.Encoding.{coded_block, coded_unit};
 ghost use Rattle.pli_gen_tree.specs.Limits.{is_too_long};
-ghost use Rattle.pli_gen_tree.specs.answers.Pieces.{blocks_with_entries, no_code};
+ghost use Rattle.pli_gen_tree.specs.answers.Pieces.{block_fits, blocks_with_entries, no_code};
 ghost use Rattle.pli_gen_tree.specs.views.TableView.{tables_view};
 
 use crate::encode::encode_code;
@@ -23,6 +25,17 @@ use pli_type_tree::TypedUnit;
 use pli_unit_code::{Block, Code};
 use std::alloc::{AllocError, Global};
 
+/// The block around another, by a number of two bytes.
+fn short_parent(parent: Option<u32>) -> Option<u16>
+    requires { parent_fits parent ≡ true }
+    ensures { result ≡ parent }
+{
+    match parent {
+        None => None,
+        Some(block) => Some(block as u16),
+    }
+}
+
 /// A block with the numbers of its variables' templates.
 fn encode_block<'a>(
     alloc: Global,
@@ -30,7 +43,8 @@ fn encode_block<'a>(
     block: BlockSource<'a>,
     first: usize,
 ) -> Result<Block, AllocError>
-    requires { first ≤ 65535 }
+    requires near { first ≤ 65535 }
+    requires narrow { block_fits (block_tree block) ≡ true }
     ensures { IfOk result (λ coded.
         block_view coded ≡ coded_block (tables_view numbers.entry.tables.now) (block_tree block.entry) first) }
 {
@@ -38,10 +52,10 @@ fn encode_block<'a>(
     encode_variables(numbers, block.head.variables.as_slice(), &mut variables)?;
     Ok(Block {
         kind: block.kind,
-        parent: block.parent,
-        parameters: block.parameters,
+        parent: short_parent(block.parent),
+        parameters: block.parameters as u8,
         variables,
-        temporaries: block.head.temporaries,
+        temporaries: block.head.temporaries as u16,
         entry: first as u16,
         statement: block.head.statement,
     })
@@ -57,6 +71,7 @@ fn encode_blocks<'a>(
 ) -> Result<(), AllocError>
     requires each { length entries.now ≡ length blocks.now }
     requires near { (k : ℕ) → k < length entries.now → slice_index entries.now k ≤ 65535 }
+    requires narrow { list_all block_fits (block_trees blocks.now) ≡ true }
     ensures { let placed = blocks_with_entries (tables_view numbers.entry.tables.now) (block_trees blocks.now) entries.now in
         OnOk result (map block_view coded.new.items ≡ map block_view coded.old.items ++ placed) }
 {

@@ -2,7 +2,6 @@
 use Rattle.std.proofs.Common.{◌≡◌, ℕ, ◌+◌, ◌≤◌, nat_eq, nat_le, nat_lt, Bool, true, false, ◌||◌, Option, List, [], ◌∷◌, length, map, refl, ap, sym, ◌∙◌, arith, true≢false, ltb-false, le-leb}
 use Rattle.std.specs.List.{flat_map, list_any, sum_by}
 use Rattle.std.specs.Map.{values_of}
-use Rattle.std.proofs.lemmas.List.{length-map}
 use Rattle.pli_base.specs.Name.{Name}
 use Rattle.pli_map.specs.Description.{Description}
 use Rattle.pli_map.specs.Sizes.{size_of}
@@ -15,7 +14,7 @@ use Rattle.pli_link.specs.Names.{externals}
 use Rattle.pli_link.specs.Units.{Compiled}
 use Rattle.pli_deck.specs.ModuleFields.{Member, DeckModule}
 use Rattle.pli_deck.specs.ModuleSpelling.{static_bytes, external_bytes, module_within_limits}
-use Rattle.pli_deck_code.specs.CodeDecks.{instruction_of, global_of, deck_of}
+use Rattle.pli_deck_code.specs.CodeDecks.{global_of, deck_of}
 use Rattle.pli_deck_code.specs.CodeModules.{external_of, members_of}
 use Rattle.pli_deck_code.specs.declared.externals.ExternalDeclaration.{ExternalDeclaration}
 use Rattle.pli_link_laws.proofs.Sums.{total, sum_is_total, total_joined, total_mapped, both_hold}
@@ -59,7 +58,7 @@ module _ (numbers : List (Name × ℕ)) (main : ℕ) (names : List Name) where
 
   pub instructions_same : (cs : List Compiled) (i : ℕ) → total (λ u. length u.deck.instructions) (units_from i cs) ≡ total (λ c. length c.code.instructions) cs
   instructions_same [] i = refl
-  instructions_same (c ∷ cs) i = omega (arith, length-map c.code.instructions instruction_of, instructions_same cs (i + 1))
+  instructions_same (c ∷ cs) i = omega (arith, instructions_same cs (i + 1))
 
   pub own_same : (cs : List Compiled) (i : ℕ) → total (λ u. sum_by (static_bytes u.deck) u.deck.globals) (units_from i cs) ≡ total size_in (all_own cs)
   own_same [] i = refl

@@ -1,31 +1,22 @@
--- Code that keeps its numbers in a deck has them within their fields.
-use Rattle.std.proofs.Common.{◌≡◌, ℕ, suc, ◌<◌, nat_eq, nat_le, nat_lt, Bool, true, false, ◌&&◌, ℤ, pos, unsigned_abs, Option, Some, None, is_none, List, [], ◌∷◌, ◌++◌, length, map, refl, ap, subst, ◌∙◌, arith, true≢false, lt-ltb, le-leb, eq-eqb, if◌then◌else◌}
+-- Code that keeps its values in a deck has them within their fields.
+use Rattle.std.proofs.Common.{◌≡◌, ℕ, suc, ◌<◌, nat_eq, nat_le, nat_lt, Bool, true, false, ℤ, pos, unsigned_abs, Option, Some, None, is_none, List, [], ◌∷◌, ◌++◌, length, map, refl, ap, subst, ◌∙◌, arith, true≢false, lt-ltb, eq-eqb, if◌then◌else◌}
 use Rattle.std.specs.List.{list_all, AllByRecursion}
 use Rattle.std.proofs.lemmas.Option.{slice_get_within}
 use Rattle.pli_map.specs.Description.{Description}
 use Rattle.pli_map.specs.Scalars.{scalars_in}
 use Rattle.pli_type_tree.specs.Templates.{InitialScalar}
-use Rattle.pli_unit_code.specs.CodeTables.{CodedTemplate, CodedBlock, CodedGlobal, OwnVariable, ExternalVariable, EntryPoint, Code, there}
-use Rattle.pli_unit_code.specs.declared.instruction.Instruction.{Instruction}
-use Rattle.pli_unit_code.specs.declared.instruction.Instruction.TheVariants as coded
+use Rattle.pli_unit_code.specs.CodeTables.{CodedTemplate, CodedGlobal, OwnVariable, ExternalVariable, EntryPoint, Code, there}
 use Rattle.pli_value.specs.Value.{Value, Number, Characters, Bits}
 use Rattle.pli_link.specs.Link.{entries_of, linked_unit}
 use Rattle.pli_link.specs.Names.{meant, procedures}
 use Rattle.pli_link.specs.Units.{Compiled}
 use Rattle.pli_deck_code.specs.ScalarOffsets.{offsets_from}
 use Rattle.pli_deck_code.proofs.ScalarPlaces.{one_for_each}
-use Rattle.pli_deck_laws.specs.KeptNumbers.{IsByte, IsShort, IsNear, KeepsInstruction, KeepsBlock, KeepsInitial, KeepsTemplate, KeepsNumbers}
-use Rattle.pli_deck_laws.specs.Limits.{IfThere}
-use Rattle.pli_deck_load.specs.CodeFields.{is_byte, is_short, instruction_fits, value_fits, initial_fits, scalar_count, template_fits, parent_fits, block_fits, code_fits, entries_in, unit_fits}
+use Rattle.pli_deck_laws.specs.KeptNumbers.{IsNear, KeepsInitial, KeepsTemplate, KeepsNumbers}
+use Rattle.pli_deck_load.specs.CodeFields.{value_fits, initial_fits, scalar_count, template_fits, code_fits, entries_in, unit_fits}
 use Rattle.pli_link_laws.proofs.Sums.{both_hold, each_holds}
 use Rattle.pli_link_laws.proofs.ResolvedEntries.{IsResolved, AreResolved}
 use Rattle.pli_load_laws.specs.LoadedModules.{KeepsItsNumbers}
-
-byte_kept : (n : ℕ) → IsByte n → is_byte n ≡ true
-byte_kept n h = le-leb n 255 (omega (arith, h))
-
-short_kept : (n : ℕ) → IsShort n → is_short n ≡ true
-short_kept n h = le-leb n 65535 (omega (arith, h))
 
 near_kept : (x : ℤ) → IsNear (Number x) → nat_le (unsigned_abs x) 2147483647 ≡ true
 near_kept x h = by (nat_le (unsigned_abs x) 2147483647) refl h
@@ -38,30 +29,6 @@ value_kept : (v : Value) → IsNear v → value_fits v ≡ true
 value_kept (Number x) h = near_kept x h
 value_kept (Characters text) h = refl
 value_kept (Bits bits) h = refl
-
--- ---- instructions and blocks
-
-instruction_kept : (i : Instruction) → KeepsInstruction i → instruction_fits i ≡ true
-instruction_kept (coded.Goto outward target) h = byte_kept outward h.0.0
-instruction_kept (coded.Call block arguments) h = both_hold (is_short block) (is_byte arguments) (short_kept block h.1.0) (byte_kept arguments h.0.0)
-instruction_kept (coded.CallExternal number arguments) h = both_hold (is_short number) (is_byte arguments) (short_kept number h.1.0) (byte_kept arguments h.0.0)
-instruction_kept (coded.Begin block) h = short_kept block h.1.0
-instruction_kept (coded.Return outward) h = byte_kept outward h.0.0
-instruction_kept (coded.ReturnValue outward) h = byte_kept outward h.0.0
-instruction_kept (coded.Local outward slot) h = both_hold (is_byte outward) (is_short slot) (byte_kept outward h.0.0) (short_kept slot h.1.0)
-instruction_kept (coded.Global number) h = short_kept number h.1.0
-instruction_kept (coded.SetTemporary number) h = short_kept number h.1.0
-instruction_kept (coded.TakeTemporary number) h = short_kept number h.1.0
-instruction_kept i h = refl
-
-parent_kept : (parent : Option ℕ) → IfThere IsShort parent → parent_fits parent ≡ true
-parent_kept None h = refl
-parent_kept (Some b) h = short_kept b h
-
-block_kept : (b : CodedBlock) → KeepsBlock b → block_fits b ≡ true
-block_kept b h =
-    both_hold (parent_fits b.parent) (is_byte b.parameters && is_short b.temporaries) (parent_kept b.parent h.0)
-    (both_hold (is_byte b.parameters) (is_short b.temporaries) (byte_kept b.parameters h.1) (short_kept b.temporaries h.2))
 
 -- ---- templates
 
@@ -76,14 +43,9 @@ template_kept descriptions t h =
 
 code_kept : (c : Code) → KeepsNumbers c → code_fits c ≡ true
 code_kept c h =
-    let templates = list_all (template_fits c.descriptions) c.templates in
-    let values = list_all value_fits c.values in
-    let blocks = list_all block_fits c.blocks in
-    let instructions = list_all instruction_fits c.instructions in
-    both_hold templates (values && (blocks && instructions)) (each_holds (template_fits c.descriptions) (KeepsTemplate c.descriptions) (template_kept c.descriptions) c.templates h.templates)
-    (both_hold values (blocks && instructions) (each_holds value_fits IsNear value_kept c.values h.values)
-    (both_hold blocks instructions (each_holds block_fits KeepsBlock block_kept c.blocks h.blocks)
-    (each_holds instruction_fits KeepsInstruction instruction_kept c.instructions h.instructions)))
+    both_hold (list_all (template_fits c.descriptions) c.templates) (list_all value_fits c.values)
+    (each_holds (template_fits c.descriptions) (KeepsTemplate c.descriptions) (template_kept c.descriptions) c.templates h.templates)
+    (each_holds value_fits IsNear value_kept c.values h.values)
 
 -- ---- entries
 

@@ -17,11 +17,11 @@ use Rattle.pli_link_laws.specs.LinkedModules.{IsSaidAlone}
 use Rattle.pli_type_tree.specs.TypedTree.{TypedUnit}
 use Rattle.pli_unit_code.specs.Modules.{Module}
 
--- a unit whose code keeps its numbers in a deck
+-- a unit whose code keeps its values in a deck
 abbrev pub KeepsItsNumbers : Compiled → Type 0
 KeepsItsNumbers c = KeepsNumbers c.code
 
--- the numbers of what is linked of them are within their fields, and each entry has its unit
+-- the values of what is linked of them are within their fields, and each entry has its unit
 abbrev pub LinkedModulesKeepNumbers : Type 0
 LinkedModulesKeepNumbers =
     (cs : List Compiled) (m : Module) → link_of cs ≡ Ok m → AllByRecursion KeepsItsNumbers cs

@@ -15,7 +15,7 @@ use Rattle.pli_type_tree.specs.Templates.{Template}
 use Rattle.pli_type_tree.specs.TypedTree.{Global, OwnVariable, ExternalVariable, EntryPoint, TypedUnit}
 use Rattle.pli_unit_code.specs.CodeTables.{there}
 use Rattle.pli_gen_tree.specs.Encoding.{code_of}
-use Rattle.pli_gen_tree.specs.Limits.{is_over, has_many_slots, has_many_members, initial_bytes, is_too_long}
+use Rattle.pli_gen_tree.specs.Limits.{is_over, has_many_slots, has_many_members, initial_bytes, has_wide_number, is_too_long}
 use Rattle.pli_link.specs.ModuleSize.{are_too_large, is_oversized, all_own, variables_made}
 use Rattle.pli_link.specs.Names.{with_first, firsts, all_shared, externals}
 use Rattle.pli_link.proofs.Faultless.{IsSmall}
@@ -167,12 +167,12 @@ few_bytes us small = subst (λ k. k ≤ byte_limit) (sym (all_measures bytes_of 
 
 -- how many there are
 
-fourth_of : (a b c d e f g h i : Bool) → a || b || c || d || e || f || g || h || i ≡ false → d ≡ false
-fourth_of true b c d e f g h i is = let bad : ⊥ = cc in absurd bad
-fourth_of false true c d e f g h i is = let bad : ⊥ = cc in absurd bad
-fourth_of false false true d e f g h i is = let bad : ⊥ = cc in absurd bad
-fourth_of false false false true e f g h i is = let bad : ⊥ = cc in absurd bad
-fourth_of false false false false e f g h i is = refl
+fourth_of : (a b c d e f g h i j : Bool) → a || b || c || d || e || f || g || h || i || j ≡ false → d ≡ false
+fourth_of true b c d e f g h i j is = let bad : ⊥ = cc in absurd bad
+fourth_of false true c d e f g h i j is = let bad : ⊥ = cc in absurd bad
+fourth_of false false true d e f g h i j is = let bad : ⊥ = cc in absurd bad
+fourth_of false false false true e f g h i j is = let bad : ⊥ = cc in absurd bad
+fourth_of false false false false e f g h i j is = refl
 
 few : {X : Type 0} (xs : List X) → is_over xs ≡ false → length xs ≤ 65535
 few xs is = grind (arith, nat_tests)
@@ -196,7 +196,7 @@ few_globals u is =
     let c = code_of u in
     let fits : is_over c.globals ≡ false =
     fourth_of (is_over c.descriptions) (is_over c.templates) (is_over c.values) (is_over c.globals) (is_over c.blocks) (is_over c.instructions)
-    (list_any has_many_slots c.blocks) (list_any has_many_members c.descriptions) (nat_lt 16777216 (initial_bytes c)) is in
+    (list_any has_many_slots c.blocks) (list_any has_many_members c.descriptions) (nat_lt 16777216 (initial_bytes c)) (has_wide_number c) is in
     omega (arith, few c.globals fits, length-map u.globals (coded_global u))
 
 few_own : (entries : List (Name × Member)) (us : List TypedUnit) → AreOfMembers entries us → length (owned (all_globals us)) ≤ 65535 * length us

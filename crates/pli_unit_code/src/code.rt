@@ -26,11 +26,12 @@ pub enum BlockKind {
 pub struct Block {
     pub kind: BlockKind,
     /// The block around it; none for an external procedure.
-    pub parent: Option<u32>,
-    pub parameters: u32,
+    pub parent: Option<u16>,
+    /// At most 64.
+    pub parameters: u8,
     /// The templates of its AUTOMATIC variables in the order of the text.
     pub variables: Vec<u16>,
-    pub temporaries: u32,
+    pub temporaries: u16,
     /// Its first instruction.
     pub entry: u16,
     /// Its PROCEDURE, BEGIN or ON.

@@ -15,7 +15,7 @@ use std::alloc::{AllocError, Global};
 pub fn pop_places<'m>(
     mut places: Vec<Place<'m>>,
     operands: &mut Vec<Operand<'m>>,
-    count: u16,
+    count: u8,
 ) -> Result<Option<Vec<Place<'m>>>, AllocError>
     requires { places.items ≡ [] }
     ensures { IfOk result (λ o. MatchOption o (places_off count [] (stack operands.old.items) ≡ None)

@@ -22,7 +22,7 @@ use std::mem;
 
 /// So many temporaries, of which none is set.
 #[inline(always)]
-fn unset(mut temporaries: Vec<Option<Value>>, count: u32) -> Result<Vec<Option<Value>>, AllocError>
+fn unset(mut temporaries: Vec<Option<Value>>, count: u16) -> Result<Vec<Option<Value>>, AllocError>
     requires { temporaries.items ≡ [] }
     ensures { IfOk result (λ temporaries. temporaries.items ≡ replicate count None) }
 {
@@ -37,7 +37,7 @@ fn unset(mut temporaries: Vec<Option<Value>>, count: u32) -> Result<Vec<Option<V
 #[inline(always)]
 pub fn activation<'m>(
     unit: usize,
-    number: u32,
+    number: u16,
     block: &Block,
     link: u32,
     slots: Vec<Place<'m>>,
@@ -87,7 +87,7 @@ fn begin_block<'m>(
     alloc: Global,
     machine: &mut Machine<'m>,
     unit: usize,
-    number: u32,
+    number: u16,
     block: &Block,
     link: u32,
     places: Vec<Place<'m>>,
@@ -115,7 +115,7 @@ pub fn enter<'m>(
     code: &'m Code,
     machine: &mut Machine<'m>,
     unit: usize,
-    number: u32,
+    number: u16,
     block: &Block,
     link: u32,
     places: Vec<Place<'m>>,

@@ -22,7 +22,7 @@ fn call_unit<'m>(
     module: &'m Module,
     machine: &mut Machine<'m>,
     number: u16,
-    arguments: u16,
+    arguments: u8,
 ) -> Result<Option<Stop>, AllocError>
     ensures { IfOk result (λ stop. (statics : List Static) → Moves (image_with (module_view «module».now) statics)
         (λ here frames w. called_unit number (slice_get (program_of (module_view «module».now)).units number) arguments here frames w)
@@ -40,7 +40,7 @@ pub fn call_entry<'m>(
     unit: &ActiveUnit<'_, 'm>,
     machine: &mut Machine<'m>,
     global: usize,
-    arguments: u16,
+    arguments: u8,
 ) -> Result<Option<Stop>, AllocError>
     ensures { IfOk result (Moves (image_of unit.now.loaded.now)
         (λ here frames w. called_entry (program_of (image_of unit.now.loaded.now).linked).units arguments

@@ -36,7 +36,7 @@ fn land(machine: &mut Machine, height: usize, target: usize) -> Option<Stop>
 }
 
 /// Ends the activations inside the one so many static links outward, and jumps there.
-pub fn go_to(machine: &mut Machine, outward: u32, target: usize) -> Option<Stop>
+pub fn go_to(machine: &mut Machine, outward: u8, target: usize) -> Option<Stop>
     ensures { Does (Goto outward target) machine.old machine.new result }
 {
     if outward == 0 {

@@ -44,7 +44,7 @@ pub fn leave(machine: &mut Machine) -> bool
 }
 
 /// Ends the newest activation and so many more.
-pub fn return_from(machine: &mut Machine, outward: u32) -> Option<Stop>
+pub fn return_from(machine: &mut Machine, outward: u8) -> Option<Stop>
     ensures { Does (Return outward) machine.old machine.new result }
 {
     for _ended in 0..outward {
@@ -63,7 +63,7 @@ pub fn return_from(machine: &mut Machine, outward: u32) -> Option<Stop>
 #[inline(always)]
 pub fn give_back(
     machine: &mut Machine,
-    outward: u32,
+    outward: u8,
     value: Value,
 ) -> Result<Option<Stop>, AllocError>
     ensures { IfOk result (λ stop. (image : Image) →
@@ -86,7 +86,7 @@ pub fn give_back(
 pub fn return_value(
     alloc: Global,
     machine: &mut Machine,
-    outward: u32,
+    outward: u8,
 ) -> Result<Option<Stop>, AllocError>
     ensures { IfOk result (Does (ReturnValue outward) machine.old machine.new) }
 {
@@ -100,7 +100,7 @@ pub fn return_value(
 fn return_newest(
     alloc: Global,
     machine: &mut Machine,
-    outward: u32,
+    outward: u8,
 ) -> Result<Option<Stop>, AllocError>
     ensures { IfOk result (Does (ReturnValue outward) machine.old machine.new) }
 {

@@ -24,7 +24,7 @@ pub struct Activation<'m> {
     /// The unit's number.
     pub unit: usize,
     /// The block's number.
-    pub block: u32,
+    pub block: u16,
     /// The statement that is being executed.
     pub statement: u32,
     /// The height of the activation that outer names mean, from 1 on; 0 for none.

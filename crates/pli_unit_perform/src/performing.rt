@@ -100,5 +100,20 @@ pub fn perform<'m>(
         Instruction::Skip => skip(machine),
         Instruction::SetTemporary { number } => set_temporary(alloc, machine, number as usize),
         Instruction::TakeTemporary { number } => take_temporary(alloc, machine, number as usize),
+        Instruction::Based { .. }
+        | Instruction::AddressOf
+        | Instruction::ToPointer
+        | Instruction::ToOffset
+        | Instruction::AllocateControlled { .. }
+        | Instruction::FreeControlled { .. }
+        | Instruction::CountGenerations { .. }
+        | Instruction::AllocateBased { .. }
+        | Instruction::AllocateInArea { .. }
+        | Instruction::FreeBased { .. }
+        | Instruction::AssignArea
+        | Instruction::EmptyArea
+        | Instruction::On { .. }
+        | Instruction::Revert { .. }
+        | Instruction::Signal { .. } => Ok(Some(Stop::Fault)),
     }
 }

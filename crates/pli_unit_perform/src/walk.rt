@@ -13,7 +13,7 @@ use pli_base::Name;
 use pli_unit_code::Module;
 
 /// Which of the activations that wait is so many static links outward from the one that a link names.
-pub fn outer(waiting: &[Activation], link: u32, outward: u32) -> Option<usize>
+pub fn outer(waiting: &[Activation], link: u32, outward: u8) -> Option<usize>
     ensures found { (image : Image) → outward_from (activations_of image waiting.now) link outward ≡ option_map suc result }
     ensures within { IfSome result (λ place. place < length waiting.now) }
 {
@@ -35,7 +35,7 @@ pub fn outer(waiting: &[Activation], link: u32, outward: u32) -> Option<usize>
 
 /// Which of the activations that wait is so many static links outward from the one that the newest one's link names.
 #[inline]
-pub fn outer_place(machine: &Machine, outward: u32) -> Option<usize>
+pub fn outer_place(machine: &Machine, outward: u8) -> Option<usize>
     ensures found { (image : Image) → outward_from (activations_of image machine.now.waiting.items) machine.now.here.link outward ≡ option_map suc result }
     ensures within { IfSome result (λ place. place < length machine.now.waiting.items) }
 {
@@ -71,7 +71,7 @@ fn same_unit(module: &Module, first: usize, second: usize) -> bool
 
 /// Whether an activation is one of a block of a unit.
 #[inline(always)]
-pub fn is_of(module: &Module, activation: &Activation, unit: usize, block: u32) -> bool
+pub fn is_of(module: &Module, activation: &Activation, unit: usize, block: u16) -> bool
     ensures { (statics : List Static) → result ≡ is_of (name_at (module_view «module».now) unit) block
         (activation_view (image_with (module_view «module».now) statics) activation.now) }
 {
@@ -84,7 +84,7 @@ pub fn nearest(
     waiting: &[Activation],
     link: u32,
     unit: usize,
-    block: u32,
+    block: u16,
 ) -> Option<usize>
     ensures found { (statics : List Static) → nearest_of (name_at (module_view «module».now) unit) block
         (activations_of (image_with (module_view «module».now) statics) waiting.now) link ≡ option_map suc result }

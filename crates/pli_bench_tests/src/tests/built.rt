@@ -1,5 +1,6 @@
-//! Linked modules of units of one kind, each of which has all forms that the machine runs.
+//! Linked modules of units of one kind, each of which has each instruction and all other forms that the machine has.
 use pli_base::Name;
+use pli_base::statement::Condition;
 use pli_code::RunError;
 use pli_map::{Bounds, Description};
 use pli_operation::Relation;
@@ -14,7 +15,7 @@ use std::alloc::Global;
 use std::process::Abort;
 
 /// Each instruction once, with the greatest static link, statement and offset that a deck can have.
-static INSTRUCTIONS: [Instruction; 52] = [
+static INSTRUCTIONS: [Instruction; 67] = [
     Instruction::Step {
         statement: 4_294_967_295,
     },
@@ -85,6 +86,31 @@ static INSTRUCTIONS: [Instruction; 52] = [
     Instruction::Skip,
     Instruction::SetTemporary { number: 65_535 },
     Instruction::TakeTemporary { number: 0 },
+    Instruction::Based { description: 1 },
+    Instruction::AddressOf,
+    Instruction::ToPointer,
+    Instruction::ToOffset,
+    Instruction::AllocateControlled { global: 0 },
+    Instruction::FreeControlled { global: 1 },
+    Instruction::CountGenerations { global: 2 },
+    Instruction::AllocateBased { template: 1 },
+    Instruction::AllocateInArea {
+        template: 0,
+        target: 50,
+    },
+    Instruction::FreeBased { description: 0 },
+    Instruction::AssignArea,
+    Instruction::EmptyArea,
+    Instruction::On {
+        condition: Condition::Area,
+        block: 2,
+    },
+    Instruction::Revert {
+        condition: Condition::FixedOverflow,
+    },
+    Instruction::Signal {
+        condition: Condition::ZeroDivide,
+    },
     Instruction::Raise(RunError::SubscriptRange),
     Instruction::Jump { target: 50 },
     Instruction::Return { outward: 0 },
@@ -131,7 +157,7 @@ fn signature(rt: &impl Abort, alloc: Global) -> CodedSignature {
 }
 
 /// A block of a unit.
-fn block(rt: &impl Abort, alloc: Global, kind: BlockKind, parent: Option<u32>) -> Block {
+fn block(rt: &impl Abort, alloc: Global, kind: BlockKind, parent: Option<u16>) -> Block {
     Block {
         kind,
         parent,

@@ -15,7 +15,7 @@ static ONE_UNIT: [u8; 58] = [
     0,
 ];
 
-/// The same with EMPTY for its instruction, which is one of areas.
+/// The same with EMPTY for its instruction, which is one of areas: it is loaded, and no code of today's language has it.
 static EMPTY_AREA: [u8; 57] = [
     80, 76, 73, 77, 1, 0, 1, 0, 0, 0, 0, 1, 77, 0, 0, 0, 38, 80, 76, 73, 68, 1, 1, 77, 1, 0, 255,
     255, 0, 0, 0, 0, 0, 0, 0, 0, 0, 1, 0, 255, 255, 0, 0, 0, 0, 0, 0, 0, 0, 0, 0, 1, 0, 1, 55, 0,
@@ -94,7 +94,7 @@ fn modules_are_loaded_or_refused(rt: HostRuntime) {
     assert!(rt; outcome(&rt, alloc, &ONE_UNIT) == Loaded::Same);
     assert!(rt; changed(&rt, alloc, &ONE_UNIT, 24, 0) == Loaded::NotYet);
     assert!(rt; changed(&rt, alloc, &ONE_UNIT, 54, 12) == Loaded::Faulty);
-    assert!(rt; outcome(&rt, alloc, &EMPTY_AREA) == Loaded::NotYet);
+    assert!(rt; outcome(&rt, alloc, &EMPTY_AREA) == Loaded::Same);
     assert!(rt; outcome(&rt, alloc, &POINTER) == Loaded::Same);
 }
 

@@ -114,6 +114,50 @@ fn decks(rt: HostRuntime) {
     stand_changed(&rt, rt.alloc(), Kind::Deck, &CALLING);
 }
 
+/// The number of what is wrong with the bytes of a deck; 0 where they are one.
+fn fault_number(rt: &impl Abort, alloc: Global, bytes: &[u8]) -> u8 {
+    match read_deck(alloc, bytes) {
+        Ok(_) => 0,
+        Err(ReadError::Fault(fault)) => fault.number(),
+        Err(ReadError::OutOfMemory) => panic!(rt; "memory"),
+    }
+}
+
+/// The number of what is wrong with the smallest deck that has another byte in a place.
+fn number_with(rt: &impl Abort, alloc: Global, place: usize, byte: u8) -> u8 {
+    let mut other = SMALLEST;
+    other[place] = byte;
+    fault_number(rt, alloc, &other)
+}
+
+/// The smallest deck with a jump in place of its instruction, to the third one, which it has not.
+static JUMPING: [u8; 40] = [
+    80, 76, 73, 68, 1, 1, 77, 1, 0, 255, 255, 0, 0, 0, 0, 0, 0, 0, 0, 0, 1, 0, 255, 255, 0, 0, 0,
+    0, 0, 0, 0, 0, 0, 0, 1, 0, 1, 3, 0, 2,
+];
+
+/// The same with a constant, of which it has none.
+static NAMING: [u8; 40] = [
+    80, 76, 73, 68, 1, 1, 77, 1, 0, 255, 255, 0, 0, 0, 0, 0, 0, 0, 0, 0, 1, 0, 255, 255, 0, 0, 0,
+    0, 0, 0, 0, 0, 0, 0, 1, 0, 1, 18, 0, 0,
+];
+
+#[test]
+fn numbers_of_faults(rt: HostRuntime) {
+    let alloc = rt.alloc();
+    assert!(rt; fault_number(&rt, alloc, &SMALLEST) == 0);
+    assert!(rt; fault_number(&rt, alloc, &SMALLEST[..3]) == 1);
+    assert!(rt; number_with(&rt, alloc, 3, 0) == 1);
+    assert!(rt; number_with(&rt, alloc, 4, 2) == 2);
+    assert!(rt; fault_number(&rt, alloc, &SMALLEST[..38]) == 3);
+    let mut longer = SMALLEST.to_vec(alloc).expect(&rt, "memory");
+    longer.push(0).expect(&rt, "memory");
+    assert!(rt; fault_number(&rt, alloc, &longer) == 4);
+    assert!(rt; fault_number(&rt, alloc, &JUMPING) == 6);
+    assert!(rt; number_with(&rt, alloc, 37, 64) == 5);
+    assert!(rt; fault_number(&rt, alloc, &NAMING) == 7);
+}
+
 #[test]
 fn modules(rt: HostRuntime) {
     are_whole(&rt, rt.alloc(), Kind::Module, &ONE_UNIT);

@@ -1,9 +1,15 @@
 -- Worked examples: decks, each with its bytes.
 use Rattle.std.specs.Prelude.{◌≡◌, ℕ, true, false, List, [], ◌∷◌, None, Ok, Err, take, ◌++◌}
+use Rattle.pli_base.specs.declared.statement.Condition.TheVariants as conditions
+use Rattle.pli_code.specs.declared.ending.RunError.TheVariants as errors
 use Rattle.pli_map.specs.Description.{Bit}
-use Rattle.pli_deck.specs.declared.fault.DeckFault.TheVariants.{BadMagic, Truncated, Trailing}
-use Rattle.pli_deck.specs.declared.instruction.DeckInstruction.TheVariants as op
-use Rattle.pli_deck.specs.Decks.{DeckTemplate, DeckSignature, ExternalStatic, ExternalEntry, DeckBlock, Deck}
+use Rattle.pli_operation.specs.declared.operation.Relation.TheVariants as relations
+use Rattle.pli_deck.specs.declared.fault.DeckFault.TheVariants.{BadMagic, Truncated, Trailing, OutOfRange}
+use Rattle.pli_machine_step.specs.Program.{Procedure}
+use Rattle.pli_unit_code.specs.CodeTables.{CodedBlock}
+use Rattle.pli_unit_code.specs.declared.instruction.Instruction.TheVariants as op
+use Rattle.pli_deck.specs.Decks.{DeckTemplate, DeckSignature, ExternalStatic, ExternalEntry, Deck}
+use Rattle.pli_deck.specs.Instructions.{instruction}
 use Rattle.pli_deck.specs.Spelling.{deck_bytes, deck_read}
 
 -- no parameters and no result
@@ -15,9 +21,9 @@ abbrev pub with_parameter : DeckSignature
 with_parameter = record { parameters = 0 ∷ []; result = None }
 
 -- the block of an external procedure that declares no AUTOMATIC variable
-abbrev pub outermost : (parameters : ℕ) → DeckBlock
+abbrev pub outermost : (parameters : ℕ) → CodedBlock
 outermost n = record {
-  kind = 0;
+  kind = Procedure;
   parent = None;
   parameters = n;
   variables = [];
@@ -100,6 +106,19 @@ abbrev pub WrittenSo : Type 0
 WrittenSo =
     (deck_bytes smallest ≡ smallest_bytes) × (deck_bytes calling ≡ calling_bytes)
     × (deck_bytes called ≡ called_bytes)
+
+-- instructions with an error, a relation and a condition; the first and the last number of each
+abbrev pub NumberedSo : Type 0
+NumberedSo =
+    (instruction.bytes_of (op.Raise errors.SubscriptRange) ≡ 11 ∷ 1 ∷ [])
+    × (instruction.bytes_of (op.Raise errors.TooManyActivations) ≡ 11 ∷ 13 ∷ [])
+    × (instruction.bytes_of (op.Compare relations.Equal) ≡ 36 ∷ 0 ∷ [])
+    × (instruction.bytes_of (op.Compare relations.AtLeast) ≡ 36 ∷ 5 ∷ [])
+    × (instruction.bytes_of (op.On conditions.FixedOverflow 7) ≡ 56 ∷ 0 ∷ 0 ∷ 7 ∷ [])
+    × (instruction.bytes_of (op.Signal conditions.Area) ≡ 58 ∷ 2 ∷ [])
+    × (instruction.read (11 ∷ 10 ∷ 60 ∷ []) ≡ Ok (op.Raise errors.ZeroDivide, 60 ∷ []))
+    × (instruction.read (11 ∷ 0 ∷ []) ≡ Err OutOfRange) × (instruction.read (11 ∷ 14 ∷ []) ≡ Err OutOfRange)
+    × (instruction.read (36 ∷ 6 ∷ []) ≡ Err OutOfRange) × (instruction.read (57 ∷ 3 ∷ []) ≡ Err OutOfRange)
 
 -- how they are read, and what is wrong where a byte is missing or one stands behind
 abbrev pub ReadSo : Type 0

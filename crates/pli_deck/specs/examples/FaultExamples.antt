@@ -3,14 +3,14 @@ use Rattle.std.specs.Prelude.{◌≡◌, ℕ, List, [], ◌∷◌, Some, None, p
 use Rattle.pli_map.specs.declared.description.Bounds.{Bounds}
 use Rattle.pli_map.specs.Description.{Description, Character, Array, FixedBinary}
 use Rattle.pli_deck.specs.declared.fault.DeckFault.TheVariants.{BadJump, BadNumber, OverLimit}
-use Rattle.pli_deck.specs.declared.instruction.DeckInstruction.{DeckInstruction}
-use Rattle.pli_deck.specs.declared.instruction.DeckInstruction.TheVariants as op
+use Rattle.pli_unit_code.specs.declared.instruction.Instruction.{Instruction}
+use Rattle.pli_unit_code.specs.declared.instruction.Instruction.TheVariants as op
 use Rattle.pli_deck.specs.Decks.{DeckTemplate, Number, NullPointer, Constant, Deck}
 use Rattle.pli_deck.specs.DeckFaults.{fault_of}
 use Rattle.pli_deck.specs.examples.DeckExamples.{smallest}
 
 -- the smallest deck with other instructions
-abbrev pub with_code : List DeckInstruction → Deck
+abbrev pub with_code : List Instruction → Deck
 with_code code = record smallest { instructions = code }
 
 -- the smallest deck with a variable of a description

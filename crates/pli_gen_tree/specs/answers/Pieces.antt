@@ -1,12 +1,13 @@
 -- What the parts of the generator answer.
-use Rattle.std.specs.Prelude.{ℕ, suc, ◌≡◌, ◌+◌, ◌≤◌, nat_eq, nat_lt, Bool, true, None, List, [], ◌∷◌, length}
-use Rattle.std.specs.Prelude.{if◌then◌else◌}
+use Rattle.std.specs.Prelude.{ℕ, suc, ◌≡◌, ◌+◌, ◌≤◌, nat_eq, nat_lt, Bool, true, ◌&&◌, None, List, [], ◌∷◌}
+use Rattle.std.specs.Prelude.{length, if◌then◌else◌}
 use Rattle.std.specs.List.{list_any, AllByRecursion}
 use Rattle.pli_map.specs.Same.{same}
 use Rattle.pli_map.specs.Sizes.{size_of}
 use Rattle.pli_machine_step.specs.Program.{Instruction, Step}
 use Rattle.pli_machine_step.specs.Program as op
 use Rattle.pli_type_tree.specs.Templates.{Template}
+use Rattle.pli_unit_code.specs.CodeFields.{is_byte, is_short, parent_fits}
 use Rattle.pli_unit_code.specs.CodeTables.{CodedBlock, Code}
 use Rattle.pli_gen_emit.specs.TreeTranslation.{BlockTree}
 use Rattle.pli_gen_tree.specs.Encoding.{NumberedTables, coded_block}
@@ -23,13 +24,29 @@ abbrev pub retargeted : (place : ℕ → ℕ) → Instruction → Instruction
 retargeted place (op.Goto outward label) = op.Goto outward (place label)
 retargeted place i = i
 
--- targets of jumps and counts of arguments are within a limit
+-- targets of jumps are within a limit
 abbrev pub Fits : (limit : ℕ) → Instruction → Type 0
 Fits n (op.Jump target) = target ≤ n
 Fits n (op.JumpUnless target) = target ≤ n
-Fits n (op.Call block arguments) = arguments ≤ n
-Fits n (op.CallExternal global arguments) = arguments ≤ n
 Fits n i = Unit {0}
+
+-- the other numbers of an instruction are within their fields
+abbrev pub instruction_fits : Instruction → Bool
+instruction_fits (op.Goto outward label) = is_byte outward
+instruction_fits (op.Call block arguments) = is_short block && is_byte arguments
+instruction_fits (op.CallExternal global arguments) = is_short global && is_byte arguments
+instruction_fits (op.Begin block) = is_short block
+instruction_fits (op.Return outward) = is_byte outward
+instruction_fits (op.ReturnValue outward) = is_byte outward
+instruction_fits (op.Local outward slot) = is_byte outward && is_short slot
+instruction_fits (op.Global number) = is_short number
+instruction_fits (op.SetTemporary number) = is_short number
+instruction_fits (op.TakeTemporary number) = is_short number
+instruction_fits other = true
+
+-- the numbers of a block are within their fields
+abbrev pub block_fits : BlockTree → Bool
+block_fits b = parent_fits b.parent && (is_byte b.parameters && is_short b.head.temporaries)
 
 -- blocks, each with its first instruction
 abbrev pub blocks_with_entries : NumberedTables → List BlockTree → (entries : List ℕ) → List CodedBlock

@@ -274,10 +274,15 @@ InstructionsNumbered = (code_of printing_unit).instructions
 abbrev with_globals : ℕ → tables.Code
 with_globals n = record (code_of printing_unit) { globals = replicate n (tables.OwnVariable 0) }
 
--- it is not too long; with 65,536 globals it would be
+-- its code with a RETURN that leads so many activations outward
+abbrev with_outward : ℕ → tables.Code
+with_outward n = record (code_of printing_unit) { instructions = coded.Return n ∷ [] }
+
+-- it is not too long; with 65,536 globals it would be, and with a number that has no room in its byte
 abbrev pub LimitsKept : Type 0
 LimitsKept = (is_too_long (code_of printing_unit) ≡ false)
     × (is_too_long (with_globals 65536) ≡ true) × (is_too_long (with_globals 65535) ≡ false)
+    × (is_too_long (with_outward 256) ≡ true) × (is_too_long (with_outward 255) ≡ false)
 
 -- (P), where P is the first parameter
 abbrev of_p : TypedArguments

@@ -1,4 +1,4 @@
-use Rattle.pli_deck.specs.declared.instruction.DeckInstruction.TheVariants.{Step}
+use Rattle.pli_unit_code.specs.declared.instruction.Instruction.TheVariants.{Step}
 use Rattle.pli_deck.specs.Fields.{u4}
 use Rattle.pli_deck.specs.Instructions.{reader_of}
 use Rattle.pli_deck_read.proofs.OperandReading.{of_one}

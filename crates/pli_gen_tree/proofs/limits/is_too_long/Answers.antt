@@ -1,9 +1,7 @@
-use Rattle.std.proofs.Common.{◌≡◌, ◌||◌, ◌∙◌, ap, sym, nat_lt}
-use Rattle.std.specs.List.{list_any, sum_by}
+use Rattle.std.proofs.Common.{◌≡◌, ◌||◌, ◌∙◌, ap, sym}
 use Rattle.pli_type_tree.specs.views.GlobalView.{globals_view}
 use Rattle.pli_type_tree.specs.views.TypedView.{unit_view}
-use Rattle.pli_gen_tree.specs.Limits.{is_over, has_many_members}
-use Rattle.pli_gen_tree.specs.answers.Pieces.{takes_many_slots, template_bytes}
+use Rattle.pli_gen_tree.specs.Limits.{is_over}
 use Rattle.pli_gen_emit.specs.views.BlockView.{block_trees}
 use Rattle.pli_gen_emit.specs.views.NamingView.{naming_code}
 use Rattle.pli_gen_tree.specs.views.TableView.{tables_view}
@@ -41,4 +39,4 @@ returns-else-has_long_list c =
           ∙ lists_viewed u.globals c.args.emitted.now.blocks.items c.args.emitted.now.code.items
           ∙ ap (λ x. x || b) (sym w.if-has_long_table.false ∙ c.has_long_table.ensures)
     ] in
-    c.has_large_part.ensures ∙ ap (λ bs. list_any takes_many_slots (block_trees bs) || list_any has_many_members t.descriptions || nat_lt 16777216 (sum_by template_bytes t.templates)) c.as_slice-else-has_long_list.ensures.value ∙ ap (λ x. x || large_parts t u bs code c.requires) (sym c.if-has_long_list.false ∙ v) ∙ limits_apart t u bs code c.requires
+    c.has_large_part.ensures ∙ ap (λ x. x || large_parts t u bs code c.requires) (sym c.if-has_long_list.false ∙ v) ∙ limits_apart t u bs code c.requires

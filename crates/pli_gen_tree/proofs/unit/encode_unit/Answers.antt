@@ -1,6 +1,6 @@
 use Rattle.std.proofs.Common.{◌≡◌, ℕ, ◌<◌, ◌≤◌, ◌++◌, ◌∙◌, List, Option, nat_eq, unwrap_or, ap, sym, subst, get_or, length, map, arith}
 use Rattle.std.specs.HashMap.{get}
-use Rattle.std.specs.List.{AllByRecursion}
+use Rattle.std.specs.List.{list_all, AllByRecursion}
 use Rattle.std.proofs.lemmas.List.{length-map}
 use Rattle.pli_map.specs.views.DescriptionView.{description_view}
 use Rattle.pli_type_tree.specs.views.GlobalView.{globals_view}
@@ -10,7 +10,7 @@ use Rattle.pli_gen_emit.specs.TreeTranslation.{blocks_code}
 use Rattle.pli_gen_emit.specs.views.BlockView.{block_tree, block_trees}
 use Rattle.pli_gen_emit.specs.views.NamingView.{naming_code}
 use Rattle.pli_gen_tree.specs.Encoding.{description_number, instruction_code, template_code, global_code}
-use Rattle.pli_gen_tree.specs.answers.Pieces.{Fits, retargeted, step_place, blocks_with_entries}
+use Rattle.pli_gen_tree.specs.answers.Pieces.{Fits, block_fits, instruction_fits, retargeted, step_place, blocks_with_entries}
 use Rattle.pli_type_keys.specs.views.KeyView.{described, templated, valued}
 use Rattle.pli_gen_tree.specs.views.TableView.{tables_view}
 use Rattle.pli_gen_tree.proofs.CodeFits.{unit_fits, places_fit, entries_fit, entries_counted}
@@ -55,8 +55,22 @@ encode_blocks-requires-clause-near c =
     let Near : List ℕ → Type 0 = λ es. (k : ℕ) → k < length es → get_or es k 0 ≤ 65535 in
     subst Near (sym (c.as_slice-entries.ensures.value ∙ c.requires.entries)) (λ k lt. entries_fit bs k 65535 few lt)
 
-pub encode_code-requires : goal.encode_code-requires
-encode_code-requires c =
+pub encode_blocks-requires-clause-narrow : goal.encode_blocks-requires-clause-narrow
+encode_blocks-requires-clause-narrow c =
+    let e = c.args.emitted.now in
+    let bs = block_trees e.blocks.items in
+    let short = short_parts (tables_view c.args.tables.now) (unit_view c.args.unit.now) bs (naming_code e.code.items) c.requires.short in
+    ap (λ bs. list_all block_fits (block_trees bs)) c.as_slice-blocks.ensures.value ∙ short.block_numbers
+
+pub encode_code-requires-clause-narrow : goal.encode_code-requires-clause-narrow
+encode_code-requires-clause-narrow c =
+    let e = c.args.emitted.now in
+    let code = naming_code e.code.items in
+    let short = short_parts (tables_view c.args.tables.now) (unit_view c.args.unit.now) (block_trees e.blocks.items) code c.requires.short in
+    ap (λ is. list_all instruction_fits (naming_code is)) c.as_slice-3.ensures.value ∙ short.code_numbers
+
+pub encode_code-requires-clause-near : goal.encode_code-requires-clause-near
+encode_code-requires-clause-near c =
     let e = c.args.emitted.now in
     let bs = block_trees e.blocks.items in
     let short = short_parts (tables_view c.args.tables.now) (unit_view c.args.unit.now) bs (naming_code e.code.items) c.requires.short in
