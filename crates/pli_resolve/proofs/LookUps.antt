@@ -1,6 +1,5 @@
 -- What is found under keys, in lists that are joined.
 use Rattle.std.proofs.Common.{◌≡◌, ℕ, nat_eq, Option, Some, List, [], ◌∷◌, ◌++◌, refl, if◌then◌else◌}
-use Rattle.std.proofs.Common.{◌+◌}
 use Rattle.pli_resolve.specs.Symbols.{found_after}
 
 -- behind some pairs others

@@ -4,7 +4,6 @@ ghost use Rattle.std.specs.List.{flat_map};
 ghost use Rattle.indexmap.specs.IndexMap.{get};
 ghost use Rattle.pli_declare.specs.views.BlockView.{block_view};
 ghost use Rattle.pli_declare_outline.specs.views.OutlineView.{mark_view, marks_view};
-ghost use Rattle.pli_declare_tables.specs.Tables.{inner_marks};
 ghost use Rattle.pli_declare_variables.specs.views.DeclarationView.{declaration_view, kind_view};
 ghost use Rattle.pli_resolve.specs.Symbols.{found_after, found_in};
 ghost use Rattle.pli_resolve.specs.ResolvedUnits as spec;

@@ -1,5 +1,5 @@
 //! From a tree to the resolved unit.
-ghost use Rattle.std.specs.Prelude.{◌≡◌, ℕ, nat_eq, map, IfOk};
+ghost use Rattle.std.specs.Prelude.{◌≡◌, ℕ, nat_eq, IfOk};
 ghost use Rattle.indexmap.specs.IndexMap.{get};
 ghost use Rattle.pli_base.specs.views.StatementView.{unit_view};
 ghost use Rattle.pli_declare_outline.specs.Outlines.{outline_of};

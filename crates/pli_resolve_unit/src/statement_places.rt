@@ -1,5 +1,5 @@
 //! Where the statements of a unit stand.
-ghost use Rattle.std.specs.Prelude.{◌≡◌, ◌++◌, ◌+◌, ◌∷◌, [], length, OnOk, IfOk};
+ghost use Rattle.std.specs.Prelude.{◌≡◌, ◌++◌, ◌+◌, ◌∷◌, length, OnOk, IfOk};
 ghost use Rattle.pli_base.specs.views.StatementView.{body_view, statement_view, statements_view, unit_view};
 ghost use Rattle.pli_declare_outline.specs.Outlines.{regions_in, regions_of, regions_among};
 ghost use Rattle.pli_resolve_unit.specs.PlacesPut.{PlacesPut};

@@ -7,9 +7,9 @@ use Rattle.pli_declare.specs.Resolved.{resolution_of, resolved_of, of_marks, use
 use Rattle.pli_declare.specs.declared.block.Use.{Use}
 use Rattle.pli_declare_faults.proofs.resolving.resolved.Goals as goal
 
-pub invariant_of-result : goal.invariant_of-result
+pub new-requires : goal.new-requires
 unfolding resolved_of
-invariant_of-result c =
+new-requires c =
     let u = unit_view c.args.unit.now in
     let o = outline_view c.args.scopes.now.outline.now in
     let same : resolution_of o ≡ resolved_of u = ap resolution_of c.requires.outlined in
