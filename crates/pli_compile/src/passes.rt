@@ -11,7 +11,8 @@ use pli_base::{Code, Failure, Fault, TokenText, Unit};
 use pli_gen_tree::{GenerateError, generate};
 use pli_link::CompiledUnit;
 use pli_parse::parse;
-use pli_resolve::{ResolvedUnit, resolve_unit};
+use pli_resolve::ResolvedUnit;
+use pli_resolve_unit::resolve_unit;
 use pli_type_statement::check;
 use std::alloc::Global;
 

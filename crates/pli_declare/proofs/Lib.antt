@@ -1,15 +1,7 @@
 pub mod ResolvedExamplesHold
 pub mod LookUpLemmas
-pub mod Goodness
-pub mod HeadingLemmas
 pub mod ListsByNumber
-pub mod NumberLists
 pub mod ParametersOfBlocks
-pub mod TablesOfBlocks
-pub mod ParameterNames
 pub mod MarkWalkLemmas
-pub mod GoodnessOfBlocks
-pub mod NamedUses
 pub mod Faultless
-pub mod RegionDeclarations
 pub mod FaultsAreExact

@@ -1,6 +1,6 @@
+pub mod DeclaredNames
 pub mod Resolution
 pub mod Resolved
-pub mod answers
 pub mod examples
 pub mod laws
 pub mod views

@@ -1,30 +1,10 @@
-//! What the names of a unit are and mean, or the faults of its declarations.
+//! What a unit without faults in its declarations declares, and what its names mean; which faults there are, as definitions.
 #![tactic(auto)]
 
-mod attributes;
 mod block;
-mod good;
-mod heading;
-mod item_codes;
-mod jumps;
-mod known;
 mod laws;
-mod least;
-mod lists;
-mod look_up;
-mod marks;
-mod meanings;
-mod names_in_attributes;
-mod parameters;
-mod references;
 mod resolved;
-mod resolving;
-mod scopes;
-mod told;
-mod unit;
-mod uses;
 
-pub use block::{BlockDeclarations, Target};
+pub use block::{BlockDeclarations, Target, Use};
 pub use laws::{faults_are_least_codes, resolved_examples, worked_examples};
-pub use resolved::Resolved;
-pub use resolving::{ResolveError, resolve};
+pub use resolved::{NamedMeanings, Resolved, UnitMeanings};

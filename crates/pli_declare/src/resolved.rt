@@ -5,7 +5,7 @@ ghost use Rattle.pli_base.specs.views.StatementView.{unit_view};
 ghost use Rattle.pli_declare_outline.specs.views.OutlineView.{regions_view};
 ghost use Rattle.pli_declare_variables.specs.views.DeclarationView.{declaration_view};
 ghost use Rattle.pli_declare.specs.Resolved.{resolved_of, meaning_at};
-ghost use Rattle.pli_declare.specs.views.BlockView.{block_view};
+ghost use Rattle.pli_declare.specs.views.BlockView.{block_view, IsResolvedOf};
 
 use crate::block::{BlockDeclarations, Target, copied_blocks, copied_declarations};
 use indexmap::IndexMap;
@@ -17,7 +17,7 @@ use std::marker::Model;
 
 /// What the names in the attributes of declared names mean, by the tokens of these.
 #[derive(Drop)]
-pub(crate) struct NamedMeanings {
+pub struct NamedMeanings {
     /// The area that each has in its OFFSET, or in that of its RETURNS.
     pub areas: IndexMap<u32, Target>,
     /// The locator that each has in its BASED.
@@ -26,7 +26,7 @@ pub(crate) struct NamedMeanings {
 
 /// What the names of a unit mean, by the tokens of these.
 #[derive(Drop)]
-pub(crate) struct UnitMeanings {
+pub struct UnitMeanings {
     /// What each reference and the label of each GOTO means.
     pub uses: IndexMap<u32, Target>,
     pub named: NamedMeanings,
@@ -36,11 +36,11 @@ pub(crate) struct UnitMeanings {
 /// see the tree.
 #[derive(Drop)]
 pub struct Resolved<'a> {
-    pub(crate) unit: &'a Procedure,
-    pub(crate) regions: Vec<Region>,
-    pub(crate) outermost: Vec<Declaration<'a>>,
-    pub(crate) blocks: Vec<BlockDeclarations<'a>>,
-    pub(crate) meanings: UnitMeanings,
+    unit: &'a Procedure,
+    regions: Vec<Region>,
+    outermost: Vec<Declaration<'a>>,
+    blocks: Vec<BlockDeclarations<'a>>,
+    meanings: UnitMeanings,
 }
 
 impl<'a> Model for Resolved<'a> {
@@ -93,6 +93,26 @@ impl UnitMeanings {
 }
 
 impl<'a> Resolved<'a> {
+    /// The resolved unit of a tree, of all that the pass that resolves it has found: what blocks declare, and what names mean.
+    pub fn new(
+        unit: &'a Procedure,
+        regions: Vec<Region>,
+        outermost: Vec<Declaration<'a>>,
+        blocks: Vec<BlockDeclarations<'a>>,
+        meanings: UnitMeanings,
+    ) -> Resolved<'a>
+        requires { IsResolvedOf (unit_view unit.now) regions.items outermost.items blocks.items meanings.uses meanings.named.areas meanings.named.locators }
+        ensures { result ≡ unit.now }
+    {
+        Resolved {
+            unit,
+            regions,
+            outermost,
+            blocks,
+            meanings,
+        }
+    }
+
     /// The tree of the unit.
     pub fn unit(&self) -> &'a Procedure
         ensures { result.now ≡ self.now }

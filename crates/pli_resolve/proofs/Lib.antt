@@ -1,9 +1,5 @@
-pub mod UnitParts
-pub mod PlacesPut
-pub mod WaysMade
 pub mod LookUps
 pub mod CopiedMaps
-pub mod BlocksNumbered
 pub mod TablesAt
 pub mod SymbolsAt
 pub mod RegionWalks

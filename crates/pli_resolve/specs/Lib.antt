@@ -1,7 +1,6 @@
 pub mod BuiltIns
 pub mod BlockNumbers
 pub mod StatementPlaces
-pub mod PlacesPut
 pub mod Symbols
 pub mod ResolvedUnits
 pub mod TreeBlocks

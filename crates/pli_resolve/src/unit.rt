@@ -12,7 +12,7 @@ ghost use Rattle.pli_resolve.specs.Symbols as symbols;
 ghost use Rattle.pli_resolve.specs.ResolvedUnits.{resolved_unit_of, meaning_at, symbol_at, block_of_statement, facts_of, numbers_of, declared_by, declared_meaning, outermost_number, region_block, block_of, block_regions_of};
 ghost use Rattle.pli_resolve.specs.views.SymbolView.{symbol_view, symbol_kind_view};
 ghost use Rattle.pli_resolve.specs.views.TableView.{way_view};
-ghost use Rattle.pli_resolve.specs.views.UnitView.{resolved_block_view, without_symbols};
+ghost use Rattle.pli_resolve.specs.views.UnitView.{AreTablesOf, resolved_block_view, without_symbols};
 
 use crate::block_numbers::{BlockRegion, ResolvedBlockKind};
 use crate::built_in::function_named;
@@ -34,10 +34,10 @@ use std::marker::Model;
 /// tree.
 #[derive(Drop)]
 pub struct ResolvedUnit<'a> {
-    pub(crate) declared: Resolved<'a>,
-    pub(crate) tables: UnitTables,
+    declared: Resolved<'a>,
+    tables: UnitTables,
     /// What stands for the description of a variable without one; a unit without faults has none such.
-    pub(crate) undescribed: Description,
+    undescribed: Description,
 }
 
 impl<'a> Model for ResolvedUnit<'a> {
@@ -70,6 +70,18 @@ pub struct ResolvedBlock<'a> {
 }
 
 impl<'a> ResolvedUnit<'a> {
+    /// The resolved unit of what a unit declares, with the tables that the pass that resolves it has made of that.
+    pub fn new(declared: Resolved<'a>, tables: UnitTables) -> ResolvedUnit<'a>
+        requires { AreTablesOf tables (unit_view declared) }
+        ensures { result ≡ declared.entry }
+    {
+        ResolvedUnit {
+            declared,
+            tables,
+            undescribed: Description::Pointer,
+        }
+    }
+
     /// The tree of the unit.
     pub fn unit(&self) -> &'a Procedure
         ensures { result.now ≡ self.now }

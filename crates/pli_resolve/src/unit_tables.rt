@@ -18,7 +18,7 @@ use std::alloc::{AllocError, Global};
 
 /// Which regions are blocks.
 #[derive(Drop)]
-pub(crate) struct RegionNumbers {
+pub struct RegionNumbers {
     /// For each region the number of its block.
     pub numbers: Vec<usize>,
     pub blocks: Vec<BlockRegion>,
@@ -26,7 +26,7 @@ pub(crate) struct RegionNumbers {
 
 /// What may be called.
 #[derive(Drop)]
-pub(crate) struct Callables {
+pub struct Callables {
     /// Built-in functions, by the tokens where they are named.
     pub functions: IndexMap<u32, BuiltInFunction>,
     /// The symbols of procedures' names, by the regions of the procedures.
@@ -35,7 +35,7 @@ pub(crate) struct Callables {
 
 /// Where statements and their labels stand.
 #[derive(Drop)]
-pub(crate) struct StatementMaps {
+pub struct StatementMaps {
     /// The regions of statements, by their numbers.
     pub regions: IndexMap<u32, usize>,
     /// The statements of labels, by the labels' tokens.
@@ -44,14 +44,14 @@ pub(crate) struct StatementMaps {
 
 /// What is found by a token, the number of a statement, or a region.
 #[derive(Drop)]
-pub(crate) struct UnitMaps {
+pub struct UnitMaps {
     pub callables: Callables,
     pub statements: StatementMaps,
 }
 
 /// What is found once for a unit.
 #[derive(Drop)]
-pub(crate) struct UnitTables {
+pub struct UnitTables {
     pub regions: RegionNumbers,
     /// For each region the statement with which it begins.
     pub starts: Vec<u32>,

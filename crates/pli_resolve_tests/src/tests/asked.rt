@@ -10,12 +10,14 @@ use crate::tests::words::tokens_between;
 use pli_base::ParseError;
 use pli_base::statement::{Procedure, Statement};
 use pli_copy::Copied;
-use pli_declare::{ResolveError, Resolved, resolve};
+use pli_declare::Resolved;
 use pli_declare_constructs::Nesting;
+use pli_declare_faults::{ResolveError, resolve};
 use pli_declare_outline::{Outline, outline};
 use pli_declare_tables::Tables;
 use pli_parse::parse;
-use pli_resolve::{ResolvedUnit, resolve_unit};
+use pli_resolve::ResolvedUnit;
+use pli_resolve_unit::resolve_unit;
 use pli_text_tests::{Answers, Shown};
 use std::alloc::{AllocError, Global};
 

@@ -1,0 +1,11 @@
+mod BlocksOutwards
+mod Goodness
+mod HeadingLemmas
+mod NumberLists
+mod ParametersGathered
+mod TablesOfBlocks
+mod ParameterNames
+mod MarksPassed
+mod GoodnessOfBlocks
+mod NamedUses
+mod RegionDeclarations

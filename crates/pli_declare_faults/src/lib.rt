@@ -1,0 +1,24 @@
+//! The pass from a unit to what its names are and mean, or to the faults of its declarations.
+#![tactic(auto)]
+
+mod attributes;
+mod good;
+mod heading;
+mod item_codes;
+mod jumps;
+mod known;
+mod least;
+mod lists;
+mod look_up;
+mod marks;
+mod meanings;
+mod names_in_attributes;
+mod parameters;
+mod references;
+mod resolving;
+mod scopes;
+mod told;
+mod unit;
+mod uses;
+
+pub use resolving::{ResolveError, resolve};

@@ -1,0 +1,89 @@
+//! The faults of the declarations of a unit.
+ghost use Rattle.std.specs.Prelude.{◌≡◌, ◌++◌, map, IfOk, OnOk};
+ghost use Rattle.pli_declare_outline.specs.views.OutlineView.{outline_view, placed_view};
+ghost use Rattle.pli_declare_tables.specs.answers.Answers.{AreOf};
+ghost use Rattle.pli_declare.specs.Resolution.{unit_faults, outline_faults};
+ghost use Rattle.pli_declare_faults.specs.answers.Walks.{AreCodes};
+
+use crate::heading::{heading_code, returned_name_nothing};
+use crate::known::Known;
+use crate::marks::tell_marks;
+use crate::parameters::{judged_blocks, parameters, tell_parameters};
+use crate::scopes::Scopes;
+use crate::told::tell;
+use pli_base::{Code, Fault};
+use pli_declare_outline::{Mark, Outline, PlacedMark};
+use pli_declare_tables::Tables;
+use std::alloc::{AllocError, Global};
+
+/// The least code of each name of each block, of which what is known is given.
+fn codes_of_blocks(alloc: Global, known: &Known) -> Result<Vec<Vec<Option<Code>>>, AllocError>
+    ensures { IfOk result (λ codes. AreCodes (map (λ list. list.items) codes.items) (outline_view known.now.scopes.outline.now)) }
+{
+    let good = known.goodness(alloc)?;
+    let mut codes = Vec::new(alloc);
+    for block in 0..known.scopes.outline.regions.len() + 1 {
+        codes.push(known.codes_of_block(alloc, block, &good[block])?)?;
+    }
+    Ok(codes)
+}
+
+/// The least code of each name of each block.
+fn codes_of(alloc: Global, scopes: &Scopes) -> Result<Vec<Vec<Option<Code>>>, AllocError>
+    ensures { IfOk result (λ codes. AreCodes (map (λ list. list.items) codes.items) (outline_view scopes.now.outline.now)) }
+{
+    let parameters = parameters(alloc, scopes.outline)?;
+    let judged = judged_blocks(alloc, scopes.outline, scopes.tables, &parameters)?;
+    let known = Known {
+        scopes: *scopes,
+        judged: &judged,
+    };
+    codes_of_blocks(alloc, &known)
+}
+
+/// The faults of the unit's own heading, which is the first mark.
+fn tell_unit(
+    alloc: Global,
+    outline: &Outline,
+    tables: &Tables,
+    first: &PlacedMark,
+    faults: &mut Vec<Fault>,
+) -> Result<(), AllocError>
+    requires { AreOf tables.now (outline_view outline.now) }
+    ensures { OnOk result (faults.new.items ≡ faults.old.items ++ unit_faults (outline_view outline.now) (placed_view first.now)) }
+{
+    let Mark::Entered { procedure, region } = &first.mark else {
+        return Ok(());
+    };
+    let code = heading_code(returned_name_nothing(procedure), procedure);
+    tell(faults, procedure.name.at, code)?;
+    tell_parameters(
+        alloc,
+        outline,
+        tables,
+        *region,
+        &procedure.parameters,
+        faults,
+    )
+}
+
+/// The faults of the marks of an outline.
+fn tell_outline(alloc: Global, scopes: &Scopes, faults: &mut Vec<Fault>) -> Result<(), AllocError>
+    ensures { OnOk result (faults.new.items ≡ faults.old.items ++ outline_faults (outline_view scopes.now.outline.now) (outline_view scopes.now.outline.now).marks) }
+{
+    let Some((first, marks)) = scopes.outline.marks.split_first() else {
+        return Ok(());
+    };
+    tell_unit(alloc, scopes.outline, scopes.tables, first, faults)?;
+    let codes = codes_of(alloc, scopes)?;
+    tell_marks(alloc, scopes, &codes, marks, faults)
+}
+
+/// All faults of the marks of an outline.
+pub(crate) fn faults_told(alloc: Global, scopes: &Scopes) -> Result<Vec<Fault>, AllocError>
+    ensures { IfOk result (λ faults. faults.items ≡ outline_faults (outline_view scopes.now.outline.now) (outline_view scopes.now.outline.now).marks) }
+{
+    let mut faults = Vec::new(alloc);
+    tell_outline(alloc, scopes, &mut faults)?;
+    Ok(faults)
+}

@@ -1,0 +1,5 @@
+mod UnitParts
+mod PlacesPut
+mod WaysMade
+mod BlockPassed
+mod BlocksNumbered
