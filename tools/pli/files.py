@@ -1,8 +1,9 @@
 """Files as members of the workbench: their lines, what they include, and what can be no member."""
 import re
-import sys
+from functools import cached_property, partial
 from pathlib import Path
 
+from report import limited, placed
 from scan import Include, ScanFault, scan
 from streams import Trouble
 
@@ -20,39 +21,47 @@ class Member:
 
     def __init__(self, name, kind, lines=(), path=None, shown=None):
         self.name, self.kind, self.path, self.shown = name, kind, path, shown or (str(path) if path else name)
-        self.lines, self.scanned = list(lines), None
+        self.lines = list(lines)
 
     def __str__(self):
         return self.shown
 
-    def changed(self):
-        """Says that lines were edited since the file was read."""
-        self.scanned, self.shown = None, self.shown if self.shown.endswith(" as edited") else f"{self.shown} as edited"
+    def edited(self):
+        """Says that lines are no longer those of the file."""
+        self.__dict__.pop("items", None)
+        self.__dict__.pop("by_tokens", None)
+        self.shown = f"{self.shown.removesuffix(' as edited')} as edited"
 
     def text(self):
         return b"\n".join(self.lines).decode("latin-1")
 
+    @cached_property
     def items(self):
         """Its tokens and directives, up to what is no token."""
-        if self.scanned is None:
-            self.scanned = scan(self.text(), self)
-        return self.scanned
+        return scan(self.text(), self)
 
-    def typed(self):
-        """The commands that type it."""
-        yield f"ADD {self.name} {self.kind}".encode()
-        for number, line in enumerate(self.lines):
-            yield f"INSERT {self.name} {number} ".encode() + line
-
+    @cached_property
     def by_tokens(self):
-        """A line of text for each token, each with the item of `items` that it is of; none where that cannot be."""
+        """A line of text for each token, each with the item that it is of; none where that cannot be."""
         lines = []
-        for item in self.items():
-            if isinstance(item, ScanFault) and item.code != "I4":
-                return None
+        for item in self.items:
             words = ["%", "INCLUDE", item.name, ";"] if isinstance(item, Include) else [item.spelled]
             lines += [(word.encode("latin-1"), item) for word in words]
-        return lines if len(lines) <= MOST_LINES else None
+        bad = self.items[-1:] and isinstance(self.items[-1], ScanFault) and self.items[-1].code != "I4"
+        return None if bad or len(lines) > MOST_LINES else lines
+
+    def item(self, line):
+        """What stands on a line of it as it is typed by tokens."""
+        if self.by_tokens is None:
+            return next((item for item in self.items[-1:] if isinstance(item, ScanFault) and item.line == line), None)
+        return self.by_tokens[line - 1][1] if line <= len(self.by_tokens) else None
+
+    def typed(self, by_tokens=False):
+        """The commands that type it, as it is or with a line for each token where that can be."""
+        yield f"ADD {self.name} {self.kind}".encode()
+        lines = [word for word, _ in self.by_tokens] if by_tokens and self.by_tokens is not None else self.lines
+        for number, line in enumerate(lines):
+            yield f"INSERT {self.name} {number} ".encode() + line
 
 
 def lines_of(data):
@@ -64,7 +73,7 @@ def lines_of(data):
 def read(path):
     """The lines of a file; `-` is standard input."""
     try:
-        with sys.stdin.buffer if str(path) == "-" else open(path, "rb") as file:
+        with open(0 if str(path) == "-" else path, "rb", closefd=str(path) != "-") as file:
             data = file.read(MOST_BYTES + 1)
     except (OSError, ValueError) as error:
         raise Trouble(f"{path}: {getattr(error, 'strerror', None) or error}", 2) from None
@@ -75,12 +84,11 @@ def read(path):
 
 def unit_of(path, name):
     """The member of a file that is a unit."""
-    given = name.upper() if name else "STDIN" if str(path) == "-" else path.stem.upper()
-    if not NAME.fullmatch(given):
-        how = f"{given} is no name of a member"
-        raise Trouble(f"{path}: {how}" if name else f"{path}: {how}; --as NAME {path} gives it one", 2)
     standard = str(path) == "-"
-    return Member(given, "SOURCE", read(path), None if standard else path, "<stdin>" if standard else None)
+    lines, given = read(path), (name or ("stdin" if standard else path.stem)).upper()
+    if not NAME.fullmatch(given):
+        raise Trouble(f"{path}: {given} is no name of a member{'' if name else f'; --as NAME {path} gives it one'}", 2)
+    return Member(given, "SOURCE", lines, None if standard else path, "<stdin>" if standard else None)
 
 
 def found_in(folder, name):
@@ -107,7 +115,7 @@ class Gathering:
         todo = list(self.members.values())
         while todo:
             member = todo.pop(0)
-            for item in member.items():
+            for item in member.items:
                 if isinstance(item, Include) and (new := self.included(member, item)):
                     todo.append(new)
 
@@ -115,8 +123,8 @@ class Gathering:
         other = self.members.setdefault(unit.name, unit)
         if other is not unit:
             twice = is_same(unit.path, other.path)
-            told = "is given twice" if twice else f"{other} is the unit {unit.name} already; --as NAME FILE names it otherwise"
-            raise Trouble(f"{unit}: {told}", 2)
+            told = " is given twice" if twice else f": {other} is the unit {unit.name} already; --as NAME FILE names it otherwise"
+            raise Trouble(f"{unit}{told}", 2)
 
     def included(self, member, item):
         """The new member that a directive asks for. One that stands already must be what the directive would find."""
@@ -139,13 +147,20 @@ class Gathering:
 def refused(members):
     """What the workbench would refuse of members: each a member, a line, a column and a message."""
     for member in members.values():
-        for number, line in enumerate(member.lines, 1):
-            if number > MOST_LINES:
-                yield member, number, 1, f"M6 TOO MANY LINES: a member has at most {MOST_LINES:,}"
-                break
+        for number, line in enumerate(member.lines[:MOST_LINES], 1):
             if len(line) > LONGEST_LINE:
                 yield member, number, LONGEST_LINE + 1, f"M4 LINE TOO LONG: {len(line)} bytes, {LONGEST_LINE} at most"
             elif bad := BAD_BYTE.search(line):
                 yield member, number, bad.start() + 1, f"M5 BAD BYTE: X'{line[bad.start()]:02X}'"
+        if len(member.lines) > MOST_LINES:
+            yield member, MOST_LINES + 1, 1, f"M6 TOO MANY LINES: a member has at most {MOST_LINES:,}"
     if len(members) > MOST_MEMBERS:
         raise Trouble(f"M7 TOO MANY MEMBERS: {len(members)} files, {MOST_MEMBERS} at most", 2)
+
+
+def is_good(gathered, most):
+    """Whether all files can be members together; tells why not."""
+    wrong = [(item.source, item.line, item.column, message) for item, message in gathered.wrong]
+    wrong += refused(gathered.members)
+    limited([partial(placed, *place) for place in wrong], most)
+    return not wrong

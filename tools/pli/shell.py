@@ -3,8 +3,7 @@ import signal
 from contextlib import suppress
 from pathlib import Path
 
-from files import Gathering, refused
-from report import placed
+from files import Gathering, is_good
 from session import apply
 from streams import Stopped, Trouble, show, tell
 from workbench import Workbench, chosen
@@ -87,19 +86,15 @@ class Shell:
         elif word == b"QUIT":
             return True
         elif line:
-            answers = self.bench.ask([line])
+            answers = self.bench.answers(line)
             if answers == [b"OK"]:
                 apply(self.members, line)
-            own = f"{self.bench.mark} INCLUDE 1".encode()
-            show(b"".join(answer + b"\n" for answer in answers if answer != own))
+            show(b"".join(answer + b"\n" for answer in answers))
         return False
 
     def load(self, path, name):
         gathered = Gathering([(path, name)], self.folders)
-        wrong = [(item.source, item.line, item.column, message) for item, message in gathered.wrong]
-        wrong += refused(gathered.members)
-        for place in wrong[:1]:
-            placed(*place)
+        if not is_good(gathered, 1):
             raise Trouble(f"{path} is not loaded", 2)
         next(iter(gathered.members.values())).kind = "INCLUDE" if path.suffix.lower() in (".inc", ".h") else "SOURCE"
         self.typed(gathered.members)

@@ -29,7 +29,7 @@ file:line:column: CODE TEXT: token. Commands of the workbench behind `--` are gi
 Status 0: the run ended. 1: diagnostics, an error, or the end of the steps. 2: words or files that are no
 call. 3: the workbench or standard output failed. 128 and a signal's number: it was stopped.
 """
-VERSION = "pli 1.0"
+VERSION = "pli 1.0\n"
 VALUED = ("--as", "--steps", "--errors", "--workbench", "--explain", "-I")
 FLAGS = ("--trace", "--warn", "--proved", "--unproved", "--help", "--version", "-h")
 
