@@ -95,7 +95,7 @@ def parenthesis(place):
 
 def semicolon(place):
     """Tells of what may not follow a complete statement."""
-    if "DO" in place.texts and place.text == ",":
+    if "DO" in place.before and place.text == ",":
         return out("lists of DO specifications", "write a group for each, which call one procedure")
     if "GOTO" in place.texts and place.text == "(":
         return out("arrays of labels", "write IF .. THEN GOTO for each label")
@@ -111,7 +111,7 @@ def semicolon(place):
 def constant(place):
     """Tells of what stands in the place of a constant."""
     if INITIAL & set(place.before):
-        return out("* , repeated strings and lists in INITIAL", "write each value; (n) stands before a number alone")
+        return out("*, repeated strings and lists in INITIAL", "write each value; (n) stands before a number alone")
     if place.text == "*":
         return out("* extents", "write the length or the bounds")
     if place.last() == "," and place.last(3) == "(":

@@ -14,24 +14,20 @@ sys.path.insert(0, str(TOP / "bench"))
 import answers  # noqa: E402
 
 
-def commands_of(members):
-    """The commands that type members, each a name, a kind and lines."""
-    for name, kind, lines in members:
-        yield f"ADD {name} {kind}"
-        for number, line in enumerate(lines):
-            yield f"INSERT {name} {number} {line}".rstrip() if not line else f"INSERT {name} {number} {line}"
+def cleared(session):
+    """A session and the commands that delete what it added."""
+    added = [command.split()[1] for command in session if re.fullmatch(r"ADD \S+ \S+", command)]
+    return [*session, *(f"DELETE {name}" for name in dict.fromkeys(added))]
 
 
 def by_program(sessions):
     """What the program answers to sessions, each from an empty workbench: a list of lines for each command."""
-    cleared = [[*session, *{f"DELETE {words[1]}": None for line in session if (words := line.split())[0] == "ADD" and len(words) == 3}]
-               for session in sessions]
-    given = "".join(command + "\n" for session in cleared for command in session)
+    given = "".join(command + "\n" for session in sessions for command in cleared(session))
     ended = subprocess.run(PROGRAM, input=given.encode("latin-1"), stdout=subprocess.PIPE, check=True)
     lines = iter(ended.stdout.decode("latin-1").split("\n"))
-    for session, whole in zip(sessions, cleared):
+    for session in sessions:
         answered = []
-        for _ in whole:
+        for _ in cleared(session):
             answer = [next(lines)]
             while not LAST_LINE.fullmatch(answer[-1]):
                 answer.append(next(lines))
@@ -45,7 +41,7 @@ def by_second_opinion(sessions):
         bench = answers.Workbench()
         try:
             yield [bench.answer(command) for command in session]
-        except (answers.Unknown, ValueError, KeyError, TypeError, AttributeError):
+        except (answers.Unknown, ValueError, KeyError):
             yield None
 
 
