@@ -3,7 +3,7 @@ import re
 from pathlib import Path
 
 PAGE = Path(__file__).resolve().parents[2] / "docs" / "DIAGNOSTICS.md"
-SECTION = re.compile(r"^## (.*)\n(.*?)(?=^#{1,2} |\Z)", re.MULTILINE | re.DOTALL)
+SECTION = re.compile(r"^## ([^\n]*)\n(.*?)(?=^#{1,2} |\Z)", re.MULTILINE | re.DOTALL)
 BLOCK = re.compile(r"^```([\w ]+)\n(.*?)^```$", re.MULTILINE | re.DOTALL)
 CODE = re.compile(r"[A-Z]\d+")
 HEADS = {

@@ -6,7 +6,7 @@ from pathlib import Path
 from declared import CHARACTER, NUMBER, VARYING, declared, parts
 
 PAGE = Path(__file__).resolve().parents[2] / "docs" / "LANGUAGE.md"
-ROW = re.compile(r"^- (\w+) (`[^:]*`): (.*(?:\n  .*)*)", re.MULTILINE)
+ROW = re.compile(r"^- (\w+) (`[^:]*`):\s+(.*(?:\n  .*)*)", re.MULTILINE)
 SIGNS = {"AND": "&", "OR": "|", "NOT": "^", "EQ": "=", "NE": "^=", "LT": "<", "LE": "<=", "GT": ">", "GE": ">="}
 PAIRS = {("=", "="): "=", ("<", ">"): "^=", ("=", ">"): ">=", ("=", "<"): "<="}
 PROCEDURE, INITIAL, DECLARE, BEFORE = {"PROC", "PROCEDURE"}, {"INIT", "INITIAL"}, {"DCL", "DECLARE"}, {":", "THEN", "ELSE"}
@@ -179,7 +179,7 @@ def operand(place):
 BY_CODE = {
     "X3": lambda place: place.word("character"),
     "X4": lambda place: out("numbers with a point or an exponent", "count the smallest part") if set(place.text) & {".", "E"} else None,
-    "I4": lambda place: out("preprocessor statements other than %INCLUDE name;", "write one %INCLUDE for each member"),
+    "I4": lambda place: out("preprocessor statements other than %INCLUDE", "write one %INCLUDE for each member"),
     "P1": lambda place: out("*PROCESS", "begin with NAME: PROC") if place.text == "*" else None,
     "P2": statement, "P3": sign, "P4": parenthesis, "P5": semicolon, "P7": sign, "P8": ending,
     "P6": lambda place: out("lists within lists of names", "write one list") if place.text == "(" else None,
