@@ -5,11 +5,10 @@ DECLARE = {"DCL", "DECLARE"}
 CHARACTER = {"CHAR", "CHARACTER"}
 VARYING = {"VAR", "VARYING"}
 NUMBER = {"FIXED", "BIN", "BINARY"}
-EXTERNAL = {"EXT", "EXTERNAL"}
 
 
 class Item(NamedTuple):
-    """A declared name: where its token stands, its level (1 where none is written), whether it has dimensions, and its attributes."""
+    """A declared name: where it stands, its level (1 where none is written), whether it has dimensions, attributes."""
 
     at: int
     name: str
@@ -41,46 +40,29 @@ def parts(tokens, first, last):
     """The places of the items between two places, which commas outside of parentheses part."""
     begin = at = first
     while at < last:
-        if tokens[at].text == "(":
-            at = closing(tokens, at)
-            continue
         if tokens[at].text == ",":
             yield begin, at
             begin = at + 1
-        at += 1
+        at = closing(tokens, at) if tokens[at].text == "(" else at + 1
     yield begin, last
 
 
 def items_of(tokens, first, last):
     """The names of one item of a DECLARE with its attributes."""
-    level, at = 1, first
-    if at < last and tokens[at].kind == "number":
-        level, at = int(tokens[at].text), at + 1
-    if at >= last:
-        return
-    behind = closing(tokens, at) if tokens[at].text == "(" else at + 1
-    names = [place for place in range(at, min(behind, last)) if tokens[place].kind == "name"]
+    level, at = (int(tokens[first].text), first + 1) if first < last and tokens[first].kind == "number" else (1, first)
+    behind = closing(tokens, at) if at < last and tokens[at].text == "(" else at + 1
     dimensions = behind < last and tokens[behind].text == "("
     attributes = tokens[closing(tokens, behind) if dimensions else behind : last]
-    for place in names:
-        yield Item(place, tokens[place].text, level, dimensions, attributes)
-
-
-def statements(tokens):
-    """Where the statements of a unit begin and end, as semicolons part them."""
-    begin = 0
-    for at, token in enumerate(tokens):
-        if token.text == ";":
-            yield begin, at
-            begin = at + 1
+    for place in range(at, min(behind, last)):
+        if tokens[place].kind == "name":
+            yield Item(place, tokens[place].text, level, dimensions, attributes)
 
 
 def declared(tokens):
     """All names that DECLARE statements declare, in the order of the text."""
-    return [
-        item
-        for begin, end in statements(tokens)
-        if end > begin + 1 and tokens[begin].text in DECLARE and tokens[begin + 1].text != "="
-        for first, last in parts(tokens, begin + 1, end)
-        for item in items_of(tokens, first, last)
-    ]
+    found, ends = [], [-1, *(at for at, token in enumerate(tokens) if token.text == ";")]
+    for begin, end in zip(ends, ends[1:]):
+        if tokens[begin + 1].text in DECLARE and tokens[begin + 2].text != "=":
+            for first, last in parts(tokens, begin + 2, end):
+                found += items_of(tokens, first, last)
+    return found

@@ -22,11 +22,12 @@ def shown(block):
 def sections():
     """The sections of the page by their codes; an ending that has none by its words."""
     found = SECTION.findall(PAGE.read_text(encoding="utf-8"))
-    return {(title.split()[0] if CODE.match(title) else title): f"{title}\n\n{text.strip()}\n" for title, text in found}
+    heads = {title: title.split()[0] if CODE.match(title) else title for title, _ in found}
+    return {heads[title]: f"{title}\n\n{text.strip()}\n" for title, text in found}
 
 
 def explain(code):
-    """The text for a code, as `A1`, or for what it says, as `OUT OF STEPS`, in either case; None for what is no code."""
+    """The text for a code, as `A1`, or an ending, as `OUT OF STEPS`, in either case; None for what is neither."""
     words = " ".join(code.upper().split())
     try:
         known = sections()

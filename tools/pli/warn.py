@@ -1,59 +1,36 @@
 """What a unit may do and most likely does not mean to, told only where it is sure."""
-from declared import CHARACTER, EXTERNAL, NUMBER, closing, declared
+from declared import CHARACTER, NUMBER, closing, declared
 from scan import Token
 
-PROCEDURE = {"PROC", "PROCEDURE"}
 BEFORE_STATEMENT = {";", ":", "THEN", "ELSE"}
 
 
 def opened_twice(comment):
     """The place of a `/*` within a comment, if there is one."""
-    at = comment.text.find("/*", 2)
-    if at < 0:
-        return []
-    before = comment.text[:at].split("\n")
-    column = len(before[-1]) + (comment.column if len(before) == 1 else 1)
-    place = Token("sign", "/*", "/*", comment.source, comment.line + len(before) - 1, column)
-    return [(place, "/* within a comment: comments do not nest, this one ends at the first */")]
-
-
-def uses(unit, declaring):
-    """The names that stand anywhere but where they are declared, as a procedure's label, or behind END."""
-    return {
-        token.text
-        for at, token in enumerate(unit)
-        if token.kind == "name" and at not in declaring and not labels_procedure(unit, at) and unit[at - 1].text != "END"
-    }
-
-
-def labels_procedure(unit, at):
-    """Whether the token is the name of a procedure, at its label."""
-    behind = [token.text for token in unit[at : at + 3]]
-    return unit[at].kind == "name" and len(behind) == 3 and behind[1] == ":" and behind[2] in PROCEDURE
-
-
-def families(items):
-    """The items of level 1, each with its members behind it."""
-    found = []
-    for item in items:
-        if item.level > 1 and found:
-            found[-1].append(item)
-        else:
-            found.append([item])
-    return found
+    before = comment.text[: comment.text.find("/*", 2) + 1].split("\n")
+    line, column = comment.line + len(before) - 1, len(before[-1]) + (comment.column - 1 if len(before) == 1 else 0)
+    told = "/* within a comment: comments do not nest, this one ends at the first */"
+    return [(Token("sign", "/*", "/*", comment.source, line, column), told)] if before != [""] else []
 
 
 def unused(unit, items):
-    """Variables and procedures of the unit's own file that are named nowhere else."""
-    named = uses(unit, {item.at for item in items})
-    for family in families(items):
-        item = family[0]
-        own = unit[item.at].source == unit[0].source and not item.has(EXTERNAL)
-        if own and not any(member.name in named for member in family):
+    """Variables and procedures that the unit's own file declares and nothing names."""
+    texts = [token.text for token in unit]
+    procedures = [at for at in range(1, len(unit)) if texts[at + 1 : at + 3] in ([":", "PROC"], [":", "PROCEDURE"])]
+    apart = {*procedures, *(item.at for item in items)}
+    named = {text for at, text in enumerate(texts) if at not in apart and not (at and texts[at - 1] == "END")}
+    families = []
+    for item in items:
+        if item.level <= 1 or not families:
+            families.append([])
+        families[-1].append(item)
+    for item, *members in families:
+        own = unit[item.at].source == unit[0].source and not item.has({"EXT", "EXTERNAL"})
+        if own and named.isdisjoint([item.name, *(member.name for member in members)]):
             yield unit[item.at], f"{item.name} is declared and never used"
-    for at in range(1, len(unit)):
-        if labels_procedure(unit, at) and unit[at].text not in named:
-            yield unit[at], f"{unit[at].text} is a procedure that is never called"
+    for at in procedures:
+        if texts[at] not in named:
+            yield unit[at], f"{texts[at]} is a procedure that is never called"
 
 
 def cut(item, token, sign=""):
@@ -61,25 +38,23 @@ def cut(item, token, sign=""):
     if token.kind == "string" and item.has(CHARACTER):
         length = item.size(CHARACTER, 1)
         if len(token.text[1:-1].replace("''", "'")) > length:
-            return [(token, f"this constant is cut: {item.name} has {length} character{'s' * (length > 1)}")]
+            yield token, f"this constant is cut: {item.name} has {length} character{'s' * (length > 1)}"
     if token.kind in ("number", "binary") and item.has(NUMBER):
-        precision = item.size(NUMBER, 15)
-        value = int(token.text[:-1], 2) if token.kind == "binary" else int(token.text)
-        if value >= 2**precision:
-            told = f"{sign}{token.spelled} is beyond FIXED BIN({precision}), whose numbers go up to {2**precision - 1}"
-            return [(token, f"{told}: E9 FIXEDOVERFLOW when it is assigned to {item.name}")]
-    return []
+        most = 2 ** item.size(NUMBER, 15) - 1
+        if (int(token.text[:-1], 2) if token.kind == "binary" else int(token.text)) > most:
+            told = f"{sign}{token.spelled} is beyond {item.name}, whose numbers go up to {most}"
+            yield token, f"{told}: E9 FIXEDOVERFLOW when it is assigned"
 
 
 def assigned(unit, only):
-    """Constants that are assigned and do not fit. `only` has the names that are declared once."""
+    """Constants that are assigned and do not fit. `only` has the items of names that are declared once."""
     for at in range(1, len(unit) - 3):
         if unit[at].text not in only or unit[at].kind != "name" or unit[at - 1].text not in BEFORE_STATEMENT:
             continue
-        behind = closing(unit, at + 1) if unit[at + 1].text == "(" else at + 1
-        value = behind + 2 if [token.text for token in unit[behind + 1 : behind + 2]] in (["-"], ["+"]) else behind + 1
-        if value + 1 < len(unit) and unit[behind].text == "=" and unit[value + 1].text == ";":
-            yield from cut(only[unit[at].text], unit[value], unit[value - 1].text if value > behind + 1 else "")
+        equals = closing(unit, at + 1) if unit[at + 1].text == "(" else at + 1
+        value = equals + 2 if [token.text for token in unit[equals + 1 : equals + 2]] in (["-"], ["+"]) else equals + 1
+        if value + 1 < len(unit) and unit[equals].text == "=" and unit[value + 1].text == ";":
+            yield from cut(only[unit[at].text], unit[value], unit[equals + 1].text if value > equals + 1 else "")
 
 
 def warnings(unit, comments):
@@ -87,7 +62,8 @@ def warnings(unit, comments):
     items = declared(unit)
     names = [item.name for item in items]
     only = {item.name: item for item in items if names.count(item.name) == 1}
-    initial = [each for item in items for token in item.attributes if token.kind == "string" for each in cut(item, token)]
+    strings = [(item, token) for item in items for token in item.attributes if token.kind == "string"]
+    initial = {token: text for item, token in strings for token, text in cut(item, token)}
     told = [each for comment in comments for each in opened_twice(comment)]
-    told += [*unused(unit, items), *dict(initial).items(), *assigned(unit, only)]
-    return sorted(told, key=lambda each: (str(each[0].source), each[0].line, each[0].column))
+    return sorted([*told, *unused(unit, items), *initial.items(), *assigned(unit, only)],
+                  key=lambda each: (str(each[0].source), each[0].line, each[0].column))

@@ -1,14 +1,12 @@
 """A workbench for tests: the program that the variable PLIWB names, else the second opinion (second.py)."""
 import os
 import re
-import shlex
 import subprocess
-import sys
 from pathlib import Path
 
 TOP = Path(__file__).resolve().parents[2]
-PROGRAM = shlex.split(os.environ.get("PLIWB", ""))
-SECOND = [sys.executable, str(TOP / "tools" / "tests" / "second.py")]
+PROGRAM = os.environ.get("PLIWB")
+SECOND = str(TOP / "tools" / "tests" / "second.py")
 LAST_LINE = re.compile(r"OK|BUILT|NOT BUILT|ENDED|OUT OF STEPS|ERROR E\d+ .*|MACHINE FAULT|NO MEMORY|[MB]\d [A-Z ]+")
 
 
@@ -21,7 +19,7 @@ def cleared(session):
 def answered(sessions):
     """The answers to sessions, each from an empty workbench: a list of lines for each command."""
     given = "".join(command + "\n" for session in sessions for command in cleared(session))
-    ended = subprocess.run(PROGRAM or SECOND, input=given.encode("latin-1"), stdout=subprocess.PIPE, check=True)
+    ended = subprocess.run([PROGRAM or SECOND], input=given.encode("latin-1"), stdout=subprocess.PIPE, check=True)
     lines = iter(ended.stdout.decode("latin-1").split("\n"))
     for session in sessions:
         answers = []

@@ -79,7 +79,7 @@ P13 | DCL X CHAR(5) INIT((5)@'A'); | *, repeated strings and lists in INITIAL; w
 P13 | DCL X(3) BIT INIT(@*); | *, repeated strings and lists in INITIAL; write each value; (n) stands before a number alone
 P14 | A: @B: ; | several labels of a statement; write L1: ; L2: and the statement
 P14 | @PROC S; END; | a procedure has its name before it: write NAME: PROC
-P15 | ON @ENDFILE(SYSIN) STOP; | the condition ENDFILE; FIXEDOVERFLOW, ZERODIVIDE and AREA are the conditions
+P15 | ON @ENDFILE(SYSIN) STOP; | the condition ENDFILE; the conditions are FIXEDOVERFLOW, ZERODIVIDE and AREA
 P18 | PUT @PAGE; | PUT PAGE; write PUT SKIP
 P18 | PUT @DATA(X); | PUT DATA; write PUT LIST with the name in quotes before the variable
 P18 | PUT @X; |
@@ -88,6 +88,8 @@ A1 | @I = 1; | implicit declaration; write DCL I FIXED BIN(15); or another type
 A1 | PUT LIST(@TRIM('X')); | the built-in function TRIM; write a function with INDEX and SUBSTR
 A1 | CALL @S; | a procedure of another file is declared too: write DCL S ENTRY;
 A1 | GOTO @L; |
+A1 | DCL COUNT FIXED BIN(15); @CUONT = 1; |
+A1 | PUT LIST(@F(1)); | implicit declaration; write DCL F ENTRY RETURNS(..), or with bounds
 A3 | DCL @X BIT(8) VARYING; | BIT VARYING; write BIT(n)
 A3 | DCL @X BIT(8) CHAR(8); |
 A4 | DCL @X FIXED; | defaults of types; write FIXED BIN(15)
@@ -100,6 +102,8 @@ T4 | PUT LIST('N' @|| 5); | numbers as operands of ||; assign the number to a CH
 T4 | PUT LIST('5' @+ 5); | conversion of strings to numbers; write FIXED BIN variables
 T4 | IF @5 THEN ; |
 T5 | DCL A(3) FIXED BIN(15); A @= 0; | a scalar assigned to an array; write a DO group that assigns each element
+T5 | DCL A(3) FIXED BIN(15), B(4) FIXED BIN(15); A @= B; |
+T5 | DCL A(3) FIXED BIN(15), B FIXED BIN(15); A @= B; | a scalar assigned to an array; write a DO group that assigns each element
 T5 | DCL X FIXED BIN(15); X @= '5'; | conversion of strings to numbers; write a procedure that reads the digits
 T5 | DCL B BIT; B @= 1; | conversion to bits; write a comparison, as B = (X > 0)
 """

@@ -56,11 +56,10 @@ class Warn(unittest.TestCase):
         self.expect("DCL (X, Y) CHAR(2) INIT('ONE'); X = Y;", "25 this constant is cut: Y has 2 characters")
 
     def test_numbers_that_are_too_large(self):
-        told = "is beyond FIXED BIN(15), whose numbers go up to 32767: E9 FIXEDOVERFLOW when it is assigned to X"
+        told = "is beyond X, whose numbers go up to 32767: E9 FIXEDOVERFLOW when it is assigned"
         self.expect("DCL X FIXED BIN; X = 32768;", f"22 32768 {told}")
         self.expect("DCL X FIXED(15) BIN; X = -40000;", f"27 -40000 {told}")
-        self.expect("DCL X FIXED BIN(3); X = 1000B;", "25 1000B is beyond FIXED BIN(3), whose numbers go up to 7: E9 FIXEDOVERFLOW "
-                    "when it is assigned to X")
+        self.expect("DCL X FIXED BIN(3); X = 1000B;", "25 1000B is beyond X, whose numbers go up to 7: E9 FIXEDOVERFLOW when it is assigned")
 
     def test_only_what_is_sure(self):
         self.expect("DCL X CHAR(3); X = 'IT''';")
