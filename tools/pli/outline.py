@@ -156,3 +156,18 @@ class Outline:
             parent = above[-1].at if above else -1
             above.append(item)
             yield Declared(item.at, item.name, self.blocks_of(self.number_at(item.at))[0], parent, item)
+
+    def owners(self, found):
+        """A declared name and all that it is a member of."""
+        while found:
+            yield found
+            found = self.declared.get(found.parent)
+
+    def meant(self, names, blocks):
+        """What DECLARE, a label or a procedure makes of names in the first of some blocks that has them."""
+        for block in blocks:
+            here = [each for each in self.declared.values() if (each.block, each.name) == (block, names[-1])]
+            here = [each for each in here if set(names) <= {owner.name for owner in self.owners(each)} and each.item != "PARAMETER"]
+            if here:
+                return min(here, key=lambda each: len(list(self.owners(each))))
+        return None
