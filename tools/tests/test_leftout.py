@@ -105,6 +105,7 @@ T5 | DCL A(3) FIXED BIN(15); A @= 0; | a scalar assigned to an array; write a DO
 T5 | DCL A(3) FIXED BIN(15), B(4) FIXED BIN(15); A @= B; |
 T5 | DCL A(3) FIXED BIN(15), B FIXED BIN(15); A @= B; | a scalar assigned to an array; write a DO group that assigns each element
 T5 | DCL X FIXED BIN(15); X @= '5'; | conversion of strings to numbers; write a procedure that reads the digits
+T5 | DCL (X, Y) FIXED BIN(15); X @= Y = 0; | several targets of an assignment; a second = compares, so write an assignment for each
 T5 | DCL B BIT; B @= 1; | conversion to bits; write a comparison, as B = (X > 0)
 """
 
