@@ -3,22 +3,11 @@ import signal
 from contextlib import suppress
 from pathlib import Path
 
-from files import Gathering, refused
-from report import placed
+from files import Gathering, is_good
 from session import apply
 from streams import Stopped, Trouble, show, tell
+from words import page
 from workbench import Workbench, chosen
-
-HELP = b"""\
-HELP                   these lines
-LOAD FILE [NAME]       types a file, and what it includes, as members; one of that name goes
-SAVE FILE [NAME]       writes a member to a file
-ADD NAME SOURCE        begins a member; ADD NAME INCLUDE begins one that others include
-INSERT NAME K TEXT     puts a line behind line K; REPLACE NAME K TEXT, REMOVE NAME A B, DELETE NAME
-LIST NAME, MEMBERS     show a member and all members
-BUILD, DUMP, RUN [N]   build, show the module, run N steps; Ctrl-C ends a run and keeps the members
-QUIT                   ends
-"""
 
 
 class Shell:
@@ -35,22 +24,23 @@ class Shell:
         with suppress(ImportError):
             import readline  # noqa: F401, gives `input` its history
         tell("pli: HELP tells the commands")
-        while True:
+        line = ""
+        while line.strip().upper() != "QUIT":
             try:
                 line = input("pli> ")
-                if self.is_last(line.encode("utf-8", "surrogateescape")):
-                    return 0
+                self.answer(line.encode("utf-8", "surrogateescape"))
             except EOFError:
                 show(b"\n")
-                return 0
+                break
             except Trouble as trouble:
                 if trouble.status == 3:
                     raise
                 tell(f"pli: {trouble}")
             except Stopped as stopped:
-                if stopped.number != signal.SIGINT:
+                if stopped.args != (signal.SIGINT,):
                     raise
                 self.begin_again()
+        return 0
 
     def begin_again(self):
         """Behind Ctrl-C: a new workbench with the same members, where one was running."""
@@ -59,57 +49,47 @@ class Shell:
             return
         self.bench.stop()
         self.bench = Workbench(self.words)
-        self.typed(self.members)
+        self.typed([], self.members)
         tell("pli: stopped; the members are kept, and BUILD builds them")
 
-    def typed(self, members):
-        """Types members, in the place of those of the same names."""
-        gone = [f"DELETE {name}".encode() for name in members if name in self.members and members is not self.members]
-        answers = self.bench.ask([*gone, *(command for member in members.values() for command in member.typed())])
-        wrong = [answer.decode() for answer in answers if answer != b"OK"]
-        if wrong:
-            raise Trouble(f"the workbench answers {wrong[0]}")
+    def typed(self, gone, members):
+        """Types members, behind the end of others."""
+        commands = [command for member in members.values() for command in member.typed()]
+        answers = self.bench.ask([f"DELETE {name}".encode() for name in gone] + commands)
+        for wrong in filter(b"OK".__ne__, answers):
+            raise Trouble(f"the workbench answers {wrong.decode()}")
 
-    def is_last(self, line):
-        """Answers a line; whether it was the last."""
-        word, *rest = line.split()[:3] or [b""]
-        word = word.upper()
-        if word == b"HELP":
-            show(HELP)
-        elif word in (b"LOAD", b"SAVE"):
+    def answer(self, line):
+        """Answers a line."""
+        word, *rest = [each.decode("utf-8", "surrogateescape") for each in line.split()[:3]] or [""]
+        if word.upper() == "HELP":
+            show(page("prompt"))
+        elif word.upper() in ("LOAD", "SAVE"):
             if not rest:
-                raise Trouble(f"{word.decode()} FILE: the file is missing", 2)
-            path, name = Path(rest[0].decode("utf-8", "surrogateescape")), rest[1].decode("latin-1") if rest[1:] else None
-            self.load(path, name) if word == b"LOAD" else self.save(path, name)
+                raise Trouble(f"{word} FILE: the file is missing", 2)
+            (self.load if word.upper() == "LOAD" else self.save)(Path(rest[0]), *rest[1:])
             show(b"OK\n")
-        elif word == b"RUN":
+        elif word.upper() == "RUN":
             show(self.bench.ask([line], show) + b"\n")
-        elif word == b"QUIT":
-            return True
-        elif line:
-            answers = self.bench.ask([line])
+        elif word and word.upper() != "QUIT":
+            answers = self.bench.answers(line)
             if answers == [b"OK"]:
                 apply(self.members, line)
-            own = f"{self.bench.mark} INCLUDE 1".encode()
-            show(b"".join(answer + b"\n" for answer in answers if answer != own))
-        return False
+            show(b"".join(answer + b"\n" for answer in answers))
 
-    def load(self, path, name):
+    def load(self, path, name=None):
         gathered = Gathering([(path, name)], self.folders)
-        wrong = [(item.source, item.line, item.column, message) for item, message in gathered.wrong]
-        wrong += refused(gathered.members)
-        for place in wrong[:1]:
-            placed(*place)
+        if not is_good(gathered, 1):
             raise Trouble(f"{path} is not loaded", 2)
         next(iter(gathered.members.values())).kind = "INCLUDE" if path.suffix.lower() in (".inc", ".h") else "SOURCE"
-        self.typed(gathered.members)
+        self.typed(gathered.members.keys() & self.members.keys(), gathered.members)
         self.members |= gathered.members
 
-    def save(self, path, name):
-        member = self.members.get((name or path.stem).upper())
-        if member is None:
-            raise Trouble(f"there is no member {(name or path.stem).upper()}; SAVE FILE NAME names one", 2)
+    def save(self, path, name=None):
+        given = (name or path.stem).upper()
+        if given not in self.members:
+            raise Trouble(f"there is no member {given}; SAVE FILE NAME names one", 2)
         try:
-            path.write_bytes(b"".join(line + b"\n" for line in member.lines))
+            path.write_bytes(b"".join(line + b"\n" for line in self.members[given].lines))
         except OSError as error:
             raise Trouble(f"{path}: {error.strerror}", 2) from None

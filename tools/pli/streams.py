@@ -15,11 +15,7 @@ class Trouble(Exception):
 
 
 class Stopped(BaseException):
-    """A signal that ends the tool."""
-
-    def __init__(self, number):
-        super().__init__(number)
-        self.number = number
+    """A signal that ends the tool, with its number."""
 
 
 def put(descriptor, data):
@@ -43,28 +39,26 @@ def tell(message):
         put(2, message.encode("utf-8", "surrogateescape") + b"\n")
 
 
-def prepare():
-    """Makes sure of the three streams, and that signals raise Stopped but where they are ignored already."""
-    for descriptor, mode in ((0, os.O_RDONLY), (2, os.O_WRONLY)):
-        try:
-            os.fstat(descriptor)
-        except OSError:
-            os.open(os.devnull, mode)
-    try:
-        os.fstat(1)
-    except OSError as error:
-        os.open(os.devnull, os.O_RDONLY)
-        raise Trouble(f"standard output: {error.strerror}") from None
-    for each in STOPPING:
-        if signal.getsignal(each) != signal.SIG_IGN:
-            signal.signal(each, stopped)
-
-
 def stopped(number, _):
     raise Stopped(number)
 
 
-def ignore_signals():
-    """From here on the tool ends by itself."""
+def handle_signals(handler):
+    """Says what signals do from here on, but where they are ignored already."""
     for each in STOPPING:
-        signal.signal(each, signal.SIG_IGN)
+        if signal.getsignal(each) != signal.SIG_IGN:
+            signal.signal(each, handler)
+
+
+def prepare():
+    """Makes sure of the three streams, so that no file takes the place of one, and of signals."""
+    handle_signals(stopped)
+    wrong = None
+    for descriptor in range(3):
+        try:
+            os.fstat(descriptor)
+        except OSError as error:
+            os.open(os.devnull, os.O_RDWR)
+            wrong = error.strerror if descriptor == 1 else wrong
+    if wrong:
+        raise Trouble(f"standard output: {wrong}")

@@ -1,7 +1,7 @@
 """The workbench as a process: commands go to it, and answers come back as they come.
 
-Where answers end is known by a mark: a member of its own, of a random name and with a random line, that is listed behind the commands
-of each question. So nothing that a program prints is taken for the end of its run.
+Where answers end is known by a mark: a member of its own, of a random name and with a random line, that is listed behind
+the commands of each question. So nothing that a program prints is taken for the end of its run.
 """
 import os
 import queue
@@ -15,42 +15,42 @@ from pathlib import Path
 
 from streams import Trouble, put, show
 
-STARTER = Path(__file__).resolve().parents[2] / "bin" / "pliwb"
+STARTER = str(Path(__file__).resolve().parents[2] / "bin" / "pliwb")
 CHUNK = 65536
 SECONDS_TO_END = 5
 
 
+def started(words, **streams):
+    """A process of its own group, which a signal to the tool does not reach."""
+    try:
+        return subprocess.Popen(words, bufsize=0, stdout=subprocess.PIPE, start_new_session=True, **streams)
+    except OSError as error:
+        raise Trouble(f"{words[0]}: {error.strerror}") from None
+
+
 def chosen(call):
     """The words that start the workbench which a call wants, and whether it answers only when all is asked."""
-    program = call.workbench or (os.environ.get("PLIWB") if not call.proof else None)
+    proof = call.flags & {"--proved", "--unproved"}
+    program = call.workbench or not proof and os.environ.get("PLIWB")
     if program:
         return [program], False
-    proof = call.proof
     if not proof:
-        try:
-            asked = subprocess.run([STARTER, "--which"], stdin=subprocess.DEVNULL, stdout=subprocess.PIPE)
-        except OSError as error:
-            raise Trouble(f"{STARTER}: {error.strerror}") from None
-        proof = "--proved" if asked.stdout.strip() == b"proved" else "--unproved"
-    return [str(STARTER), proof], proof == "--unproved"
+        which = started([STARTER, "--which"], stdin=subprocess.DEVNULL).communicate()[0]
+        proof = {"--proved" if which.strip() == b"proved" else "--unproved"}
+    return [STARTER, *proof], "--unproved" in proof
 
 
 class Workbench:
     """A workbench that was started. Where it is a batch, all questions are planned before the first is asked."""
 
-    started = []
+    alive = []
 
     def __init__(self, words, batch=False):
         self.words, self.batch, self.planned, self.running = words, batch, deque(), False
         self.mark = f"MARK_{secrets.token_hex(12)}".upper()
-        self.pending, self.greeted = b"", False
-        try:
-            self.child = subprocess.Popen(
-                words, bufsize=0, stdin=subprocess.PIPE, stdout=subprocess.PIPE, start_new_session=True
-            )
-        except OSError as error:
-            raise Trouble(f"{words[0]}: {error.strerror}") from None
-        self.started.append(self)
+        self.pending, self.greeting = b"", f"OK\nOK\n1 {self.mark}\nOK\n".encode()
+        self.child = started(words, stdin=subprocess.PIPE)
+        self.alive.append(self)
         self.given = queue.SimpleQueue()
         threading.Thread(target=self.feed, daemon=True).start()
         self.say([f"ADD {self.mark} INCLUDE".encode(), f"INSERT {self.mark} 0 {self.mark}".encode()])
@@ -60,7 +60,6 @@ class Workbench:
         with suppress(OSError):
             while (data := self.given.get()) is not None:
                 put(self.child.stdin.fileno(), data)
-        with suppress(OSError):
             self.child.stdin.close()
 
     def say(self, commands):
@@ -75,8 +74,8 @@ class Workbench:
         self.given.put(None)
 
     def ask(self, commands, emit=None):
-        """The answers to commands, line by line; nothing where they were not planned. With `emit` the commands are one RUN,
-        `emit` gets what it prints as it comes, and the answer is its last line alone."""
+        """The answers to commands, line by line; nothing where they were not planned. With `emit` the commands are one
+        RUN, `emit` gets what it prints as it comes, and the answer is its last line alone."""
         if not self.batch:
             self.say(commands)
             return self.hear(emit)
@@ -85,6 +84,11 @@ class Workbench:
                 return self.hear(emit)
             self.hear(lambda _: None)
         return None
+
+    def answers(self, command):
+        """The answers to one command that is no RUN, without the member of the mark."""
+        own = f"{self.mark} INCLUDE 1".encode()
+        return [line for line in self.ask([command]) if line != own]
 
     def read(self):
         """Takes what the workbench wrote, and waits for it."""
@@ -95,63 +99,51 @@ class Workbench:
 
     def greet(self):
         """Sees that it is a workbench which answers."""
-        wanted = f"OK\nOK\n1 {self.mark}\nOK\n".encode()
-        while len(self.pending) < len(wanted) and wanted.startswith(self.pending):
+        while len(self.pending) < len(self.greeting) and self.greeting.startswith(self.pending):
             self.read()
-        if not self.pending.startswith(wanted):
+        if not self.pending.startswith(self.greeting):
             raise Trouble(f"{self.words[0]} does not answer as a workbench")
-        self.pending, self.greeted = self.pending[len(wanted) :], True
+        self.pending, self.greeting = self.pending[len(self.greeting) :], b""
 
     def hear(self, emit=None):
-        """The answers up to the next mark, as `ask` gives them."""
-        if not self.greeted:
-            self.greet()
+        """The answers up to the next mark, as `ask` gives them. What is passed on is held back by a line that ended,
+        which may be the end of the run."""
+        self.greet()
         self.running = emit is not None
         end = f"1 {self.mark}\n".encode()
         while (at := self.pending.find(end)) < 0:
-            if emit:
-                self.pass_on(emit)
+            cut = self.pending.rfind(b"\n", 0, max(self.pending.rfind(b"\n"), 0)) + 1
+            if emit and cut:
+                emit(self.pending[:cut])
+                self.pending = self.pending[cut:]
             self.read()
-        while len(self.pending) < at + len(end) + 3:
+        while len(self.pending) < at + len(end) + len(b"OK\n"):
             self.read()
-        answers, self.pending = self.pending[:at], self.pending[at + len(end) + 3 :]
+        answers, self.pending = self.pending[:at], self.pending[at + len(end) + len(b"OK\n") :]
         printed = answers.rfind(b"\n", 0, len(answers) - 1) + 1
         if emit:
             emit(answers[:printed])
         self.running = False
         return answers[printed:-1] if emit else answers.split(b"\n")[:-1]
 
-    def pass_on(self, emit):
-        """Passes on all lines but the last that ended, which may be the end of the run."""
-        ended = self.pending.rfind(b"\n")
-        cut = self.pending.rfind(b"\n", 0, max(ended, 0)) + 1
-        if cut:
-            emit(self.pending[:cut])
-            self.pending = self.pending[cut:]
-
     def stop(self):
         """Ends the workbench with all that it started, and shows what it had printed of a run."""
-        self.started.remove(self)
-        self.end_group(signal.SIGTERM)
-        if not self.running:
-            return
-        os.set_blocking(self.child.stdout.fileno(), False)
-        with suppress(OSError):
-            while chunk := os.read(self.child.stdout.fileno(), CHUNK):
-                self.pending += chunk
-        with suppress(Trouble):
-            show(self.pending + (b"" if self.pending[-1:] in (b"", b"\n") else b"\n"))
+        self.alive.remove(self)
+        for number in (signal.SIGTERM, signal.SIGKILL):
+            with suppress(OSError, subprocess.TimeoutExpired):
+                if self.child.poll() is None:
+                    os.killpg(self.child.pid, number)
+                    self.child.wait(SECONDS_TO_END)
+        if self.running:
+            os.set_blocking(self.child.stdout.fileno(), False)
+            with suppress(OSError):
+                while chunk := os.read(self.child.stdout.fileno(), CHUNK):
+                    self.pending += chunk
+            printed = self.pending.partition(f"1 {self.mark}\n".encode())[0]
+            with suppress(Trouble):
+                show(printed + (b"" if printed[-1:] in (b"", b"\n") else b"\n"))
 
     @classmethod
     def stop_all(cls):
-        for each in list(cls.started):
+        for each in list(cls.alive):
             each.stop()
-
-    def end_group(self, number):
-        if self.child.poll() is None:
-            with suppress(OSError):
-                os.killpg(self.child.pid, number)
-            try:
-                self.child.wait(SECONDS_TO_END)
-            except subprocess.TimeoutExpired:
-                self.end_group(signal.SIGKILL)

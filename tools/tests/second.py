@@ -95,13 +95,16 @@ class Second(answers.Workbench):
         """A unit, of its tokens, each on a line of its own."""
         self.read = 0
         tokens = list(self.tokens(name, ()))
+        words, places = [token.text for token in tokens], [(token.source, token.line) for token in tokens]
         later = self.later(tokens)
         try:
-            return meaning.Unit([token.text for token in tokens], name, [(token.source, token.line) for token in tokens])
+            unit = meaning.Unit(words, name, places)
+            known = later is None or any(code[0] in "PA" for _, code in unit.faults())
         except (KeyError, AttributeError, TypeError, ValueError, IndexError):
-            if later is None:
-                raise
-            raise Fault("Z1", tokens[later].source, tokens[later].line) from None
+            known = False
+        if not known:
+            raise Fault("Z1", *places[later])
+        return unit
 
     @staticmethod
     def later(tokens):
