@@ -38,7 +38,7 @@ def unused(unit, items):
 def limits(item):
     """How many characters an item holds, and its greatest number; None where it holds none."""
     characters = item.size(CHARACTER, 1) if item.has(CHARACTER) else None
-    return item.name, characters, 2 ** item.size(NUMBER, 15) - 1 if item.has(NUMBER) else None
+    return characters, 2 ** item.size(NUMBER, 15) - 1 if item.has(NUMBER) else None
 
 
 def cut(name, characters, most, token, sign=""):
@@ -66,11 +66,13 @@ def assigned(unit, only):
 def warnings(unit, comments):
     """What is to be warned of in a unit of expanded tokens and its comments: places, each with a line."""
     items = declared(unit)
+    lists = {id(item.attributes): item for item in items}
+    bounds = {key: limits(item) for key, item in lists.items()}
     many = Counter(item.name for item in items)
-    known = [(item, limits(item)) for item in items]
-    only = {item.name: limit for item, limit in known if many[item.name] == 1}
-    strings = [(limit, token) for item, limit in known for token in item.attributes if token.kind == "string"]
-    initial = {token: text for limit, token in strings for token, text in cut(*limit, token)}
+    only = {item.name: (item.name, *bounds[id(item.attributes)]) for item in items if many[item.name] == 1}
     told = [each for comment in comments for each in opened_twice(comment)]
-    return sorted([*told, *unused(unit, items), *initial.items(), *assigned(unit, only)],
-                  key=lambda each: (str(each[0].source), each[0].line, each[0].column))
+    for key, item in lists.items():
+        for token in item.attributes:
+            told += cut(item.name, *bounds[key], token) if token.kind == "string" else []
+    told += [*unused(unit, items), *assigned(unit, only)]
+    return sorted(told, key=lambda each: (str(each[0].source), each[0].line, each[0].column))
