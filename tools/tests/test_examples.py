@@ -19,13 +19,13 @@ ENDINGS = ["OUT OF STEPS", "MACHINE FAULT", "NO MEMORY"]
 BYTES = [f"{letter}{number}" for letter in "KL" for number in range(1, 9)]
 IN_WORDS = {*ENDINGS[1:], "G1", "M4", "M5", "M6", "M7", "M8", *BYTES}
 EXAMPLES = TOP / "examples"
-STEPS = 100_000
+STEPS = 20_000
 DIAGNOSTIC = re.compile(r"(?:\S+ \S+:\d+ )?([A-Z]\d+) (.*)")
 LINKING = re.compile(r"(N[2-5] [A-Z ]+?) \S+ \S+")
 RUN_ERROR = re.compile(r"ERROR (E\d+ .*) \S+ \d+")
 TOLD = re.compile(r"(?:\S+:\d+(?::\d+)?|pli): ([XIPATZGNE]\d+ [A-Z -]+?|OUT OF STEPS)(?::.*)?")
 COURSE = re.compile(r"^- `([^`]*)`: ", re.MULTILINE)
-SECOND_KNOWS = "PATNEOMB"
+SECOND_KNOWS = "XIPATNEOMB"
 
 
 def code_of(heading):
