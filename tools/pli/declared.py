@@ -27,12 +27,12 @@ class Item(NamedTuple):
 
 
 def closing(tokens, at):
-    """The place behind the parenthesis that closes the one at this place."""
+    """The place behind the parenthesis that closes the one at this place; the statement's end where none does."""
     depth = 0
     for place in range(at, len(tokens)):
         depth += {"(": 1, ")": -1}.get(tokens[place].text, 0)
-        if depth == 0:
-            return place + 1
+        if depth == 0 or tokens[place].text == ";":
+            return place + (depth == 0)
     return len(tokens)
 
 

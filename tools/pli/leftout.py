@@ -179,6 +179,8 @@ def assigned(place):
     found = [item for item in items if item.name == place.last()]
     if place.text != "=" or len(found) != 1 or place.last(2) not in BEFORE_STATEMENT:
         return None
+    if [token.text for token in place.rest].count("=") > 1:
+        return out("several targets of an assignment", "a second = compares, so write an assignment for each")
     if found[0].dimensions:
         arrays = {item.name for item in items if item.dimensions}
         scalar = len(place.rest) > 1 and place.rest[1].text not in arrays

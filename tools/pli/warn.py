@@ -1,4 +1,6 @@
 """What a unit may do and most likely does not mean to, told only where it is sure."""
+from collections import Counter
+
 from declared import CHARACTER, NUMBER, closing, declared
 from scan import Token
 
@@ -33,37 +35,44 @@ def unused(unit, items):
             yield unit[at], f"{texts[at]} is a procedure that is never called"
 
 
-def cut(item, token, sign=""):
-    """What is wrong with a constant that goes to an item, if it is sure."""
-    if token.kind == "string" and item.has(CHARACTER):
-        length = item.size(CHARACTER, 1)
-        if len(token.text[1:-1].replace("''", "'")) > length:
-            yield token, f"this constant is cut: {item.name} has {length} character{'s' * (length > 1)}"
-    if token.kind in ("number", "binary") and item.has(NUMBER):
-        most = 2 ** item.size(NUMBER, 15) - 1
+def limits(item):
+    """How many characters an item holds, and its greatest number; None where it holds none."""
+    characters = item.size(CHARACTER, 1) if item.has(CHARACTER) else None
+    return characters, 2 ** item.size(NUMBER, 15) - 1 if item.has(NUMBER) else None
+
+
+def cut(name, characters, most, token, sign=""):
+    """What is wrong with a constant that goes to an item of such limits, if it is sure."""
+    if token.kind == "string" and characters is not None and len(token.text[1:-1].replace("''", "'")) > characters:
+        yield token, f"this constant is cut: {name} has {characters} character{'s' * (characters > 1)}"
+    if token.kind in ("number", "binary") and most is not None:
         if (int(token.text[:-1], 2) if token.kind == "binary" else int(token.text)) > most:
-            told = f"{sign}{token.spelled} is beyond {item.name}, whose numbers go up to {most}"
+            told = f"{sign}{token.spelled} is beyond {name}, whose numbers go up to {most}"
             yield token, f"{told}: E9 FIXEDOVERFLOW when it is assigned"
 
 
 def assigned(unit, only):
-    """Constants that are assigned and do not fit. `only` has the items of names that are declared once."""
+    """Constants that are assigned and do not fit. `only` has the limits of names that are declared once."""
     for at in range(1, len(unit) - 3):
         if unit[at].text not in only or unit[at].kind != "name" or unit[at - 1].text not in BEFORE_STATEMENT:
             continue
         equals = closing(unit, at + 1) if unit[at + 1].text == "(" else at + 1
         value = equals + 2 if [token.text for token in unit[equals + 1 : equals + 2]] in (["-"], ["+"]) else equals + 1
         if value + 1 < len(unit) and unit[equals].text == "=" and unit[value + 1].text == ";":
-            yield from cut(only[unit[at].text], unit[value], unit[equals + 1].text if value > equals + 1 else "")
+            sign = unit[equals + 1].text if value > equals + 1 else ""
+            yield from cut(*only[unit[at].text], unit[value], sign)
 
 
 def warnings(unit, comments):
     """What is to be warned of in a unit of expanded tokens and its comments: places, each with a line."""
     items = declared(unit)
-    names = [item.name for item in items]
-    only = {item.name: item for item in items if names.count(item.name) == 1}
-    strings = [(item, token) for item in items for token in item.attributes if token.kind == "string"]
-    initial = {token: text for item, token in strings for token, text in cut(item, token)}
+    lists = {id(item.attributes): item for item in items}
+    bounds = {key: limits(item) for key, item in lists.items()}
+    many = Counter(item.name for item in items)
+    only = {item.name: (item.name, *bounds[id(item.attributes)]) for item in items if many[item.name] == 1}
     told = [each for comment in comments for each in opened_twice(comment)]
-    return sorted([*told, *unused(unit, items), *initial.items(), *assigned(unit, only)],
-                  key=lambda each: (str(each[0].source), each[0].line, each[0].column))
+    for key, item in lists.items():
+        for token in item.attributes:
+            told += cut(item.name, *bounds[key], token) if token.kind == "string" else []
+    told += [*unused(unit, items), *assigned(unit, only)]
+    return sorted(told, key=lambda each: (str(each[0].source), each[0].line, each[0].column))

@@ -5,7 +5,7 @@ from typing import NamedTuple
 
 TOP = Path(__file__).resolve().parents[2]
 SECTION = re.compile(r"^#+ (.*)$")
-FENCE = re.compile(r"^```([\w ]*)$")
+FENCE = re.compile(r"^```([\w .-]*)$")
 FILE = re.compile(r"/\* ([\w$]+)\.(pli|inc) \*/")
 KIND = {"pli": "SOURCE", "inc": "INCLUDE"}
 

@@ -1,9 +1,14 @@
 """Every example of docs/DIAGNOSTICS.md, docs/LANGUAGE.md and examples/, given to a workbench."""
+import os
 import re
+import subprocess
 import sys
+import tempfile
 import unittest
+from concurrent.futures import ThreadPoolExecutor
+from pathlib import Path
 
-from asked import PROGRAM, answered
+from asked import PROGRAM, SECOND, answered
 from examples import TOP, blocks, members, typed
 
 sys.path.insert(0, str(TOP / "tools" / "pli"))
@@ -11,14 +16,16 @@ from scan import Include, scan  # noqa: E402
 
 CODES = {"X": 6, "I": 4, "P": 18, "A": 15, "Z": 1, "T": 14, "G": 1, "N": 6, "E": 13, "M": 8, "B": 2, "K": 8, "L": 8}
 ENDINGS = ["OUT OF STEPS", "MACHINE FAULT", "NO MEMORY"]
-IN_WORDS = {*ENDINGS[1:], "G1", "M4", "M5", "M6", "M7", "M8", *(f"{letter}{number}" for letter in "KL" for number in range(1, 9))}
-STEPS = 100_000
+BYTES = [f"{letter}{number}" for letter in "KL" for number in range(1, 9)]
+IN_WORDS = {*ENDINGS[1:], "G1", "M4", "M5", "M6", "M7", "M8", *BYTES}
+EXAMPLES = TOP / "examples"
+STEPS = 20_000
 DIAGNOSTIC = re.compile(r"(?:\S+ \S+:\d+ )?([A-Z]\d+) (.*)")
 LINKING = re.compile(r"(N[2-5] [A-Z ]+?) \S+ \S+")
 RUN_ERROR = re.compile(r"ERROR (E\d+ .*) \S+ \d+")
-TOLD = re.compile(r"\S+:\d+(?::\d+)?: ([XIPATZGNE]\d+ [A-Z -]+?)(?::.*)?")
+TOLD = re.compile(r"(?:\S+:\d+(?::\d+)?|pli): ([XIPATZGNE]\d+ [A-Z -]+?|OUT OF STEPS)(?::.*)?")
 COURSE = re.compile(r"^- `([^`]*)`: ", re.MULTILINE)
-SECOND_KNOWS = "PATNEOMB"
+SECOND_KNOWS = "XIPATNEOMB"
 
 
 def code_of(heading):
@@ -113,32 +120,69 @@ class Language(unittest.TestCase):
 
     @unittest.skipUnless(PROGRAM, "the second opinion does not know these forms")
     def test_what_is_not_compiled_yet_is_good(self):
-        for block, answers in zip(later := [block for block in self.blocks if block.word == "pli later"],
-                                  answered([built_and_run(block.lines) for block in later])):
+        later = [block for block in self.blocks if block.word == "pli later"]
+        for block, answers in zip(later, answered([built_and_run(block.lines) for block in later])):
             with self.subTest(block.place):
                 self.assertEqual(result(answers), ["Z1 NOT YET BUILT"])
+
+
+def told(call):
+    """What bin/pli writes when it is called so in a folder, on both streams, and apart."""
+    words, folder, apart = call
+    environment = {**os.environ, "PLIWB": PROGRAM or SECOND}
+    errors = subprocess.PIPE if apart else subprocess.STDOUT
+    streams = {"stdin": subprocess.DEVNULL, "stdout": subprocess.PIPE, "stderr": errors}
+    ended = subprocess.run([TOP / "bin" / "pli", *words], cwd=folder, env=environment, **streams)
+    return ended.stdout.decode(), (ended.stderr or b"").decode()
+
+
+class Tool(unittest.TestCase):
+    """What bin/pli says of examples."""
+
+    def all_told(self, calls):
+        with ThreadPoolExecutor(4) as pool:
+            return list(pool.map(told, calls))
+
+    def test_mistakes_are_told_as_shown(self):
+        known = list(blocks("docs/DIAGNOSTICS.md"))
+        pairs = [(one, other) for one, other in zip(known, known[1:]) if one.word.startswith("mistake")]
+        with tempfile.TemporaryDirectory() as folder:
+            calls = [one.word.split()[1:] for one, _ in pairs]
+            for call, (one, _) in zip(calls, pairs):
+                Path(folder, call[0]).write_text("".join(line + "\n" for line in one.lines))
+            for (one, says), (printed, _) in zip(pairs, self.all_told([(call, folder, False) for call in calls])):
+                with self.subTest(one.place):
+                    self.assertEqual(printed, "".join(line + "\n" for line in says.lines))
+
+    def test_what_is_said_of_the_gallery(self):
+        faulty = [path.with_suffix(".pli") for path in sorted(EXAMPLES.glob("*.err"))]
+        calls = [([f"examples/{path.name}", "--steps", "3000"], TOP, True) for path in faulty]
+        for path, (out, err) in zip(faulty, self.all_told(calls)):
+            with self.subTest(path.name):
+                self.assertEqual(err, path.with_suffix(".err").read_text())
+                self.assertEqual(out, path.with_suffix(".out").read_text() if path.with_suffix(".out").exists() else "")
 
 
 class Gallery(unittest.TestCase):
     """The programs of examples/, as its README names them."""
 
     def setUp(self):
-        self.calls = [call.split() for call in COURSE.findall((TOP / "examples" / "README.md").read_text(encoding="utf-8"))]
+        self.calls = [call.split() for call in COURSE.findall((EXAMPLES / "README.md").read_text(encoding="utf-8"))]
 
     def units(self, call):
-        return [TOP / "examples" / word for word in call if word.endswith(".pli")]
+        return [EXAMPLES / word for word in call if word.endswith(".pli")]
 
     def session(self, call):
         texts = [(path.stem.upper(), "SOURCE", path.read_text().splitlines()) for path in self.units(call)]
         for _, _, lines in list(texts):
             names = [item.name for item in scan("\n".join(lines), "") if isinstance(item, Include)]
-            texts += [(name, "INCLUDE", (TOP / "examples" / f"{name.lower()}.inc").read_text().splitlines()) for name in names]
+            texts += [(name, "INCLUDE", (EXAMPLES / f"{name.lower()}.inc").read_text().splitlines()) for name in names]
         steps = call[call.index("--steps") + 1] if "--steps" in call else STEPS
         return [*typed(dict((text[0], text) for text in texts).values()), "BUILD", f"RUN {steps}"]
 
     def test_the_course_has_each_program_once(self):
         named = [path.name for call in self.calls for path in self.units(call)]
-        self.assertEqual(sorted(named), sorted(path.name for path in (TOP / "examples").glob("*.pli")))
+        self.assertEqual(sorted(named), sorted(path.name for path in EXAMPLES.glob("*.pli")))
 
     def test_programs_print_what_stands_beside_them(self):
         for call, answers in zip(self.calls, answered([self.session(call) for call in self.calls])):
@@ -146,11 +190,12 @@ class Gallery(unittest.TestCase):
                 printed = "".join(line + "\n" for line in answers[-1][:-1]) if answers[-2] == ["BUILT"] else ""
                 out, err = (self.units(call)[0].with_suffix(suffix) for suffix in (".out", ".err"))
                 self.assertEqual(printed, out.read_text() if out.exists() else "")
-                said = [found[1] for line in (err.read_text() if err.exists() else "").splitlines() if (found := TOLD.fullmatch(line))]
-                self.assertEqual(said or ["OUT OF STEPS" if err.exists() else "ENDED"], result(answers))
+                lines = err.read_text().splitlines() if err.exists() else []
+                said = [found[1] for line in lines if (found := TOLD.fullmatch(line))]
+                self.assertEqual(said or ["ENDED"], result(answers))
 
     def test_the_gallery_is_that_of_the_sessions(self):
-        known = {self.texts(path.read_text()) for path in (TOP / "examples").glob("*.pli")}
+        known = {self.texts(path.read_text()) for path in EXAMPLES.glob("*.pli")}
         for path in sorted((TOP / "crates" / "pli_sessions" / "data" / "examples").glob("*.session")):
             for text in self.built(path):
                 with self.subTest(path.name):

@@ -59,7 +59,8 @@ class Warn(unittest.TestCase):
         told = "is beyond X, whose numbers go up to 32767: E9 FIXEDOVERFLOW when it is assigned"
         self.expect("DCL X FIXED BIN; X = 32768;", f"22 32768 {told}")
         self.expect("DCL X FIXED(15) BIN; X = -40000;", f"27 -40000 {told}")
-        self.expect("DCL X FIXED BIN(3); X = 1000B;", "25 1000B is beyond X, whose numbers go up to 7: E9 FIXEDOVERFLOW when it is assigned")
+        told = "25 1000B is beyond X, whose numbers go up to 7: E9 FIXEDOVERFLOW when it is assigned"
+        self.expect("DCL X FIXED BIN(3); X = 1000B;", told)
 
     def test_only_what_is_sure(self):
         self.expect("DCL X CHAR(3); X = 'IT''';")
@@ -70,7 +71,8 @@ class Warn(unittest.TestCase):
         self.expect("DCL X BIT(1); X = '11'B;")
 
     def test_texts_that_are_not_good(self):
-        for text in ("", "M", "M: PROC", "DCL", "M: PROC; DCL (X", "M: PROC; DCL X(", "M: PROC; DCL 1; DCL ,; DCL X CHAR(; X = 'A';"):
+        bad = "M: PROC; DCL 1; DCL ,; DCL X CHAR(; X = 'A';"
+        for text in ("", "M", "M: PROC", "DCL", "DCL;", "M: PROC; DCL (X", "M: PROC; DCL X(", bad):
             warnings(scan(text, ""), [])
 
 
