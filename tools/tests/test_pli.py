@@ -317,6 +317,34 @@ class Refusals(Room):
             self.assertEqual((ran.returncode, ran.stderr.decode()), (3 if closed == ">&-" else 1, told))
 
 
+class Batch(Room):
+    """An unproved run, which takes all questions before it answers the first."""
+
+    def setUp(self):
+        super().setUp()
+        starter = '[ "$1" = --which ] && exec echo unproved; cat >given; exec <given; exec "$SERVER"'
+        (self.room / "starter").write_text(f"#!/bin/sh\n{starter}\n")
+        (self.room / "starter").chmod(0o755)
+
+    def pli(self, *words, **streams):
+        begin = f"import sys; sys.path.insert(0, {str(TOP / 'tools' / 'pli')!r}); import main, workbench"
+        program = f"{begin}; workbench.STARTER = './starter'; sys.exit(main.main(sys.argv[1:]))"
+        environment = {**os.environ, "PLIWB": "", "SERVER": WORKBENCH}
+        ran = subprocess.run(["python3", "-c", program, *words], cwd=self.room, capture_output=True, timeout=WAIT, env=environment)
+        return ran.returncode, ran.stdout.decode(), ran.stderr.decode()
+
+    def test_a_run_and_its_trace(self):
+        self.write(range_pli=RANGE)
+        traced = "pli: the last 3 statements\nrange.pli:2: CALL S(5);\nrange.pli:5: PUT LIST('BEFORE');\nrange.pli:6: A(N) = 1;\n"
+        self.check(["range.pli", "--trace"], 1, "BEFORE \n", f"range.pli:6: E1 SUBSCRIPT RANGE\n  A(N) = 1;\n{traced}")
+
+    def test_diagnostics_and_commands(self):
+        self.write(m_pli=body("X = 1;"), good_pli=body("PUT LIST(1);"))
+        self.check_told(["m.pli"], "m.pli:2:1: A1 NOT DECLARED: X\nX = 1;\n^\n")
+        self.check(["good.pli", "--", "LIST GOOD", "RUN", "QUIT"], 0,
+                   "1 M: PROC OPTIONS(MAIN);\n2 PUT LIST(1);\n3 END M;\nOK\n   1 \nOK\n")
+
+
 class Signals(Room):
     def started(self, text):
         self.write(m_pli=text)
