@@ -20,7 +20,8 @@ class Member:
     """A member of the workbench. `str` gives the path of its file as it is shown; lines have no line ends."""
 
     def __init__(self, name, kind, lines=(), path=None, shown=None):
-        self.name, self.kind, self.lines, self.path, self.shown = name, kind, list(lines), path, shown or str(path or name)
+        self.name, self.kind, self.lines, self.path = name, kind, list(lines), path
+        self.shown = shown or str(path or name)
 
     def __str__(self):
         return self.shown
@@ -122,7 +123,8 @@ class Gathering:
             self.members[item.name] = new = Member(item.name, "INCLUDE", lines, path)
             return new
         if stands.kind == "SOURCE":
-            self.wrong.append((item, f"{means}, but {stands} is the unit {item.name}; --as NAME FILE names it otherwise"))
+            told = f"{means}, but {stands} is the unit {item.name}; --as NAME FILE names it otherwise"
+            self.wrong.append((item, told))
         elif lines != stands.lines:
             self.wrong.append((item, f"{means} here, and {stands} elsewhere; rename one of them"))
         return None

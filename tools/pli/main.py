@@ -24,7 +24,8 @@ def tell_warnings(report):
     for tokens in filter(None, (report.unit(name).tokens for name in report.sources())):
         sources = dict.fromkeys(token.source for token in tokens)
         found = [comment for source in sources for comment in comments(source.text(), source)]
-        told |= {(token.source, token.line, token.column, f"warning: {text}"): 0 for token, text in warnings(tokens, found)}
+        for token, text in warnings(tokens, found):
+            told[token.source, token.line, token.column, f"warning: {text}"] = None
     for each in told:
         placed(*each)
 

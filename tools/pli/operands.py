@@ -23,8 +23,8 @@ def returned(head):
 
 
 class Types:
-    """The types in a statement, by tokens: `pairs` has those of each operator and `=`, `calls` those of the arguments and
-    parameters of each called name, `whole` that of each expression."""
+    """The types in a statement, by tokens: `pairs` has those of each operator and `=`, `calls` those of the arguments
+    and parameters of each called name, `whole` that of each expression."""
 
     def __init__(self, outline, number):
         self.outline, self.tokens, self.blocks = outline, outline.tokens, outline.blocks_of(number)
@@ -103,8 +103,9 @@ class Types:
         head = found.item.attributes
         if found.item.has({"ENTRY"}):
             place = next(place for place, token in enumerate(head) if token.text == "ENTRY") + 1
-            inside = parts(head, place + 1, closing(head, place) - 1) if head[place:] and head[place].text == "(" else []
-            self.calls[at] = given, [described(head[first:last], head[first].text == "(") for first, last in inside]
+            listed = head[place:] and head[place].text == "("
+            ends = parts(head, place + 1, closing(head, place) - 1) if listed else []
+            self.calls[at] = given, [described(head[first:last], head[first].text == "(") for first, last in ends]
             return returned(head)
         owners = list(self.outline.owners(found))
         is_array = not given and any(each.item.dimensions for each in owners)
@@ -114,14 +115,15 @@ class Types:
     def call(self, found, given, at):
         """The type that a call of a procedure gives."""
         number = self.outline.number_at(found.at)
-        names = [each.name for each in self.outline.declared.values() if each[2:] == (number, -1, "PARAMETER")]
-        items = [self.outline.meant([name], [number]) for name in names]
-        self.calls[at] = given, [described(each.item.attributes, each.item.dimensions) if each else "" for each in items]
+        listed = [each for each in self.outline.declared.values() if each[2:] == (number, -1, "PARAMETER")]
+        items = [own.item for each in listed if (own := self.outline.meant([each.name], [number]))]
+        self.calls[at] = given, [described(item.attributes, item.dimensions) for item in items]
         return returned(self.tokens[found.at : self.outline.statements[number].end])
 
     def result(self):
         """What the procedure around the statement returns."""
-        each = next(self.outline.statements[block] for block in self.blocks if self.outline.statements[block].word == "PROCEDURE")
+        around = [self.outline.statements[block] for block in self.blocks]
+        each = next(each for each in around if each.word == "PROCEDURE")
         return returned(self.tokens[each.at : each.end])
 
 

@@ -93,7 +93,7 @@ def tokens(text, source):
 
 
 def included(items):
-    """The name in capitals that `%INCLUDE name;` or `%INCLUDE 'name';` names; none where these items are no directive."""
+    """The name that `%INCLUDE name;` or `%INCLUDE 'name';` names; none where these items are no directive."""
     if [type(item) for item in items] != [Token] * 4 or (items[1].text, items[3].text) != ("INCLUDE", ";"):
         return None
     name = items[2].spelled[1:-1] if items[2].kind == "string" else items[2].spelled

@@ -67,7 +67,7 @@ class Session:
         return [line.decode() for line in answers[typed:end]] if set(answers[:typed]) <= {b"OK"} else None
 
     def run(self, command, steps=None):
-        """The status of a run, whose output is shown as it comes, with a trace of so many steps where they are given."""
+        """The status of a run, whose output is shown as it comes, with a trace where its steps are given."""
         ending = self.bench.ask([command], show).decode()
         if ending == "ENDED":
             return 0

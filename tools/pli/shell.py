@@ -44,7 +44,7 @@ class Shell:
 
     def begin_again(self):
         """Behind Ctrl-C: a new workbench with the same members, where one was running."""
-        if not self.bench.running:
+        if not self.bench.emit:
             show(b"\n")
             return
         self.bench.stop()

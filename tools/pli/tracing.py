@@ -1,12 +1,13 @@
 """The last statements that ran, told by a program that counts its statements and prints where it is.
 
-Each statement of the traced program has others before it, which count it, and print a mark from a number on. They take the same number
-of steps everywhere, and so do turns and activations: SPREAD times the steps lead as far as the program's own. A first run finds about
-how many statements there are, a second one prints the last of them.
+Each statement of the traced program has others before it, which count it, and print a mark from a number on. They take
+the same number of steps everywhere, as turns and activations do: SPREAD times the steps lead as far as the program's
+own. A first run finds about how many statements there are, a second one prints the last of them.
 """
 import re
 from collections import deque
 
+from outline import OPENING
 from streams import tell
 
 SPREAD = 7
@@ -17,29 +18,30 @@ MOST_COLUMNS = 120
 
 
 class Traced:
-    """The text of a unit with marks. `counting` gives what stands before a statement, five steps, from the statement's number."""
+    """The text of a unit with marks. `counting` stands before a statement, whose number is its `#`: five steps."""
 
     def __init__(self, outline, declaration, counting):
-        self.tokens, self.each = outline.tokens, outline.statements
-        self.declaration, self.counting, self.words = declaration, counting, []
+        self.tokens, self.each, self.words = outline.tokens, outline.statements, []
+        self.declaration, self.counting = declaration, counting
         self.statement(0)
 
     def statement(self, number, wrapped=False):
-        """Adds a statement with all that stands in it, behind THEN and ELSE in a group of its own; gives the next one's number."""
+        """Adds a statement with all that stands in it, behind THEN and ELSE in a group of its own; gives the number of
+        the next one."""
         each, following = self.each[number], number + 1
         self.words += ["DO ;"] if wrapped else []
         self.words += [token.spelled for token in self.tokens[each.start : each.at]]
         if each.word not in ("PROCEDURE", "DECLARE", "END"):
-            self.words += [*self.counting(number + 1), *([] if wrapped else [";"])]
+            self.words += [part.replace("#", str(number + 1)) for part in self.counting] + [";"] * (not wrapped)
         self.words += [token.spelled for token in self.tokens[each.at : each.end]]
         if each.word == "IF":
             following = self.statement(following, True)
             if following < len(self.each) and self.each[following].is_else:
                 self.words.append("ELSE")
                 following = self.statement(following, True)
-        elif each.word in ("PROCEDURE", "BEGIN", "DO"):
+        elif each.word in OPENING:
             self.words += [] if number else self.declaration
-            turns = each.word == "DO" and each.end - each.at > 2
+            turns = each.word == "DO" and each.end - each.at > len(("DO", ";"))
             self.words += [";"] * (SPREAD - 1) if turns or each.word == "PROCEDURE" else []
             while self.each[following].word != "END":
                 following = self.statement(following)
@@ -59,29 +61,22 @@ class Traced:
         yield line
 
 
-def typed(session, first, every):
-    """The commands that type the units of a session with marks from a statement on, and then from each mark so many statements on."""
+def questions(session, first, every, steps=MOST_IN_BATCH):
+    """The commands that build the program with marks from a statement on, each so many statements behind the one
+    before; those that run it; and those that take it away."""
     units = {name: session.report.unit(name) for name in session.report.sources()}
     used = {token.text for outline in units.values() for token in outline.tokens}
     count, limit = [name for number in range(len(used) + 2) if (name := f"T${number}") not in used][:2]
     declaration = ["DCL", f"{count} FIXED BIN(31) EXT ,", f"{limit} FIXED BIN(31) EXT INIT({first}) ;"]
+    before = [f"{count} = {count} + 1;", f"IF {count} >= {limit} THEN DO;", f"{limit} = {limit} + {every};"]
+    build = session.deleting()
     for unit, (name, outline) in enumerate(units.items()):
-
-        def counting(number, unit=unit):
-            mark = f"PUT SKIP LIST('{session.bench.mark} {unit} {number}');"
-            shown = [f"IF {count} >= {limit} THEN DO;", f"{limit} = {limit} + {every};", mark, "END; ELSE DO; ; ; END;"]
-            return [f"{count} = {count} + 1;", *shown]
-
-        yield f"ADD {name} SOURCE".encode()
-        for at, line in enumerate(Traced(outline, declaration, counting).lines()):
-            yield f"INSERT {name} {at} {line}".encode("latin-1")
-
-
-def questions(session, first, every, steps=MOST_IN_BATCH):
-    """The commands that build the program with marks, those that run it, and those that take it away."""
-    deleted = [f"DELETE {name}".encode() for name in session.report.sources()]
-    build = [*session.deleting(), *typed(session, first, every), b"BUILD"]
-    return build, [f"RUN {steps}".encode()], [*deleted, *session.typing()]
+        mark = f"PUT SKIP LIST('{session.bench.mark} {unit} #');"
+        lines = Traced(outline, declaration, [*before, mark, "END; ELSE DO; ; ; END;"]).lines()
+        build += [f"ADD {name} SOURCE".encode()]
+        build += [f"INSERT {name} {at} {line}".encode("latin-1") for at, line in enumerate(lines)]
+    deleted = [f"DELETE {name}".encode() for name in units]
+    return [*build, b"BUILD"], [f"RUN {steps}".encode()], [*deleted, *session.typing()]
 
 
 def marks(session, first, every, steps):

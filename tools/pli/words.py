@@ -17,7 +17,7 @@ def page(name):
 
 
 class Call:
-    """What the words of a call ask for. `units` are paths with the names of --as, `flags` the options without values."""
+    """What the words of a call ask for. `units` are paths with the names of --as, `flags` options without values."""
 
     def __init__(self, words):
         self.units, self.folders, self.commands, self.flags = [], [], [], set()

@@ -1,7 +1,7 @@
 """The workbench as a process: commands go to it, and answers come back as they come.
 
-Where answers end is known by a mark: a member of its own, of a random name and with a random line, that is listed behind
-the commands of each question. So nothing that a program prints is taken for the end of its run.
+Where answers end is known by a mark: a member of its own, of a random name and with a random line, that is listed
+behind the commands of each question. So nothing that a program prints is taken for the end of its run.
 """
 import os
 import queue
@@ -13,7 +13,7 @@ from collections import deque
 from contextlib import suppress
 from pathlib import Path
 
-from streams import Trouble, put, show
+from streams import Trouble, put
 
 STARTER = str(Path(__file__).resolve().parents[2] / "bin" / "pliwb")
 CHUNK = 65536
@@ -46,7 +46,7 @@ class Workbench:
     alive = []
 
     def __init__(self, words, batch=False):
-        self.words, self.batch, self.planned, self.running = words, batch, deque(), False
+        self.words, self.batch, self.planned, self.emit = words, batch, deque(), None
         self.mark = f"MARK_{secrets.token_hex(12)}".upper()
         self.pending, self.greeting = b"", f"OK\nOK\n1 {self.mark}\nOK\n".encode()
         self.child = started(words, stdin=subprocess.PIPE)
@@ -109,7 +109,7 @@ class Workbench:
         """The answers up to the next mark, as `ask` gives them. What is passed on is held back by a line that ended,
         which may be the end of the run."""
         self.greet()
-        self.running = emit is not None
+        self.emit = emit
         end = f"1 {self.mark}\n".encode()
         while (at := self.pending.find(end)) < 0:
             cut = self.pending.rfind(b"\n", 0, max(self.pending.rfind(b"\n"), 0)) + 1
@@ -123,25 +123,25 @@ class Workbench:
         printed = answers.rfind(b"\n", 0, len(answers) - 1) + 1
         if emit:
             emit(answers[:printed])
-        self.running = False
+        self.emit = None
         return answers[printed:-1] if emit else answers.split(b"\n")[:-1]
 
     def stop(self):
-        """Ends the workbench with all that it started, and shows what it had printed of a run."""
+        """Ends the workbench with all that it started, and passes on what it had printed of a run."""
         self.alive.remove(self)
         for number in (signal.SIGTERM, signal.SIGKILL):
             with suppress(OSError, subprocess.TimeoutExpired):
                 if self.child.poll() is None:
                     os.killpg(self.child.pid, number)
                     self.child.wait(SECONDS_TO_END)
-        if self.running:
+        if self.emit:
             os.set_blocking(self.child.stdout.fileno(), False)
             with suppress(OSError):
                 while chunk := os.read(self.child.stdout.fileno(), CHUNK):
                     self.pending += chunk
             printed = self.pending.partition(f"1 {self.mark}\n".encode())[0]
             with suppress(Trouble):
-                show(printed + (b"" if printed[-1:] in (b"", b"\n") else b"\n"))
+                self.emit(printed + (b"" if printed[-1:] in (b"", b"\n") else b"\n"))
 
     @classmethod
     def stop_all(cls):

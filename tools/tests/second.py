@@ -1,9 +1,9 @@
 #!/usr/bin/env python3
 """second.py: a workbench that answers commands as they come by the second opinion of bench/.
 
-It knows what bench/answers.py knows, and what the tests of the tool need beside that: lines that are no command, refusals of edits for
-their text, MEMBERS, faults of tokens and of directives (by the tool's own scan.py), Z1 for storage and conditions, and output that is
-written as a run prints it.
+It knows what bench/answers.py knows, and what the tests of the tool need beside that: lines that are no command,
+refusals of edits for their text, MEMBERS, faults of tokens and of directives (by the tool's own scan.py), Z1 for storage
+and conditions, and output that is written as a run prints it.
 """
 import re
 import sys
@@ -17,15 +17,16 @@ import meaning  # noqa: E402
 from outline import statements  # noqa: E402
 from scan import Include, ScanFault, scan  # noqa: E402
 
-TEXT_OF = {
-    "X1": "UNENDED COMMENT", "X2": "UNENDED STRING", "X3": "BAD CHARACTER", "X4": "BAD NUMBER", "X5": "NAME TOO LONG", "X6": "BAD BITS",
-    "I1": "NO SUCH MEMBER", "I2": "RECURSIVE INCLUDE", "I3": "TOO MANY TOKENS", "I4": "BAD INCLUDE", "Z1": "NOT YET BUILT",
-}
+TEXTS = """
+    X1 UNENDED COMMENT, X2 UNENDED STRING, X3 BAD CHARACTER, X4 BAD NUMBER, X5 NAME TOO LONG, X6 BAD BITS,
+    I1 NO SUCH MEMBER, I2 RECURSIVE INCLUDE, I3 TOO MANY TOKENS, I4 BAD INCLUDE, Z1 NOT YET BUILT
+"""
+TEXT_OF = dict(text.split(maxsplit=1) for text in " ".join(TEXTS.split()).split(", "))
 MOST_TOKENS = 200_000
-NAME = "[A-Z][A-Z0-9_$]{0,30}"
+NAME, NUMBER = "[A-Z][A-Z0-9_$]{0,30}", "[0-9]{1,9}"
 COMMAND = re.compile(
-    f"ADD {NAME} (SOURCE|INCLUDE)|(DELETE|LIST) {NAME}|(INSERT|REPLACE) {NAME} [0-9]{{1,9}}( .*)?|REMOVE {NAME} [0-9]{{1,9}} [0-9]{{1,9}}"
-    "|MEMBERS|BUILD|QUIT|RUN( [0-9]{1,18})?",
+    f"ADD {NAME} (SOURCE|INCLUDE)|(DELETE|LIST) {NAME}|(INSERT|REPLACE) {NAME} {NUMBER}( .*)?"
+    f"|REMOVE {NAME} {NUMBER} {NUMBER}|MEMBERS|BUILD|QUIT|RUN( [0-9]{{1,18}})?",
     re.IGNORECASE,
 )
 LATER = {"ALLOCATE", "FREE", "ON", "REVERT", "SIGNAL"}

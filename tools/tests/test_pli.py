@@ -1,4 +1,4 @@
-"""bin/pli by its words, files, streams and signals, over a workbench: that of PLIWB, else the second opinion (second.py)."""
+"""bin/pli by its words, files, streams and signals, over the workbench of PLIWB, else the second opinion."""
 import os
 import pty
 import select
@@ -25,7 +25,19 @@ S: PROC(N);
 END S;
 END RANGE;
 """
-ENDLESS = "E: PROC OPTIONS(MAIN);\nDCL I FIXED BIN(31);\nDO WHILE('1'B);\nI = I + 1;\nPUT SKIP LIST('LINE', I);\nEND;\nEND E;\n"
+ENDLESS = """E: PROC OPTIONS(MAIN);
+DCL I FIXED BIN(31);
+DO WHILE('1'B);
+I = I + 1;
+PUT SKIP LIST('LINE', I);
+END;
+END E;
+"""
+TRACED = """pli: the last 3 statements
+range.pli:2: CALL S(5);
+range.pli:5: PUT LIST('BEFORE');
+range.pli:6: A(N) = 1;
+"""
 SILENT = "E: PROC OPTIONS(MAIN);\nPUT LIST('BEGUN');\nPUT SKIP LIST('HALF');\nDO WHILE('1'B);\nEND;\nEND E;\n"
 
 
@@ -73,8 +85,8 @@ class Room(unittest.TestCase):
 
 class Runs(Room):
     def test_a_unit_and_its_include(self):
-        self.write(lines_pli=body("%INCLUDE FIRST;", "DCL I FIXED BIN(15);", "DO I = 1 TO 2;", "PUT SKIP LIST('LINE', I);", "END;"))
-        self.write(First_inc="PUT LIST('FROM FIRST');\n")
+        group = ["DCL I FIXED BIN(15);", "DO I = 1 TO 2;", "PUT SKIP LIST('LINE', I);", "END;"]
+        self.write(lines_pli=body("%INCLUDE FIRST;", *group), First_inc="PUT LIST('FROM FIRST');\n")
         printed = "FROM FIRST \nLINE                            1 \nLINE                            2 \n"
         self.check(["lines.pli"], 0, printed)
         self.check(["lines.pli", "--", "LIST FIRST", "MEMBERS"], 0,
@@ -91,7 +103,8 @@ class Runs(Room):
         self.check(["m.pli"], 0, "\n")
 
     def test_a_program_may_print_what_ends_a_run(self):
-        self.write(m_pli=body("PUT LIST('ENDED');", "PUT SKIP LIST('ERROR E1 SUBSCRIPT RANGE M 1');", "PUT SKIP LIST('OK');"))
+        lines = ["PUT LIST('ENDED');", "PUT SKIP LIST('ERROR E1 SUBSCRIPT RANGE M 1');", "PUT SKIP LIST('OK');"]
+        self.write(m_pli=body(*lines))
         self.check(["m.pli"], 0, "ENDED \nERROR E1 SUBSCRIPT RANGE M 1 \nOK \n")
 
     def test_an_error_has_its_place_and_statement(self):
@@ -101,18 +114,19 @@ class Runs(Room):
 
     def test_a_trace_has_the_last_statements(self):
         self.write(range_pli=RANGE)
-        traced = "pli: the last 3 statements\nrange.pli:2: CALL S(5);\nrange.pli:5: PUT LIST('BEFORE');\nrange.pli:6: A(N) = 1;\n"
-        self.check(["range.pli", "--trace"], 1, "BEFORE \n", f"range.pli:6: E1 SUBSCRIPT RANGE\n  A(N) = 1;\n{traced}")
+        told = f"range.pli:6: E1 SUBSCRIPT RANGE\n  A(N) = 1;\n{TRACED}"
+        self.check(["range.pli", "--trace"], 1, "BEFORE \n", told)
 
     def test_a_trace_counts_turns_calls_and_branches(self):
-        self.write(m_pli=body("DCL I FIXED BIN(15);", "DO I = 1 TO 30000;", "IF I = 2900 THEN CALL S;", "ELSE ;", "END;", "S: PROC;",
-                              "PUT LIST(DIVIDE(1, 0, 15));", "END S;"))
-        tail = "m.pli:4: IF I = 2900 THEN\nm.pli:5: ;\nm.pli:4: IF I = 2900 THEN\nm.pli:4: CALL S;\nm.pli:8: PUT LIST(DIVIDE(1, 0, 15));\n"
+        group = ["DCL I FIXED BIN(15);", "DO I = 1 TO 30000;", "IF I = 2900 THEN CALL S;", "ELSE ;", "END;"]
+        self.write(m_pli=body(*group, "S: PROC;", "PUT LIST(DIVIDE(1, 0, 15));", "END S;"))
+        turn = "m.pli:4: IF I = 2900 THEN\nm.pli:5: ;\n"
+        tail = f"{turn}m.pli:4: IF I = 2900 THEN\nm.pli:4: CALL S;\nm.pli:8: PUT LIST(DIVIDE(1, 0, 15));\n"
         status, output, told = self.pli("m.pli", "--trace")
         self.assertEqual((status, output, told[-len(tail) :]), (1, "", tail))
         self.assertIn("pli: the last 20 statements\n", told)
-        self.check(["m.pli", "--trace", "--steps=6"], 1, "",
-                   "pli: OUT OF STEPS\npli: the last 3 statements\nm.pli:3: DO I = 1 TO 30000;\nm.pli:4: IF I = 2900 THEN\nm.pli:5: ;\n")
+        told = f"pli: OUT OF STEPS\npli: the last 3 statements\nm.pli:3: DO I = 1 TO 30000;\n{turn}"
+        self.check(["m.pli", "--trace", "--steps=6"], 1, "", told)
 
     def test_steps(self):
         self.write(m_pli=ENDLESS)
@@ -135,8 +149,8 @@ class Commands(Room):
 
     def test_edits_are_followed(self):
         self.write(m_pli=body("PUT LIST(1);"))
-        edits = ["INSERT M 1 X = 1;", "BUILD", "REMOVE M 2 2", "REPLACE M 2 PUT LIST(DIVIDE(1, 0, 15));", "BUILD", "RUN"]
-        status, output, told = self.pli("m.pli", "--", *edits)
+        edits = ["INSERT M 1 X = 1;", "BUILD", "REMOVE M 2 2", "REPLACE M 2 PUT LIST(DIVIDE(1, 0, 15));"]
+        status, output, told = self.pli("m.pli", "--", *edits, "BUILD", "RUN")
         self.assertEqual((status, output), (1, "OK\nNOT BUILT\nOK\nOK\nBUILT\n"))
         self.assertIn("m.pli as edited:2:1: A1 NOT DECLARED: X\nX = 1;\n^\n", told)
         self.assertIn("m.pli as edited:2: E10 ZERODIVIDE\n  PUT LIST(DIVIDE(1, 0, 15));\n", told)
@@ -156,13 +170,15 @@ class Places(Room):
 
     def test_notes_on_declarations(self):
         self.write(m_pli=body("DCL X BIT;", "DCL X CHAR(2);", "BEGIN; DCL X BIT; END;"))
-        self.check_told(["m.pli"], "m.pli:3:5: A2 DECLARED TWICE: X\nDCL X CHAR(2);\n    ^\n  note: first declared at line 2\n")
+        told = "m.pli:3:5: A2 DECLARED TWICE: X\nDCL X CHAR(2);\n    ^\n  note: first declared at line 2\n"
+        self.check_told(["m.pli"], told)
         self.assertEqual(self.pli("m.pli")[2].count("A2"), 1)
 
     def test_notes_on_ends(self):
-        self.write(a_pli=body("DCL I FIXED BIN;", "DO I = 1 TO 2;", "PUT LIST(I);"), b_pli="M: PROC OPTIONS(MAIN);\nDO;\nEND;\n",
-                   c_pli="M: PROC OPTIONS(MAIN);\nEND M")
-        self.check_told(["a.pli"], "a.pli:5:5: P8 WRONG END NAME: M\nEND M;\n    ^\n", "note: DO of line 3 is still open\n")
+        self.write(a_pli=body("DCL I FIXED BIN;", "DO I = 1 TO 2;", "PUT LIST(I);"))
+        self.write(b_pli="M: PROC OPTIONS(MAIN);\nDO;\nEND;\n", c_pli="M: PROC OPTIONS(MAIN);\nEND M")
+        told = "a.pli:5:5: P8 WRONG END NAME: M\nEND M;\n    ^\n"
+        self.check_told(["a.pli"], told, "note: DO of line 3 is still open\n")
         self.check_told(["b.pli"], "b.pli:3:4: P9 END MISSING: ;\n", "note: PROCEDURE of line 1 is still open\n")
         self.check_told(["c.pli"], "c.pli:2:5: P9 END MISSING: M\n", "note: ; is missing behind M\n")
 
@@ -170,31 +186,43 @@ class Places(Room):
         self.write(a_pli=body("DCL I FIXED BIN;", "I = 1", "PUT LIST(I);"), b_pli=body("PUT LIST(1)", "PUT LIST(2);"))
         self.check_told(["a.pli"], "a.pli:3:1: P2 NOT A STATEMENT: I\n", "; may be missing behind I = 1\n",
                         "the statement before, of line 2: DCL I FIXED BIN;\n")
-        self.check_told(["b.pli"], "b.pli:3:1: P5 SEMICOLON EXPECTED: PUT\n", "the statement before, of line 2: PUT LIST(1)\n")
+        told = "b.pli:3:1: P5 SEMICOLON EXPECTED: PUT\n"
+        self.check_told(["b.pli"], told, "the statement before, of line 2: PUT LIST(1)\n")
 
     def test_notes_on_types(self):
-        self.write(m_pli=body("DCL (B BIT(4)), C CHAR(5) VAR, N FIXED BIN(15), A(3) FIXED BIN(31);".replace("(B BIT(4))", "B BIT(4)"),
-                              "N = C + 1;", "B = N * 2;", "IF 1 < N < 3 THEN ;", "CALL F(C, A(1));", "N = G(1) & B;",
-                              "F: PROC(X, Y); DCL X FIXED BIN(15), Y FIXED BIN(31); END F;",
-                              "G: PROC(X) RETURNS(FIXED BIN(15)); DCL X FIXED BIN(15); RETURN('A'); END G;"))
-        self.check_told(["m.pli"], "m.pli:3:7: T4 WRONG OPERAND TYPE: +\n", "note: operands CHARACTER and FIXED BINARY\n",
-                        "m.pli:4:3: T5 CANNOT ASSIGN: =\n", "note: FIXED BINARY is assigned to BIT\n",
-                        "m.pli:5:10: T4", "note: operands BIT and FIXED BINARY\n",
-                        "m.pli:6:6: T7 WRONG ARGUMENT: F\n", "argument CHARACTER, FIXED BINARY, parameter FIXED BINARY, FIXED BINARY\n",
-                        "m.pli:7:10: T4 WRONG OPERAND TYPE: &\n", "note: operands FIXED BINARY and BIT\n",
-                        "m.pli:9:64: T5 CANNOT ASSIGN: 'A'\n", "note: CHARACTER is assigned to FIXED BINARY\n")
+        lines = ["N = C + 1;", "B = N * 2;", "IF 1 < N < 3 THEN ;", "CALL F(C, A(1));", "N = G(1) & B;"]
+        first = "F: PROC(X, Y); DCL X FIXED BIN(15), Y FIXED BIN(31); END F;"
+        second = "G: PROC(X) RETURNS(FIXED BIN(15)); DCL X FIXED BIN(15); RETURN('A'); END G;"
+        items = "DCL B BIT(4), C CHAR(5) VAR, N FIXED BIN(15), A(3) FIXED BIN(31);"
+        self.write(m_pli=body(items, *lines, first, second))
+        self.check_told(
+            ["m.pli"],
+            *("m.pli:3:7: T4 WRONG OPERAND TYPE: +\n", "note: operands CHARACTER and FIXED BINARY\n"),
+            *("m.pli:4:3: T5 CANNOT ASSIGN: =\n", "note: FIXED BINARY is assigned to BIT\n"),
+            *("m.pli:5:10: T4 WRONG OPERAND TYPE: <\n", "note: operands BIT and FIXED BINARY\n"),
+            *("m.pli:6:6: T7 WRONG ARGUMENT: F\n", "note: argument CHARACTER, FIXED BINARY, parameter FIXED BINARY, "),
+            *("m.pli:7:10: T4 WRONG OPERAND TYPE: &\n", "note: operands FIXED BINARY and BIT\n"),
+            *("m.pli:9:64: T5 CANNOT ASSIGN: 'A'\n", "note: CHARACTER is assigned to FIXED BINARY\n"),
+        )
 
     def test_both_places_of_link_faults(self):
-        self.write(q_pli="Q: PROC OPTIONS(MAIN);\n DCL V BIT EXT;\nEND;", r_pli="R: PROC OPTIONS(MAIN);\nDCL V BIT(2) EXT, NO ENTRY(BIT);\nEND;",
-                   s_pli="Q: PROC;\nEND;")
-        self.check_told(["s.pli", "r.pli", "q.pli"], "r.pli:1:1: N2 TWO MAIN PROCEDURES: R\n", "note: the first main procedure is at q.pli:1\n",
-                        "r.pli:2:19: N3 UNRESOLVED: NO\n", "s.pli:1:1: N4 DEFINED TWICE: Q\n", "note: first defined at q.pli:1\n",
-                        "r.pli:2:5: N5 MISMATCH: V\n", "note: does not agree with q.pli:2\n")
+        self.write(q_pli="Q: PROC OPTIONS(MAIN);\n DCL V BIT EXT;\nEND;", s_pli="Q: PROC;\nEND;")
+        self.write(r_pli="R: PROC OPTIONS(MAIN);\nDCL V BIT(2) EXT, NO ENTRY(BIT);\nEND;")
+        self.check_told(
+            ["s.pli", "r.pli", "q.pli"],
+            *("r.pli:1:1: N2 TWO MAIN PROCEDURES: R\n", "note: the first main procedure is at q.pli:1\n"),
+            "r.pli:2:19: N3 UNRESOLVED: NO\n",
+            *("s.pli:1:1: N4 DEFINED TWICE: Q\n", "note: first defined at q.pli:1\n"),
+            *("r.pli:2:5: N5 MISMATCH: V\n", "note: does not agree with q.pli:2\n"),
+        )
         self.check_told(["s.pli"], "pli: N1 NO MAIN PROCEDURE\n", "OPTIONS(MAIN)")
 
     def test_faults_of_tokens(self):
-        for text, told in (("X = 1.5;", "2:5: X4 BAD NUMBER: 1.5"), ("X = 'A;", "2:5: X2 UNENDED STRING: '"), ("/* A", "2:1: X1 UNENDED COMMENT"),
-                           ("  # ;", "2:3: X3 BAD CHARACTER: #"), (f" {'A' * 32};", "2:2: X5 NAME TOO LONG"), ("X = '2'B;", "2:5: X6 BAD BITS")):
+        for text, told in (
+            *(("X = 1.5;", "2:5: X4 BAD NUMBER: 1.5"), ("X = 'A;", "2:5: X2 UNENDED STRING: '")),
+            *(("/* A", "2:1: X1 UNENDED COMMENT"), ("  # ;", "2:3: X3 BAD CHARACTER: #")),
+            *((f" {'A' * 32};", "2:2: X5 NAME TOO LONG"), ("X = '2'B;", "2:5: X6 BAD BITS")),
+        ):
             self.write(m_pli=body(text))
             self.check_told(["m.pli"], f"m.pli:{told}")
 
@@ -216,8 +244,8 @@ class Places(Room):
 
 class Includes(Room):
     def test_forms_of_directives(self):
-        self.write(m_pli=body("%INCLUDE /* c */ K;", "%INCLUDE'k2';", "%\nINCLUDE\nK3\n;", "%include K4;"), k_INC="PUT LIST(1);", K2_h="PUT LIST(2);",
-                   K3_PL1="PUT LIST(3);", K4_Pli="PUT LIST(4);")
+        self.write(m_pli=body("%INCLUDE /* c */ K;", "%INCLUDE'k2';", "%\nINCLUDE\nK3\n;", "%include K4;"))
+        self.write(k_INC="PUT LIST(1);", K2_h="PUT LIST(2);", K3_PL1="PUT LIST(3);", K4_Pli="PUT LIST(4);")
         self.check(["m.pli"], 0, "   1                       2                       3                       4 \n")
 
     def test_folders(self):
@@ -226,13 +254,16 @@ class Includes(Room):
         self.write(m_pli=body("%INCLUDE K;"))
         self.check(["m.pli", "-I", "one"], 0, "ONE \n")
         self.check(["-Ione", "m.pli"], 0, "ONE \n")
-        self.check_told(["m.pli"], "m.pli:2:1: I1 NO SUCH MEMBER: %INCLUDE K\n%INCLUDE K;\n^\n", "no file K with .inc, .h, .pli or .pl1")
+        told = "m.pli:2:1: I1 NO SUCH MEMBER: %INCLUDE K\n%INCLUDE K;\n^\n"
+        self.check_told(["m.pli"], told, "no file K with .inc, .h, .pli or .pl1")
         self.write(k_inc="PUT LIST('BESIDE');")
         self.check(["m.pli", "-I", "one"], 0, "BESIDE \n")
 
     def test_a_fault_of_an_include_is_told_once(self):
-        self.write(m_pli=body("DCL P ENTRY;", "%INCLUDE K;"), p_pli="P: PROC;\n%INCLUDE K;\nEND;", k_inc="%INCLUDE L;\n", l_inc="\n X = 1;\n")
-        self.check_told(["m.pli", "p.pli"], "l.inc:2:2: A1 NOT DECLARED: X\n X = 1;\n ^\n", "included by k.inc:1\n", "included by m.pli:3\n")
+        self.write(m_pli=body("DCL P ENTRY;", "%INCLUDE K;"), p_pli="P: PROC;\n%INCLUDE K;\nEND;")
+        self.write(k_inc="%INCLUDE L;\n", l_inc="\n X = 1;\n")
+        told = "l.inc:2:2: A1 NOT DECLARED: X\n X = 1;\n ^\n"
+        self.check_told(["m.pli", "p.pli"], told, "included by k.inc:1\n", "included by m.pli:3\n")
         self.assertEqual(self.pli("m.pli", "p.pli")[2].count("A1"), 1)
 
     def test_names_that_collide(self):
@@ -247,12 +278,14 @@ class Includes(Room):
         self.check(["a/m.pli", "b/p.pli"], 0, "A                       A \n")
         self.check_told(["a/m.pli", "b/m.pli"], "pli: b/m.pli: a/m.pli is the unit M already; --as NAME FILE", status=2)
         self.write(calc_pli=body("%INCLUDE CALC;"), calc_inc=";")
-        self.check_told(["calc.pli"], "calc.pli:2:1: %INCLUDE CALC means calc.inc, but calc.pli is the unit CALC; --as NAME FILE")
+        told = "calc.pli:2:1: %INCLUDE CALC means calc.inc, but calc.pli is the unit CALC; --as NAME FILE"
+        self.check_told(["calc.pli"], told)
         self.check(["--as", "MAIN", "calc.pli"], 0)
 
     def test_carriage_returns(self):
         long = b"/*" + b"-" * 116 + b"*/"
-        self.write(m_pli=b"M: PROC OPTIONS(MAIN);\r\n%INCLUDE K;\r\n" + long + b"\r\n  X = 1;\r\nEND M;\r\n", k_inc=b"PUT LIST(1);\r\n")
+        lines = [b"M: PROC OPTIONS(MAIN);", b"%INCLUDE K;", long, b"  X = 1;", b"END M;", b""]
+        self.write(m_pli=b"\r\n".join(lines), k_inc=b"PUT LIST(1);\r\n")
         self.check_told(["m.pli"], "m.pli:4:3: A1 NOT DECLARED: X\n  X = 1;\n  ^\n")
 
 
@@ -262,10 +295,15 @@ class Refusals(Room):
     def test_words(self):
         self.write(m_pli=body(";"))
         for words, told in (
-            ([], "pli: no file is given"), (["--stepz=3", "m.pli"], "pli: --stepz=3 is no option; did you mean --steps"),
-            (["m.pli", "--steps"], "pli: --steps: something is missing"), (["--steps", "X", "m.pli"], "pli: --steps X: a number"),
-            (["-I", "none", "m.pli"], "pli: -I none: there is no such folder"), (["--as", "2", "m.pli"], "pli: m.pli: 2 is no name of a member"),
-            (["none.pli"], "pli: none.pli: No such file or directory"), (["."], "pli: .: Is a directory"), (["--explain", "Q9"], "pli: Q9 is no code"),
+            ([], "pli: no file is given"),
+            (["--stepz=3", "m.pli"], "pli: --stepz=3 is no option; did you mean --steps"),
+            (["m.pli", "--steps"], "pli: --steps: something is missing"),
+            (["--steps", "X", "m.pli"], "pli: --steps X: a number"),
+            (["-I", "none", "m.pli"], "pli: -I none: there is no such folder"),
+            (["--as", "2", "m.pli"], "pli: m.pli: 2 is no name of a member"),
+            (["none.pli"], "pli: none.pli: No such file or directory"),
+            (["."], "pli: .: Is a directory"),
+            (["--explain", "Q9"], "pli: Q9 is no code"),
             (["m.pli", "--trace", "--", "RUN"], "pli: --trace goes with a run"),
         ):
             status, output, found = self.pli(*words)
@@ -278,13 +316,15 @@ class Refusals(Room):
         self.assertTrue(self.pli("--explain", "a1")[1].startswith("A1 NOT DECLARED\n"))
 
     def test_files(self):
-        self.write(empty_pli="", long_pli=body("/*" + "-" * 120 + "*/"), byte_pli=body(" \x01"), many_pli=body(*[";"] * 9998), names2_pli=body(";"))
+        self.write(empty_pli="", byte_pli=body(" \x01"), many_pli=body(*[";"] * 9998))
+        self.write(long_pli=body("/*" + "-" * 120 + "*/"))
         (self.room / "2names.pli").write_text(body(";"))
         self.check(["empty.pli"], 1, "", "empty.pli:1: P1 NO PROCEDURE\n")
         self.check(["long.pli"], 1, "", "long.pli:2:121: M4 LINE TOO LONG: 124 bytes, 120 at most\n")
         self.check(["byte.pli"], 1, "", "byte.pli:2:2: M5 BAD BYTE: X'01'\n ?\n ^\n")
         self.check_told(["many.pli"], "many.pli:10000:1: M6 TOO MANY LINES")
-        self.check_told(["2names.pli"], "pli: 2names.pli: 2NAMES is no name of a member; --as NAME 2names.pli gives it one\n", status=2)
+        told = "pli: 2names.pli: 2NAMES is no name of a member; --as NAME 2names.pli gives it one\n"
+        self.check(["2names.pli"], 2, "", told)
         self.write(bytes_pli=bytes(range(256)) * 50)
         self.check_told(["bytes.pli"], "bytes.pli:1:1: M5 BAD BYTE: X'00'\n")
 
@@ -296,25 +336,33 @@ class Refusals(Room):
 
     def test_workbenches(self):
         self.write(m_pli=body(";"))
-        for program, told in (("/none", "No such file or directory"), ("/bin/true", "ended with status 0 before it had answered"),
-                              ("/bin/false", "ended with status 1 before it had answered"), ("/bin/cat", "does not answer as a workbench"),
-                              (".", "Permission denied")):
-            separator = ": " if told[0].isupper() else " "
-            self.check(["m.pli", "--workbench", program], 3, "", f"pli: {program}{separator}{told}\n")
+        for program, told in (
+            ("/none", ": No such file or directory"),
+            (".", ": Permission denied"),
+            ("/bin/true", " ended with status 0 before it had answered"),
+            ("/bin/false", " ended with status 1 before it had answered"),
+            ("/bin/cat", " does not answer as a workbench"),
+        ):
+            self.check(["m.pli", "--workbench", program], 3, "", f"pli: {program}{told}\n")
         self.assertEqual(self.pli("m.pli", "--workbench", WORKBENCH, workbench="/none")[0], 0)
 
     def test_outputs(self):
         self.write(m_pli=ENDLESS)
         with open("/dev/full", "wb") as full:
-            self.assertEqual(self.pli("m.pli", stdout=full)[0::2], (3, "pli: standard output: No space left on device\n"))
+            told = "pli: standard output: No space left on device\n"
+            self.assertEqual(self.pli("m.pli", stdout=full)[0::2], (3, told))
         reading, writing = os.pipe()
         os.close(reading)
         self.assertEqual(self.pli("m.pli", stdout=writing)[0::2], (3, "pli: standard output: Broken pipe\n"))
         os.close(writing)
-        for closed, told in ((">&-", "pli: standard output: Bad file descriptor\n"), ("2>&-", ""), ("<&-", "pli: OUT OF STEPS\n")):
-            ran = subprocess.run(f"{PLI} m.pli --steps 9 {closed}", shell=True, cwd=self.room, capture_output=True, timeout=WAIT,
-                                 env={**os.environ, "PLIWB": WORKBENCH})
-            self.assertEqual((ran.returncode, ran.stderr.decode()), (3 if closed == ">&-" else 1, told))
+        for closed, status, told in (
+            (">&-", 3, b"pli: standard output: Bad file descriptor\n"),
+            ("2>&-", 1, b""),
+            ("<&-", 1, b"pli: OUT OF STEPS\n"),
+        ):
+            call, environment = f"{PLI} m.pli --steps 9 {closed}", {**os.environ, "PLIWB": WORKBENCH}
+            ran = subprocess.run(call, shell=True, cwd=self.room, capture_output=True, timeout=WAIT, env=environment)
+            self.assertEqual((ran.returncode, ran.stderr), (status, told))
 
 
 class Batch(Room):
@@ -330,13 +378,14 @@ class Batch(Room):
         begin = f"import sys; sys.path.insert(0, {str(TOP / 'tools' / 'pli')!r}); import main, workbench"
         program = f"{begin}; workbench.STARTER = './starter'; sys.exit(main.main(sys.argv[1:]))"
         environment = {**os.environ, "PLIWB": "", "SERVER": WORKBENCH}
-        ran = subprocess.run(["python3", "-c", program, *words], cwd=self.room, capture_output=True, timeout=WAIT, env=environment)
+        call = ["python3", "-c", program, *words]
+        ran = subprocess.run(call, cwd=self.room, capture_output=True, timeout=WAIT, env=environment)
         return ran.returncode, ran.stdout.decode(), ran.stderr.decode()
 
     def test_a_run_and_its_trace(self):
         self.write(range_pli=RANGE)
-        traced = "pli: the last 3 statements\nrange.pli:2: CALL S(5);\nrange.pli:5: PUT LIST('BEFORE');\nrange.pli:6: A(N) = 1;\n"
-        self.check(["range.pli", "--trace"], 1, "BEFORE \n", f"range.pli:6: E1 SUBSCRIPT RANGE\n  A(N) = 1;\n{traced}")
+        told = f"range.pli:6: E1 SUBSCRIPT RANGE\n  A(N) = 1;\n{TRACED}"
+        self.check(["range.pli", "--trace"], 1, "BEFORE \n", told)
 
     def test_diagnostics_and_commands(self):
         self.write(m_pli=body("X = 1;"), good_pli=body("PUT LIST(1);"))
@@ -362,7 +411,8 @@ class Signals(Room):
 
     def test_output_comes_as_it_is_printed(self):
         running = self.started(ENDLESS)
-        self.assertEqual([running.stdout.readline() for _ in range(3)][1:], [f"LINE {number:33} \n".encode() for number in (1, 2)])
+        for line in ("\n", f"LINE {1:33} \n", f"LINE {2:33} \n"):
+            self.assertEqual(running.stdout.readline(), line.encode())
         status, output, told = self.stopped(running, signal.SIGINT)
         self.assertEqual((status, told, output[-1:]), (130, b"pli: stopped\n", b"\n"))
 
@@ -416,7 +466,8 @@ class Prompt(Room):
         self.line("RUN 6", b"NEW \r\nOUT OF STEPS")
         os.write(self.terminal, b"QUIT\n")
         self.assertEqual(os.waitpid(self.process, 0)[1], 0)
-        self.assertEqual((self.room / "new.pli").read_text(), ENDLESS.replace("PUT SKIP LIST('LINE', I);", "PUT LIST('NEW');"))
+        edited = ENDLESS.replace("PUT SKIP LIST('LINE', I);", "PUT LIST('NEW');")
+        self.assertEqual((self.room / "new.pli").read_text(), edited)
 
 
 if __name__ == "__main__":
