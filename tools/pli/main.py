@@ -14,6 +14,8 @@ from words import Call, page
 from workbench import Workbench, chosen
 
 VERSION = b"pli 1.0\n"
+STEPS = 999_999_999
+STEPS_IN_BATCH = 1_000_000
 
 
 def tell_warnings(report):
@@ -32,11 +34,13 @@ def build_and_run(call):
     gathered = Gathering(call.units, call.folders)
     if not is_good(gathered, call.most):
         return 1
-    report, run = Report(gathered.members, call.most), f"RUN {call.steps}".encode()
+    report = Report(gathered.members, call.most)
     if "--warn" in call.flags:
         tell_warnings(report)
     bench = Workbench(*chosen(call))
     session = Session(bench, gathered.members, report)
+    steps = call.steps if call.steps is not None else STEPS_IN_BATCH if bench.batch else STEPS
+    run = f"RUN {steps}".encode()
     commands = [os.fsencode(command) for command in call.commands]
     quits = next((at for at, command in enumerate(commands) if command.upper() == b"QUIT"), len(commands))
     if bench.batch:
@@ -44,7 +48,7 @@ def build_and_run(call):
     if not session.build(session.typing()):
         return 1
     if not commands:
-        return session.run(run, call.steps if "--trace" in call.flags else None)
+        return session.run(run, steps if "--trace" in call.flags else None)
     status = max([session.command(command) for command in commands[:quits]], default=0)
     show(b"OK\n" if quits < len(commands) else b"")
     return status

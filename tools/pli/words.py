@@ -21,7 +21,7 @@ class Call:
 
     def __init__(self, words):
         self.units, self.folders, self.commands, self.flags = [], [], [], set()
-        self.steps, self.most, self.workbench, self.explain = 999_999_999, 20, None, None
+        self.steps, self.most, self.workbench, self.explain = None, 20, None, None
         left = list(words)
         while left:
             word = left.pop(0)
