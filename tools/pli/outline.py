@@ -13,8 +13,8 @@ PREFIX = {"+", "-", "^"}
 
 
 class Statement(NamedTuple):
-    """A statement: where its label and its first word stand and where its own tokens end, that word, the numbers of the statements
-    that are open around it, and whether ELSE is before it."""
+    """A statement: where its label and its first word stand and where its own tokens end, that word, the numbers of the
+    statements that are open around it, and whether ELSE is before it."""
 
     start: int
     at: int
@@ -25,7 +25,8 @@ class Statement(NamedTuple):
 
 
 class Declared(NamedTuple):
-    """A declared name: its token, the block it belongs to, the token of what it is a member of, and its item of a DECLARE or a word."""
+    """A declared name: its token, the block it belongs to, the token of what it is a member of, and its item of a
+    DECLARE or a word."""
 
     at: int
     name: str
@@ -35,8 +36,8 @@ class Declared(NamedTuple):
 
 
 def expanded(members, name):
-    """The tokens of a unit with what it includes in their places, and of each the directives that lead to it; and the directives to
-    what ends this."""
+    """The tokens of a unit with what it includes in their places, and of each the directives that lead to it; and the
+    directives to what ends this."""
     tokens, chains, read, opened = [], [], 0, [(name, (), iter(members[name].items))]
     while opened and read <= MOST_TOKENS:
         _, chain, items = opened[-1]
@@ -103,8 +104,8 @@ def statements(tokens):
             end = min(at + 2, end)
         found.append(Statement(start, at, end, word, around, is_else))
         around = around[:-1] if word == "END" else (*around, len(found) - 1) if word in OPENING else around
-        is_else = end == last and [token.text for token in tokens[end : end + 1]] == ["ELSE"]
-        is_else = is_else and tokens[end + 1 :][:1] != [] and tokens[end + 1].text != ":" and not is_assignment(tokens, end)
+        behind = [token.text for token in tokens[end : end + 2]]
+        is_else = end == last and behind[:1] == ["ELSE"] and behind[1:] != [":"] and not is_assignment(tokens, end)
         at = end + is_else
     return found
 
@@ -121,10 +122,12 @@ def spelled(tokens):
 
 
 class Outline:
-    """The statements of a unit's tokens, its blocks, each the number of its statement, and its declared names."""
+    """A unit's tokens and their directives, its statements, its blocks, each the number of its statement, and its
+    declared names."""
 
-    def __init__(self, tokens):
-        self.tokens, self.statements = tokens, statements(tokens)
+    def __init__(self, members, name):
+        self.tokens, self.chains, self.last = expanded(members, name)
+        self.statements = statements(self.tokens)
         self.starts = [each.start for each in self.statements]
         self.declared = {each.at: each for each in sorted(self.names())}
 
@@ -137,7 +140,7 @@ class Outline:
         return spelled(self.tokens[self.statements[number].start : self.statements[number].end])
 
     def blocks_of(self, number):
-        """The blocks around a statement, from the inside, each the number of its PROCEDURE or BEGIN; -1 is around the unit."""
+        """The blocks around a statement, from the inside, by their PROCEDURE or BEGIN; -1 is around the unit."""
         around = self.statements[number].around if number >= 0 else ()
         return [*(each for each in reversed(around) if self.statements[each].word != "DO"), -1]
 
@@ -167,7 +170,8 @@ class Outline:
         """What DECLARE, a label or a procedure makes of names in the first of some blocks that has them."""
         for block in blocks:
             here = [each for each in self.declared.values() if (each.block, each.name) == (block, names[-1])]
-            here = [each for each in here if set(names) <= {owner.name for owner in self.owners(each)} and each.item != "PARAMETER"]
+            here = [each for each in here if each.item != "PARAMETER"]
+            here = [each for each in here if set(names) <= {owner.name for owner in self.owners(each)}]
             if here:
                 return min(here, key=lambda each: len(list(self.owners(each))))
         return None

@@ -61,7 +61,7 @@ class Traced:
 
 def typed(session, first, every):
     """The commands that type the units of a session with marks from a statement on, and then from each mark so many statements on."""
-    units = {name: session.report.unit(name).outline for name in session.report.sources()}
+    units = {name: session.report.unit(name) for name in session.report.sources()}
     used = {token.text for outline in units.values() for token in outline.tokens}
     count, limit = [name for number in range(len(used) + 2) if (name := f"T${number}") not in used][:2]
     declaration = ["DCL", f"{count} FIXED BIN(31) EXT ,", f"{limit} FIXED BIN(31) EXT INIT({first}) ;"]
