@@ -43,14 +43,16 @@ class Shell:
         return 0
 
     def begin_again(self):
-        """Behind Ctrl-C: a new workbench with the same members, where one was running."""
-        if not self.bench.emit:
+        """Behind Ctrl-C: a new workbench with the same members, where one was asked."""
+        if not self.bench.busy:
             show(b"\n")
             return
+        handler = signal.signal(signal.SIGINT, signal.SIG_IGN)
         self.bench.stop()
         self.bench = Workbench(self.words)
         self.typed([], self.members)
         tell("pli: stopped; the members are kept, and BUILD builds them")
+        signal.signal(signal.SIGINT, handler)
 
     def typed(self, gone, members):
         """Types members, behind the end of others."""

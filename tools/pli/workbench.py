@@ -46,7 +46,7 @@ class Workbench:
     alive = []
 
     def __init__(self, words, batch=False):
-        self.words, self.batch, self.planned, self.emit = words, batch, deque(), None
+        self.words, self.batch, self.planned, self.busy, self.emit = words, batch, deque(), False, None
         self.mark = f"MARK_{secrets.token_hex(12)}".upper()
         self.pending, self.greeting = b"", f"OK\nOK\n1 {self.mark}\nOK\n".encode()
         self.child = started(words, stdin=subprocess.PIPE)
@@ -77,8 +77,11 @@ class Workbench:
         """The answers to commands, line by line; nothing where they were not planned. With `emit` the commands are one
         RUN, `emit` gets what it prints as it comes, and the answer is its last line alone."""
         if not self.batch:
+            self.busy = True
             self.say(commands)
-            return self.hear(emit)
+            answers = self.hear(emit)
+            self.busy = False
+            return answers
         while self.planned:
             if self.planned.popleft() == commands:
                 return self.hear(emit)

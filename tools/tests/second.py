@@ -2,7 +2,7 @@
 """second.py: a workbench that answers commands as they come by the second opinion of bench/.
 
 It knows what bench/answers.py knows, and what the tests of the tool need beside that: lines that are no command,
-refusals of edits for their text, MEMBERS, faults of tokens and of directives (by the tool's own scan.py), Z1 for storage
+refusals of edits for their text, MEMBERS, faults of tokens and directives (by the tool's own scan.py), Z1 for storage
 and conditions, and output that is written as a run prints it.
 """
 import re
