@@ -26,11 +26,9 @@ class Member:
     def __str__(self):
         return self.shown
 
-    def edited(self):
-        """Says that lines are no longer those of the file."""
-        for kept in ("items", "by_tokens"):
-            self.__dict__.pop(kept, None)
-        self.shown = f"{self.shown.removesuffix(' as edited')} as edited"
+    def edited(self, lines):
+        """The member with other lines, which are not those of its file."""
+        return Member(self.name, self.kind, lines, self.path, f"{self.shown.removesuffix(' as edited')} as edited")
 
     def text(self):
         return b"\n".join(self.lines).decode("latin-1")

@@ -22,8 +22,18 @@ def apply(members, command):
     else:
         at = int(first) - (word != "INSERT")
         end = {"INSERT": at, "REPLACE": at + 1}.get(word) if word != "REMOVE" else int(rest)
-        members[name].lines[at:end] = [] if word == "REMOVE" else [rest.encode("latin-1")]
-        members[name].edited()
+        lines = [] if word == "REMOVE" else [rest.encode("latin-1")]
+        members[name] = members[name].edited([*members[name].lines[:at], *lines, *members[name].lines[end:]])
+
+
+def answered(bench, members, command):
+    """The answers to a command that is no RUN, which are shown; an edit is made in the members too."""
+    own = f"{bench.mark} INCLUDE 1".encode()
+    answers = [line for line in bench.ask([command]) if line != own]
+    if answers == [b"OK"]:
+        apply(members, command)
+    show(b"".join(answer + b"\n" for answer in answers))
+    return answers
 
 
 class Session:
@@ -89,9 +99,6 @@ class Session:
             built = self.build([command])
             show(b"BUILT\n" if built else b"NOT BUILT\n")
             return int(not built)
-        answers = self.bench.answers(command)
-        if answers == [b"OK"]:
-            apply(self.members, command)
-            self.report.forget()
-        show(b"".join(line + b"\n" for line in answers))
+        answers = answered(self.bench, self.members, command)
+        self.report.forget()
         return int(answers[-1:] != [b"OK"])

@@ -4,7 +4,7 @@ from contextlib import suppress
 from pathlib import Path
 
 from files import Gathering, is_good
-from session import apply
+from session import answered
 from streams import Stopped, Trouble, show, tell
 from words import page
 from workbench import Workbench, chosen
@@ -74,10 +74,7 @@ class Shell:
         elif word.upper() == "RUN":
             show(self.bench.ask([line], show) + b"\n")
         elif word and word.upper() != "QUIT":
-            answers = self.bench.answers(line)
-            if answers == [b"OK"]:
-                apply(self.members, line)
-            show(b"".join(answer + b"\n" for answer in answers))
+            answered(self.bench, self.members, line)
 
     def load(self, path, name=None):
         gathered = Gathering([(path, name)], self.folders)

@@ -88,11 +88,6 @@ class Workbench:
             self.hear(lambda _: None)
         return None
 
-    def answers(self, command):
-        """The answers to one command that is no RUN, without the member of the mark."""
-        own = f"{self.mark} INCLUDE 1".encode()
-        return [line for line in self.ask([command]) if line != own]
-
     def read(self):
         """Takes what the workbench wrote, and waits for it."""
         chunk = os.read(self.child.stdout.fileno(), CHUNK)
