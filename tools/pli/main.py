@@ -8,7 +8,7 @@ from report import Report, placed
 from scan import comments
 from session import Session
 from shell import Shell
-from streams import Stopped, Trouble, handle_signals, prepare, show, tell
+from streams import Stopped, Trouble, end_line, handle_signals, prepare, show, tell
 from warn import warnings
 from words import Call, page
 from workbench import Workbench, chosen
@@ -86,6 +86,7 @@ def main(words):
     except Stopped as stopped:
         handle_signals(signal.SIG_IGN)
         Workbench.stop_all()
+        end_line()
         tell("pli: stopped")
         return 128 + stopped.args[0]
     except Exception as error:

@@ -5,6 +5,9 @@ from files import Member
 from streams import Trouble, show, tell
 from tracing import questions, tell_trace
 
+FIRST_STEPS = 10_000
+DEFAULT_STEPS = 1_000_000
+RUN = re.compile(rb"RUN(?: ([0-9]{1,18}))?", re.IGNORECASE)
 ERROR = re.compile(r"ERROR (E\d+ .*) (\S+) (\d+)")
 EDIT = re.compile(r"(ADD|DELETE|INSERT|REPLACE|REMOVE) ([A-Z][A-Z0-9_$]*)(?: (\S+))?(?: (.*))?", re.IGNORECASE)
 
@@ -34,6 +37,36 @@ def answered(bench, members, command):
         apply(members, command)
     show(b"".join(answer + b"\n" for answer in answers))
     return answers
+
+
+class Growing:
+    """The output of runs of more and more steps, of which only what is new is shown. So output comes while a run goes
+    on, though a workbench writes it in large pieces. The last byte waits: it may be the line feed of a run's end."""
+
+    def __init__(self):
+        self.shown, self.seen, self.last = 0, 0, b""
+
+    def emit(self, data):
+        """Takes what a run prints next."""
+        text = self.last + data
+        new = text[max(0, self.shown - self.seen + len(self.last)) : -1]
+        show(new)
+        self.shown, self.seen, self.last = self.shown + len(new), self.seen + len(data), text[-1:]
+
+    def run(self, bench, command):
+        """The end of a run, by runs of fewer steps before it."""
+        found, many = RUN.fullmatch(command), FIRST_STEPS
+        if bench.batch or not found:
+            return bench.ask([command], show)
+        steps, ending = int(found[1] or DEFAULT_STEPS), b"OUT OF STEPS"
+        while ending == b"OUT OF STEPS":
+            self.seen, self.last = 0, b""
+            ending = bench.ask([f"RUN {min(many, steps)}".encode()], self.emit)
+            if many >= steps:
+                break
+            many *= 4
+        show(self.last if self.seen > self.shown else b"")
+        return ending
 
 
 class Session:
@@ -78,7 +111,7 @@ class Session:
 
     def run(self, command, steps=None):
         """The status of a run, whose output is shown as it comes, with a trace where its steps are given."""
-        ending = self.bench.ask([command], show).decode()
+        ending = Growing().run(self.bench, command).decode()
         if ending == "ENDED":
             return 0
         if error := ERROR.fullmatch(ending):

@@ -4,8 +4,8 @@ from contextlib import suppress
 from pathlib import Path
 
 from files import Gathering, is_good
-from session import answered
-from streams import Stopped, Trouble, show, tell
+from session import Growing, answered
+from streams import Stopped, Trouble, end_line, show, tell
 from words import page
 from workbench import Workbench, chosen
 
@@ -49,6 +49,7 @@ class Shell:
             return
         handler = signal.signal(signal.SIGINT, signal.SIG_IGN)
         self.bench.stop()
+        end_line()
         self.bench = Workbench(self.words)
         self.typed([], self.members)
         tell("pli: stopped; the members are kept, and BUILD builds them")
@@ -72,7 +73,7 @@ class Shell:
             (self.load if word.upper() == "LOAD" else self.save)(Path(rest[0]), *rest[1:])
             show(b"OK\n")
         elif word.upper() == "RUN":
-            show(self.bench.ask([line], show) + b"\n")
+            show(Growing().run(self.bench, line) + b"\n")
         elif word and word.upper() != "QUIT":
             answered(self.bench, self.members, line)
 

@@ -26,11 +26,21 @@ def put(descriptor, data):
 
 
 def show(data):
-    """Writes bytes to standard output."""
+    """Writes bytes to standard output, and keeps the last of them."""
     try:
         put(1, data)
     except OSError as error:
         raise Trouble(f"standard output: {error.strerror}") from None
+    show.last = data[-1:] or show.last
+
+
+show.last = b"\n"
+
+
+def end_line():
+    """Ends a line of standard output that is begun."""
+    with suppress(Trouble):
+        show(b"" if show.last == b"\n" else b"\n")
 
 
 def tell(message):

@@ -139,7 +139,7 @@ class Workbench:
                     self.pending += chunk
             printed = self.pending.partition(f"1 {self.mark}\n".encode())[0]
             with suppress(Trouble):
-                self.emit(printed + (b"" if printed[-1:] in (b"", b"\n") else b"\n"))
+                self.emit(printed and printed + b"\n")
 
     @classmethod
     def stop_all(cls):
