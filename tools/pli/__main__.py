@@ -3,7 +3,8 @@ import sys
 
 try:
     from main import main
-except KeyboardInterrupt:
-    sys.exit(130)
 
-sys.exit(main(sys.argv[1:]))
+    status = main(sys.argv[1:])
+except KeyboardInterrupt:
+    status = 130
+sys.exit(status)
