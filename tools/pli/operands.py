@@ -1,0 +1,141 @@
+"""The types of operands, targets and arguments, for notes on faults of types."""
+from declared import CHARACTER, NUMBER, Item, closing, parts
+
+COMPARISONS = {"=", "^=", "<", "<=", ">", ">="}
+LEVELS = [{"|"}, {"&"}, COMPARISONS, {"||"}, {"+", "-"}, {"*"}]
+FAMILIES = {"CHARACTER": CHARACTER, "BIT": {"BIT"}, "FIXED BINARY": NUMBER, "POINTER": {"POINTER", "PTR"}}
+FAMILIES |= {"OFFSET": {"OFFSET"}, "AREA": {"AREA"}}
+CONSTANTS = {"number": "FIXED BINARY", "binary": "FIXED BINARY", "string": "CHARACTER", "bits": "BIT"}
+NUMBERS = "ABS MAX MIN MOD DIVIDE SIGN LENGTH INDEX ALLOCATION LBOUND HBOUND".split()
+BUILT_IN = dict.fromkeys(NUMBERS, "FIXED BINARY") | {"ADDR": "POINTER", "POINTER": "POINTER", "OFFSET": "OFFSET"}
+BUILT_IN |= {"NULL": "POINTER", "EMPTY": "AREA", "SUBSTR": ""}
+
+
+def described(attributes, is_array=False):
+    """The type that attributes say; nothing where they say none."""
+    item = Item(0, "", 1, is_array, attributes)
+    return "array of " * is_array + next((name for name, words in FAMILIES.items() if item.has(words)), "")
+
+
+def returned(head):
+    """The type that RETURNS says among attributes."""
+    return next((described(head[at:]) for at, token in enumerate(head) if token.text == "RETURNS"), "")
+
+
+class Types:
+    """The types in a statement, by tokens: `pairs` has those of each operator and `=`, `calls` those of the arguments
+    and parameters of each called name, `whole` that of each expression."""
+
+    def __init__(self, outline, number):
+        self.outline, self.tokens, self.blocks = outline, outline.tokens, outline.blocks_of(number)
+        self.pairs, self.calls, self.whole = {}, {}, {}
+        each = outline.statements[number]
+        self.at = each.at
+        if each.word == "=" or each.word == "DO" and self.text(2) in ("=", "(", "."):
+            self.at += each.word == "DO"
+            target, equals = self.reference(), self.at
+            self.at += 1
+            self.pairs[equals] = self.expression(), target
+        self.at = max(self.at, each.at + 1)
+        self.list(each.end)
+
+    def text(self, ahead=0):
+        return self.tokens[self.at + ahead].text if self.at + ahead < len(self.tokens) else ";"
+
+    def expression(self, level=0):
+        """The type of the expression that begins here, which is passed."""
+        if level == len(LEVELS):
+            return self.operand()
+        first, left = self.at, self.expression(level + 1)
+        while (sign := self.text()) in LEVELS[level]:
+            at = self.at
+            self.at += 1
+            self.pairs[at] = left, self.expression(level + 1)
+            strings = "CHARACTER" if sign == "||" and "CHARACTER" in self.pairs[at] else "BIT"
+            left = "FIXED BINARY" if sign in "+-*" else strings
+        self.whole[first] = left
+        return left
+
+    def operand(self):
+        at, text, kind = self.at, self.text(), self.tokens[self.at].kind if self.at < len(self.tokens) else "sign"
+        if kind == "name":
+            return self.reference()
+        self.at += 1
+        if text in ("+", "-", "^"):
+            self.pairs[at] = (self.operand(),)
+            return self.pairs[at][0]
+        inside = self.expression() if text == "(" else CONSTANTS.get(kind, "")
+        self.at += text == "(" and self.text() == ")"
+        return inside
+
+    def reference(self):
+        """The type of what a reference means; what stands before an arrow is passed."""
+        names, given, first, sign = [], None, self.at, "."
+        while sign in (".", "->"):
+            names, given, first = (names, given, first) if sign == "." else ([], None, self.at)
+            names.append(self.text())
+            self.at += 1
+            if self.text() == "(":
+                self.at += 1
+                given = (given or []) + self.list(closing(self.tokens, self.at - 1) - 1)
+                self.at += 1
+            sign = self.text()
+            self.at += sign in (".", "->")
+        return self.meant(names, given or [], first)
+
+    def list(self, end):
+        """The types of expressions up to a place, parted by commas or else."""
+        several = []
+        while self.at < end:
+            before = self.at
+            several.append(self.expression())
+            self.at = max(self.at, before + 1) + (self.text() == ",")
+        self.at = end
+        return several
+
+    def meant(self, names, given, at):
+        """The type of a variable, an element, or what a call gives."""
+        found = self.outline.meant(names, self.blocks)
+        if found is None:
+            return BUILT_IN.get(names[0]) or (given[0] if names[0] == "SUBSTR" and given else "")
+        if isinstance(found.item, str):
+            return self.call(found, given, at) if found.item == "PROCEDURE" else ""
+        head = found.item.attributes
+        if found.item.has({"ENTRY"}):
+            place = next(place for place, token in enumerate(head) if token.text == "ENTRY") + 1
+            listed = head[place:] and head[place].text == "("
+            ends = parts(head, place + 1, closing(head, place) - 1) if listed else []
+            self.calls[at] = given, [described(head[first:last], head[first].text == "(") for first, last in ends]
+            return returned(head)
+        owners = list(self.outline.owners(found))
+        is_array = not given and any(each.item.dimensions for each in owners)
+        members = any(each.parent == found.at for each in self.outline.declared.values())
+        return "structure" if members else described(head, is_array)
+
+    def call(self, found, given, at):
+        """The type that a call of a procedure gives."""
+        number = self.outline.number_at(found.at)
+        listed = [each for each in self.outline.declared.values() if each[2:] == (number, -1, "PARAMETER")]
+        items = [own.item for each in listed if (own := self.outline.meant([each.name], [number]))]
+        self.calls[at] = given, [described(item.attributes, item.dimensions) for item in items]
+        return returned(self.tokens[found.at : self.outline.statements[number].end])
+
+    def result(self):
+        """What the procedure around the statement returns."""
+        around = [self.outline.statements[block] for block in self.blocks]
+        each = next(each for each in around if each.word == "PROCEDURE")
+        return returned(self.tokens[each.at : each.end])
+
+
+def told_types(outline, code, at):
+    """What is to be said of the types at a fault T4, T5 or T7."""
+    types = Types(outline, outline.number_at(at))
+    kinds = types.pairs.get(at) or (types.whole.get(at, ""),)
+    if code == "T7":
+        given, wanted = (", ".join(kinds) for kinds in types.calls.get(at, ("", "")))
+        return [f"argument {given}, parameter {wanted}"] if given and wanted else []
+    if code == "T5":
+        kinds = (*kinds, types.result()) if len(kinds) == 1 else kinds
+        other = " of another description" if kinds[0] == kinds[1] else ""
+        return [f"{kinds[0]} is assigned to {kinds[1]}{other}"] if all(kinds) else []
+    return [f"operand{'s' * (len(kinds) > 1)} {' and '.join(kinds)}"] if all(kinds) else []

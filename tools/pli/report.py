@@ -1,0 +1,166 @@
+"""What is wrong, told where it is: places, lines with a caret, and notes."""
+import re
+from difflib import get_close_matches
+from functools import cache, partial
+
+from leftout import left_out
+from operands import BUILT_IN, told_types
+from outline import OPENING, Outline, after_expression, spelled
+from scan import Include
+from streams import tell
+
+UNIT_FAULT = re.compile(r"(\S+) (\S+):(\d+) ([A-Z]\d+) (.+)")
+LINK_FAULT = re.compile(r"(N[2-5]) (.+) (\S+) (\S+)")
+FIRST_PLACES = {"N2": "the first main procedure is at", "N4": "first defined at", "N5": "does not agree with"}
+MOST_COLUMNS = 120
+
+
+def placed(member, line, column, message):
+    """Tells a message at a place, with the line and a caret below it."""
+    tell(f"{member}:{line}:{column}: {message}")
+    text = re.sub(r"[^\t -~]", "?", b"".join(member.lines[line - 1 : line]).decode("latin-1"))
+    if text and len(text) <= MOST_COLUMNS:
+        tell(text + "\n" + re.sub(r"[^\t]", " ", text[: column - 1]) + "^")
+
+
+def limited(told, most):
+    """Calls each of some, up to a number, and tells how many are left."""
+    for each in told[:most]:
+        each()
+    if len(told) > most:
+        tell(f"pli: {len(told) - most} more; --errors {len(told)} tells all")
+
+
+class Report:
+    """Tells the diagnostics of builds and the errors of runs of some members."""
+
+    def __init__(self, members, most=20):
+        self.members, self.most = members, most
+        self.forget()
+
+    def forget(self):
+        """Lets go of the units, since members were edited."""
+        self.unit = cache(partial(Outline, self.members))
+
+    def sources(self):
+        return sorted(name for name, member in self.members.items() if member.kind == "SOURCE")
+
+    def diagnosed(self, lines, by_tokens):
+        """Tells the diagnostics of a build, at the places that a build by tokens has; those of an include once."""
+        first, second = ([UNIT_FAULT.fullmatch(line) for line in each] for each in (lines, by_tokens or []))
+        agreed = [each and each.group(1, 4) for each in first] == [each and each.group(1, 4) for each in second]
+        told = {}
+        for number, fault in enumerate(first):
+            if fault is None:
+                told[number] = partial(self.tell_link, lines[number])
+                continue
+            item = self.members[second[number][2]].item(int(second[number][3])) if agreed else None
+            own = number if item is None and fault[1] == fault[2] else None
+            told.setdefault((*fault.group(2, 3, 4), item, own), partial(self.tell_fault, fault, item))
+        limited(list(told.values()), self.most)
+
+    def tell_fault(self, fault, item):
+        """Tells a diagnostic of a unit, at a token, directive or ScanFault where that is known."""
+        unit, member, line, code, text = fault.groups()
+        if item is None:
+            tell(f"{self.members[member]}:{line}: {code} {text}")
+            return
+        word = f"%INCLUDE {item.name}" if isinstance(item, Include) else item.spelled
+        placed(item.source, item.line, item.column, f"{code} {text}: {word}")
+        outline, notes = self.unit(unit), []
+        at = next((at for at, token in enumerate(outline.tokens) if token is item), -1)
+        if code == "I1":
+            kinds = "with .inc, .h, .pli or .pl1"
+            notes = [f"no file {item.name} {kinds} beside {item.source}, and none in a folder of -I"]
+        elif at >= 0:
+            notes = NOTES[code](outline, code, at) if code in NOTES and outline.starts else []
+            notes = [*notes, left_out(code, outline.tokens, at)]
+        chain = outline.chains[at] if at >= 0 else outline.last
+        notes += [f"included by {directive.source}:{directive.line}" for directive in reversed(chain)]
+        for note in filter(None, notes):
+            tell(f"  note: {note}")
+
+    def tell_link(self, line):
+        """Tells a diagnostic of linking, at both places where it has two."""
+        found = LINK_FAULT.fullmatch(line)
+        if not found:
+            note = "\n  note: a run begins in the procedure with OPTIONS(MAIN)" if line.startswith("N1") else ""
+            tell(f"pli: {line}{note}")
+            return
+        code, text, name, unit = found.groups()
+        heads = {each: self.unit(each).tokens[0] for each in self.sources()}
+        if code == "N2":
+            heads = {each: heads[each] for each in heads if "MAIN" in self.unit(each).text_of(0).upper()}
+        if code in ("N2", "N4"):
+            here, first = heads[unit], next(head for head in heads.values() if code == "N2" or head.text == name)
+        else:
+            known = {each: next(self.external(each, name), None) for each in heads}
+            firsts = [head for head in heads.values() if head.text == name] + list(filter(None, known.values()))
+            here, first = known[unit], firsts[0]
+        placed(here.source, here.line, here.column, f"{code} {text}: {name}")
+        if code in FIRST_PLACES:
+            tell(f"  note: {FIRST_PLACES[code]} {first.source}:{first.line}")
+
+    def external(self, unit, name):
+        """The tokens that declare an entry or an external variable of a name."""
+        for each in self.unit(unit).declared.values():
+            if each.name == name and not isinstance(each.item, str) and each.item.has({"ENTRY", "EXTERNAL", "EXT"}):
+                yield self.unit(unit).tokens[each.at]
+
+    def place_of(self, unit, number):
+        """Where a statement begins, and its text."""
+        outline = self.unit(unit)
+        token = outline.tokens[outline.starts[number - 1]]
+        return f"{token.source}:{token.line}", outline.text_of(number - 1)
+
+
+def where(token, beside):
+    """A place in words: a line of the same file, or a file and a line."""
+    return f"line {token.line}" if beside.source is token.source else f"{token.source}:{token.line}"
+
+
+def meant(outline, _, at):
+    """A declared name that is nearly the one that is not."""
+    names = {each.name for each in outline.declared.values()} | set(BUILT_IN)
+    return [f"did you mean {near}" for near in get_close_matches(outline.tokens[at].text, sorted(names), 1, 0.7)]
+
+
+def first_declared(outline, _, at):
+    """Where a name that is declared twice was declared first."""
+    own = outline.declared.get(at)
+    same = [each for each in outline.declared.values() if own and each[1:4] == own[1:4]]
+    first = next((each for each in same if each.item != "PARAMETER" or own.item == "PARAMETER"), own)
+    return [f"first declared at {where(outline.tokens[first.at], outline.tokens[at])}"] if first is not own else []
+
+
+def still_open(outline, code, at):
+    """What an END does not close, or what has none."""
+    number, tokens = outline.number_at(at), outline.tokens
+    each = outline.statements[number]
+    around = each.around
+    if code == "P9":
+        around = around[:-1] if each.word == "END" else (*around, number) if each.word in OPENING else around
+        if tokens[at].text != ";":
+            yield f"; is missing behind {tokens[at].spelled}"
+    if around:
+        opening = outline.statements[around[-1]]
+        yield f"{opening.word} of {where(tokens[opening.at], tokens[at])} is still open"
+
+
+def before(outline, code, at):
+    """The statement before one that is none, or that does not end."""
+    number, tokens = outline.number_at(at), outline.tokens
+    start, end = outline.starts[number], after_expression(tokens, at)
+    if code == "P5":
+        place = where(tokens[start], tokens[at])
+        yield f"; is missing behind the statement before, of {place}: {spelled(tokens[start:at])}"
+        return
+    if end and tokens[end].text != ";" and tokens[end].line > tokens[end - 1].line:
+        yield f"; may be missing behind {spelled(tokens[at:end])}"
+    if number:
+        place = where(tokens[outline.starts[number - 1]], tokens[at])
+        yield f"the statement before, of {place}: {outline.text_of(number - 1)}"
+
+
+NOTES = {"A1": meant, "A2": first_declared, "P8": still_open, "P9": still_open, "P2": before, "P5": before}
+NOTES |= dict.fromkeys(("T4", "T5", "T7"), told_types)

@@ -1,0 +1,74 @@
+"""What the tool writes, and what ends it: a trouble, told in one line, or a signal."""
+import os
+import signal
+from contextlib import suppress
+
+STOPPING = (signal.SIGINT, signal.SIGTERM, signal.SIGHUP)
+
+
+class Trouble(Exception):
+    """What ends the tool with one line and a status: 2 for its words and files, 3 for the workbench and the output."""
+
+    def __init__(self, message, status=3):
+        super().__init__(message)
+        self.status = status
+
+
+class Stopped(BaseException):
+    """A signal that ends the tool, with its number."""
+
+
+def put(descriptor, data):
+    """Writes all of some bytes."""
+    left = memoryview(data)
+    while left:
+        left = left[os.write(descriptor, left) :]
+
+
+def show(data):
+    """Writes bytes to standard output, and keeps the last of them."""
+    try:
+        put(1, data)
+    except OSError as error:
+        raise Trouble(f"standard output: {error.strerror}") from None
+    show.last = data[-1:] or show.last
+
+
+show.last = b"\n"
+
+
+def end_line():
+    """Ends a line of standard output that is begun."""
+    with suppress(Trouble):
+        show(b"" if show.last == b"\n" else b"\n")
+
+
+def tell(message):
+    """Writes a line to standard error; where nobody takes it, nothing is left to be said."""
+    with suppress(OSError):
+        put(2, message.encode("utf-8", "surrogateescape") + b"\n")
+
+
+def stopped(number, _):
+    raise Stopped(number)
+
+
+def handle_signals(handler):
+    """Says what signals do from here on, but where they are ignored already."""
+    for each in STOPPING:
+        if signal.getsignal(each) != signal.SIG_IGN:
+            signal.signal(each, handler)
+
+
+def prepare():
+    """Makes sure of the three streams, so that no file takes the place of one, and of signals."""
+    handle_signals(stopped)
+    wrong = None
+    for descriptor in range(3):
+        try:
+            os.fstat(descriptor)
+        except OSError as error:
+            os.open(os.devnull, os.O_RDWR)
+            wrong = error.strerror if descriptor == 1 else wrong
+    if wrong:
+        raise Trouble(f"standard output: {wrong}")

@@ -1,0 +1,147 @@
+"""The workbench as a process: commands go to it, and answers come back as they come.
+
+Where answers end is known by a mark: a member of its own, of a random name and with a random line, that is listed
+behind the commands of each question. So nothing that a program prints is taken for the end of its run.
+"""
+import os
+import queue
+import secrets
+import signal
+import subprocess
+import threading
+from collections import deque
+from contextlib import suppress
+from pathlib import Path
+
+from streams import Trouble, put
+
+STARTER = str(Path(__file__).resolve().parents[2] / "bin" / "pliwb")
+CHUNK = 65536
+SECONDS_TO_END = 5
+
+
+def started(words, **streams):
+    """A process of its own group, which a signal to the tool does not reach."""
+    try:
+        return subprocess.Popen(words, bufsize=0, stdout=subprocess.PIPE, start_new_session=True, **streams)
+    except OSError as error:
+        raise Trouble(f"{words[0]}: {error.strerror}") from None
+
+
+def chosen(call):
+    """The words that start the workbench which a call wants, and whether it answers only when all is asked."""
+    proof = call.flags & {"--proved", "--unproved"}
+    program = call.workbench or not proof and os.environ.get("PLIWB")
+    if program:
+        return [program], False
+    if not proof:
+        which = started([STARTER, "--which"], stdin=subprocess.DEVNULL).communicate()[0]
+        proof = {"--proved" if which.strip() == b"proved" else "--unproved"}
+    return [STARTER, *proof], "--unproved" in proof
+
+
+class Workbench:
+    """A workbench that was started. Where it is a batch, all questions are planned before the first is asked."""
+
+    alive = []
+
+    def __init__(self, words, batch=False):
+        self.words, self.batch, self.planned, self.busy, self.emit = words, batch, deque(), False, None
+        self.mark = f"MARK_{secrets.token_hex(12)}".upper()
+        self.pending, self.greeting = b"", f"OK\nOK\n1 {self.mark}\nOK\n".encode()
+        self.child = started(words, stdin=subprocess.PIPE)
+        self.alive.append(self)
+        self.given = queue.SimpleQueue()
+        threading.Thread(target=self.feed, daemon=True).start()
+        self.say([f"ADD {self.mark} INCLUDE".encode(), f"INSERT {self.mark} 0 {self.mark}".encode()])
+
+    def feed(self):
+        """Writes what is said, beside the reading of answers, so that neither waits for the other."""
+        with suppress(OSError):
+            while (data := self.given.get()) is not None:
+                put(self.child.stdin.fileno(), data)
+            self.child.stdin.close()
+
+    def say(self, commands):
+        """Gives commands, and the mark behind them."""
+        self.given.put(b"".join(command + b"\n" for command in [*commands, f"LIST {self.mark}".encode()]))
+
+    def plan(self, questions):
+        """Asks a batch all questions that there may be."""
+        for commands in questions:
+            self.say(commands)
+        self.planned.extend(questions)
+        self.given.put(None)
+
+    def ask(self, commands, emit=None):
+        """The answers to commands, line by line; nothing where they were not planned. With `emit` the commands are one
+        RUN, `emit` gets what it prints as it comes, and the answer is its last line alone."""
+        if not self.batch:
+            self.busy = True
+            self.say(commands)
+            answers = self.hear(emit)
+            self.busy = False
+            return answers
+        while self.planned:
+            if self.planned.popleft() == commands:
+                return self.hear(emit)
+            self.hear(lambda _: None)
+        return None
+
+    def read(self):
+        """Takes what the workbench wrote, and waits for it."""
+        chunk = os.read(self.child.stdout.fileno(), CHUNK)
+        if not chunk:
+            raise Trouble(f"{self.words[0]} ended with status {self.child.wait()} before it had answered")
+        self.pending += chunk
+
+    def greet(self):
+        """Sees that it is a workbench which answers."""
+        while len(self.pending) < len(self.greeting) and self.greeting.startswith(self.pending):
+            self.read()
+        if not self.pending.startswith(self.greeting):
+            raise Trouble(f"{self.words[0]} does not answer as a workbench")
+        self.pending, self.greeting = self.pending[len(self.greeting) :], b""
+
+    def hear(self, emit=None):
+        """The answers up to the next mark, as `ask` gives them. What is passed on is held back by a line that ended,
+        which may be the end of the run."""
+        self.greet()
+        self.emit = emit
+        end = f"1 {self.mark}\n".encode()
+        while (at := self.pending.find(end)) < 0:
+            cut = self.pending.rfind(b"\n", 0, max(self.pending.rfind(b"\n"), 0)) + 1
+            if emit and cut:
+                emit(self.pending[:cut])
+                self.pending = self.pending[cut:]
+            self.read()
+        while len(self.pending) < at + len(end) + len(b"OK\n"):
+            self.read()
+        answers, self.pending = self.pending[:at], self.pending[at + len(end) + len(b"OK\n") :]
+        printed = answers.rfind(b"\n", 0, len(answers) - 1) + 1
+        if emit:
+            emit(answers[:printed])
+        self.emit = None
+        return answers[printed:-1] if emit else answers.split(b"\n")[:-1]
+
+    def stop(self):
+        """Ends the workbench with all that it started, and passes on what it had printed of a run."""
+        self.alive.remove(self)
+        for number in (signal.SIGTERM, signal.SIGKILL):
+            with suppress(OSError, subprocess.TimeoutExpired):
+                if self.child.poll() is None:
+                    os.killpg(self.child.pid, number)
+                    self.child.wait(SECONDS_TO_END)
+        if self.emit:
+            os.set_blocking(self.child.stdout.fileno(), False)
+            with suppress(OSError):
+                while chunk := os.read(self.child.stdout.fileno(), CHUNK):
+                    self.pending += chunk
+            printed = self.pending.partition(f"1 {self.mark}\n".encode())[0]
+            with suppress(Trouble):
+                self.emit(printed and printed + b"\n")
+
+    @classmethod
+    def stop_all(cls):
+        for each in list(cls.alive):
+            each.stop()
