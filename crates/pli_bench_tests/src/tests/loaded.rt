@@ -15,7 +15,7 @@ static ONE_UNIT: [u8; 58] = [
     0,
 ];
 
-/// The same with EMPTY for its instruction, which is one of areas: it is loaded, and no code of today's language has it.
+/// The same with EMPTY for its instruction, which is one of areas: it is loaded, and no code of a build has it yet.
 static EMPTY_AREA: [u8; 57] = [
     80, 76, 73, 77, 1, 0, 1, 0, 0, 0, 0, 1, 77, 0, 0, 0, 38, 80, 76, 73, 68, 1, 1, 77, 1, 0, 255,
     255, 0, 0, 0, 0, 0, 0, 0, 0, 0, 1, 0, 255, 255, 0, 0, 0, 0, 0, 0, 0, 0, 0, 0, 1, 0, 1, 55, 0,
