@@ -39,7 +39,7 @@ end_from from (b ∷ bs) = end_from (end_of b) bs
 abbrev pub extent : List Block → ℕ
 extent bs = end_from 0 bs
 
--- blocks stand one behind another from this place on, at multiples of 8, each with as many bytes as its size says
+-- blocks stand one behind another from this place on, at multiples of 8, each with the bytes that its size says
 abbrev pub Stand : (from : ℕ) → List Block → Type 0
 Stand from [] = Unit {0}
 Stand from (b ∷ bs) =

@@ -1,13 +1,15 @@
 -- What the fields of an area keep, and what their searches find.
-use Rattle.std.specs.Prelude.{◌≡◌, ◌≢◌, ◌+◌, ◌-◌, ◌/◌, ◌%◌, ◌^◌, ◌<◌, ◌≤◌, ℕ, Bool, nat_lt, nat_le, Option, Some, None, List, [], ◌∷◌}
-use Rattle.std.specs.Prelude.{length, take, drop, slice_get, slice_index, ◌++◌, if◌then◌else◌}
+use Rattle.std.specs.Prelude.{◌≡◌, ◌≢◌, ◌+◌, ◌-◌, ◌/◌, ◌%◌, ◌^◌, ◌<◌, ◌≤◌, ℕ, Bool, nat_lt, nat_le}
+use Rattle.std.specs.Prelude.{Option, Some, None, List, [], ◌∷◌, ◌++◌, length, take, drop, slice_get, slice_index}
+use Rattle.std.specs.Prelude.{if◌then◌else◌}
 use Rattle.pli_area.specs.HoleNumbers.{next_start, holes_in, with_hole}
 use Rattle.pli_area.specs.views.AreaView.{Lie, header_end, headers_end}
 use Rattle.pli_area.specs.declared.header.Header.{Header}
 
--- the headers lie below the capacity, the holes between them are known, all room that headers and holes may ever
--- need is reserved, and there are as many bytes as the capacity says
-pub record IsHeld (capacity : ℕ) (headers : List Header) (header_room : ℕ) (holes : List ℕ) (hole_room : ℕ) (bytes : List ℕ) : Type 0 where
+-- the headers lie below the capacity, the holes between them are known, all room that headers and holes may
+-- ever need is reserved, and there are as many bytes as the capacity says
+pub record IsHeld (capacity : ℕ) (headers : List Header) (header_room : ℕ)
+    (holes : List ℕ) (hole_room : ℕ) (bytes : List ℕ) : Type 0 where
   pub aligned : capacity % 8 ≡ 0
   pub small : capacity < 2 ^ 32
   pub lie : Lie 0 headers

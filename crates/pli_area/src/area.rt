@@ -1,5 +1,5 @@
 //! Areas.
-ghost use Rattle.std.specs.Prelude.{◌≡◌, ◌+◌, ◌%◌, ◌<◌, ◌≤◌, [], length, None, IsSome, IfOk, OnOk, OnErr};
+ghost use Rattle.std.specs.Prelude.{◌≡◌, ◌+◌, ◌%◌, ◌<◌, ◌≤◌, [], length, None, ℕ, IsSome, IfSome, IfOk, OnOk, OnErr};
 ghost use Rattle.std.specs.Option.{option_map};
 ghost use Rattle.std.specs.Result.{result_ok};
 ghost use Rattle.pli_area.specs.Areas.{IsArea, IsLeast, IsFull, IsAdded, HasBytes, first_fit, block_at, without_block, with_bytes, bytes_at, extent};
@@ -31,8 +31,8 @@ pub struct Block {
     pub size: u32,
 }
 
-/// An area: a fixed number of bytes, in which blocks are placed and taken away (own). Contracts see its capacity and its
-/// blocks in rising positions. All memory that it will need is taken when it is made.
+/// An area: a fixed number of bytes, in which blocks are placed and taken away (own). Contracts see its capacity and
+/// its blocks in rising positions. All memory that it will ever need is taken when it is made: no other call takes any.
 #[derive(Drop)]
 pub struct Area {
     capacity: u32,
@@ -130,7 +130,9 @@ impl Area {
     /// What the block at a position is, or `None` where no block is there, whatever bytes stand there. Takes time
     /// logarithmic in the blocks.
     pub fn find(&self, position: u32) -> Option<Block>
-        ensures { option_map described result ≡ option_map of_block (block_at self.now.blocks position) }
+        ensures block { option_map described result ≡ option_map of_block (block_at self.now.blocks position) }
+        ensures bytes { IfSome result (λ found. (at count : ℕ) → at + count ≤ found.size
+            → HasBytes self.now.blocks position at count) }
     {
         let index = place_of(&self.headers, position)?;
         let header = self.headers[index];

@@ -29,8 +29,8 @@ abbrev pub TwoBlocksFit : Type 0
 TwoBlocksFit =
     (first_fit no_block 8 ≡ Some 8) × (first_fit one_block 8 ≡ Some 24) × (first_fit two_blocks 1 ≡ None)
 
--- the second alone: one block, whose end is the extent, behind a hole of 16 bytes, where one of 8 bytes fits and
--- none of 9
+-- the second alone: one block, whose end is the extent, behind a hole of 16 bytes, where one of 8 bytes
+-- fits and none of 9
 abbrev pub SecondIsLeft : Type 0
 SecondIsLeft = (length second_block.blocks ≡ 1) × (extent second_block.blocks ≡ 32)
     × (holes second_block ≡ record { start = 0; room = 16 } ∷ [])
@@ -44,7 +44,7 @@ HolesJoin =
     × (first_fit (record { capacity = 32; blocks = without_block second_block.blocks 24 }) 16 ≡ Some 8)
     × (block_at (without_block second_block.blocks 24) 24 ≡ None)
 
--- a size of 0 takes a header alone, one of 9 takes 16 bytes, and blocks in one order stand whichever came first
+-- a size of 0 takes a header alone, one of 9 takes 16 bytes, and blocks stand in order whichever came first
 abbrev pub SizesAreRounded : Type 0
 SizesAreRounded = (first_fit (record { capacity = 8; blocks = [] }) 0 ≡ Some 8)
     × (first_fit (record { capacity = 16; blocks = [] }) 9 ≡ None)

@@ -4,6 +4,7 @@ use Rattle.pli_area.specs.Areas.{block_at, without_block}
 use Rattle.pli_area.specs.Held.{IsAbsent, IsPlace}
 use Rattle.pli_area.specs.HoleNumbers.{holes_in}
 use Rattle.pli_area.specs.views.AreaView.{blocks_of, block_of, Lie, headers_end}
+use Rattle.pli_area.proofs.AreaAnswers.{block_there}
 use Rattle.pli_area.proofs.FieldAnswers.{released, released_within, released_known, released_few}
 use Rattle.pli_area.proofs.HeaderLemmas.{counted, found_at, not_found}
 use Rattle.pli_area.proofs.area.Area.release.Goals as goal
@@ -57,10 +58,8 @@ invariant_of-self c =
 pub returns-clause-live : goal.returns-clause-live
 returns-clause-live c =
     let headers = c.self.inside.headers.items in
-    let bytes = c.self.inside.bytes.items in
     let place = subst (λ hs. IsPlace hs c.args.position c.in-Some.index) c.deref.ensures.value c.in-Some.ensures in
-    let found = found_at bytes 0 headers c.in-Some.index place.header c.self.invariant.lie place.stands in
-    let there : block_at (blocks_of bytes headers) c.args.position ≡ Some (block_of bytes place.header) = subst (λ p. block_at (blocks_of bytes headers) p ≡ Some (block_of bytes place.header)) place.here found in
+    let there = block_there c.self.inside.bytes.items headers c.self.invariant.lie c.args.position c.in-Some.index place in
     rw (← c.self.view_is, there) refl
 
 pub returns-clause-released : goal.returns-clause-released
