@@ -36,7 +36,8 @@ pub(crate) fn merge(holes: &mut Vec<usize>, index: usize)
     ensures items { holes.new.items ≡ merged index holes.old.items }
     ensures reserved { vec_capacity holes.old ≤ vec_capacity holes.new }
 {
-    drop_hole(holes, index + 1);
+    let behind = index + 1;
+    drop_hole(holes, behind);
     lower(holes.as_mut_slice(), index);
     add_hole(holes, index);
 }
