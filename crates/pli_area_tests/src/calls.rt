@@ -57,6 +57,25 @@ fn has_four(area: &Area, position: u32, at: u32) -> bool
     }
 }
 
+/// Writes four bytes into the block at a position, and says whether they fit there.
+fn is_written(area: &mut Area, position: u32, at: u32, bytes: &[u8; 4]) -> bool {
+    let has = has_four(area, position, at);
+    if has {
+        area.write(position, at, bytes);
+    }
+    has
+}
+
+/// Whether these four bytes stand in the block at a position, from a byte on.
+fn is_read(area: &Area, position: u32, at: u32, wanted: [u8; 4]) -> bool {
+    if !has_four(area, position, at) {
+        return false;
+    }
+    let mut bytes = [0; 4];
+    area.read(position, at, &mut bytes);
+    bytes == wanted
+}
+
 /// Makes a call, and says whether the answer is the one that is wanted.
 pub(crate) fn is_answered(rt: &impl Abort, alloc: Global, area: &mut Area, call: Call) -> bool {
     match call {
@@ -71,21 +90,8 @@ pub(crate) fn is_answered(rt: &impl Abort, alloc: Global, area: &mut Area, call:
             area.empty();
             true
         }
-        Call::Wrote(position, at, bytes) => {
-            let has = has_four(area, position, at);
-            if has {
-                area.write(position, at, &bytes);
-            }
-            has
-        }
-        Call::Reads(position, at, wanted) => {
-            let mut bytes = [0; 4];
-            let has = has_four(area, position, at);
-            if has {
-                area.read(position, at, &mut bytes);
-            }
-            has && bytes == wanted
-        }
+        Call::Wrote(position, at, bytes) => is_written(area, position, at, &bytes),
+        Call::Reads(position, at, wanted) => is_read(area, position, at, wanted),
         Call::Has(count, extent) => area.count() == count && area.extent() == extent,
         Call::Assigned(capacity) => {
             let mut target = area_of(rt, alloc, capacity);
