@@ -145,7 +145,6 @@ assigned_known c d hs holes extent known ends =
 -- all that an allocation needs and gives
 pub record Allocation (c : ℕ) (hs : List Header) (holes : List ℕ) (bytes : List ℕ) (description size from index : ℕ) (left : Bool) (new : List Header) : Type 0 where
   pub inside : index ≤ length hs
-  pub new_is : new ≡ insert hs index (record { position = from + 8; description = description; size = size })
   pub lie : Lie 0 new
   pub within : headers_end 0 new ≤ c
   pub known : filled index left holes ≡ holes_in c 0 0 new
@@ -161,7 +160,6 @@ allocated {c} {hr} {or} {hs} {holes} {bytes} {seen} {r} {from} {index} {left} de
     let at = subst (λ n. gap_in (8 + n) c 0 hs ≡ Some from) round (subst (λ gs. gap_in (8 + r) c 0 gs ≡ Some from) shown first) in
     record {
       inside = gap.inside;
-      new_is = refl;
       lie = allocated_lie c hs holes bytes held.lie held.within held.known held.counted description size from index left gap;
       within = allocated_within c hs holes bytes held.lie held.within held.known held.counted description size from index left gap;
       known = allocated_known c hs holes bytes held.lie held.within held.known held.counted description size from index left gap;

@@ -39,13 +39,14 @@ end_from from (b ∷ bs) = end_from (end_of b) bs
 abbrev pub extent : List Block → ℕ
 extent bs = end_from 0 bs
 
--- blocks stand one behind another from this place on, at multiples of 8, each with the bytes that its size says
+-- blocks stand one behind another from this place on, at multiples of 8, each with as many bytes as its
+-- size says
 abbrev pub Stand : (from : ℕ) → List Block → Type 0
 Stand from [] = Unit {0}
 Stand from (b ∷ bs) =
     (from + 8 ≤ b.position) × (b.position % 8 ≡ 0) × (length b.bytes ≡ b.size) × Stand (end_of b) bs
 
--- what every area keeps: no two blocks meet, and none passes the capacity
+-- what every area keeps: no two blocks meet, and none passes the capacity, a multiple of 8 below 2^32
 pub record IsArea (a : Blocks) : Type 0 where
   pub aligned : a.capacity % 8 ≡ 0
   pub small : a.capacity < 2 ^ 32

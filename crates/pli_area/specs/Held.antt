@@ -1,7 +1,7 @@
 -- What the fields of an area keep, and what their searches find.
 use Rattle.std.specs.Prelude.{◌≡◌, ◌≢◌, ◌+◌, ◌-◌, ◌/◌, ◌%◌, ◌^◌, ◌<◌, ◌≤◌, ℕ, Bool, nat_lt, nat_le}
-use Rattle.std.specs.Prelude.{Option, Some, None, List, [], ◌∷◌, ◌++◌, length, take, drop, slice_get, slice_index}
-use Rattle.std.specs.Prelude.{if◌then◌else◌}
+use Rattle.std.specs.Prelude.{Option, Some, None, List, [], ◌∷◌, ◌++◌, length, take, drop}
+use Rattle.std.specs.Prelude.{slice_get, slice_index, if◌then◌else◌}
 use Rattle.pli_area.specs.HoleNumbers.{next_start, holes_in, with_hole}
 use Rattle.pli_area.specs.views.AreaView.{Lie, header_end, headers_end}
 use Rattle.pli_area.specs.declared.header.Header.{Header}

@@ -168,8 +168,8 @@ impl Area {
         only_hole(&mut self.holes, self.capacity);
     }
 
-    /// Puts the blocks of another area in the place of all, at the same positions. `Full` where the other's extent passes
-    /// the capacity, and then nothing changes. Takes time linear in that extent.
+    /// Puts the blocks of another area in the place of all, at the same positions. `Full` where the other's extent
+    /// passes the capacity, and then nothing changes. Takes time linear in that extent.
     pub fn assign(&mut self, source: &Area) -> Result<(), Full>
         ensures fits { OnOk result (extent source.now.blocks ≤ self.old.capacity) }
         ensures assigned { OnOk result (self.new.blocks ≡ source.now.blocks) }

@@ -1,9 +1,8 @@
 use Rattle.std.proofs.Common.{◌+◌, ◌≤◌, ◌≡◌, ◌∙◌, Some, sym, ap, subst, arith}
 use Rattle.std.specs.Option.{option_map}
 use Rattle.std.proofs.lemmas.Option.{same_Some, slice_get_within, slice_get_read}
-use Rattle.pli_area.specs.Areas.{block_at}
 use Rattle.pli_area.specs.Held.{IsAbsent, IsPlace}
-use Rattle.pli_area.specs.views.AreaView.{blocks_of, block_of}
+use Rattle.pli_area.specs.views.AreaView.{block_of}
 use Rattle.pli_area.specs.views.FoundView.{of_block, described}
 use Rattle.pli_area.specs.declared.header.Header.{Header}
 use Rattle.pli_area.proofs.AreaAnswers.{block_there}

@@ -1,12 +1,12 @@
-use Rattle.std.proofs.Common.{◌≡◌, ◌≤◌, ◌∙◌, [], refl, Some, length, ap, sym, subst, arith}
+use Rattle.std.proofs.Common.{◌≤◌, ◌∙◌, [], refl, length, ap, sym, subst, arith}
 use Rattle.std.proofs.lemmas.Option.{slice_get_within}
-use Rattle.pli_area.specs.Areas.{block_at, without_block}
+use Rattle.pli_area.specs.Areas.{without_block}
 use Rattle.pli_area.specs.Held.{IsAbsent, IsPlace}
 use Rattle.pli_area.specs.HoleNumbers.{holes_in}
-use Rattle.pli_area.specs.views.AreaView.{blocks_of, block_of, Lie, headers_end}
+use Rattle.pli_area.specs.views.AreaView.{blocks_of, Lie, headers_end}
 use Rattle.pli_area.proofs.AreaAnswers.{block_there}
 use Rattle.pli_area.proofs.FieldAnswers.{released, released_within, released_known, released_few}
-use Rattle.pli_area.proofs.HeaderLemmas.{counted, found_at, not_found}
+use Rattle.pli_area.proofs.HeaderLemmas.{counted, not_found}
 use Rattle.pli_area.proofs.area.Area.release.Goals as goal
 
 pub returns-in_default-clause-not_live : goal.returns-in_default-clause-not_live
