@@ -1,0 +1,152 @@
+-- Areas: storage of a fixed capacity in which blocks are placed and taken away (own).
+use Rattle.std.specs.Prelude.{◌≡◌, ◌+◌, ◌-◌, ◌*◌, ◌/◌, ◌%◌, ◌^◌, ◌<◌, ◌≤◌, ◌⊎◌, ℕ, nat_eq, nat_lt, nat_le}
+use Rattle.std.specs.Prelude.{Option, Some, None, List, [], ◌∷◌, ◌++◌, length, take, drop, find}
+use Rattle.std.specs.Prelude.{if◌then◌else◌}
+use Rattle.std.specs.Option.{option_map, option_map_or}
+
+-- a block: where its bytes begin, the number of its description, how many bytes it has, and these
+pub record Block : Type 0 where
+  pub position : ℕ
+  pub description : ℕ
+  pub size : ℕ
+  pub bytes : List ℕ
+
+-- an area: how many bytes it has, and its blocks in rising positions
+pub record Blocks : Type 0 where
+  pub capacity : ℕ
+  pub blocks : List Block
+
+-- ---- what a block covers
+
+-- a size rounded up to a multiple of 8
+abbrev pub rounded : (size : ℕ) → ℕ
+rounded size = 8 * ((size + 7) / 8)
+
+-- a block covers the bytes from its header, which takes the 8 bytes before its position
+abbrev pub start_of : Block → ℕ
+start_of b = b.position - 8
+
+-- to its size, rounded up, behind its position
+abbrev pub end_of : Block → ℕ
+end_of b = b.position + rounded b.size
+
+-- where the last of these blocks ends, or this place where there is none
+abbrev pub end_from : (from : ℕ) → List Block → ℕ
+end_from from [] = from
+end_from from (b ∷ bs) = end_from (end_of b) bs
+
+-- the extent: where the last block ends, 0 without one
+abbrev pub extent : List Block → ℕ
+extent bs = end_from 0 bs
+
+-- blocks stand one behind another from this place on, at multiples of 8, each with as many bytes as its
+-- size says
+abbrev pub Stand : (from : ℕ) → List Block → Type 0
+Stand from [] = Unit {0}
+Stand from (b ∷ bs) =
+    (from + 8 ≤ b.position) × (b.position % 8 ≡ 0) × (length b.bytes ≡ b.size) × Stand (end_of b) bs
+
+-- what every area keeps: no two blocks meet, and none passes the capacity, a multiple of 8 below 2^32
+pub record IsArea (a : Blocks) : Type 0 where
+  pub aligned : a.capacity % 8 ≡ 0
+  pub small : a.capacity < 2 ^ 32
+  pub stand : Stand 0 a.blocks
+  pub within : extent a.blocks ≤ a.capacity
+
+-- ---- where a block may stand
+
+-- a block of this size at this position meets none of these
+abbrev pub IsApart : (size position : ℕ) → List Block → Type 0
+IsApart size position [] = Unit {0}
+IsApart size position (b ∷ bs) =
+    ((position + rounded size ≤ start_of b) ⊎ (end_of b ≤ position - 8)) × IsApart size position bs
+
+-- an area allows a block of this size at this position: a multiple of 8, behind a header, with all that it
+-- covers below the capacity and apart from the other blocks
+pub record Allows (a : Blocks) (size position : ℕ) : Type 0 where
+  pub aligned : position % 8 ≡ 0
+  pub header : 8 ≤ position
+  pub below : position + rounded size ≤ a.capacity
+  pub apart : IsApart size position a.blocks
+
+-- first fit: the least position that the area allows
+pub record IsLeast (a : Blocks) (size position : ℕ) : Type 0 where
+  pub allowed : Allows a size position
+  pub least : (other : ℕ) → Allows a size other → position ≤ other
+
+-- the area is full for a block of this size: it allows none anywhere
+abbrev pub IsFull : Blocks → (size : ℕ) → Type 0
+IsFull a size = (position : ℕ) → Allows a size position → ⊥
+
+-- ---- holes
+
+-- a hole: a longest stretch that no block covers, so many bytes long
+pub record Hole : Type 0 where
+  pub start : ℕ
+  pub room : ℕ
+
+-- the hole between two places, if they differ, before the others
+abbrev pub hole_between : (from to : ℕ) → List Hole → List Hole
+hole_between from to holes =
+    if nat_lt from to then record { start = from; room = to - from } ∷ holes else holes
+
+-- the holes from a place to the capacity
+abbrev pub holes_from : (from capacity : ℕ) → List Block → List Hole
+holes_from from capacity [] = hole_between from capacity []
+holes_from from capacity (b ∷ bs) = hole_between from (start_of b) (holes_from (end_of b) capacity bs)
+
+-- the holes of an area, in rising places
+abbrev pub holes : Blocks → List Hole
+holes a = holes_from 0 a.capacity a.blocks
+
+-- the position in the first hole that is long enough for a block of this size with its header
+abbrev pub first_fit : Blocks → (size : ℕ) → Option ℕ
+first_fit a size = option_map (λ h. h.start + 8) (find (λ h. nat_le (8 + rounded size) h.room) (holes a))
+
+-- ---- blocks by their positions
+
+-- the block at a position, if one is there
+abbrev pub block_at : List Block → (position : ℕ) → Option Block
+block_at [] position = None
+block_at (b ∷ bs) position = if nat_eq b.position position then Some b else block_at bs position
+
+-- with a block more, at its place in the order of positions
+abbrev pub with_block : List Block → Block → List Block
+with_block [] b = b ∷ []
+with_block (c ∷ cs) b = if nat_lt b.position c.position then b ∷ c ∷ cs else c ∷ with_block cs b
+
+-- without the block at a position
+abbrev pub without_block : List Block → (position : ℕ) → List Block
+without_block [] position = []
+without_block (b ∷ bs) position = if nat_eq b.position position then bs else b ∷ without_block bs position
+
+-- a list with other bytes from a place on
+abbrev pub overwritten : List ℕ → (at : ℕ) → (new : List ℕ) → List ℕ
+overwritten old at new = take at old ++ new ++ drop (at + length new) old
+
+-- with other bytes in the block at a position, from a place on
+abbrev pub with_bytes : List Block → (position at : ℕ) → (new : List ℕ) → List Block
+with_bytes [] position at new = []
+with_bytes (b ∷ bs) position at new =
+    if nat_eq b.position position
+    then record b { bytes = overwritten b.bytes at new } ∷ bs
+    else b ∷ with_bytes bs position at new
+
+-- so many bytes of the block at a position, from a place on
+abbrev pub bytes_at : List Block → (position at count : ℕ) → List ℕ
+bytes_at bs position at count = option_map_or (λ b. take count (drop at b.bytes)) (block_at bs position) []
+
+-- the block at a position has so many bytes from a place on
+pub record HasBytes (bs : List Block) (position at count : ℕ) : Type 0 where
+  pub block : Block
+  pub found : block_at bs position ≡ Some block
+  pub within : at + count ≤ block.size
+
+-- ---- what an allocation adds
+
+-- these blocks are the old ones and one more, of whose bytes nothing is said but how many they are
+pub record IsAdded (old new : List Block) (position description size : ℕ) : Type 0 where
+  pub bytes : List ℕ
+  pub count : length bytes ≡ size
+  pub blocks : new ≡ with_block old
+      (record { position = position; description = description; size = size; bytes = bytes })

@@ -1,0 +1,57 @@
+-- Worked examples of areas.
+use Rattle.std.specs.Prelude.{◌≡◌, ℕ, Some, None, List, [], ◌∷◌, length}
+use Rattle.pli_area.specs.Areas.{Block, Blocks, first_fit, extent, holes, block_at, with_block, without_block}
+use Rattle.pli_area.specs.Areas.{with_bytes, bytes_at}
+
+-- a block of 8 bytes of description 1
+abbrev pub block : (position : ℕ) → (bytes : List ℕ) → Block
+block position bytes = record { position = position; description = 1; size = 8; bytes = bytes }
+
+-- eight bytes
+abbrev pub eight : (first : ℕ) → List ℕ
+eight first = first ∷ 2 ∷ 3 ∷ 4 ∷ 5 ∷ 6 ∷ 7 ∷ 8 ∷ []
+
+-- an area of 32 bytes with no block, with one, with two, and with the second alone
+abbrev pub no_block : Blocks
+no_block = record { capacity = 32; blocks = [] }
+
+abbrev pub one_block : Blocks
+one_block = record { capacity = 32; blocks = with_block [] (block 8 (eight 1)) }
+
+abbrev pub two_blocks : Blocks
+two_blocks = record { capacity = 32; blocks = with_block one_block.blocks (block 24 (eight 9)) }
+
+abbrev pub second_block : Blocks
+second_block = record { capacity = 32; blocks = without_block two_blocks.blocks 8 }
+
+-- 32 bytes hold two blocks of 8 bytes, at 8 and 24, and then not one of a single byte
+abbrev pub TwoBlocksFit : Type 0
+TwoBlocksFit =
+    (first_fit no_block 8 ≡ Some 8) × (first_fit one_block 8 ≡ Some 24) × (first_fit two_blocks 1 ≡ None)
+
+-- the second alone: one block, whose end is the extent, behind a hole of 16 bytes, where one of 8 bytes
+-- fits and none of 9
+abbrev pub SecondIsLeft : Type 0
+SecondIsLeft = (length second_block.blocks ≡ 1) × (extent second_block.blocks ≡ 32)
+    × (holes second_block ≡ record { start = 0; room = 16 } ∷ [])
+    × (first_fit second_block 8 ≡ Some 8) × (first_fit second_block 9 ≡ None)
+
+-- without both one hole is left, where a block of 16 bytes fits, and nothing is live at 24
+abbrev pub HolesJoin : Type 0
+HolesJoin =
+    (holes (record { capacity = 32; blocks = without_block second_block.blocks 24 })
+    ≡ record { start = 0; room = 32 } ∷ [])
+    × (first_fit (record { capacity = 32; blocks = without_block second_block.blocks 24 }) 16 ≡ Some 8)
+    × (block_at (without_block second_block.blocks 24) 24 ≡ None)
+
+-- a size of 0 takes a header alone, one of 9 takes 16 bytes, and blocks stand in order whichever came first
+abbrev pub SizesAreRounded : Type 0
+SizesAreRounded = (first_fit (record { capacity = 8; blocks = [] }) 0 ≡ Some 8)
+    × (first_fit (record { capacity = 16; blocks = [] }) 9 ≡ None)
+    × (first_fit (record { capacity = 24; blocks = [] }) 9 ≡ Some 8)
+    × (with_block second_block.blocks (block 8 (eight 1)) ≡ two_blocks.blocks)
+
+-- bytes written into a block are read there, and nowhere else
+abbrev pub BytesStay : Type 0
+BytesStay = (bytes_at (with_bytes two_blocks.blocks 24 6 (70 ∷ 80 ∷ [])) 24 5 3 ≡ 6 ∷ 70 ∷ 80 ∷ [])
+    × (bytes_at (with_bytes two_blocks.blocks 24 6 (70 ∷ 80 ∷ [])) 8 0 8 ≡ eight 1)

@@ -1,0 +1,2 @@
+pub mod AreaView
+pub mod FoundView

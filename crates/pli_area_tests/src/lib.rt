@@ -1,0 +1,7 @@
+//! Tests of areas.
+#![tactic(auto)]
+
+#[cfg(test)]
+mod calls;
+#[cfg(test)]
+mod sequences;
