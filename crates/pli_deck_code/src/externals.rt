@@ -1,15 +1,17 @@
 //! The external variables of a module, in the order of their names.
 ghost use Rattle.std.specs.Prelude.{◌≡◌, map, IfOk, OnOk};
 ghost use Rattle.pli_deck.specs.ModuleView.{external_view};
-ghost use Rattle.pli_unit_code.specs.views.CodeView.{global_view, unit_view};
+ghost use Rattle.pli_unit_code.specs.views.CodeView.{global_view};
 ghost use Rattle.pli_deck_code.specs.CodeModules as spec;
 ghost use Rattle.pli_deck_code.specs.answers.Tables.{name_of, AreNumbered};
+ghost use Rattle.pli_deck_code.specs.views.LinkedView.{lent_view};
 
+use crate::linked::LentUnit;
 use crate::numbers::short;
 use indexmap::IndexMap;
 use pli_base::Name;
 use pli_deck::{External, ExternalKind};
-use pli_unit_code::{CodedGlobal, LinkedUnit};
+use pli_unit_code::CodedGlobal;
 use std::alloc::{AllocError, Global};
 use std::collections::BTreeMap;
 
@@ -59,9 +61,9 @@ fn note_unit(
 /// The external variables that units declare, each with its first declaration, in the order of their names.
 fn declarations_of(
     alloc: Global,
-    units: &[LinkedUnit],
+    units: &[LentUnit<'_>],
 ) -> Result<BTreeMap<Name, ExternalDeclaration>, AllocError>
-    ensures { IfOk result (λ found. found.entries ≡ spec.declarations (map unit_view units.now)) }
+    ensures { IfOk result (λ found. found.entries ≡ spec.declarations (map lent_view units.now)) }
 {
     let mut found = BTreeMap::new(alloc);
     for (number, unit) in units.iter().enumerate() {
@@ -90,8 +92,8 @@ fn externals_in(
 }
 
 /// The external variables of units, in the order of their names.
-pub fn externals_of(alloc: Global, units: &[LinkedUnit]) -> Result<Vec<External>, AllocError>
-    ensures { IfOk result (λ made. map external_view made.items ≡ map spec.external_of (spec.declarations (map unit_view units.now))) }
+pub fn externals_of(alloc: Global, units: &[LentUnit<'_>]) -> Result<Vec<External>, AllocError>
+    ensures { IfOk result (λ made. map external_view made.items ≡ map spec.external_of (spec.declarations (map lent_view units.now))) }
 {
     externals_in(alloc, &declarations_of(alloc, units)?)
 }

@@ -1,20 +1,17 @@
 //! The module of linked units.
-ghost use Rattle.std.specs.Prelude.{◌≡◌, None, List, true, map, IfOk};
-ghost use Rattle.pli_deck.specs.ModuleFields.{module_field};
-ghost use Rattle.pli_deck.specs.ModuleSpelling.{module_bytes, module_fault, SpellsModule};
+ghost use Rattle.std.specs.Prelude.{◌≡◌, List, map, IfOk};
 ghost use Rattle.pli_deck.specs.ModuleView.{member_view, module_view};
-ghost use Rattle.pli_unit_code.specs.views.CodeView as view;
 ghost use Rattle.pli_deck_code.specs.CodeModules.{member, members_of, module_of};
 ghost use Rattle.pli_deck_code.specs.answers.Tables.{AreNumbered};
+ghost use Rattle.pli_deck_code.specs.views.LinkedView.{lent_view, linked_view};
 
 use crate::blocks::deck_of;
 use crate::externals::{externals_of, numbers_of};
+use crate::linked::{LentUnit, Linked};
 use crate::links::links_of;
 use indexmap::IndexMap;
 use pli_base::Name;
-use pli_deck::{DeckModule, Member, write_module};
-use pli_unit_code as code;
-use pli_unit_code::LinkedUnit;
+use pli_deck::{DeckModule, Member};
 use std::alloc::{AllocError, Global};
 
 /// A unit with its deck, and what its external globals stand for.
@@ -22,14 +19,14 @@ fn member_of(
     alloc: Global,
     numbers: &IndexMap<Name, u16>,
     is_main: bool,
-    unit: &LinkedUnit,
+    unit: &LentUnit<'_>,
 ) -> Result<Member, AllocError>
     ensures { IfOk result (λ made. (names : List Name) → AreNumbered numbers.now.entries names →
-        member_view made ≡ member names is_main (view.unit_view unit.now)) }
+        member_view made ≡ member names is_main (lent_view unit.now)) }
 {
     Ok(Member {
         name: unit.unit,
-        deck: deck_of(alloc, is_main, unit.procedure, &unit.code)?,
+        deck: deck_of(alloc, is_main, unit.procedure, unit.code)?,
         links: links_of(alloc, numbers, &unit.code.globals, &unit.entries)?,
     })
 }
@@ -39,10 +36,10 @@ fn members_of(
     alloc: Global,
     numbers: &IndexMap<Name, u16>,
     main: u16,
-    units: &[LinkedUnit],
+    units: &[LentUnit<'_>],
 ) -> Result<Vec<Member>, AllocError>
     ensures { IfOk result (λ made. (names : List Name) → AreNumbered numbers.now.entries names →
-        map member_view made.items ≡ members_of main names 0 (map view.unit_view units.now)) }
+        map member_view made.items ≡ members_of main names 0 (map lent_view units.now)) }
 {
     let mut made = Vec::with_capacity(alloc, units.len())?;
     for (number, unit) in units.iter().enumerate() {
@@ -54,8 +51,8 @@ fn members_of(
 
 /// The module of linked units as its bytes have it. Takes time in proportion to the code and to the variables that
 /// have initial values. An error comes where memory runs out.
-pub fn module_of(alloc: Global, linked: &code::Module) -> Result<DeckModule, AllocError>
-    ensures { IfOk result (λ made. module_view made ≡ module_of (view.module_view linked.now)) }
+pub fn module_of(alloc: Global, linked: &Linked<'_>) -> Result<DeckModule, AllocError>
+    ensures { IfOk result (λ made. module_view made ≡ module_of (linked_view linked.now)) }
 {
     let externals = externals_of(alloc, &linked.units)?;
     let numbers = numbers_of(alloc, &externals)?;
@@ -65,14 +62,4 @@ pub fn module_of(alloc: Global, linked: &code::Module) -> Result<DeckModule, All
         externals,
         units,
     })
-}
-
-/// The bytes of the module of linked units, which are its one spelling where it has one. An error comes where memory
-/// runs out.
-pub fn linked_bytes(alloc: Global, linked: &code::Module) -> Result<Vec<u8>, AllocError>
-    ensures bytes { IfOk result (λ v. v.items ≡ module_bytes (module_of (view.module_view linked.now))) }
-    ensures spelled { let m = module_of (view.module_view linked.now) in
-        module_field.fits m ≡ true → module_fault m ≡ None → IfOk result (λ v. SpellsModule v.items m) }
-{
-    write_module(alloc, &module_of(alloc, linked)?)
 }

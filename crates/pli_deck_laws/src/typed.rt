@@ -1,11 +1,13 @@
 //! What the types of the program say of linked units, whatever they were compiled from.
 ghost use Rattle.std.specs.Prelude.{map};
 ghost use Rattle.std.specs.List.{AllByRecursion};
-ghost use Rattle.pli_unit_code.specs.views.CodeView.{code_view, unit_view};
+ghost use Rattle.pli_deck_code.specs.views.LinkedView.{lent_view};
+ghost use Rattle.pli_unit_code.specs.views.CodeView.{code_view};
 ghost use Rattle.pli_deck_laws.specs.UnitTypes.{IsByte, IsTypedCode, IsTypedUnit};
 
+use pli_deck_code::LentUnit;
 use pli_type_tree::InitialScalar;
-use pli_unit_code::{Code, CodedGlobal, CodedTemplate, LinkedUnit};
+use pli_unit_code::{Code, CodedGlobal, CodedTemplate};
 use pli_value::Value;
 
 /// The characters of a text are bytes.
@@ -137,30 +139,20 @@ fn code_is_typed(code: &Code)
 }
 
 /// So are those of a unit.
-struct Units;
-
-impl Tells for Units {
-    ghost use Rattle.pli_unit_code.specs.Modules.{LinkedUnit};
-
-    type Value = LinkedUnit;
-
-    ghost Said = { LinkedUnit };
-
-    ghost say = { unit_view };
-
-    ghost Holds = { IsTypedUnit };
-
-    fn tell(&self, value: &LinkedUnit) {
-        value.unit.reads_as_itself();
-        value.procedure.reads_as_itself();
-        code_is_typed(&value.code);
-    }
+fn unit_is_typed(unit: &LentUnit<'_>)
+    ensures { IsTypedUnit (lent_view unit.now) }
+{
+    unit.unit.reads_as_itself();
+    unit.procedure.reads_as_itself();
+    code_is_typed(unit.code);
 }
 
 /// A law: the names of linked units are names, and their characters are bytes. It does nothing; it goes over the units
 /// since their types tell it of each name and each value.
-pub fn units_are_typed(units: &[LinkedUnit])
-    ensures { AllByRecursion IsTypedUnit (map unit_view units.now) }
+pub fn units_are_typed(units: &[LentUnit<'_>])
+    ensures { AllByRecursion IsTypedUnit (map lent_view units.now) }
 {
-    tell_all(&Units, units);
+    for unit in units {
+        unit_is_typed(unit);
+    }
 }

@@ -1,12 +1,9 @@
 -- Lists that are compared place by place.
-use Rattle.std.proofs.Common.{◌≡◌, ℕ, Bool, true, false, ◌+◌, ◌<◌, ◌≤◌, List, [], ◌∷◌, ◌++◌, length, map, take, get_or, Some, option_map, refl, ap, sym, ◌∙◌, arith}
+use Rattle.std.proofs.Common.{◌≡◌, ℕ, Bool, true, false, ◌+◌, ◌<◌, ◌≤◌, List, [], ◌∷◌, ◌++◌, length, map, take, get_or, Some, option_map, ap, sym, ◌∙◌, arith}
 use Rattle.std.proofs.lemmas.List.{length-map, map-append, take_all, take_more}
 use Rattle.std.proofs.lemmas.Option.{slice_get-get_or, slice_get-map, same_Some}
 use Rattle.std.specs.List.{slice_get}
-use Rattle.pli_deck.specs.ModuleView.{external_view, member_view, module_view}
-use Rattle.pli_deck.specs.declared.module.Member.{Member}
-use Rattle.pli_deck.specs.declared.module.DeckModule.{DeckModule}
-use Rattle.pli_deck_load.specs.answers.Linkings.{Compares, mark_of, linking_of}
+use Rattle.pli_deck_load.specs.answers.Linkings.{Compares}
 
 -- lists of different lengths
 pub of_lengths : {X Y : Type 0} (f : X → Y) (xs ys : List X) → (length xs ≡ length ys → ⊥) → map f xs ≡ map f ys → ⊥
@@ -35,19 +32,14 @@ agree_all f xs ys i same past so_far =
     let also : length ys ≤ i = omega (arith, same, past) in
     ap (map f) (sym (take_all i xs past)) ∙ so_far ∙ ap (map f) (take_all i ys also)
 
--- ---- modules
+-- the same lists begin with the same, and go on with the same
+pub first_is : {X : Type 0} (x y : X) (xs ys : List X) → x ∷ xs ≡ y ∷ ys → (x ≡ y) × (xs ≡ ys)
+first_is x y xs ys e =
+    let first : x ≡ y = cc in
+    let others : xs ≡ ys = cc in
+    (first, others)
 
-both_compared : {X Y : Type 0} (w x : X) (y z : Y) (b : Bool) → w ≡ x → Compares y z b → Compares {X = X × Y} (w, y) (x, z) b
+-- two parts, of which the first are the same
+pub both_compared : {X Y : Type 0} (w x : X) (y z : Y) (b : Bool) → w ≡ x → Compares y z b → Compares {X = X × Y} (w, y) (x, z) b
 both_compared w x y z true e same = ap (λ v. (v, y)) e ∙ ap (λ v. (x, v)) same
 both_compared w x y z false e differ = λ both. differ (ap (λ p. p.1) both)
-
-one_by_one : (ms : List Member) → map (λ (m : Member). mark_of (member_view m)) ms ≡ map mark_of (map member_view ms)
-one_by_one [] = refl
-one_by_one (m ∷ ms) = ap (λ xs. mark_of (member_view m) ∷ xs) (one_by_one ms)
-
-pub linked_alike : (l r : DeckModule) (b : Bool) → map external_view l.externals.items ≡ map external_view r.externals.items
-    → Compares (map (λ (m : Member). mark_of (member_view m)) l.units.items) (map (λ (m : Member). mark_of (member_view m)) r.units.items) b
-    → Compares (linking_of (module_view l)) (linking_of (module_view r)) b
-linked_alike l r b externals marks =
-    both_compared (map external_view l.externals.items) (map external_view r.externals.items) (map mark_of (map member_view l.units.items)) (map mark_of (map member_view r.units.items)) b externals
-    (rw (sym (one_by_one l.units.items), sym (one_by_one r.units.items)) marks)

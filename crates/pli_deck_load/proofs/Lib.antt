@@ -1,8 +1,8 @@
 pub mod ComparedLists
+pub mod ComparedMarks
 pub mod DecksBack
 pub mod DecksForth
 pub mod FoundScalars
-pub mod LinkedAlike
 pub mod LoadedModules
 pub mod MadeLists
 pub mod ModulesBack

@@ -21,6 +21,7 @@ use Rattle.pli_deck_load.specs.CodeFields.{value_fits, template_fits, code_fits,
 use Rattle.pli_deck_load.specs.DeckCodes.{all_of, template_from, value_from, global_from, signature_from}
 use Rattle.pli_deck_load.specs.ModuleUnits.{code_from, entries_from, unit_from, module_from}
 use Rattle.pli_deck_load.specs.answers.Linkings.{mark_of, linking_of}
+use Rattle.pli_deck_load.proofs.ComparedLists.{first_is}
 use Rattle.pli_deck_load.proofs.DecksForth.{OfMade, of_some, mapped, chained, bound, made_of, AreKept, all_forth, value_forth, global_forth, template_forth}
 use Rattle.pli_deck_load.proofs.ModulesBack.{tables_fit, has_deck, members_fit}
 
@@ -138,12 +139,6 @@ member_forth names is_main m u is same =
     ap (λ n. made n (deck_of is_main u.procedure u.code) (links_of names u.code.globals u.entries)) is.unit
     ∙ ap (λ d. made m.name d (links_of names u.code.globals u.entries)) (is.deck is_main (ap (λ x. x.0) same))
     ∙ ap (λ ls. made m.name m.deck ls) (ap (λ x. x.1) same)
-
-first_is : {X : Type 0} (x y : X) (xs ys : List X) → x ∷ xs ≡ y ∷ ys → (x ≡ y) × (xs ≡ ys)
-first_is x y xs ys e =
-    let first : x ≡ y = cc in
-    let others : xs ≡ ys = cc in
-    (first, others)
 
 units_forth : (main : ℕ) (names : List Name) (ms : List Member) → list_all modules.member.fits ms ≡ true → OfMade (AreUnits main names ms) (all_of unit_from ms)
 units_forth main names [] h = record { members = λ number same. refl; fits = refl }

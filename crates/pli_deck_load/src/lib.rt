@@ -1,12 +1,12 @@
 //! Modules from their bytes as the linker gives them: what a run goes over.
 #![tactic(auto)]
 
-mod bare;
 mod constants;
 mod error;
 mod globals;
 mod initials;
 mod laws;
+mod lent;
 mod linkings;
 mod lists;
 mod modules;

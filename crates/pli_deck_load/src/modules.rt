@@ -10,12 +10,11 @@ ghost use Rattle.pli_deck_load.specs.LinkedBytes.{IsLinked, Loads, FaultsAre};
 ghost use Rattle.pli_deck_load.specs.answers.Answers.{Makes};
 ghost use Rattle.pli_deck_load.specs.answers.Linkings.{Compares, linking_of};
 
-use crate::bare::bare_module;
 use crate::error::LoadError;
+use crate::lent::lent_module;
 use crate::linkings::same_linking;
 use crate::units::units_from;
 use pli_deck::DeckModule;
-use pli_deck_code::module_of;
 use pli_deck_read::read_module;
 use pli_unit_code::Module;
 use std::alloc::{AllocError, Global};
@@ -35,8 +34,7 @@ fn module_from(alloc: Global, program: &DeckModule) -> Result<Module, LoadError>
 fn is_linked_so(alloc: Global, linked: &Module, program: &DeckModule) -> Result<bool, AllocError>
     ensures { IfOk result (Compares (linking_of (module_of (module_view linked.now))) (linking_of (deck_view.module_view program.now))) }
 {
-    let bare = bare_module(alloc, linked)?;
-    Ok(same_linking(&module_of(alloc, &bare)?, program))
+    same_linking(alloc, &lent_module(alloc, linked)?, program)
 }
 
 /// The linked module that bytes are. An error is the first fault that reading meets; or `NotYet`, where the bytes are a

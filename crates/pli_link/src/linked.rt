@@ -1,20 +1,22 @@
-//! Modules from units without faults.
+//! Modules of units without faults.
 ghost use Rattle.std.specs.Prelude.{◌≡◌, map, position, IfOk};
+ghost use Rattle.pli_deck_code.specs.views.LinkedView.{lent_view};
 ghost use Rattle.pli_link.specs.Link as link;
 ghost use Rattle.pli_link.specs.answers.Tables.{AreSmall};
 ghost use Rattle.pli_link.specs.views.UnitView.{compiled_view};
 ghost use Rattle.pli_unit_code.specs.CodeTables.{there};
-ghost use Rattle.pli_unit_code.specs.views.CodeView.{global_view, unit_view};
+ghost use Rattle.pli_unit_code.specs.views.CodeView.{global_view};
 
-use crate::units::{CompiledUnit, NamedUnit};
+use crate::units::NamedUnit;
 use indexmap::IndexMap;
 use pli_base::Name;
-use pli_unit_code::{CodedGlobal, LinkedUnit};
+use pli_deck_code::LentUnit;
+use pli_unit_code::CodedGlobal;
 use std::alloc::{AllocError, Global};
 
 /// Where the first main procedure stands.
-pub(crate) fn main_at(units: &[NamedUnit]) -> Option<usize>
-    ensures { result ≡ position (λ u. u.compiled.is_main) units.now }
+pub(crate) fn main_at(units: &[NamedUnit<'_>]) -> Option<usize>
+    ensures { result ≡ position (λ u. u.compiled.now.is_main) units.now }
 {
     units.iter().position(|unit| unit.compiled.is_main)
 }
@@ -49,37 +51,31 @@ fn entries_of(
 }
 
 /// A unit with the units of its entries.
-fn linked_unit(
+fn linked_unit<'a>(
     alloc: Global,
     procedures: &IndexMap<Name, usize>,
-    named: NamedUnit,
-) -> Result<LinkedUnit, AllocError>
+    unit: &NamedUnit<'a>,
+) -> Result<LentUnit<'a>, AllocError>
     requires { AreSmall procedures.now.entries }
-    ensures { IfOk result (λ linked. unit_view linked ≡ link.linked_unit procedures.now.entries (compiled_view named)) }
+    ensures { IfOk result (λ linked. lent_view linked ≡ link.linked_unit procedures.now.entries (compiled_view unit.now)) }
 {
-    let NamedUnit { unit, compiled } = named;
-    let CompiledUnit {
-        procedure,
+    let code = &unit.compiled.code;
+    Ok(LentUnit {
+        unit: unit.unit,
+        procedure: unit.compiled.procedure,
         code,
-        ..
-    } = compiled;
-    let entries = entries_of(alloc, procedures, &code.globals)?;
-    Ok(LinkedUnit {
-        unit,
-        procedure,
-        code,
-        entries,
+        entries: entries_of(alloc, procedures, &code.globals)?,
     })
 }
 
 /// The units with the units of their entries.
-pub(crate) fn linked_units(
+pub(crate) fn linked_units<'a>(
     alloc: Global,
     procedures: &IndexMap<Name, usize>,
-    units: Vec<NamedUnit>,
-) -> Result<Vec<LinkedUnit>, AllocError>
+    units: &[NamedUnit<'a>],
+) -> Result<Vec<LentUnit<'a>>, AllocError>
     requires { AreSmall procedures.now.entries }
-    ensures { IfOk result (λ linked. map unit_view linked.items ≡ map (link.linked_unit procedures.now.entries) (map compiled_view units.items)) }
+    ensures { IfOk result (λ linked. map lent_view linked.items ≡ map (link.linked_unit procedures.now.entries) (map compiled_view units.now)) }
 {
     let mut linked = Vec::new(alloc);
     for unit in units {

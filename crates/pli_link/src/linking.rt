@@ -1,4 +1,4 @@
-//! Modules from the code of units.
+//! Modules of units that are lent.
 ghost use Rattle.std.specs.Prelude.{◌≡◌, ◌++◌, map, OnOk, IfOk};
 ghost use Rattle.pli_link.specs.Link as link;
 ghost use Rattle.pli_link.specs.Names as meaning;
@@ -15,8 +15,8 @@ use crate::sizes::is_too_large;
 use crate::units::{LinkedName, NamedUnit};
 use indexmap::{IndexMap, IndexSet};
 use pli_base::{Failure, Name};
+use pli_deck_code::Linked;
 use pli_type_keys::TemplateKey;
-use pli_unit_code::Module;
 use std::alloc::{AllocError, Global};
 
 /// A fault of linking.
@@ -42,32 +42,32 @@ pub enum LinkFault {
 /// Why units are not linked: all faults, by code, name and unit, or want of memory.
 pub type LinkError = Failure<Vec<LinkFault>>;
 
-/// The module of units, which come in the order of their names; or all faults.
-pub fn link(alloc: Global, units: Vec<NamedUnit>) -> Result<Module, LinkError>
-    ensures { Links result (link.link_of (map compiled_view units.items)) }
+/// The module of units, which are lent and come in the order of their names; or all faults.
+pub fn link<'a>(alloc: Global, units: &[NamedUnit<'a>]) -> Result<Linked<'a>, LinkError>
+    ensures { Links result (link.link_of (map compiled_view units.now)) }
 {
-    let procedures = procedures(alloc, &units)?;
+    let procedures = procedures(alloc, units)?;
     link_by(alloc, &procedures, units)
 }
 
 /// The same, where these are the procedures of the units.
-fn link_by(
+fn link_by<'a>(
     alloc: Global,
     procedures: &IndexMap<Name, usize>,
-    units: Vec<NamedUnit>,
-) -> Result<Module, LinkError>
-    requires { procedures.now.entries ≡ meaning.procedures (map compiled_view units.items) }
-    ensures { Links result (link.link_of (map compiled_view units.items)) }
+    units: &[NamedUnit<'a>],
+) -> Result<Linked<'a>, LinkError>
+    requires { procedures.now.entries ≡ meaning.procedures (map compiled_view units.now) }
+    ensures { Links result (link.link_of (map compiled_view units.now)) }
 {
-    let faults = faults_of(alloc, &units, procedures)?;
+    let faults = faults_of(alloc, units, procedures)?;
     if !faults.is_empty() {
         return Err(LinkError::Fault(faults));
     }
-    let Some(main) = main_at(&units) else {
+    let Some(main) = main_at(units) else {
         return Err(LinkError::Fault(faults));
     };
     drop(faults);
-    Ok(Module {
+    Ok(Linked {
         units: linked_units(alloc, procedures, units)?,
         main: main as u16,
     })
@@ -122,7 +122,7 @@ fn add_in_order(
 }
 
 /// N1 and N2.
-fn main_faults(alloc: Global, units: &[NamedUnit]) -> Result<Vec<LinkFault>, AllocError>
+fn main_faults(alloc: Global, units: &[NamedUnit<'_>]) -> Result<Vec<LinkFault>, AllocError>
     ensures { IfOk result (λ found. found.items ≡ main_faults_of (map compiled_view units.now)) }
 {
     let mut faults = Vec::new(alloc);
@@ -163,7 +163,7 @@ fn faults_among<'a>(
 /// The faults of units, by code, name and unit.
 fn faults_of(
     alloc: Global,
-    units: &[NamedUnit],
+    units: &[NamedUnit<'_>],
     procedures: &IndexMap<Name, usize>,
 ) -> Result<Vec<LinkFault>, AllocError>
     requires { procedures.now.entries ≡ meaning.procedures (map compiled_view units.now) }

@@ -24,7 +24,7 @@ use pli_unit_code::{Code, CodedGlobal, CodedSignature};
 use std::alloc::{AllocError, Global};
 
 /// The first unit whose external procedure has this name.
-fn unit_named<'a>(names: &Names<'a, '_>, name: &Name) -> Option<&'a NamedUnit>
+fn unit_named<'a, 'b>(names: &Names<'a, 'b>, name: &Name) -> Option<&'b NamedUnit<'a>>
     requires { AreNames names.now }
     ensures { option_map (λ u. compiled_view u.now) result ≡ meaning.unit_named (units_in names.now) name.now }
 {
@@ -36,7 +36,7 @@ fn unit_named<'a>(names: &Names<'a, '_>, name: &Name) -> Option<&'a NamedUnit>
 fn is_unlike_procedure(
     code: &Code,
     signature: &CodedSignature,
-    procedure: Option<&NamedUnit>,
+    procedure: Option<&NamedUnit<'_>>,
 ) -> bool
     ensures { result ≡ spec.is_unlike_procedure (signature_at (code_view code.now) (signature_view signature.now)) (option_map (λ u. compiled_view u.now) procedure.entry) }
 {
@@ -54,7 +54,7 @@ fn is_unlike_procedure(
 /// Whether an external variable of this class is unlike the first one of its name, or has a procedure's name.
 fn is_unlike(
     class: Option<usize>,
-    procedure: Option<&NamedUnit>,
+    procedure: Option<&NamedUnit<'_>>,
     first: Option<&KnownExternal<'_>>,
 ) -> bool
     ensures { (known : List Template) (t : Option Template) → IsClass known t class → IsFirstClassed known first.entry
@@ -167,7 +167,7 @@ pub(crate) fn faulty_names<'a>(
     known: &mut IndexSet<TemplateKey<'a>>,
     names: &Names<'a, '_>,
     fault: GlobalFault,
-    units: &'a [NamedUnit],
+    units: &[NamedUnit<'a>],
 ) -> Result<Vec<LinkedName>, AllocError>
     requires names { AreNames names.now }
     requires classes { HaveClasses known.old.keys names.now }

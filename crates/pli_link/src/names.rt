@@ -28,7 +28,7 @@ pub(crate) struct KnownExternal<'a> {
 /// What names mean to all units of a module.
 #[derive(Clone, Copy)]
 pub(crate) struct Names<'a, 'b> {
-    pub units: &'a [NamedUnit],
+    pub units: &'b [NamedUnit<'a>],
     /// External procedures, by the numbers of the first units that have one of their names.
     pub procedures: &'b IndexMap<Name, usize>,
     pub externals: &'b IndexMap<Name, KnownExternal<'a>>,
@@ -52,7 +52,7 @@ fn note_procedure(
 /// The external procedures, by the numbers of their units.
 pub(crate) fn procedures(
     alloc: Global,
-    units: &[NamedUnit],
+    units: &[NamedUnit<'_>],
 ) -> Result<IndexMap<Name, usize>, AllocError>
     ensures { IfOk result (λ found. found.entries ≡ spec.procedures (map compiled_view units.now)) }
 {
@@ -107,7 +107,7 @@ fn note_shared<'a>(
 pub(crate) fn externals<'a>(
     alloc: Global,
     known: &mut IndexSet<TemplateKey<'a>>,
-    units: &'a [NamedUnit],
+    units: &[NamedUnit<'a>],
 ) -> Result<IndexMap<Name, KnownExternal<'a>>, AllocError>
     ensures first { IfOk result (λ found. externals_view found.entries ≡ spec.externals (map compiled_view units.now)) }
     ensures classed { IfOk result (λ found. AreClassed (known_in known.new.keys) found.entries) }

@@ -18,7 +18,10 @@ pub(crate) fn sort(names: &mut Vec<LinkedName>) -> Result<(), AllocError>
 }
 
 /// The main procedures, in the order of their units.
-pub(crate) fn main_names(alloc: Global, units: &[NamedUnit]) -> Result<Vec<LinkedName>, AllocError>
+pub(crate) fn main_names(
+    alloc: Global,
+    units: &[NamedUnit<'_>],
+) -> Result<Vec<LinkedName>, AllocError>
     ensures { IfOk result (λ names. names.items ≡ map procedure_of (link.mains (map compiled_view units.now))) }
 {
     let mut names = Vec::new(alloc);
@@ -31,7 +34,7 @@ pub(crate) fn main_names(alloc: Global, units: &[NamedUnit]) -> Result<Vec<Linke
 /// Appends the procedure of a unit, unless it is left out.
 fn add_unless(
     names: &mut Vec<LinkedName>,
-    unit: &NamedUnit,
+    unit: &NamedUnit<'_>,
     is_left_out: bool,
 ) -> Result<(), AllocError>
     ensures { OnOk result (names.new.items ≡ names.old.items ++ (if is_left_out then [] else procedure_of (compiled_view unit.now) ∷ [])) }
@@ -45,7 +48,7 @@ fn add_unless(
 /// The procedures that have the name of an earlier one, in the order of their units.
 pub(crate) fn repeated_names(
     alloc: Global,
-    units: &[NamedUnit],
+    units: &[NamedUnit<'_>],
 ) -> Result<Vec<LinkedName>, AllocError>
     ensures { IfOk result (λ names. names.items ≡ link.defined_again [] (map compiled_view units.now)) }
 {

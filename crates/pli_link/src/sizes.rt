@@ -75,7 +75,7 @@ fn with_own(bytes: u32, code: &Code, globals: &[CodedGlobal]) -> Option<u32>
 }
 
 /// Bytes with those of the variables that units have for themselves, unless they are too many.
-fn with_all_own(units: &[NamedUnit]) -> Option<u32>
+fn with_all_own(units: &[NamedUnit<'_>]) -> Option<u32>
     ensures counts { result ≡ counted 0 (spec.all_own (map compiled_view units.now)) }
     ensures within { IfSome result (λ more. more ≤ 16777216) }
 {
@@ -100,7 +100,7 @@ fn with_externals(bytes: u32, externals: &IndexMap<Name, KnownExternal<'_>>) -> 
 }
 
 /// Whether units have too many instructions.
-fn are_instructions_too_many(units: &[NamedUnit]) -> bool
+fn are_instructions_too_many(units: &[NamedUnit<'_>]) -> bool
     ensures { result ≡ nat_lt 1000000 (sum_by (λ c. length c.code.instructions) (map compiled_view units.now)) }
 {
     let mut count = 0;

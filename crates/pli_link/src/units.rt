@@ -16,11 +16,11 @@ pub struct CompiledUnit {
     pub code: Code,
 }
 
-/// A unit to be linked: the name of its member, and what its tokens were compiled to.
-#[derive(Drop)]
-pub struct NamedUnit {
+/// A unit to be linked: the name of its member, and what its tokens were compiled to, which is lent.
+#[derive(Clone, Copy)]
+pub struct NamedUnit<'a> {
     pub unit: Name,
-    pub compiled: CompiledUnit,
+    pub compiled: &'a CompiledUnit,
 }
 
 /// A name that a unit has: of its procedure, of an external variable or of an entry.
@@ -31,7 +31,7 @@ pub struct LinkedName {
 }
 
 /// The name of a unit's procedure, with the unit.
-pub(crate) fn procedure_of(unit: &NamedUnit) -> LinkedName
+pub(crate) fn procedure_of(unit: &NamedUnit<'_>) -> LinkedName
     ensures { result ≡ procedure_of (compiled_view unit.now) }
 {
     LinkedName {

@@ -1,8 +1,6 @@
 -- How the decks of a module are linked: what their code does not say.
 use Rattle.std.specs.Prelude.{◌≡◌, ℕ, Bool, true, false, List, map}
 use Rattle.pli_deck.specs.ModuleFields.{External, Member, DeckModule}
-use Rattle.pli_unit_code.specs.CodeTables.{CodedGlobal}
-use Rattle.pli_unit_code.specs.Modules.{LinkedUnit}
 
 -- whether a unit is marked as the main one, and what its external globals stand for
 abbrev pub Mark : Type 0
@@ -24,7 +22,3 @@ linking_of m = (m.externals, map mark_of m.units)
 abbrev pub Compares : {X : Type 0} → (left right : X) → Bool → Type 0
 Compares left right true = left ≡ right
 Compares left right false = left ≡ right → ⊥
-
--- what a unit is linked by: its globals, and the units of its entries
-abbrev pub linked_by : LinkedUnit → List CodedGlobal × List ℕ
-linked_by u = (u.code.globals, u.entries)

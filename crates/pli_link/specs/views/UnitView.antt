@@ -10,4 +10,4 @@ compiled_unit_view c = record { procedure = c.procedure; is_main = c.is_main; co
 
 -- a compiled unit with the name of its member
 abbrev pub compiled_view : NamedUnit → plain.Compiled
-compiled_view n = plain.as_unit n.unit (compiled_unit_view n.compiled)
+compiled_view n = plain.as_unit n.unit (compiled_unit_view n.compiled.now)

@@ -1,9 +1,10 @@
-use Rattle.std.proofs.Common.{◌≡◌, map, take}
-use Rattle.pli_deck.specs.ModuleView.{member_view}
-use Rattle.pli_deck_load.specs.answers.Linkings.{mark_of}
+use Rattle.std.proofs.Common.{List}
+use Rattle.pli_base.specs.Name.{Name}
+use Rattle.pli_deck_code.specs.answers.Tables.{AreNumbered}
+use Rattle.pli_deck_load.proofs.ComparedMarks.{Decides}
 use Rattle.pli_deck_load.proofs.linkings.same_marks.Given as goal
 
--- they agree as far as the loop has come
-abbrev pub invariant-loop-place : goal.invariant-loop-place
-invariant-loop-place l =
-    map (λ m. mark_of (member_view m)) (take l.place l.left) ≡ map (λ m. mark_of (member_view m)) (take l.place l.right)
+-- all are the same exactly if those that are left are
+abbrev pub invariant-loop-number : goal.invariant-loop-number
+invariant-loop-number l =
+    (names : List Name) → AreNumbered l.numbers.entries names → Decides l.main names l.units l.members l.number
