@@ -1,1 +1,2 @@
 pub mod CommandView
+pub mod KeptView

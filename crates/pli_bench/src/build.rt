@@ -3,9 +3,10 @@ ghost use Rattle.std.specs.Prelude.{◌≡◌, ◌++◌, IfOk, OnOk, map};
 ghost use Rattle.std.specs.List.{flat_map};
 ghost use Rattle.pli_meaning.specs.Scratch.{scratch, link_line, all_text, all_units, text_in, units_in, code_line, name_line};
 ghost use Rattle.pli_bench.specs.answers.Building.{IsBuilt};
+ghost use Rattle.pli_bench.specs.views.KeptView.{kept_view};
 ghost use Rattle.pli_link.specs.views.UnitView.{compiled_view};
 
-use crate::compile::compile;
+use crate::compile::{KeptUnit, compile};
 use crate::stored::{StoredModule, stored};
 use pli_base::Code;
 use pli_compile::Compiler;
@@ -38,8 +39,9 @@ pub fn build(
     if !text.is_empty() {
         return Ok(Built::Diagnosed(text));
     }
-    match link(alloc, units) {
-        Ok(module) => Ok(Built::Made(stored(alloc, &module)?)),
+    let lent = lent_units(alloc, &units)?;
+    match link(alloc, &lent) {
+        Ok(linked) => Ok(Built::Made(stored(alloc, &linked)?)),
         Err(LinkError::Fault(faults)) => Ok(Built::Diagnosed(link_text(alloc, &faults)?)),
         Err(LinkError::OutOfMemory) => Err(AllocError),
     }
@@ -51,10 +53,10 @@ fn compile_entry(
     compiler: &mut Compiler,
     members: &Members,
     entry: &NamedMember,
-    units: &mut Vec<NamedUnit>,
+    units: &mut Vec<KeptUnit>,
     text: &mut String,
 ) -> Result<(), AllocError>
-    ensures units { OnOk result (map compiled_view units.new.items ≡ map compiled_view units.old.items ++ units_in members.now.entries entry.now.0 entry.now.1.kind) }
+    ensures units { OnOk result (map kept_view units.new.items ≡ map kept_view units.old.items ++ units_in members.now.entries entry.now.0 entry.now.1.kind) }
     ensures text { OnOk result (text.new.bytes.items ≡ text.old.bytes.items ++ text_in members.now.entries entry.now.0 entry.now.1.kind) }
 {
     match entry.kind() {
@@ -75,8 +77,8 @@ fn compile_all(
     compiler: &mut Compiler,
     members: &Members,
     text: &mut String,
-) -> Result<Vec<NamedUnit>, AllocError>
-    ensures units { IfOk result (λ units. map compiled_view units.items ≡ all_units members.now.entries members.now.entries) }
+) -> Result<Vec<KeptUnit>, AllocError>
+    ensures units { IfOk result (λ units. map kept_view units.items ≡ all_units members.now.entries members.now.entries) }
     ensures text { OnOk result (text.new.bytes.items ≡ text.old.bytes.items ++ all_text members.now.entries members.now.entries) }
 {
     let mut units = Vec::new(alloc);
@@ -84,6 +86,23 @@ fn compile_all(
         compile_entry(expander, compiler, members, entry, &mut units, text)?;
     }
     Ok(units)
+}
+
+/// The units, lent to the linker.
+fn lent_units<'a>(alloc: Global, units: &'a [KeptUnit]) -> Result<Vec<NamedUnit<'a>>, AllocError>
+    ensures { IfOk result (λ lent. map compiled_view lent.items ≡ map kept_view units.now) }
+{
+    let mut lent = Vec::new(alloc);
+    for unit in units {
+        let named = NamedUnit {
+            unit: unit.unit,
+            compiled: &unit.compiled,
+        };
+        if lent.push(named).is_err() {
+            return Err(AllocError);
+        }
+    }
+    Ok(lent)
 }
 
 /// Appends `code text`.

@@ -4,15 +4,23 @@ ghost use Rattle.std.specs.List.{flat_map};
 ghost use Rattle.pli_meaning.specs.Scratch.{all_located, compiled_of, compiled_texts, diagnostic_line, located, origin_of, with_unit};
 ghost use Rattle.pli_bench.specs.answers.Compiling.{Tells};
 ghost use Rattle.pli_link.specs.Units.{as_unit};
-ghost use Rattle.pli_link.specs.views.UnitView.{compiled_unit_view, compiled_view};
+ghost use Rattle.pli_link.specs.views.UnitView.{compiled_unit_view};
+ghost use Rattle.pli_bench.specs.views.KeptView.{kept_view};
 
 use pli_base::{Code, Fault, Name, Origin};
 use pli_compile::Compiler;
 use pli_include::{Expander, Expansion};
-use pli_link::{CompiledUnit, NamedUnit};
+use pli_link::CompiledUnit;
 use pli_members::Members;
 use std::alloc::AllocError;
 use std::fmt::Write;
+
+/// A compiled unit, with the name of its member.
+#[derive(Drop)]
+pub struct KeptUnit {
+    pub unit: Name,
+    pub compiled: CompiledUnit,
+}
 
 /// Compiles a unit, or appends its diagnostics to `text`, in the order of their tokens. A pass with faults is the last.
 #[tactic(auto, unfolding(pli_meaning::specs::Scratch::compiled_of, pli_include::specs::Expanded::expansion_of))]
@@ -22,8 +30,8 @@ pub fn compile(
     members: &Members,
     unit: Name,
     text: &mut String,
-) -> Result<Option<NamedUnit>, AllocError>
-    ensures { IfOk result (λ compiled. Tells unit (compiled_of members.now.entries unit) (option_map compiled_view compiled) text.old.bytes.items text.new.bytes.items) }
+) -> Result<Option<KeptUnit>, AllocError>
+    ensures { IfOk result (λ compiled. Tells unit (compiled_of members.now.entries unit) (option_map kept_view compiled) text.old.bytes.items text.new.bytes.items) }
 {
     let expansion = expander.expand(members, unit)?;
     match expansion.fault() {
@@ -42,8 +50,8 @@ fn compile_expansion(
     unit: Name,
     expansion: &Expansion,
     text: &mut String,
-) -> Result<Option<NamedUnit>, AllocError>
-    ensures { IfOk result (λ named. Tells unit (all_located unit expansion.now.origins (with_unit unit (compiled_texts expansion.now.texts))) (option_map compiled_view named) text.old.bytes.items text.new.bytes.items) }
+) -> Result<Option<KeptUnit>, AllocError>
+    ensures { IfOk result (λ named. Tells unit (all_located unit expansion.now.origins (with_unit unit (compiled_texts expansion.now.texts))) (option_map kept_view named) text.old.bytes.items text.new.bytes.items) }
 {
     let compiled = compiler.compile(expansion.texts())?;
     write_faults(text, unit, expansion.origins(), compiled.faults())?;
@@ -51,11 +59,11 @@ fn compile_expansion(
 }
 
 /// A compiled unit, if there is one, with the name of its member.
-fn named(unit: Name, compiled: Option<CompiledUnit>) -> Option<NamedUnit>
-    ensures { option_map compiled_view result ≡ option_map (as_unit unit) (option_map compiled_unit_view compiled) }
+fn named(unit: Name, compiled: Option<CompiledUnit>) -> Option<KeptUnit>
+    ensures { option_map kept_view result ≡ option_map (as_unit unit) (option_map compiled_unit_view compiled) }
 {
     match compiled {
-        Some(compiled) => Some(NamedUnit { unit, compiled }),
+        Some(compiled) => Some(KeptUnit { unit, compiled }),
         None => None,
     }
 }

@@ -3,12 +3,11 @@ ghost use Rattle.std.specs.Prelude.{◌≡◌, ◌<◌, length, map, IfOk};
 ghost use Rattle.std.specs.List.{AllByRecursion};
 ghost use Rattle.pli_deck.specs.ModuleSpelling.{module_bytes};
 ghost use Rattle.pli_deck_code.specs.CodeModules.{module_of};
+ghost use Rattle.pli_deck_code.specs.views.LinkedView.{lent_view, linked_view};
 ghost use Rattle.pli_deck_laws.specs.UnitTypes.{IsTypedUnit};
-ghost use Rattle.pli_unit_code.specs.views.CodeView.{module_view, unit_view};
 
-use pli_deck_code::linked_bytes;
+use pli_deck_code::Linked;
 use pli_deck_laws::units_are_typed;
-use pli_unit_code::Module;
 use std::alloc::{AllocError, Global};
 
 /// The greatest number of bytes of a module: the length of a deck in it has four bytes (own).
@@ -21,13 +20,13 @@ pub struct StoredModule {
 }
 
 /// The bytes of linked units. An error comes where memory runs out, as it does for a module of 4 GiB.
-pub fn stored(alloc: Global, module: &Module) -> Result<StoredModule, AllocError>
-    ensures bytes { IfOk result (λ s. s.bytes.items ≡ module_bytes (module_of (module_view «module».now))) }
+pub fn stored(alloc: Global, linked: &Linked<'_>) -> Result<StoredModule, AllocError>
+    ensures bytes { IfOk result (λ s. s.bytes.items ≡ module_bytes (module_of (linked_view linked.now))) }
     ensures few { IfOk result (λ s. length s.bytes.items < 4294967296) }
-    ensures typed { AllByRecursion IsTypedUnit (map unit_view «module».now.units.items) }
+    ensures typed { AllByRecursion IsTypedUnit (map lent_view linked.now.units.items) }
 {
-    units_are_typed(module.units.as_slice());
-    let bytes = linked_bytes(alloc, module)?;
+    units_are_typed(linked.units.as_slice());
+    let bytes = linked.bytes(alloc)?;
     if bytes.len() > BYTE_LIMIT {
         return Err(AllocError);
     }
