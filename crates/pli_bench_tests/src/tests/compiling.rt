@@ -1,7 +1,6 @@
 //! Units that are compiled, with their faults, copies and bytes.
 use crate::tests::named;
 use pli_compile::{Compiled, Compiler};
-use pli_deck_code::linked_bytes;
 use pli_link::{NamedUnit, link};
 use pli_text_tests::{Answers, Shown, all, tokens_of};
 use std::alloc::{AllocError, Global};
@@ -65,20 +64,19 @@ fn faults(rt: HostRuntime) -> Result<(), Fail> {
     all(rt.alloc(), &Told, TEXTS)
 }
 
-/// A unit with the name of its member.
-fn unit_of(rt: &impl Abort, unit: &str, compiled: Compiled) -> NamedUnit {
+/// A unit that is lent, with the name of its member.
+fn unit_of<'a>(rt: &impl Abort, unit: &str, compiled: &'a Compiled) -> NamedUnit<'a> {
     NamedUnit {
         unit: named(rt, unit),
-        compiled: compiled.into_unit().expect(rt, "a unit"),
+        compiled: compiled.unit().expect(rt, "a unit"),
     }
 }
 
 /// The bytes of the module of two units.
-fn bytes_of(rt: &impl Abort, alloc: Global, main: Compiled, function: Compiled) -> Vec<u8> {
+fn bytes_of(rt: &impl Abort, alloc: Global, main: &Compiled, function: &Compiled) -> Vec<u8> {
     let units = [unit_of(rt, "F", function), unit_of(rt, "M", main)];
-    let units = Vec::from_array(alloc, units).expect(rt, "memory");
-    let module = link(alloc, units).ok().expect(rt, "a module");
-    linked_bytes(alloc, &module).expect(rt, "memory")
+    let module = link(alloc, &units).ok().expect(rt, "a module");
+    module.bytes(alloc).expect(rt, "memory")
 }
 
 /// Compiles a text, after which the compiler has counted so many.
@@ -105,6 +103,6 @@ fn counts_and_copies(rt: HostRuntime) {
     drop(compiler);
     let main_copy = main.copy(alloc).expect(&rt, "memory");
     let function_copy = function.copy(alloc).expect(&rt, "memory");
-    let copies = bytes_of(&rt, alloc, main_copy, function_copy);
-    assert!(rt; copies == bytes_of(&rt, alloc, main, function));
+    let copies = bytes_of(&rt, alloc, &main_copy, &function_copy);
+    assert!(rt; copies == bytes_of(&rt, alloc, &main, &function));
 }

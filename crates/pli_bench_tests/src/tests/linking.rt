@@ -1,9 +1,11 @@
 //! Units that are linked, with what a link gives of them.
 use crate::tests::named;
+use pli_base::Name;
+use pli_deck_code::Linked;
 use pli_link::{CompiledUnit, LinkError, LinkFault, LinkedName, NamedUnit, link};
 use pli_map::{Bounds, Description};
 use pli_text_tests::Shown;
-use pli_unit_code::{Code, CodedGlobal, CodedSignature, CodedTemplate, Instruction, Module};
+use pli_unit_code::{Code, CodedGlobal, CodedSignature, CodedTemplate, Instruction};
 use std::alloc::Global;
 use std::process::Abort;
 use std::test::*;
@@ -81,10 +83,17 @@ fn code_of(rt: &impl Abort, alloc: Global, statement: u32) -> Code {
     }
 }
 
+/// A compiled unit with the name of its member.
+#[derive(Drop)]
+struct Kept {
+    unit: Name,
+    compiled: CompiledUnit,
+}
+
 /// A unit of one step, whose number is the place of the unit.
-fn compiled(rt: &impl Abort, alloc: Global, row: Row, place: usize) -> NamedUnit {
+fn compiled(rt: &impl Abort, alloc: Global, row: Row, place: usize) -> Kept {
     let statement = u32::try_from(place).ok().expect(rt, "a place");
-    NamedUnit {
+    Kept {
         unit: named(rt, row.0),
         compiled: CompiledUnit {
             procedure: named(rt, row.1),
@@ -116,7 +125,7 @@ fn show_fault(text: &mut Shown, fault: LinkFault) {
 }
 
 /// Puts the main unit of a module, and the number of the one step that it has.
-fn show_step(text: &mut Shown, module: &Module) {
+fn show_step(text: &mut Shown, module: &Linked<'_>) {
     let Some(main) = module.units.get(usize::from(module.main)) else {
         return text.put("no main unit");
     };
@@ -128,7 +137,7 @@ fn show_step(text: &mut Shown, module: &Module) {
 }
 
 /// Puts what a link of these compiled units gives: the module, or its faults.
-fn show_linked(text: &mut Shown, alloc: Global, units: Vec<NamedUnit>) {
+fn show_linked(text: &mut Shown, alloc: Global, units: &[NamedUnit<'_>]) {
     match link(alloc, units) {
         Ok(module) => show_step(text, &module),
         Err(LinkError::Fault(faults)) => {
@@ -140,10 +149,25 @@ fn show_linked(text: &mut Shown, alloc: Global, units: Vec<NamedUnit>) {
     }
 }
 
+/// Units that are lent.
+fn lent<'a>(rt: &impl Abort, alloc: Global, units: &'a [Kept]) -> Vec<NamedUnit<'a>> {
+    let mut lent = Vec::new(alloc);
+    for unit in units {
+        let named = NamedUnit {
+            unit: unit.unit,
+            compiled: &unit.compiled,
+        };
+        if lent.push(named).is_err() {
+            panic!(rt; "memory");
+        }
+    }
+    lent
+}
+
 /// Fails unless a link of these compiled units gives this.
-fn is_linked(rt: &impl Abort, alloc: Global, units: Vec<NamedUnit>, wanted: &str) {
+fn is_linked(rt: &impl Abort, alloc: Global, units: &[Kept], wanted: &str) {
     let mut shown = Shown::new(alloc);
-    show_linked(&mut shown, alloc, units);
+    show_linked(&mut shown, alloc, &lent(rt, alloc, units));
     let text = shown.into_text().expect(rt, "memory");
     assert!(rt; text.as_str() == wanted, "{text}");
 }
@@ -188,13 +212,7 @@ fn add_global(rt: &impl Abort, alloc: Global, code: &mut Code, rows: i16, column
 }
 
 /// A unit with variables of these sizes.
-fn compiled_with(
-    rt: &impl Abort,
-    alloc: Global,
-    row: Row,
-    place: usize,
-    sizes: &[Size],
-) -> NamedUnit {
+fn compiled_with(rt: &impl Abort, alloc: Global, row: Row, place: usize, sizes: &[Size]) -> Kept {
     let mut unit = compiled(rt, alloc, row, place);
     for &(count, rows, columns) in sizes {
         for _ in 0..count {
@@ -205,7 +223,7 @@ fn compiled_with(
 }
 
 /// Units, where the main procedure's has variables of these sizes.
-fn units_of(rt: &impl Abort, alloc: Global, rows: &[Row], sizes: &[Size]) -> Vec<NamedUnit> {
+fn units_of(rt: &impl Abort, alloc: Global, rows: &[Row], sizes: &[Size]) -> Vec<Kept> {
     let mut units = Vec::new(alloc);
     for place in 0..rows.len() {
         let row = rows[place];
@@ -231,11 +249,11 @@ static SIZES: [(&[Size], &str); 6] = [
 fn units_are_linked(rt: HostRuntime) {
     let alloc = rt.alloc();
     for &(rows, wanted) in &CASES {
-        is_linked(&rt, alloc, units_of(&rt, alloc, rows, &[]), wanted);
+        is_linked(&rt, alloc, &units_of(&rt, alloc, rows, &[]), wanted);
     }
     let rows = [("A", "F", false), ("M", "M", true)];
     for &(sizes, wanted) in &SIZES {
-        is_linked(&rt, alloc, units_of(&rt, alloc, &rows, sizes), wanted);
+        is_linked(&rt, alloc, &units_of(&rt, alloc, &rows, sizes), wanted);
     }
 }
 
@@ -324,7 +342,7 @@ static SHARED: [(&[SharedRow], &str); 4] = [
 ];
 
 /// A unit that shares these.
-fn sharing(rt: &impl Abort, alloc: Global, row: SharedRow, place: usize) -> NamedUnit {
+fn sharing(rt: &impl Abort, alloc: Global, row: SharedRow, place: usize) -> Kept {
     let mut unit = compiled(rt, alloc, row.0, place);
     for &(name, shared) in row.1 {
         let global = shared_as(rt, alloc, &mut unit.compiled.code, name, shared);
@@ -334,7 +352,7 @@ fn sharing(rt: &impl Abort, alloc: Global, row: SharedRow, place: usize) -> Name
 }
 
 /// Units that share these.
-fn units_sharing(rt: &impl Abort, alloc: Global, rows: &[SharedRow]) -> Vec<NamedUnit> {
+fn units_sharing(rt: &impl Abort, alloc: Global, rows: &[SharedRow]) -> Vec<Kept> {
     let mut units = Vec::new(alloc);
     for place in 0..rows.len() {
         let unit = sharing(rt, alloc, rows[place], place);
@@ -347,6 +365,6 @@ fn units_sharing(rt: &impl Abort, alloc: Global, rows: &[SharedRow]) -> Vec<Name
 fn shared_names(rt: HostRuntime) {
     for &(rows, wanted) in &SHARED {
         let units = units_sharing(&rt, rt.alloc(), rows);
-        is_linked(&rt, rt.alloc(), units, wanted);
+        is_linked(&rt, rt.alloc(), &units, wanted);
     }
 }

@@ -1,6 +1,6 @@
 //! Modules of bytes: whole, cut and changed.
 use crate::tests::built::module;
-use pli_deck_code::linked_bytes;
+use pli_deck_code::{LentUnit, Linked};
 use pli_deck_load::{LoadError, load};
 use pli_unit_code::Module;
 use std::alloc::Global;
@@ -39,9 +39,28 @@ enum Loaded {
     Other,
 }
 
+/// The bytes of a module.
+fn bytes_of(rt: &impl Abort, alloc: Global, module: &Module) -> Vec<u8> {
+    let mut units = Vec::new(alloc);
+    for unit in &module.units {
+        let lent = LentUnit {
+            unit: unit.unit,
+            procedure: unit.procedure,
+            code: &unit.code,
+            entries: Vec::from_slice(alloc, &unit.entries).expect(rt, "memory"),
+        };
+        units.push(lent).expect(rt, "memory");
+    }
+    let linked = Linked {
+        units,
+        main: module.main,
+    };
+    linked.bytes(alloc).expect(rt, "memory")
+}
+
 /// Whether a module is written as these bytes.
-fn is_written(rt: &impl Abort, alloc: Global, linked: &Module, bytes: &[u8]) -> Loaded {
-    let written = linked_bytes(alloc, linked).expect(rt, "memory");
+fn is_written(rt: &impl Abort, alloc: Global, module: &Module, bytes: &[u8]) -> Loaded {
+    let written = bytes_of(rt, alloc, module);
     if written.as_slice() == bytes {
         Loaded::Same
     } else {
@@ -81,8 +100,7 @@ fn stands_changed(rt: &impl Abort, alloc: Global, bytes: &[u8], place: usize) ->
 
 /// The bytes of a module of so many units.
 fn built(rt: &impl Abort, alloc: Global, count: u16) -> Vec<u8> {
-    let module = module(rt, alloc, count);
-    linked_bytes(alloc, &module).expect(rt, "memory")
+    bytes_of(rt, alloc, &module(rt, alloc, count))
 }
 
 #[test]

@@ -126,6 +126,7 @@ fn fault_number(rt: &impl Abort, alloc: Global, bytes: &[u8]) -> u8 {
 /// The number of what is wrong with the smallest deck that has another byte in a place.
 fn number_with(rt: &impl Abort, alloc: Global, place: usize, byte: u8) -> u8 {
     let mut other = SMALLEST;
+    assert!(rt; place < other.len());
     other[place] = byte;
     fault_number(rt, alloc, &other)
 }
