@@ -137,7 +137,7 @@ def sessions():
 
 
 def main():
-    program = sys.argv[1:] or [str(Path(__file__).resolve().parent.parent / "bin" / "pliwb")]
+    program = sys.argv[1:] or [str(Path(__file__).resolve().parent.parent / "bin" / "pliwb"), "--proved"]
     subprocess.run(program, input=b"", stdout=subprocess.DEVNULL, check=True)
     print(f"{'session':65} {'in':>10} {'out':>10} {'median':>9}")
     for title, commands in sessions():

@@ -1,7 +1,7 @@
 #!/usr/bin/env python3
 """program.py [PROGRAM]: tries the built program from outside, by its words, its streams and its status.
 
-PROGRAM is the program itself, not a script; left out, it is crates/pliwb/out/pliwb, which bin/pliwb builds. Each line of
+PROGRAM is the program itself, not a script; left out, it is crates/pliwb/out/pliwb, which bin/prove builds. Each line of
 the output is one thing that was tried, with `ok` or with what was found. The status is 0 where all is well.
 
 What it tries: words, right and wrong; what each status writes on both streams; that each line is answered before more is

@@ -55,7 +55,7 @@ class Program:
     """The workbench, with a library that refuses an allocation."""
 
     def __init__(self, folder):
-        subprocess.run([TOP / "bin" / "pliwb"], stdin=subprocess.DEVNULL, stdout=subprocess.DEVNULL, check=True)
+        subprocess.run([TOP / "bin" / "prove"], check=True)
         self.program = TOP / "crates" / "pliwb" / "out" / "pliwb"
         source, self.library = Path(folder) / "counter.c", Path(folder) / "counter.so"
         source.write_text(COUNTER)

@@ -1,7 +1,7 @@
 #!/usr/bin/env python3
 """speed.py [PROGRAM]: runs five programs by the workbench and beside them the same in CPython, and prints the times and their ratios.
 
-PROGRAM with its words; left out, it is bin/pliwb. Each is run three times in turn, and the least time counts; what both print is compared.
+PROGRAM with its words; left out, it is bin/pliwb --proved. Each is run three times in turn, and the least time counts; what both print is compared.
 """
 import subprocess
 import sys
@@ -150,7 +150,7 @@ def number_in(answers):
 
 
 def main():
-    program = sys.argv[1:] or [str(TOP / "bin" / "pliwb")]
+    program = sys.argv[1:] or [str(TOP / "bin" / "pliwb"), "--proved"]
     print("| Program | Here | CPython | Ratio |")
     print("|---|---|---|---|")
     for name, text, other in PROGRAMS:

@@ -1,0 +1,86 @@
+"""The schedule by which the program is proved: its order, its length, and what it reads of the repository."""
+import sys
+import unittest
+from pathlib import Path
+
+TOP = Path(__file__).resolve().parent.parent.parent
+sys.path.insert(0, str(TOP / "tools" / "prove"))
+import schedule  # noqa: E402
+
+LIST = """# crates
+low:
+left: low itoa
+right: low
+app status=3: right left
+apart: low
+"""
+USES = {"low": [], "right": ["low"], "left": ["low"], "app": ["right", "left"]}
+MINUTES = {"low": 2, "left": 1, "right": 3, "app": 1}
+PAGE = """
+| Crate | Code | Proof | Tests |
+|---|---|---|---|
+| `low` | 12 | 2.5 | 1.0 |
+| `law` |  |  | |
+| all | 12 | 2.5 | |
+"""
+
+
+def repository():
+    """The crates of the program of this repository, and the minutes of their proofs."""
+    every = schedule.listed((TOP / "crates.txt").read_text())
+    uses = {name: every[name] for name in schedule.below(every, "pliwb")}
+    known = schedule.measured((TOP / "docs" / "GATE.md").read_text())
+    return uses, {name: known.get(name) or schedule.guessed(TOP / "crates" / name) for name in uses}
+
+
+class Reads(unittest.TestCase):
+    def test_list(self):
+        uses = {"low": [], "left": ["low"], "right": ["low"], "app": ["right", "left"], "apart": ["low"]}
+        self.assertEqual(schedule.listed(LIST), uses)
+
+    def test_below(self):
+        self.assertEqual(schedule.below(schedule.listed(LIST), "app"), ["low", "right", "left", "app"])
+
+    def test_table(self):
+        self.assertEqual(schedule.measured(PAGE), {"low": 2.5, "law": 0})
+
+
+class Order(unittest.TestCase):
+    def test_chains(self):
+        self.assertEqual(schedule.chains(USES, MINUTES), {"app": 1, "left": 2, "right": 4, "low": 6})
+
+    def test_longest_chain_first(self):
+        lengths = schedule.chains(USES, MINUTES)
+        self.assertEqual(schedule.ready(USES, {"low"}, (), lengths), ["right", "left"])
+        self.assertEqual(schedule.ready(USES, {"low"}, {"right"}, lengths), ["left"])
+
+    def test_times(self):
+        two = {"low": (0, 2), "right": (2, 5), "left": (2, 3), "app": (5, 6)}
+        self.assertEqual(schedule.times(USES, MINUTES, 2), two)
+        one = {"low": (0, 2), "right": (2, 5), "left": (5, 6), "app": (6, 7)}
+        self.assertEqual(schedule.times(USES, MINUTES, 1), one)
+
+    def test_length_from_the_middle(self):
+        self.assertEqual(schedule.length(USES, MINUTES, 2, {"low"}, {"right": 0.5}), 2)
+        self.assertEqual(schedule.length(USES, MINUTES, 2, set(USES)), 0)
+
+
+class Repository(unittest.TestCase):
+    def test_no_crate_begins_early_and_no_place_is_idle(self):
+        uses, minutes = repository()
+        times = schedule.times(uses, minutes, 4)
+        for name, (begins, _) in times.items():
+            may_begin = max((times[it][1] for it in uses[name]), default=0)
+            self.assertGreaterEqual(begins, may_begin)
+            for moment in {it for it, _ in times.values() if may_begin <= it < begins}:
+                self.assertEqual(sum(a <= moment < b for a, b in times.values()), 4, name)
+
+    def test_length(self):
+        uses, minutes = repository()
+        for places in (1, 2, 3, 4, 8):
+            least = max(max(schedule.chains(uses, minutes).values()), sum(minutes.values()) / places)
+            self.assertLessEqual(schedule.length(uses, minutes, places), 1.1 * least)
+
+
+if __name__ == "__main__":
+    unittest.main()
