@@ -4,7 +4,7 @@ from difflib import get_close_matches
 from functools import cache
 from pathlib import Path
 
-from declared import CHARACTER, DECLARE, NUMBER, VARYING, declared, parts
+from declared import DECLARE, NUMBER, VARYING, declared, parts
 
 PAGE = Path(__file__).resolve().parents[2] / "docs" / "LANGUAGE.md"
 ROW = re.compile(r"^- (\w+) (`[^:]*`):\s+(.*(?:\n  .*)*)", re.MULTILINE)
@@ -187,7 +187,7 @@ def assigned(place):
         return out("a scalar assigned to an array", "write a DO group that assigns each element") if scalar else None
     if found[0].has(NUMBER):
         return out("conversion of strings to numbers", "write a procedure that reads the digits")
-    return None if found[0].has(CHARACTER) else out("conversion to bits", "write a comparison, as B = (X > 0)")
+    return out("conversion to bits", "write a comparison, as B = (X > 0)") if found[0].has({"BIT"}) else None
 
 
 OPTIONS = out("further OPTIONS", "write OPTIONS(MAIN)")

@@ -75,6 +75,8 @@ class Report:
         elif at >= 0:
             notes = NOTES[code](outline, code, at) if code in NOTES and outline.starts else []
             notes = [*notes, left_out(code, outline.tokens, at)]
+        elif not isinstance(item, Include):
+            notes = [left_out(code, [item], 0)]
         chain = outline.chains[at] if at >= 0 else outline.last
         notes += [f"included by {directive.source}:{directive.line}" for directive in reversed(chain)]
         for note in filter(None, notes):

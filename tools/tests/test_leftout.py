@@ -187,6 +187,7 @@ T5  DCL (X, Y) FIXED BIN(15); X @= Y = 0;
     several targets of an assignment; a second = compares, so write an assignment for each
 T5  DCL B BIT; B @= 1;
     conversion to bits; write a comparison, as B = (X > 0)
+T5  DCL 1 S, 2 B BIT, 2 N FIXED BIN(15); S @= 1;
 """
 
 
