@@ -1,11 +1,12 @@
 """What a call does, and the one line in which everything ends that does not go as it should."""
 import os
 import signal
+from itertools import chain
 
 from explain import explain
-from files import Gathering, is_good
+from files import gathered
 from report import Report, placed
-from scan import comments
+from scan import pieces
 from session import Session
 from shell import Shell
 from streams import Stopped, Trouble, end_line, handle_signals, prepare, show, tell
@@ -21,9 +22,9 @@ STEPS_IN_BATCH = 1_000_000
 def tell_warnings(report):
     """Tells the warnings of all units, those of an include once."""
     told = {}
-    for tokens in filter(None, (report.unit(name).tokens for name in report.sources())):
+    for tokens in (report.unit(name).tokens for name in report.sources()):
         sources = dict.fromkeys(token.source for token in tokens)
-        found = [comment for source in sources for comment in comments(source.text(), source)]
+        found = chain.from_iterable(pieces(source.text(), source) for source in sources)
         for token, text in warnings(tokens, found):
             told[token.source, token.line, token.column, f"warning: {text}"] = None
     for each in told:
@@ -32,14 +33,14 @@ def tell_warnings(report):
 
 def build_and_run(call):
     """The status of a call with files."""
-    gathered = Gathering(call.units, call.folders)
-    if not is_good(gathered, call.most):
+    members = gathered(call.units, call.folders, call.most)
+    if members is None:
         return 1
-    report = Report(gathered.members, call.most)
+    report = Report(members, call.most)
     if "--warn" in call.flags:
         tell_warnings(report)
     bench = Workbench(*chosen(call))
-    session = Session(bench, gathered.members, report)
+    session = Session(bench, members, report)
     steps = call.steps if call.steps is not None else STEPS_IN_BATCH if bench.batch else STEPS
     run = f"RUN {steps}".encode()
     commands = [os.fsencode(command) for command in call.commands]

@@ -1,5 +1,5 @@
 """The types of operands, targets and arguments, for notes on faults of types."""
-from declared import CHARACTER, NUMBER, Item, closing, parts
+from outline import CHARACTER, NUMBER, closing, parts
 
 COMPARISONS = {"=", "^=", "<", "<=", ">", ">="}
 LEVELS = [{"|"}, {"&"}, COMPARISONS, {"||"}, {"+", "-"}, {"*"}]
@@ -13,8 +13,8 @@ BUILT_IN |= {"NULL": "POINTER", "EMPTY": "AREA", "SUBSTR": ""}
 
 def described(attributes, is_array=False):
     """The type that attributes say; nothing where they say none."""
-    item = Item(0, "", 1, is_array, attributes)
-    return "array of " * is_array + next((name for name, words in FAMILIES.items() if item.has(words)), "")
+    texts = {token.text for token in attributes}
+    return "array of " * is_array + next((name for name, words in FAMILIES.items() if texts & words), "")
 
 
 def returned(head):
@@ -98,25 +98,25 @@ class Types:
         found = self.outline.meant(names, self.blocks)
         if found is None:
             return BUILT_IN.get(names[0]) or (given[0] if names[0] == "SUBSTR" and given else "")
-        if isinstance(found.item, str):
-            return self.call(found, given, at) if found.item == "PROCEDURE" else ""
-        head = found.item.attributes
-        if found.item.has({"ENTRY"}):
+        if found.kind != "item":
+            return self.call(found, given, at) if found.kind == "PROCEDURE" else ""
+        head = found.attributes
+        if found.has({"ENTRY"}):
             place = next(place for place, token in enumerate(head) if token.text == "ENTRY") + 1
             listed = head[place:] and head[place].text == "("
             ends = parts(head, place + 1, closing(head, place) - 1) if listed else []
             self.calls[at] = given, [described(head[first:last], head[first].text == "(") for first, last in ends]
             return returned(head)
         owners = list(self.outline.owners(found))
-        is_array = not given and any(each.item.dimensions for each in owners)
+        is_array = not given and any(each.dimensions for each in owners)
         members = any(each.parent == found.at for each in self.outline.declared.values())
         return "structure" if members else described(head, is_array)
 
     def call(self, found, given, at):
         """The type that a call of a procedure gives."""
         number = self.outline.number_at(found.at)
-        listed = [each for each in self.outline.declared.values() if each[2:] == (number, -1, "PARAMETER")]
-        items = [own.item for each in listed if (own := self.outline.meant([each.name], [number]))]
+        listed = [each for each in self.outline.declared.values() if (each.block, each.kind) == (number, "parameter")]
+        items = [own for each in listed if (own := self.outline.meant([each.name], [number]))]
         self.calls[at] = given, [described(item.attributes, item.dimensions) for item in items]
         return returned(self.tokens[found.at : self.outline.statements[number].end])
 

@@ -2,14 +2,14 @@
 from bisect import bisect_left, bisect_right
 from typing import NamedTuple
 
-from declared import closing, declared
-from scan import Include, Token
-
 MOST_TOKENS = 200_000
 WHOLE = {"DCL": "DECLARE", "PROC": "PROCEDURE"}
 OPENING = {"PROCEDURE", "BEGIN", "DO"}
 INFIX = {"|", "&", "=", "^=", "<", "<=", ">", ">=", "||", "+", "-", "*"}
 PREFIX = {"+", "-", "^"}
+CHARACTER = {"CHAR", "CHARACTER"}
+VARYING = {"VAR", "VARYING"}
+NUMBER = {"FIXED", "BIN", "BINARY"}
 
 
 class Statement(NamedTuple):
@@ -24,15 +24,76 @@ class Statement(NamedTuple):
     is_else: bool
 
 
-class Declared(NamedTuple):
-    """A declared name: its token, the block it belongs to, the token of what it is a member of, and its item of a
-    DECLARE or a word."""
+class Item(NamedTuple):
+    """A declared name: where it stands, its level (1 where none is written), whether it has dimensions, its attributes,
+    its block, where the item stands that it is a member of, and whether it is an item of a DECLARE, a parameter, or by
+    its word the label of a statement."""
 
     at: int
     name: str
-    block: int
-    parent: int
-    item: object
+    level: int = 1
+    dimensions: bool = False
+    attributes: list = []
+    block: int = -1
+    parent: int = -1
+    kind: str = "item"
+
+    @property
+    def scope(self):
+        """Its name with the block and the structure in which that is known."""
+        return self.name, self.block, self.parent
+
+    def has(self, words):
+        """Whether one of some attributes is among its own."""
+        return any(token.text in words for token in self.attributes)
+
+    def size(self, words, default):
+        """The number in parentheses behind one of these attributes, or the default."""
+        texts = [token.text for token in self.attributes]
+        sizes = [texts[at + 2] for at, text in enumerate(texts[:-2]) if text in words and texts[at + 1] == "("]
+        return int(sizes[0]) if sizes and sizes[0].isdigit() else default
+
+
+def closing(tokens, at):
+    """The place behind the parenthesis that closes the one at this place; the statement's end where none does."""
+    depth = 0
+    for place in range(at, len(tokens)):
+        depth += {"(": 1, ")": -1}.get(tokens[place].text, 0)
+        if depth == 0 or tokens[place].text == ";":
+            return place + (depth == 0)
+    return len(tokens)
+
+
+def parts(tokens, first, last):
+    """The places of the items between two places, which commas outside of parentheses part."""
+    begin = at = first
+    while at < last:
+        if tokens[at].text == ",":
+            yield begin, at
+            begin = at + 1
+        at = closing(tokens, at) if tokens[at].text == "(" else at + 1
+    yield begin, last
+
+
+def items_of(tokens, first, last):
+    """The names of one item of a DECLARE with its attributes."""
+    level, at = (int(tokens[first].text), first + 1) if first < last and tokens[first].kind == "number" else (1, first)
+    behind = closing(tokens, at) if at < last and tokens[at].text == "(" else at + 1
+    dimensions = behind < last and tokens[behind].text == "("
+    attributes = tokens[closing(tokens, behind) if dimensions else behind : last]
+    for place in range(at, min(behind, last)):
+        if tokens[place].kind == "name":
+            yield Item(place, tokens[place].text, level, dimensions, attributes)
+
+
+def declared(tokens):
+    """All names that DECLARE statements declare, in the order of the text."""
+    found, ends = [], [-1, *(at for at, token in enumerate(tokens) if token.text == ";")]
+    for begin, end in zip(ends, ends[1:]):
+        if tokens[begin + 1].text in ("DCL", "DECLARE") and tokens[begin + 2].text != "=":
+            for first, last in parts(tokens, begin + 2, end):
+                found += items_of(tokens, first, last)
+    return found
 
 
 def expanded(members, name):
@@ -44,14 +105,16 @@ def expanded(members, name):
         item = next(items, None)
         if item is None:
             opened.pop()
-        elif isinstance(item, Token):
-            tokens.append(item)
-            chains.append(chain)
-        elif not isinstance(item, Include) or item.name not in members or item.name in [each for each, *_ in opened]:
+        elif item.kind == "include":
+            if item.text not in members or item.text in [each for each, *_ in opened]:
+                return tokens, chains, chain
+            opened.append((item.text, (*chain, item), iter(members[item.text].items)))
+        elif item.is_fault:
             return tokens, chains, chain
         else:
-            opened.append((item.name, (*chain, item), iter(members[item.name].items)))
-        read += 4 if isinstance(item, Include) else 1
+            tokens.append(item)
+            chains.append(chain)
+        read += 4 if item and item.kind == "include" else 1
     return tokens, chains, ()
 
 
@@ -129,7 +192,7 @@ class Outline:
         self.tokens, self.chains, self.last = expanded(members, name)
         self.statements = statements(self.tokens)
         self.starts = [each.start for each in self.statements]
-        self.declared = {each.at: each for each in sorted(self.names())}
+        self.declared = {each.at: each for each in sorted(self.names(), key=lambda each: each.at)}
 
     def number_at(self, at):
         """The number, from 0, of the statement in which a token stands; -1 where there is none."""
@@ -148,17 +211,17 @@ class Outline:
         """Labels, procedures and parameters, and what DECLARE declares."""
         for number, each in enumerate(self.statements):
             if each.at > each.start:
-                yield Declared(each.start, self.tokens[each.start].text, self.blocks_of(number)[0], -1, each.word)
+                yield Item(each.start, self.tokens[each.start].text, block=self.blocks_of(number)[0], kind=each.word)
             if each.word == "PROCEDURE" and self.tokens[each.at + 1].text == "(":
                 for at in range(each.at + 2, closing(self.tokens, each.at + 1)):
                     if self.tokens[at].kind == "name":
-                        yield Declared(at, self.tokens[at].text, number, -1, "PARAMETER")
+                        yield Item(at, self.tokens[at].text, block=number, kind="parameter")
         above = []
         for item in declared(self.tokens):
             above = [each for each in above if each.level < item.level and item.level > 1]
-            parent = above[-1].at if above else -1
+            block = self.blocks_of(self.number_at(item.at))[0]
+            yield item._replace(block=block, parent=above[-1].at if above else -1)
             above.append(item)
-            yield Declared(item.at, item.name, self.blocks_of(self.number_at(item.at))[0], parent, item)
 
     def owners(self, found):
         """A declared name and all that it is a member of."""
@@ -170,7 +233,7 @@ class Outline:
         """What DECLARE, a label or a procedure makes of names in the first of some blocks that has them."""
         for block in blocks:
             here = [each for each in self.declared.values() if (each.block, each.name) == (block, names[-1])]
-            here = [each for each in here if each.item != "PARAMETER"]
+            here = [each for each in here if each.kind != "parameter"]
             here = [each for each in here if set(names) <= {owner.name for owner in self.owners(each)}]
             if here:
                 return min(here, key=lambda each: len(list(self.owners(each))))

@@ -6,7 +6,6 @@ from functools import cache, partial
 from leftout import left_out
 from operands import BUILT_IN, told_types
 from outline import OPENING, Outline, after_expression, spelled
-from scan import Include
 from streams import tell
 
 UNIT_FAULT = re.compile(r"(\S+) (\S+):(\d+) ([A-Z]\d+) (.+)")
@@ -65,17 +64,16 @@ class Report:
         if item is None:
             tell(f"{self.members[member]}:{line}: {code} {text}")
             return
-        word = f"%INCLUDE {item.name}" if isinstance(item, Include) else item.spelled
-        placed(item.source, item.line, item.column, f"{code} {text}: {word}")
+        placed(item.source, item.line, item.column, f"{code} {text}: {item.spelled}")
         outline, notes = self.unit(unit), []
         at = next((at for at, token in enumerate(outline.tokens) if token is item), -1)
         if code == "I1":
             kinds = "with .inc, .h, .pli or .pl1"
-            notes = [f"no file {item.name} {kinds} beside {item.source}, and none in a folder of -I"]
+            notes = [f"no file {item.text} {kinds} beside {item.source}, and none in a folder of -I"]
         elif at >= 0:
             notes = NOTES[code](outline, code, at) if code in NOTES and outline.starts else []
             notes = [*notes, left_out(code, outline.tokens, at)]
-        elif not isinstance(item, Include):
+        elif item.is_fault:
             notes = [left_out(code, [item], 0)]
         chain = outline.chains[at] if at >= 0 else outline.last
         notes += [f"included by {directive.source}:{directive.line}" for directive in reversed(chain)]
@@ -106,7 +104,7 @@ class Report:
     def external(self, unit, name):
         """The tokens that declare an entry or an external variable of a name."""
         for each in self.unit(unit).declared.values():
-            if each.name == name and not isinstance(each.item, str) and each.item.has({"ENTRY", "EXTERNAL", "EXT"}):
+            if each.name == name and each.has({"ENTRY", "EXTERNAL", "EXT"}):
                 yield self.unit(unit).tokens[each.at]
 
     def place_of(self, unit, number):
@@ -130,8 +128,8 @@ def meant(outline, _, at):
 def first_declared(outline, _, at):
     """Where a name that is declared twice was declared first."""
     own = outline.declared.get(at)
-    same = [each for each in outline.declared.values() if own and each[1:4] == own[1:4]]
-    first = next((each for each in same if each.item != "PARAMETER" or own.item == "PARAMETER"), own)
+    same = [each for each in outline.declared.values() if own and each.scope == own.scope]
+    first = next((each for each in same if each.kind != "parameter" or own.kind == "parameter"), own)
     return [f"first declared at {where(outline.tokens[first.at], outline.tokens[at])}"] if first is not own else []
 
 

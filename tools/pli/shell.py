@@ -3,7 +3,7 @@ import signal
 from contextlib import suppress
 from pathlib import Path
 
-from files import Gathering, is_good
+from files import gathered
 from session import Growing, answered
 from streams import Stopped, Trouble, end_line, show, tell
 from words import page
@@ -78,12 +78,12 @@ class Shell:
             answered(self.bench, self.members, line)
 
     def load(self, path, name=None):
-        gathered = Gathering([(path, name)], self.folders)
-        if not is_good(gathered, 1):
+        members = gathered([(path, name)], self.folders, 1)
+        if members is None:
             raise Trouble(f"{path} is not loaded", 2)
-        next(iter(gathered.members.values())).kind = "INCLUDE" if path.suffix.lower() in (".inc", ".h") else "SOURCE"
-        self.typed(gathered.members.keys() & self.members.keys(), gathered.members)
-        self.members |= gathered.members
+        next(iter(members.values())).kind = "INCLUDE" if path.suffix.lower() in (".inc", ".h") else "SOURCE"
+        self.typed(members.keys() & self.members.keys(), members)
+        self.members |= members
 
     def save(self, path, name=None):
         given = (name or path.stem).upper()

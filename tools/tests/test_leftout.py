@@ -7,7 +7,7 @@ from examples import TOP, typed
 
 sys.path.insert(0, str(TOP / "tools" / "pli"))
 from leftout import left_out, listed  # noqa: E402
-from scan import ScanFault, scan  # noqa: E402
+from scan import scan  # noqa: E402
 
 # A code, a statement with `@` before the token at which it stands, and below it what is said, if anything.
 CASES = """
@@ -227,14 +227,14 @@ class LeftOut(unittest.TestCase):
     def test_a_fault_of_tokens_may_stand_alone(self):
         for code, statement, _ in cases():
             tokens, at = self.at(statement)
-            if isinstance(tokens[at], ScanFault):
+            if tokens[at].is_fault:
                 self.assertEqual(left_out(code, [tokens[at]], 0), left_out(code, tokens, at))
 
     def test_any_code_at_any_token(self):
         """There is no text that makes it fail."""
         codes = [f"{letter}{number}" for letter in "PATZGN" for number in range(1, 19)]
         for _, statement, _ in cases():
-            tokens = [token for token in scan(unit(statement), "") if not isinstance(token, ScanFault)]
+            tokens = [token for token in scan(unit(statement), "") if not token.is_fault]
             for at in range(len(tokens)):
                 for code in codes:
                     left_out(code, tokens[: at + 1], at)

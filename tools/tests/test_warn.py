@@ -5,7 +5,7 @@ import unittest
 from examples import TOP
 
 sys.path.insert(0, str(TOP / "tools" / "pli"))
-from scan import comments, scan  # noqa: E402
+from scan import pieces, scan  # noqa: E402
 from warn import warnings  # noqa: E402
 
 
@@ -13,7 +13,7 @@ def warned(text, included=""):
     """The warnings of a unit, each with its place."""
     tokens = scan(text, "M.pli")
     tokens[-3:-3] = scan(included, "K.inc")
-    return [f"{place.line}:{place.column} {line}" for place, line in warnings(tokens, comments(text, "M.pli"))]
+    return [f"{place.line}:{place.column} {line}" for place, line in warnings(tokens, pieces(text, "M.pli"))]
 
 
 def body(text):
