@@ -2,12 +2,10 @@
 import re
 from difflib import get_close_matches
 from functools import cache
-from pathlib import Path
 
 from outline import NUMBER, VARYING, declared
+from pages import instead
 
-PAGE = Path(__file__).resolve().parents[2] / "docs" / "LANGUAGE.md"
-ROW = re.compile(r"^- (\w+) (`[^:]*`):\s+(.*(?:\n  .*)*)", re.MULTILINE)
 LIKE = 0.7
 SIGNS = {"AND": "&", "OR": "|", "NOT": "^", "EQ": "=", "NE": "^=", "LT": "<", "LE": "<=", "GT": ">", "GE": ">="}
 SIGNS |= {"= =": "=", "< >": "^=", "= >": ">=", "= <": "<="}
@@ -79,17 +77,6 @@ def rules():
     return [(codes.split(), re.compile(rf"(?<!\S){pattern}(?!\S)"), said) for codes, pattern, said in parted]
 
 
-@cache
-def listed():
-    """What to write, by a kind and a word of the page's lists."""
-    try:
-        rows = ROW.findall(PAGE.read_text(encoding="utf-8"))
-    except OSError:
-        return {}
-    told = [(kind, words, " ".join(advice.replace("`", "").split()).removesuffix(".")) for kind, words, advice in rows]
-    return {(kind, each): advice for kind, words, advice in told for each in re.findall("`([^`]*)`", words)}
-
-
 def out(what, write):
     """The line that says what is left out and what to write, if that is known."""
     return write and f"the profile leaves out {what}; {write}"
@@ -98,7 +85,7 @@ def out(what, write):
 def by_rule(said, found):
     """What a rule says of a statement that its pattern fits."""
     what, arrow, write = (found.expand(part) for part in said.partition(" -> "))
-    return out(what, listed().get((write[1:-1], found[1])) if write.startswith("[") else write) if arrow else what
+    return out(what, instead().get((write[1:-1], found[1])) if write.startswith("[") else write) if arrow else what
 
 
 def statement_at(tokens, at):

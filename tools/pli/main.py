@@ -1,17 +1,15 @@
 """What a call does, and the one line in which everything ends that does not go as it should."""
 import os
 import signal
-from itertools import chain
 
-from explain import explain
 from files import gathered
+from pages import explain, printed
 from report import Report, placed
-from scan import pieces
 from session import Session
 from shell import Shell
 from streams import Stopped, Trouble, end_line, handle_signals, prepare, show, tell
 from warn import warnings
-from words import Call, page
+from words import Call
 from workbench import Workbench, chosen
 
 VERSION = b"pli 1.0\n"
@@ -22,10 +20,8 @@ STEPS_IN_BATCH = 1_000_000
 def tell_warnings(report):
     """Tells the warnings of all units, those of an include once."""
     told = {}
-    for tokens in (report.unit(name).tokens for name in report.sources()):
-        sources = dict.fromkeys(token.source for token in tokens)
-        found = chain.from_iterable(pieces(source.text(), source) for source in sources)
-        for token, text in warnings(tokens, found):
+    for name in report.sources():
+        for token, text in warnings(report.unit(name).tokens):
             told[token.source, token.line, token.column, f"warning: {text}"] = None
     for each in told:
         placed(*each)
@@ -33,24 +29,25 @@ def tell_warnings(report):
 
 def build_and_run(call):
     """The status of a call with files."""
-    members = gathered(call.units, call.folders, call.most)
+    most, trace = call.given.get("--errors", 20), "--trace" in call.given
+    members = gathered(call.units, call.folders, most)
     if members is None:
         return 1
-    report = Report(members, call.most)
-    if "--warn" in call.flags:
+    report = Report(members, most)
+    if "--warn" in call.given:
         tell_warnings(report)
-    bench = Workbench(*chosen(call))
+    bench = Workbench(*chosen(call.given))
     session = Session(bench, members, report)
-    steps = call.steps if call.steps is not None else STEPS_IN_BATCH if bench.batch else STEPS
+    steps = call.given.get("--steps", STEPS_IN_BATCH if bench.batch else STEPS)
     run = f"RUN {steps}".encode()
     commands = [os.fsencode(command) for command in call.commands]
     quits = next((at for at, command in enumerate(commands) if command.upper() == b"QUIT"), len(commands))
     if bench.batch:
-        session.plan(commands[:quits] or [run], "--trace" in call.flags)
+        session.plan(commands[:quits] or [run], trace)
     if not session.build(session.typing()):
         return 1
     if not commands:
-        return session.run(run, steps if "--trace" in call.flags else None)
+        return session.run(run, steps if trace else None)
     status = max([session.command(command) for command in commands[:quits]], default=0)
     show(b"OK\n" if quits < len(commands) else b"")
     return status
@@ -58,14 +55,14 @@ def build_and_run(call):
 
 def done(call):
     """The status of a call."""
-    if "--help" in call.flags:
-        show(page("help"))
-    elif "--version" in call.flags:
+    if "--help" in call.given:
+        show(printed("help"))
+    elif "--version" in call.given:
         show(VERSION)
-    elif call.explain is not None:
-        text = explain(call.explain)
+    elif "--explain" in call.given:
+        text = explain(call.given["--explain"])
         if text is None:
-            raise Trouble(f"{call.explain} is no code of a diagnostic", 2)
+            raise Trouble(f"{call.given['--explain']} is no code of a diagnostic", 2)
         show(text.encode())
     elif call.units:
         return build_and_run(call)

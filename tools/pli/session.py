@@ -12,61 +12,53 @@ ERROR = re.compile(r"ERROR (E\d+ .*) (\S+) (\d+)")
 EDIT = re.compile(r"(ADD|DELETE|INSERT|REPLACE|REMOVE) ([A-Z][A-Z0-9_$]*)(?: (\S+))?(?: (.*))?", re.IGNORECASE)
 
 
-def apply(members, command):
+def edit(members, command):
     """Makes the edit that a workbench accepted, if the command is one."""
-    edit = EDIT.fullmatch(command.decode("latin-1"))
-    if not edit:
+    if not (found := EDIT.fullmatch(command.decode("latin-1"))):
         return
-    word, name, first, rest = edit[1].upper(), edit[2].upper(), edit[3], edit[4] or ""
+    word, name, first, rest = found[1].upper(), found[2].upper(), found[3], found[4] or ""
     if word == "ADD":
         members[name] = Member(name, first.upper())
     elif word == "DELETE":
         del members[name]
     else:
-        at = int(first) - (word != "INSERT")
-        end = {"INSERT": at, "REPLACE": at + 1}.get(word) if word != "REMOVE" else int(rest)
-        lines = [] if word == "REMOVE" else [rest.encode("latin-1")]
-        members[name] = members[name].edited([*members[name].lines[:at], *lines, *members[name].lines[end:]])
+        at, lines = int(first) - (word != "INSERT"), members[name].lines
+        end = int(rest) if word == "REMOVE" else at + (word == "REPLACE")
+        new = [] if word == "REMOVE" else [rest.encode("latin-1")]
+        members[name] = members[name].edited([*lines[:at], *new, *lines[end:]])
 
 
 def answered(bench, members, command):
     """The answers to a command that is no RUN, which are shown; an edit is made in the members too."""
-    own = f"{bench.mark} INCLUDE 1".encode()
-    answers = [line for line in bench.ask([command]) if line != own]
+    answers = [line for line in bench.ask([command]) if line != f"{bench.mark} INCLUDE 1".encode()]
     if answers == [b"OK"]:
-        apply(members, command)
+        edit(members, command)
     show(b"".join(answer + b"\n" for answer in answers))
     return answers
 
 
-class Growing:
-    """The output of runs of more and more steps, of which only what is new is shown. So output comes while a run goes
-    on, though a workbench writes it in large pieces. The last byte waits: it may be the line feed of a run's end."""
+def run(bench, command):
+    """The end of a run, by runs of fewer steps before it, of which only what is new is shown: so output comes while a
+    run goes on, though a workbench writes it in large pieces. The last byte waits, which may be the end's line feed."""
+    found, many, shown, seen, last = RUN.fullmatch(command), FIRST_STEPS, 0, 0, b""
+    if bench.batch or not found:
+        return bench.ask([command], show)
 
-    def __init__(self):
-        self.shown, self.seen, self.last = 0, 0, b""
-
-    def emit(self, data):
-        """Takes what a run prints next."""
-        text = self.last + data
-        new = text[max(0, self.shown - self.seen + len(self.last)) : -1]
+    def emit(data):
+        nonlocal shown, seen, last
+        printed, last = (last + data)[:-1], (last + data)[-1:]
+        new = printed[max(0, shown - seen) :]
         show(new)
-        self.shown, self.seen, self.last = self.shown + len(new), self.seen + len(data), text[-1:]
+        shown, seen = shown + len(new), seen + len(printed)
 
-    def run(self, bench, command):
-        """The end of a run, by runs of fewer steps before it."""
-        found, many = RUN.fullmatch(command), FIRST_STEPS
-        if bench.batch or not found:
-            return bench.ask([command], show)
-        steps, ending = int(found[1] or DEFAULT_STEPS), b"OUT OF STEPS"
-        while ending == b"OUT OF STEPS":
-            self.seen, self.last = 0, b""
-            ending = bench.ask([f"RUN {min(many, steps)}".encode()], self.emit)
-            if many >= steps:
-                break
-            many *= 4
-        show(self.last if self.seen > self.shown else b"")
-        return ending
+    steps = int(found[1] or DEFAULT_STEPS)
+    while True:
+        seen, last = 0, b""
+        ending = bench.ask([f"RUN {min(many, steps)}".encode()], emit)
+        if ending != b"OUT OF STEPS" or many >= steps:
+            show(last)
+            return ending
+        many *= 4
 
 
 class Session:
@@ -79,12 +71,10 @@ class Session:
         """The commands that type all members and build them."""
         return [*(command for member in self.members.values() for command in member.typed(by_tokens)), b"BUILD"]
 
-    def deleting(self):
-        return [f"DELETE {name}".encode() for name in self.members]
-
     def by_tokens(self):
         """The commands that type the members by tokens and build, and type them again as they were."""
-        return [*self.deleting(), *self.typing(True), *self.deleting(), *self.typing()]
+        deleting = [f"DELETE {name}".encode() for name in self.members]
+        return [*deleting, *self.typing(True), *deleting, *self.typing()]
 
     def plan(self, commands, trace):
         """Asks a batch all that may be asked."""
@@ -111,7 +101,7 @@ class Session:
 
     def run(self, command, steps=None):
         """The status of a run, whose output is shown as it comes, with a trace where its steps are given."""
-        ending = Growing().run(self.bench, command).decode()
+        ending = run(self.bench, command).decode()
         if ending == "ENDED":
             return 0
         if error := ERROR.fullmatch(ending):
@@ -125,8 +115,7 @@ class Session:
 
     def command(self, command):
         """The status of a command of the workbench, whose answers are shown."""
-        word = command.split(b" ")[0].upper()
-        if word == b"RUN":
+        if command.split(b" ")[0].upper() == b"RUN":
             return self.run(command)
         if command.upper() == b"BUILD":
             built = self.build([command])

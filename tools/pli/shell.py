@@ -4,9 +4,9 @@ from contextlib import suppress
 from pathlib import Path
 
 from files import gathered
-from session import Growing, answered
+from pages import printed
+from session import answered, run
 from streams import Stopped, Trouble, end_line, show, tell
-from words import page
 from workbench import Workbench, chosen
 
 
@@ -14,7 +14,7 @@ class Shell:
     """A prompt over a workbench, whose members are kept beside it."""
 
     def __init__(self, call):
-        self.words, batch = chosen(call)
+        self.words, batch = chosen(call.given)
         if batch:
             raise Trouble("the prompt wants the proved program, which bin/prove makes, or one that --workbench names")
         self.folders, self.members, self.bench = call.folders, {}, Workbench(self.words)
@@ -65,27 +65,31 @@ class Shell:
     def answer(self, line):
         """Answers a line."""
         word, *rest = [each.decode("utf-8", "surrogateescape") for each in line.split()[:3]] or [""]
+        own = {"LOAD": self.load, "SAVE": self.save}.get(word.upper())
         if word.upper() == "HELP":
-            show(page("prompt"))
-        elif word.upper() in ("LOAD", "SAVE"):
-            if not rest:
-                raise Trouble(f"{word} FILE: the file is missing", 2)
-            (self.load if word.upper() == "LOAD" else self.save)(Path(rest[0]), *rest[1:])
+            show(printed("prompt"))
+        elif own and not rest:
+            raise Trouble(f"{word} FILE: the file is missing", 2)
+        elif own:
+            own(Path(rest[0]), *rest[1:])
             show(b"OK\n")
         elif word.upper() == "RUN":
-            show(Growing().run(self.bench, line) + b"\n")
+            show(run(self.bench, line) + b"\n")
         elif word and word.upper() != "QUIT":
             answered(self.bench, self.members, line)
 
     def load(self, path, name=None):
+        """Types a file and what it includes."""
         members = gathered([(path, name)], self.folders, 1)
         if members is None:
             raise Trouble(f"{path} is not loaded", 2)
-        next(iter(members.values())).kind = "INCLUDE" if path.suffix.lower() in (".inc", ".h") else "SOURCE"
+        if path.suffix.lower() in (".inc", ".h"):
+            next(iter(members.values())).kind = "INCLUDE"
         self.typed(members.keys() & self.members.keys(), members)
         self.members |= members
 
     def save(self, path, name=None):
+        """Writes a member to a file."""
         given = (name or path.stem).upper()
         if given not in self.members:
             raise Trouble(f"there is no member {given}; SAVE FILE NAME names one", 2)

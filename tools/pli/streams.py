@@ -3,8 +3,6 @@ import os
 import signal
 from contextlib import suppress
 
-STOPPING = (signal.SIGINT, signal.SIGTERM, signal.SIGHUP)
-
 
 class Trouble(Exception):
     """What ends the tool with one line and a status: 2 for its words and files, 3 for the workbench and the output."""
@@ -50,12 +48,13 @@ def tell(message):
 
 
 def stopped(number, _):
+    """Ends what is done at a signal."""
     raise Stopped(number)
 
 
 def handle_signals(handler):
     """Says what signals do from here on, but where they are ignored already."""
-    for each in STOPPING:
+    for each in (signal.SIGINT, signal.SIGTERM, signal.SIGHUP):
         if signal.getsignal(each) != signal.SIG_IGN:
             signal.signal(each, handler)
 

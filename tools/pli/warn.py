@@ -2,7 +2,7 @@
 from collections import Counter
 
 from outline import CHARACTER, NUMBER, closing, declared
-from scan import Token
+from scan import Token, pieces
 
 BEFORE_STATEMENT = {";", ":", "THEN", "ELSE"}
 
@@ -54,11 +54,12 @@ def assigned(unit, only):
             yield from cut(only[unit[at].text], unit[value], sign)
 
 
-def warnings(unit, pieces):
-    """What is to be warned of in a unit of expanded tokens and in the pieces of its texts: places, each with a line."""
-    items = declared(unit)
+def warnings(unit):
+    """What is to be warned of in a unit of expanded tokens and in its texts: places, each with a line."""
+    items, sources = declared(unit), dict.fromkeys(token.source for token in unit)
     many = Counter(item.name for item in items)
-    told = [each for piece in pieces if piece.kind == "comment" for each in opened_twice(piece)]
+    comments = [piece for each in sources for piece in pieces(each.text(), each) if piece.kind == "comment"]
+    told = [warned for comment in comments for warned in opened_twice(comment)]
     for item in {id(item.attributes): item for item in items}.values():
         told += [each for token in item.attributes if token.kind == "string" for each in cut(item, token)]
     told += [*unused(unit, items), *assigned(unit, {item.name: item for item in items if many[item.name] == 1})]

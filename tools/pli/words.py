@@ -3,25 +3,18 @@ import re
 from difflib import get_close_matches
 from pathlib import Path
 
-from explain import BLOCK
 from streams import Trouble
 
-PAGE = Path(__file__).resolve().parents[1] / "README.md"
-VALUED = ("--as", "--steps", "--errors", "--workbench", "--explain", "-I")
+NUMBERS = ("--steps", "--errors")
+VALUED = ("--as", "-I", "--workbench", "--explain", *NUMBERS)
 FLAGS = ("--trace", "--warn", "--proved", "--unproved", "--help", "--version")
 
 
-def page(name):
-    """A text that the tool prints, out of its page."""
-    return dict(BLOCK.findall(PAGE.read_text(encoding="utf-8")))[name].encode()
-
-
 class Call:
-    """What the words of a call ask for. `units` are paths with the names of --as, `flags` options without values."""
+    """What the words of a call ask for: paths of units with the names of --as, folders, commands, and other options."""
 
     def __init__(self, words):
-        self.units, self.folders, self.commands, self.flags = [], [], [], set()
-        self.steps, self.most, self.workbench, self.explain = None, 20, None, None
+        self.units, self.folders, self.commands, self.given = [], [], [], {}
         left = list(words)
         while left:
             word = left.pop(0)
@@ -31,7 +24,7 @@ class Call:
                 self.units.append((Path(word), None))
             else:
                 self.option(word, left)
-        if self.commands and "--trace" in self.flags:
+        if self.commands and "--trace" in self.given:
             raise Trouble("--trace goes with a run, not with commands behind --", 2)
 
     def option(self, word, left):
@@ -43,21 +36,13 @@ class Call:
         if len(left) < (name in VALUED and not equals) + (name == "--as"):
             raise Trouble(f"{word}: something is missing behind it; see pli --help", 2)
         value = left.pop(0) if name in VALUED and not equals else value
-        if name in FLAGS:
-            self.flags.add(name)
-        elif name == "--as":
+        if name in NUMBERS and not re.fullmatch(r"[0-9]{1,18}", value):
+            raise Trouble(f"{name} {value}: a number of 1 to 18 digits is wanted", 2)
+        if name == "-I" and not Path(value).is_dir():
+            raise Trouble(f"-I {value}: there is no such folder", 2)
+        if name == "--as":
             self.units.append((Path(left.pop(0)), value))
         elif name == "-I":
             self.folders.append(Path(value))
-        elif name == "--workbench":
-            self.workbench = value
-        elif name == "--explain":
-            self.explain = value
-        elif not re.fullmatch(r"[0-9]{1,18}", value):
-            raise Trouble(f"{name} {value}: a number of 1 to 18 digits is wanted", 2)
-        elif name == "--steps":
-            self.steps = int(value)
         else:
-            self.most = int(value)
-        if name == "-I" and not Path(value).is_dir():
-            raise Trouble(f"-I {value}: there is no such folder", 2)
+            self.given[name] = int(value) if name in NUMBERS else value

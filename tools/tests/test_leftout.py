@@ -6,7 +6,8 @@ from asked import answered
 from examples import TOP, typed
 
 sys.path.insert(0, str(TOP / "tools" / "pli"))
-from leftout import left_out, listed  # noqa: E402
+from leftout import left_out  # noqa: E402
+from pages import instead  # noqa: E402
 from scan import scan  # noqa: E402
 
 # A code, a statement with `@` before the token at which it stands, and below it what is said, if anything.
@@ -241,7 +242,7 @@ class LeftOut(unittest.TestCase):
                     left_out(code, tokens, at)
 
     def test_the_lists_of_the_page_are_read(self):
-        kinds = {kind for kind, _ in listed()}
+        kinds = {kind for kind, _ in instead()}
         self.assertEqual(kinds, {"attribute", "statement", "group", "PUT", "function", "character"})
 
 
