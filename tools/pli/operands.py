@@ -1,8 +1,7 @@
 """The types of operands, targets and arguments, for notes on faults of types."""
 from outline import CHARACTER, NUMBER, closing, parts
 
-COMPARISONS = {"=", "^=", "<", "<=", ">", ">="}
-LEVELS = [{"|"}, {"&"}, COMPARISONS, {"||"}, {"+", "-"}, {"*"}]
+LEVELS = [{"|"}, {"&"}, {"=", "^=", "<", "<=", ">", ">="}, {"||"}, {"+", "-"}, {"*"}]
 FAMILIES = {"CHARACTER": CHARACTER, "BIT": {"BIT"}, "FIXED BINARY": NUMBER, "POINTER": {"POINTER", "PTR"}}
 FAMILIES |= {"OFFSET": {"OFFSET"}, "AREA": {"AREA"}}
 CONSTANTS = {"number": "FIXED BINARY", "binary": "FIXED BINARY", "string": "CHARACTER", "bits": "BIT"}
@@ -27,11 +26,12 @@ class Types:
     and parameters of each called name, `whole` that of each expression."""
 
     def __init__(self, outline, number):
-        self.outline, self.tokens, self.blocks = outline, outline.tokens, outline.blocks_of(number)
+        self.outline, self.blocks = outline, outline.blocks_of(number)
+        self.tokens = [*outline.tokens, *[outline.tokens[-1]._replace(kind="sign", text=";")] * 3]
         self.pairs, self.calls, self.whole = {}, {}, {}
         each = outline.statements[number]
         self.at = each.at
-        if each.word == "=" or each.word == "DO" and self.text(2) in ("=", "(", "."):
+        if each.word == "=" or each.word == "DO" and self.tokens[self.at + 2].text in ("=", "(", "."):
             self.at += each.word == "DO"
             target, equals = self.reference(), self.at
             self.at += 1
@@ -39,8 +39,8 @@ class Types:
         self.at = max(self.at, each.at + 1)
         self.list(each.end)
 
-    def text(self, ahead=0):
-        return self.tokens[self.at + ahead].text if self.at + ahead < len(self.tokens) else ";"
+    def text(self):
+        return self.tokens[self.at].text
 
     def expression(self, level=0):
         """The type of the expression that begins here, which is passed."""
@@ -57,7 +57,8 @@ class Types:
         return left
 
     def operand(self):
-        at, text, kind = self.at, self.text(), self.tokens[self.at].kind if self.at < len(self.tokens) else "sign"
+        """The type of an operand without operators, or with one before it."""
+        at, text, kind = self.at, self.text(), self.tokens[self.at].kind
         if kind == "name":
             return self.reference()
         self.at += 1
@@ -70,18 +71,19 @@ class Types:
 
     def reference(self):
         """The type of what a reference means; what stands before an arrow is passed."""
-        names, given, first, sign = [], None, self.at, "."
+        sign = "->"
         while sign in (".", "->"):
-            names, given, first = (names, given, first) if sign == "." else ([], None, self.at)
+            names, given, first = ([], [], self.at) if sign == "->" else (names, given, first)
             names.append(self.text())
             self.at += 1
             if self.text() == "(":
+                end = closing(self.tokens, self.at)
                 self.at += 1
-                given = (given or []) + self.list(closing(self.tokens, self.at - 1) - 1)
-                self.at += 1
+                given += self.list(end - 1)
+                self.at = end
             sign = self.text()
             self.at += sign in (".", "->")
-        return self.meant(names, given or [], first)
+        return self.meant(names, given, first)
 
     def list(self, end):
         """The types of expressions up to a place, parted by commas or else."""
@@ -98,8 +100,13 @@ class Types:
         found = self.outline.meant(names, self.blocks)
         if found is None:
             return BUILT_IN.get(names[0]) or (given[0] if names[0] == "SUBSTR" and given else "")
-        if found.kind != "item":
-            return self.call(found, given, at) if found.kind == "PROCEDURE" else ""
+        if found.kind == "PROCEDURE":
+            number = self.outline.number_at(found.at)
+            every = self.outline.declared.values()
+            known = [each for each in every if (each.block, each.kind) == (number, "parameter")]
+            items = [own for each in known if (own := self.outline.meant([each.name], [number]))]
+            self.calls[at] = given, [described(item.attributes, item.dimensions) for item in items]
+            return returned(self.tokens[found.at : self.outline.statements[number].end])
         head = found.attributes
         if found.has({"ENTRY"}):
             place = next(place for place, token in enumerate(head) if token.text == "ENTRY") + 1
@@ -107,24 +114,9 @@ class Types:
             ends = parts(head, place + 1, closing(head, place) - 1) if listed else []
             self.calls[at] = given, [described(head[first:last], head[first].text == "(") for first, last in ends]
             return returned(head)
-        owners = list(self.outline.owners(found))
-        is_array = not given and any(each.dimensions for each in owners)
+        is_array = not given and any(each.dimensions for each in self.outline.owners(found))
         members = any(each.parent == found.at for each in self.outline.declared.values())
         return "structure" if members else described(head, is_array)
-
-    def call(self, found, given, at):
-        """The type that a call of a procedure gives."""
-        number = self.outline.number_at(found.at)
-        listed = [each for each in self.outline.declared.values() if (each.block, each.kind) == (number, "parameter")]
-        items = [own for each in listed if (own := self.outline.meant([each.name], [number]))]
-        self.calls[at] = given, [described(item.attributes, item.dimensions) for item in items]
-        return returned(self.tokens[found.at : self.outline.statements[number].end])
-
-    def result(self):
-        """What the procedure around the statement returns."""
-        around = [self.outline.statements[block] for block in self.blocks]
-        each = next(each for each in around if each.word == "PROCEDURE")
-        return returned(self.tokens[each.at : each.end])
 
 
 def told_types(outline, code, at):
@@ -134,8 +126,11 @@ def told_types(outline, code, at):
     if code == "T7":
         given, wanted = (", ".join(kinds) for kinds in types.calls.get(at, ("", "")))
         return [f"argument {given}, parameter {wanted}"] if given and wanted else []
+    if code == "T5" and len(kinds) == 1:
+        around = (outline.statements[block] for block in types.blocks)
+        each = next(each for each in around if each.word == "PROCEDURE")
+        kinds = *kinds, returned(outline.tokens[each.at : each.end])
     if code == "T5":
-        kinds = (*kinds, types.result()) if len(kinds) == 1 else kinds
         other = " of another description" if kinds[0] == kinds[1] else ""
         return [f"{kinds[0]} is assigned to {kinds[1]}{other}"] if all(kinds) else []
     return [f"operand{'s' * (len(kinds) > 1)} {' and '.join(kinds)}"] if all(kinds) else []

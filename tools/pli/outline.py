@@ -6,7 +6,6 @@ MOST_TOKENS = 200_000
 WHOLE = {"DCL": "DECLARE", "PROC": "PROCEDURE"}
 OPENING = {"PROCEDURE", "BEGIN", "DO"}
 INFIX = {"|", "&", "=", "^=", "<", "<=", ">", ">=", "||", "+", "-", "*"}
-PREFIX = {"+", "-", "^"}
 CHARACTER = {"CHAR", "CHARACTER"}
 VARYING = {"VAR", "VARYING"}
 NUMBER = {"FIXED", "BIN", "BINARY"}
@@ -25,23 +24,17 @@ class Statement(NamedTuple):
 
 
 class Item(NamedTuple):
-    """A declared name: where it stands, its level (1 where none is written), whether it has dimensions, its attributes,
-    its block, where the item stands that it is a member of, and whether it is an item of a DECLARE, a parameter, or by
-    its word the label of a statement."""
+    """A declared name: its token, its block, the token of what it is a member of, its level (1 where none is written),
+    whether it has dimensions, its attributes, and `item`, `parameter` or the word of the statement that it labels."""
 
     at: int
     name: str
+    block: int = -1
+    parent: int = -1
     level: int = 1
     dimensions: bool = False
     attributes: list = []
-    block: int = -1
-    parent: int = -1
     kind: str = "item"
-
-    @property
-    def scope(self):
-        """Its name with the block and the structure in which that is known."""
-        return self.name, self.block, self.parent
 
     def has(self, words):
         """Whether one of some attributes is among its own."""
@@ -55,12 +48,12 @@ class Item(NamedTuple):
 
 
 def closing(tokens, at):
-    """The place behind the parenthesis that closes the one at this place; the statement's end where none does."""
+    """The place behind a token, or behind the parenthesis that it opens; the statement's end where none closes it."""
     depth = 0
     for place in range(at, len(tokens)):
         depth += {"(": 1, ")": -1}.get(tokens[place].text, 0)
-        if depth == 0 or tokens[place].text == ";":
-            return place + (depth == 0)
+        if depth <= 0 or tokens[place].text == ";":
+            return place + (depth <= 0)
     return len(tokens)
 
 
@@ -71,28 +64,24 @@ def parts(tokens, first, last):
         if tokens[at].text == ",":
             yield begin, at
             begin = at + 1
-        at = closing(tokens, at) if tokens[at].text == "(" else at + 1
+        at = closing(tokens, at)
     yield begin, last
 
 
-def items_of(tokens, first, last):
-    """The names of one item of a DECLARE with its attributes."""
-    level, at = (int(tokens[first].text), first + 1) if first < last and tokens[first].kind == "number" else (1, first)
-    behind = closing(tokens, at) if at < last and tokens[at].text == "(" else at + 1
-    dimensions = behind < last and tokens[behind].text == "("
-    attributes = tokens[closing(tokens, behind) if dimensions else behind : last]
-    for place in range(at, min(behind, last)):
-        if tokens[place].kind == "name":
-            yield Item(place, tokens[place].text, level, dimensions, attributes)
-
-
 def declared(tokens):
-    """All names that DECLARE statements declare, in the order of the text."""
-    found, ends = [], [-1, *(at for at, token in enumerate(tokens) if token.text == ";")]
-    for begin, end in zip(ends, ends[1:]):
-        if tokens[begin + 1].text in ("DCL", "DECLARE") and tokens[begin + 2].text != "=":
-            for first, last in parts(tokens, begin + 2, end):
-                found += items_of(tokens, first, last)
+    """All names that DECLARE statements declare, as far as tokens alone tell it, in the order of the text."""
+    ends = [-1, *(at for at, token in enumerate(tokens) if token.text == ";")]
+    starts = [(begin + 2, end) for begin, end in zip(ends, ends[1:]) if tokens[begin + 1].text in ("DCL", "DECLARE")]
+    found = []
+    for first, last in (part for each in starts if tokens[each[0]].text != "=" for part in parts(tokens, *each)):
+        at = first + (first < last and tokens[first].kind == "number")
+        behind = closing(tokens, at) if at < last else at + 1
+        dimensions = behind < last and tokens[behind].text == "("
+        attributes = tokens[closing(tokens, behind) if dimensions else behind : last]
+        for place in range(at, min(behind, last)):
+            if tokens[place].kind == "name":
+                level = int(tokens[first].text) if at > first else 1
+                found.append(Item(place, tokens[place].text, -1, -1, level, dimensions, attributes))
     return found
 
 
@@ -103,18 +92,17 @@ def expanded(members, name):
     while opened and read <= MOST_TOKENS:
         _, chain, items = opened[-1]
         item = next(items, None)
+        directive = item and item.kind == "include"
+        read += 4 if directive else 1
         if item is None:
             opened.pop()
-        elif item.kind == "include":
-            if item.text not in members or item.text in [each for each, *_ in opened]:
-                return tokens, chains, chain
+        elif directive and item.text in members and item.text not in [each for each, *_ in opened]:
             opened.append((item.text, (*chain, item), iter(members[item.text].items)))
-        elif item.is_fault:
+        elif directive or item.is_fault:
             return tokens, chains, chain
         else:
             tokens.append(item)
             chains.append(chain)
-        read += 4 if item and item.kind == "include" else 1
     return tokens, chains, ()
 
 
@@ -126,7 +114,7 @@ def after_expression(tokens, at):
         if operand and kind == "sign":
             if text == "(":
                 opened.append(False)
-            elif text not in PREFIX:
+            elif text not in ("+", "-", "^"):
                 return None
         elif operand:
             operand, reference = False, kind == "name"
@@ -175,13 +163,11 @@ def statements(tokens):
 
 def spelled(tokens):
     """Tokens as they are written, on one line."""
-    parts = []
+    text = ""
     for before, token in zip([None, *tokens], tokens):
-        beside = before and (before.source, before.line) == (token.source, token.line)
-        if before and not (beside and before.column + len(before.spelled) == token.column):
-            parts.append(" ")
-        parts.append(token.spelled)
-    return "".join(parts)
+        beside = before and (before.source, before.line, before.column + len(before.spelled)) == token[3:]
+        text += token.spelled if beside or not before else f" {token.spelled}"
+    return text
 
 
 class Outline:
@@ -211,16 +197,15 @@ class Outline:
         """Labels, procedures and parameters, and what DECLARE declares."""
         for number, each in enumerate(self.statements):
             if each.at > each.start:
-                yield Item(each.start, self.tokens[each.start].text, block=self.blocks_of(number)[0], kind=each.word)
-            if each.word == "PROCEDURE" and self.tokens[each.at + 1].text == "(":
-                for at in range(each.at + 2, closing(self.tokens, each.at + 1)):
-                    if self.tokens[at].kind == "name":
-                        yield Item(at, self.tokens[at].text, block=number, kind="parameter")
+                yield Item(each.start, self.tokens[each.start].text, self.blocks_of(number)[0], kind=each.word)
+            for at in range(each.at + 2, closing(self.tokens, each.at + 1)) if each.word == "PROCEDURE" else ():
+                if self.tokens[at].kind == "name":
+                    yield Item(at, self.tokens[at].text, number, kind="parameter")
         above = []
         for item in declared(self.tokens):
             above = [each for each in above if each.level < item.level and item.level > 1]
-            block = self.blocks_of(self.number_at(item.at))[0]
-            yield item._replace(block=block, parent=above[-1].at if above else -1)
+            block, parent = self.blocks_of(self.number_at(item.at))[0], above[-1].at if above else -1
+            yield item._replace(block=block, parent=parent)
             above.append(item)
 
     def owners(self, found):
@@ -233,8 +218,8 @@ class Outline:
         """What DECLARE, a label or a procedure makes of names in the first of some blocks that has them."""
         for block in blocks:
             here = [each for each in self.declared.values() if (each.block, each.name) == (block, names[-1])]
-            here = [each for each in here if each.kind != "parameter"]
-            here = [each for each in here if set(names) <= {owner.name for owner in self.owners(each)}]
+            here = [list(self.owners(each)) for each in here if each.kind != "parameter"]
+            here = [owners for owners in here if set(names) <= {owner.name for owner in owners}]
             if here:
-                return min(here, key=lambda each: len(list(self.owners(each))))
+                return min(here, key=len)[0]
         return None

@@ -11,6 +11,7 @@ from streams import tell
 UNIT_FAULT = re.compile(r"(\S+) (\S+):(\d+) ([A-Z]\d+) (.+)")
 LINK_FAULT = re.compile(r"(N[2-5]) (.+) (\S+) (\S+)")
 FIRST_PLACES = {"N2": "the first main procedure is at", "N4": "first defined at", "N5": "does not agree with"}
+OUTSIDE = {"ENTRY", "EXTERNAL", "EXT"}
 MOST_COLUMNS = 120
 
 
@@ -59,22 +60,20 @@ class Report:
         limited(list(told.values()), self.most)
 
     def tell_fault(self, fault, item):
-        """Tells a diagnostic of a unit, at a token, directive or ScanFault where that is known."""
+        """Tells a diagnostic of a unit, at a token, a directive or what is none where that is known."""
         unit, member, line, code, text = fault.groups()
         if item is None:
             tell(f"{self.members[member]}:{line}: {code} {text}")
             return
         placed(item.source, item.line, item.column, f"{code} {text}: {item.spelled}")
-        outline, notes = self.unit(unit), []
+        outline = self.unit(unit)
         at = next((at for at, token in enumerate(outline.tokens) if token is item), -1)
+        notes = [left_out(code, [item], 0)] if item.is_fault else [left_out(code, outline.tokens, at)]
         if code == "I1":
             kinds = "with .inc, .h, .pli or .pl1"
             notes = [f"no file {item.text} {kinds} beside {item.source}, and none in a folder of -I"]
-        elif at >= 0:
-            notes = NOTES[code](outline, code, at) if code in NOTES and outline.starts else []
-            notes = [*notes, left_out(code, outline.tokens, at)]
-        elif item.is_fault:
-            notes = [left_out(code, [item], 0)]
+        elif at >= 0 and code in NOTES and outline.starts:
+            notes = [*NOTES[code](outline, code, at), *notes]
         chain = outline.chains[at] if at >= 0 else outline.last
         notes += [f"included by {directive.source}:{directive.line}" for directive in reversed(chain)]
         for note in filter(None, notes):
@@ -88,24 +87,18 @@ class Report:
             tell(f"pli: {line}{note}")
             return
         code, text, name, unit = found.groups()
-        heads = {each: self.unit(each).tokens[0] for each in self.sources()}
+        units = {each: self.unit(each) for each in self.sources()}
+        here = {each: outline.tokens[0] for each, outline in units.items()}
+        firsts = [head for head in here.values() if head.text == name]
         if code == "N2":
-            heads = {each: heads[each] for each in heads if "MAIN" in self.unit(each).text_of(0).upper()}
-        if code in ("N2", "N4"):
-            here, first = heads[unit], next(head for head in heads.values() if code == "N2" or head.text == name)
-        else:
-            known = {each: next(self.external(each, name), None) for each in heads}
-            firsts = [head for head in heads.values() if head.text == name] + list(filter(None, known.values()))
-            here, first = known[unit], firsts[0]
-        placed(here.source, here.line, here.column, f"{code} {text}: {name}")
+            firsts = [here[each] for each, outline in units.items() if "MAIN" in outline.text_of(0).upper()]
+        elif code != "N4":
+            here = {each: outline.tokens[item.at] for each, outline in units.items()
+                    for item in reversed(outline.declared.values()) if item.name == name and item.has(OUTSIDE)}
+            firsts += here.values()
+        placed(here[unit].source, here[unit].line, here[unit].column, f"{code} {text}: {name}")
         if code in FIRST_PLACES:
-            tell(f"  note: {FIRST_PLACES[code]} {first.source}:{first.line}")
-
-    def external(self, unit, name):
-        """The tokens that declare an entry or an external variable of a name."""
-        for each in self.unit(unit).declared.values():
-            if each.name == name and each.has({"ENTRY", "EXTERNAL", "EXT"}):
-                yield self.unit(unit).tokens[each.at]
+            tell(f"  note: {FIRST_PLACES[code]} {firsts[0].source}:{firsts[0].line}")
 
     def place_of(self, unit, number):
         """Where a statement begins, and its text."""
@@ -128,38 +121,39 @@ def meant(outline, _, at):
 def first_declared(outline, _, at):
     """Where a name that is declared twice was declared first."""
     own = outline.declared.get(at)
-    same = [each for each in outline.declared.values() if own and each.scope == own.scope]
+    same = [each for each in outline.declared.values() if own and each[1:4] == own[1:4]]
     first = next((each for each in same if each.kind != "parameter" or own.kind == "parameter"), own)
     return [f"first declared at {where(outline.tokens[first.at], outline.tokens[at])}"] if first is not own else []
 
 
 def still_open(outline, code, at):
     """What an END does not close, or what has none."""
-    number, tokens = outline.number_at(at), outline.tokens
+    number, token = outline.number_at(at), outline.tokens[at]
     each = outline.statements[number]
     around = each.around
     if code == "P9":
         around = around[:-1] if each.word == "END" else (*around, number) if each.word in OPENING else around
-        if tokens[at].text != ";":
-            yield f"; is missing behind {tokens[at].spelled}"
+        if token.text != ";":
+            yield f"; is missing behind {token.spelled}"
     if around:
         opening = outline.statements[around[-1]]
-        yield f"{opening.word} of {where(tokens[opening.at], tokens[at])} is still open"
+        yield f"{opening.word} of {where(outline.tokens[opening.at], token)} is still open"
 
 
 def before(outline, code, at):
     """The statement before one that is none, or that does not end."""
     number, tokens = outline.number_at(at), outline.tokens
-    start, end = outline.starts[number], after_expression(tokens, at)
     if code == "P5":
+        start = outline.starts[number]
         place = where(tokens[start], tokens[at])
-        yield f"; is missing behind the statement before, of {place}: {spelled(tokens[start:at])}"
-        return
+        return [f"; is missing behind the statement before, of {place}: {spelled(tokens[start:at])}"]
+    end, notes = after_expression(tokens, at), []
     if end and tokens[end].text != ";" and tokens[end].line > tokens[end - 1].line:
-        yield f"; may be missing behind {spelled(tokens[at:end])}"
+        notes.append(f"; may be missing behind {spelled(tokens[at:end])}")
     if number:
         place = where(tokens[outline.starts[number - 1]], tokens[at])
-        yield f"the statement before, of {place}: {outline.text_of(number - 1)}"
+        notes.append(f"the statement before, of {place}: {outline.text_of(number - 1)}")
+    return notes
 
 
 NOTES = {"A1": meant, "A2": first_declared, "P8": still_open, "P9": still_open, "P2": before, "P5": before}
