@@ -122,8 +122,7 @@ def refused(member):
 
 
 def gathered(units, folders, most):
-    """The units of a call and all that they include, by their names; none where a file can be no member, which is
-    told up to a number of times."""
+    """The units of a call and all that they include, by their names; none where one can be no member, which is told."""
     members, wrong = {}, []
     for path, name in units:
         unit = unit_of(path, name)

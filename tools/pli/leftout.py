@@ -1,10 +1,10 @@
-"""What of full PL/I the profile leaves out and what to write in its place, by the lists of docs/LANGUAGE.md."""
+"""What of full PL/I the profile leaves out and what to write in its place, by leftout.txt and docs/LANGUAGE.md."""
 import re
 from difflib import get_close_matches
 from functools import cache
 
-from outline import NUMBER, VARYING, declared
-from pages import instead
+from outline import NUMBER, declared
+from pages import instead, read
 
 LIKE = 0.7
 SIGNS = {"AND": "&", "OR": "|", "NOT": "^", "EQ": "=", "NE": "^=", "LT": "<", "LE": "<=", "GT": ">", "GE": ">="}
@@ -12,67 +12,11 @@ SIGNS |= {"= =": "=", "< >": "^=", "= >": ">=", "= <": "<="}
 NO_SIGN = re.compile(r"(?<=\S )(?:AND|OR|NOT|EQ|NE|LT|LE|GT|GE)(?= )|(?<= )(?:= =|< >|= >|= <)(?= )")
 PART = r"(?:\( (?:[^()]|\((?:[^()]|\([^()]*\))*\))*\) |(?![=(] )\S+ )"
 
-# Codes, a pattern of the statement with `@` before the token at which they are told, and what is said: what is left out
-# and what to write, or a line of other words. The first that fits is taken. A list of the page in brackets fits where
-# it has the group of the pattern. PART is a parenthesis or another token, but no `=`.
-RULES = r"""
-X3           @ (\S+)                        \1 -> [character]
-X4           @ \S*[.E]\S*                   numbers with a point or an exponent -> count the smallest part
-I4           @                              preprocessor statements other than %INCLUDE -> ...
-                                            write one %INCLUDE for each member
-P1           @ \*                           *PROCESS -> begin with NAME: PROC
-P2           ^(?=.* : ).*@ \(               condition prefixes -> ranges and overflow are always tested
-P2           @ (?:(?!= )\S+ )*?([-+*|&]) =  \1= -> write X = X \1 ..
-P2           @ PART*?, PART*?=              several targets of an assignment -> write an assignment for each
-P2           @.* \) ''                      repetition of strings, (n)'..' -> ...
-                                            write the string out, or join it in a DO group
-P2           @.* '' X                       hexadecimal strings -> write '..'B4 for bits, or the characters
-P2           @ (\S+)                        \1 -> [statement]
-P4           PUT .*@ DO                     DO within PUT LIST -> write a DO group with PUT LIST in it
-P4           INIT(?:IAL)?                   expressions and CALL in INITIAL -> write a constant, or assign the value
-P4           MAIN @ ,                       further OPTIONS -> write OPTIONS(MAIN)
-P4           ^ (?:DCL|DECLARE) \( .*@       attributes within a list of names -> ...
-                                            write them behind the list, or an item for each name
-P4           ^ \S+ : PROC(?:EDURE)? \( (?:[^ )]\S* )*?([^ )]\S*) @ [A-Z]\S*  attributes in a list of parameters -> ...
-                                            write DCL \1 .. in the procedure
-P5           DO .*@ ,                       lists of DO specifications -> ...
-                                            write a group for each, which call one procedure
-P5           GOTO .*@ \(                    arrays of labels -> write IF .. THEN GOTO for each label
-P5           SKIP @ \(                      SKIP(n) -> write PUT SKIP; once for each line
-P5           ^ FREE .*@ IN                  FREE with IN -> write the locator, FREE P -> X
-P5           ^ ALLOCATE .*@                 extents and attributes in ALLOCATE -> write them in the declaration
-P5 P18       PUT .*@ (\S+)                  PUT \1 -> [PUT]
-P5           @ (\S+)                        \1 -> [group]
-P4 P5 P12    @ (\S+)                        \1 -> [attribute]
-P6           @ \(                           lists within lists of names -> write one list
-P8           @ (?:DO|IF|BEGIN|PROC|SELECT)  a label or nothing stands behind END: write END;
-P11          ^ \S+ (\S+) .*@                \1 -> [group]
-P13          INIT(?:IAL)? .*@               *, repeated strings and lists in INITIAL -> ...
-                                            write each value; (n) stands before a number alone
-P13          @ \*                           * extents -> write the length or the bounds
-P13          \( \S+ , @                     fractions of numbers -> count the smallest part
-P13          @ [A-Z]\S*                     computed extents -> write a constant, the greatest that is needed
-P14          @ PROC(?:EDURE)?               a procedure has its name before it: write NAME: PROC
-P14          : @                            several labels of a statement -> write L1: ; L2: and the statement
-P15          @ ([A-Z]\S*)                   the condition \1 -> the conditions are FIXEDOVERFLOW, ZERODIVIDE and AREA
-P18          ^(?!.* PUT )                   further OPTIONS -> write OPTIONS(MAIN)
-P2 P3 P5 P7  \* (?:@ )?\*                   ** -> multiply, in a DO group where the exponent is large
-A1           @ (\S+) \(                     the built-in function \1 -> [function]
-A1           CALL @ (\S+)                   a procedure of another file is declared too: write DCL \1 ENTRY;
-T1           (?:^ |: |THEN |ELSE )@ SUBSTR  SUBSTR as a target -> ...
-                                            join the parts, as SUBSTR(S, 1, 2) || 'X' || SUBSTR(S, 4)
-T2           @                              whole arrays and structures in expressions -> ...
-                                            write a DO group over the elements
-T3           @                              sections of arrays -> write all subscripts, or none
-T4           @ \|\|                         numbers as operands of || -> assign the number to a CHAR variable first
-T4           @ [-+*]                        conversion of strings to numbers -> write FIXED BIN variables
-"""
-
-
 @cache
 def rules():
-    """The rules: codes, patterns, and what is said."""
-    lines = re.sub(r"\.\.\.\n +", "", RULES).replace("PART", PART).strip().splitlines()
+    """The rules of leftout.txt: codes, patterns, and what is said."""
+    text = re.sub(r"\.\.\.\n +|#.*\n", "", read("tools/pli/leftout.txt"))
+    lines = text.replace("WORDS", "(?:(?!, )PART)").replace("PART", PART).splitlines()
     parted = [re.split(" {2,}", line, maxsplit=2) for line in lines]
     return [(codes.split(), re.compile(rf"(?<!\S){pattern}(?!\S)"), said) for codes, pattern, said in parted]
 
@@ -117,14 +61,6 @@ def undeclared(tokens, at, text):
     return out("implicit declaration", f"write DCL {tokens[at].text} {wanted}")
 
 
-def attributes(tokens, at, text):
-    """Tells of a declared name whose attributes conflict or are missing."""
-    item = next((item for item in declared(tokens) if item.at == at), None)
-    if item and item.has({"BIT"}) and item.has(VARYING):
-        return out("BIT VARYING", "write BIT(n)")
-    return out("defaults of types", "write FIXED BIN(15)") if item and item.has(NUMBER) else None
-
-
 def assigned(tokens, at, text):
     """Tells of an assignment without a conversion, by the one declaration of its target."""
     target = re.search(r"(?:^ |: |THEN |ELSE )(\S+) @ = (\S*)", text)
@@ -142,15 +78,12 @@ def assigned(tokens, at, text):
     return out("conversion to bits", "write a comparison, as B = (X > 0)") if found[0].has({"BIT"}) else None
 
 
-BY_CODE = {"P8": ending, "A1": undeclared, "A3": attributes, "A4": attributes, "T5": assigned}
+BY_CODE = {"P8": ending, "A1": undeclared, "T5": assigned}
 BY_CODE |= dict.fromkeys(("P2", "P3", "P5", "P7"), wrong_sign)
 
 
 def left_out(code, tokens, at):
-    """For a diagnostic at a token: what the profile leaves out there and what to write, in one line; None if not known.
-
-    The token of a fault of scanning or inclusion may be the fault itself, behind the tokens before it.
-    """
+    """What the profile leaves out at the token of a diagnostic and what to write, in one line; None if not known."""
     if not 0 <= at < len(tokens):
         return None
     text = statement_at(tokens, at)

@@ -1,40 +1,26 @@
 """The outline of a unit: its statements, which blocks they stand in, and what is declared where."""
 from bisect import bisect_left, bisect_right
-from typing import NamedTuple
+from collections import namedtuple
 
 MOST_TOKENS = 200_000
 WHOLE = {"DCL": "DECLARE", "PROC": "PROCEDURE"}
 OPENING = {"PROCEDURE", "BEGIN", "DO"}
 INFIX = {"|", "&", "=", "^=", "<", "<=", ">", ">=", "||", "+", "-", "*"}
 CHARACTER = {"CHAR", "CHARACTER"}
-VARYING = {"VAR", "VARYING"}
 NUMBER = {"FIXED", "BIN", "BINARY"}
 
 
-class Statement(NamedTuple):
+class Statement(namedtuple("Statement", "start at end word around is_else")):
     """A statement: where its label and its first word stand and where its own tokens end, that word, the numbers of the
     statements that are open around it, and whether ELSE is before it."""
 
-    start: int
-    at: int
-    end: int
-    word: str
-    around: tuple
-    is_else: bool
+
+FIELDS = "at name block parent level dimensions attributes kind"
 
 
-class Item(NamedTuple):
+class Item(namedtuple("Item", FIELDS, defaults=(-1, -1, 1, False, (), "item"))):
     """A declared name: its token, its block, the token of what it is a member of, its level (1 where none is written),
     whether it has dimensions, its attributes, and `item`, `parameter` or the word of the statement that it labels."""
-
-    at: int
-    name: str
-    block: int = -1
-    parent: int = -1
-    level: int = 1
-    dimensions: bool = False
-    attributes: list = []
-    kind: str = "item"
 
     def has(self, words):
         """Whether one of some attributes is among its own."""
@@ -86,8 +72,7 @@ def declared(tokens):
 
 
 def expanded(members, name):
-    """The tokens of a unit with what it includes in their places, and of each the directives that lead to it; and the
-    directives to what ends this."""
+    """The tokens of a unit and all that it includes, of each the directives to it, and those to what ends this."""
     tokens, chains, read, opened = [], [], 0, [(name, (), iter(members[name].items))]
     while opened and read <= MOST_TOKENS:
         _, chain, items = opened[-1]
@@ -171,8 +156,7 @@ def spelled(tokens):
 
 
 class Outline:
-    """A unit's tokens and their directives, its statements, its blocks, each the number of its statement, and its
-    declared names."""
+    """A unit: its tokens, their directives, its statements, its blocks by their statements, and its declared names."""
 
     def __init__(self, members, name):
         self.tokens, self.chains, self.last = expanded(members, name)

@@ -35,12 +35,7 @@ class Report:
     """Tells the diagnostics of builds and the errors of runs of some members."""
 
     def __init__(self, members, most=20):
-        self.members, self.most = members, most
-        self.forget()
-
-    def forget(self):
-        """Lets go of the units, since members were edited."""
-        self.unit = cache(partial(Outline, self.members))
+        self.members, self.most, self.unit = members, most, cache(partial(Outline, members))
 
     def sources(self):
         return sorted(name for name, member in self.members.items() if member.kind == "SOURCE")

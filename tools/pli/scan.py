@@ -1,27 +1,16 @@
-"""Tokens of PL/I text, each with its place, and what stands in the way of reading them.
-
-A source is the file that a text is of; `str(source)` is its path as it is shown. Lines and columns are counted from 1,
-columns in characters. A carriage return before a line feed is no part of a text that is scanned.
-"""
+"""Tokens of PL/I text, and what stands in the way of reading them, each with its source, line and column from 1."""
 import re
-from typing import NamedTuple
+from collections import namedtuple
 
 GREATEST_NUMBER = 2147483647
 
 
-class Token(NamedTuple):
+class Token(namedtuple("Token", "kind text spelled source line column")):
     """A piece of text: its kind, its normalised text, as it is written, and its place.
 
     A token is a name, number, binary, string, bits or sign. A directive is an include, at its `%`, whose text is the
     name of the member in capitals. What is no token (X1 to X6) or no directive (I4) has its code for a kind.
     """
-
-    kind: str
-    text: str
-    spelled: str
-    source: object
-    line: int
-    column: int
 
     @property
     def is_fault(self):

@@ -2,6 +2,7 @@
 import re
 
 from files import Member
+from report import Report
 from streams import Trouble, show, tell
 from tracing import questions, tell_trace
 
@@ -122,5 +123,5 @@ class Session:
             show(b"BUILT\n" if built else b"NOT BUILT\n")
             return int(not built)
         answers = answered(self.bench, self.members, command)
-        self.report.forget()
+        self.report = Report(self.members, self.report.most)
         return int(answers[-1:] != [b"OK"])

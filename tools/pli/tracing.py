@@ -1,8 +1,6 @@
 """The last statements that ran, told by a program that counts its statements and prints where it is.
 
-Each statement of the traced program has others before it, which count it, and print a mark from a number on. They take
-the same number of steps everywhere, as turns and activations do: SPREAD times the steps lead as far as the program's
-own. A first run finds about how many statements there are, a second one prints the last of them.
+What stands before each statement takes as many steps everywhere: SPREAD times the steps lead as far as without it.
 """
 import re
 import textwrap
@@ -23,8 +21,7 @@ def traced(outline, declaration, counting):
     statements, words = outline.statements, []
 
     def add(number, wrapped=False):
-        """Adds a statement with all that stands in it, behind THEN and ELSE in a group of its own; gives the number of
-        the next one."""
+        """Adds a statement with all that stands in it, wrapped behind THEN and ELSE; gives the number of the next."""
         each, following = statements[number], number + 1
         words.extend(["DO ;"] * wrapped + [token.spelled for token in outline.tokens[each.start : each.at]])
         if each.word not in ("PROCEDURE", "DECLARE", "END"):
@@ -57,8 +54,7 @@ def filled(words):
 
 
 def questions(session, first, every, steps=MOST_IN_BATCH):
-    """The commands that build the program with marks from a statement on, each so many statements behind the one
-    before; those that run it; and those that take it away."""
+    """The commands that build the program with marks from a statement on, that run it, and that take it away."""
     units = {name: session.report.unit(name) for name in session.report.sources()}
     used = {token.text for outline in units.values() for token in outline.tokens}
     count, limit = [name for number in range(len(used) + 2) if (name := f"T${number}") not in used][:2]

@@ -1,8 +1,4 @@
-"""The workbench as a process: commands go to it, and answers come back as they come.
-
-Behind the commands of each question a member of a random name with a random line is listed. So nothing that a program
-prints is taken for the end of its run.
-"""
+"""The workbench as a process: commands go to it, and answers come back as they come, up to a random mark."""
 import os
 import queue
 import secrets
@@ -73,8 +69,7 @@ class Workbench:
         self.given.put(None)
 
     def ask(self, commands, emit=None):
-        """The answers to commands, line by line; nothing where they were not planned. With `emit` the commands are one
-        RUN, `emit` gets what it prints as it comes, and the answer is its last line alone."""
+        """The answers to commands; nothing where they were not planned. Of a RUN `emit` gets all but the last line."""
         if not self.batch:
             self.busy = True
             self.say(commands)
@@ -95,8 +90,7 @@ class Workbench:
         self.pending += chunk
 
     def hear(self, emit=None):
-        """The answers up to the next mark, as `ask` gives them, behind the end of those before. What is passed on is
-        held back by a line that ended, which may be the end of the run."""
+        """The answers up to the next mark, as `ask` gives them; `emit` waits for a line that may be the run's end."""
         while len(self.pending) < len(self.leading) and self.leading.startswith(self.pending):
             self.read()
         if not self.pending.startswith(self.leading):
@@ -126,10 +120,7 @@ class Workbench:
                     self.child.wait(SECONDS_TO_END)
         if self.emit:
             os.set_blocking(self.child.stdout.fileno(), False)
-            with suppress(OSError):
-                while chunk := os.read(self.child.stdout.fileno(), CHUNK):
-                    self.pending += chunk
-            printed = self.pending.partition(self.end)[0]
+            printed = (self.pending + (self.child.stdout.read() or b"")).partition(self.end)[0]
             with suppress(Trouble):
                 self.emit(printed and printed + b"\n")
 
