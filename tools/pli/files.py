@@ -26,10 +26,6 @@ class Member:
     def __str__(self):
         return self.shown
 
-    def edited(self, lines):
-        """The member with other lines, which are not those of its file."""
-        return Member(self.name, self.kind, lines, self.path, f"{self.shown.removesuffix(' as edited')} as edited")
-
     def text(self):
         """Its lines as one text."""
         return b"\n".join(self.lines).decode("latin-1")

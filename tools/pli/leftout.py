@@ -12,6 +12,7 @@ SIGNS |= {"= =": "=", "< >": "^=", "= >": ">=", "= <": "<="}
 NO_SIGN = re.compile(r"(?<=\S )(?:AND|OR|NOT|EQ|NE|LT|LE|GT|GE)(?= )|(?<= )(?:= =|< >|= >|= <)(?= )")
 PART = r"(?:\( (?:[^()]|\((?:[^()]|\([^()]*\))*\))*\) |(?![=(] )\S+ )"
 
+
 @cache
 def rules():
     """The rules of leftout.txt: codes, patterns, and what is said."""

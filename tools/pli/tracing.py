@@ -89,12 +89,11 @@ def marks(session, first, every, steps):
 
 def tell_trace(session, steps):
     """Tells the last statements that a run of so many steps began."""
-    if session.bench.batch:
-        found = marks(session, 1, 1, MOST_IN_BATCH)
-        too_long = found and found[2] == b"OUT OF STEPS" and SPREAD * steps > MOST_IN_BATCH
-    else:
-        found, too_long = marks(session, EVERY, EVERY, SPREAD * steps), False
-        found = found and marks(session, max(1, found[0] * EVERY - SHOWN + 1), 1, SPREAD * steps)
+    batch, most = session.bench.batch, MOST_IN_BATCH if session.bench.batch else SPREAD * steps
+    found = marks(session, *((1, 1) if batch else (EVERY, EVERY)), most)
+    too_long = batch and found and found[2] == b"OUT OF STEPS" and SPREAD * steps > most
+    if found and not batch:
+        found = marks(session, max(1, found[0] * EVERY - SHOWN + 1), 1, most)
     if not found or too_long:
         tell(f"pli: no trace: the {'run is too long for an unproved program' if found else 'program is too large'}")
         return
