@@ -24,7 +24,7 @@ def rules():
 
 def out(what, write):
     """The line that says what is left out and what to write, if that is known."""
-    return write and f"the profile leaves out {what}; {write}"
+    return f"the profile leaves out {what}; {write}" if write else None
 
 
 def by_rule(said, found):
@@ -48,9 +48,8 @@ def wrong_sign(tokens, at, text):
 
 def ending(tokens, at, text):
     """Tells of an END that closes several groups."""
-    labels = {one.text for one, other in zip(tokens[:at], tokens[1:at]) if other.text == ":"}
-    named = tokens[at].text in labels
-    return out("an END that closes several groups", "write an END for each") if named else None
+    labels = [one.text for one, other in zip(tokens[:at], tokens[1:at]) if other.text == ":"]
+    return out("an END that closes several groups", tokens[at].text in labels and "write an END for each")
 
 
 def undeclared(tokens, at, text):
@@ -71,8 +70,8 @@ def assigned(tokens, at, text):
         return None
     if " = " in text[target.end() :]:
         return out("several targets of an assignment", "a second = compares, so write an assignment for each")
-    if found[0].dimensions:
-        scalar = target[2] and target[2] not in {item.name for item in items if item.dimensions}
+    if found[0].array:
+        scalar = target[2] and target[2] not in {item.name for item in items if item.array}
         return out("a scalar assigned to an array", "write a DO group that assigns each element") if scalar else None
     if found[0].has(NUMBER):
         return out("conversion of strings to numbers", "write a procedure that reads the digits")

@@ -59,16 +59,6 @@ class Call:
             self.given[name] = int(value) if name in NUMBERS else value
 
 
-def tell_warnings(report):
-    """Tells the warnings of all units, those of an include once."""
-    told = {}
-    for name in report.sources():
-        for token, text in warnings(report.unit(name).tokens):
-            told[token.source, token.line, token.column, f"warning: {text}"] = None
-    for each in told:
-        placed(*each)
-
-
 def build_and_run(call):
     """The status of a call with files."""
     most, trace = call.given.get("--errors", 20), "--trace" in call.given
@@ -76,8 +66,9 @@ def build_and_run(call):
     if members is None:
         return 1
     report = Report(members, most)
-    if "--warn" in call.given:
-        tell_warnings(report)
+    outlines = [report.unit(name) for name in report.sources() if "--warn" in call.given]
+    for token, text in dict.fromkeys(warned for outline in outlines for warned in warnings(outline.tokens)):
+        placed(token.source, token.line, token.column, f"warning: {text}")
     bench = Workbench(*chosen(call.given))
     session = Session(bench, members, report)
     steps = call.given.get("--steps", STEPS_IN_BATCH if bench.batch else STEPS)

@@ -105,7 +105,7 @@ class Types:
             every = self.outline.declared.values()
             known = [each for each in every if (each.block, each.kind) == (number, "parameter")]
             items = [own for each in known if (own := self.outline.meant([each.name], [number]))]
-            self.calls[at] = given, [described(item.attributes, item.dimensions) for item in items]
+            self.calls[at] = given, [described(item.attributes, item.array) for item in items]
             return returned(self.tokens[found.at : self.outline.statements[number].end])
         head = found.attributes
         if found.has({"ENTRY"}):
@@ -114,7 +114,7 @@ class Types:
             ends = parts(head, place + 1, closing(head, place) - 1) if listed else []
             self.calls[at] = given, [described(head[first:last], head[first].text == "(") for first, last in ends]
             return returned(head)
-        is_array = not given and any(each.dimensions for each in self.outline.owners(found))
+        is_array = not given and any(each.array for each in self.outline.owners(found))
         members = any(each.parent == found.at for each in self.outline.declared.values())
         return "structure" if members else described(head, is_array)
 

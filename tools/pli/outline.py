@@ -15,10 +15,7 @@ class Statement(namedtuple("Statement", "start at end word around is_else")):
     statements that are open around it, and whether ELSE is before it."""
 
 
-FIELDS = "at name block parent level dimensions attributes kind"
-
-
-class Item(namedtuple("Item", FIELDS, defaults=(-1, -1, 1, False, (), "item"))):
+class Item(namedtuple("Item", "at name block parent level array attributes kind", defaults=(-1, -1, 1, 0, (), "item"))):
     """A declared name: its token, its block, the token of what it is a member of, its level (1 where none is written),
     whether it has dimensions, its attributes, and `item`, `parameter` or the word of the statement that it labels."""
 

@@ -94,16 +94,14 @@ class Session:
             if answer != b"OK":
                 raise Trouble(f"the workbench answers {answer.decode()} to {command[:60].decode('latin-1')}")
         lines = [line.decode() for line in answers[len(commands) - 1 :]]
-        if lines != ["BUILT"]:
-            self.report.diagnosed([line for line in lines if line != "NOT BUILT"], self.built_by_tokens())
-        return lines == ["BUILT"]
-
-    def built_by_tokens(self):
-        """The diagnostics of a build of the members by tokens; none where there is no such build."""
+        if lines == ["BUILT"]:
+            return True
         commands = self.by_tokens()
         answers, typed = self.bench.ask(commands) or [], commands.index(b"BUILD")
         end = answers.index(b"NOT BUILT") if b"NOT BUILT" in answers else 0
-        return [line.decode() for line in answers[typed:end]] if set(answers[:typed]) <= {b"OK"} else None
+        by_tokens = [line.decode() for line in answers[typed:end]] if set(answers[:typed]) <= {b"OK"} else None
+        self.report.diagnosed([line for line in lines if line != "NOT BUILT"], by_tokens)
+        return False
 
     def run(self, command, steps=None):
         """The status of a run, whose output is shown as it comes, with a trace where its steps are given."""
