@@ -21,19 +21,15 @@ class Member:
 
     def __init__(self, name, kind, lines=(), path=None, shown=None):
         self.name, self.kind, self.lines, self.path = name, kind, list(lines), path
-        self.shown = shown or str(path or name)
+        self.shown, self.text = shown or str(path or name), b"\n".join(self.lines).decode("latin-1")
 
     def __str__(self):
         return self.shown
 
-    def text(self):
-        """Its lines as one text."""
-        return b"\n".join(self.lines).decode("latin-1")
-
     @cached_property
     def items(self):
         """Its tokens and directives, up to what is no token."""
-        return scan(self.text(), self)
+        return scan(self.text, self)
 
     @cached_property
     def by_tokens(self):

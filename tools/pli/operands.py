@@ -40,6 +40,7 @@ class Types:
         self.list(each.end)
 
     def text(self):
+        """The token that comes next."""
         return self.tokens[self.at].text
 
     def expression(self, level=0):

@@ -38,6 +38,7 @@ class Report:
         self.members, self.most, self.unit = members, most, cache(partial(Outline, members))
 
     def sources(self):
+        """The names of the units."""
         return sorted(name for name, member in self.members.items() if member.kind == "SOURCE")
 
     def diagnosed(self, lines, by_tokens):

@@ -14,6 +14,7 @@ class Token(namedtuple("Token", "kind text spelled source line column")):
 
     @property
     def is_fault(self):
+        """Whether its kind is a code."""
         return self.kind[1:].isdigit()
 
 

@@ -58,7 +58,7 @@ def warnings(unit):
     """What is to be warned of in a unit of expanded tokens and in its texts: places, each with a line."""
     items, sources = declared(unit), dict.fromkeys(token.source for token in unit)
     many = Counter(item.name for item in items)
-    comments = [piece for each in sources for piece in pieces(each.text(), each) if piece.kind == "comment"]
+    comments = [piece for each in sources for piece in pieces(each.text, each) if piece.kind == "comment"]
     told = [warned for comment in comments for warned in opened_twice(comment)]
     for item in {id(item.attributes): item for item in items}.values():
         told += [each for token in item.attributes if token.kind == "string" for each in cut(item, token)]
