@@ -34,10 +34,8 @@ class Member:
     @cached_property
     def by_tokens(self):
         """A line for each token, with the item that it is of; none where that cannot be."""
-        lines = []
-        for item in self.items:
-            words = ["%", "INCLUDE", item.text, ";"] if item.kind == "include" else [item.spelled]
-            lines += [(word.encode("latin-1"), item) for word in words]
+        lines = [(word.encode("latin-1"), item) for item in self.items
+                 for word in (["%", "INCLUDE", item.text, ";"] if item.kind == "include" else [item.spelled])]
         bad = self.items and self.items[-1].kind.startswith("X")
         return None if bad or len(lines) > MOST_LINES else lines
 

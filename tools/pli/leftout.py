@@ -7,9 +7,7 @@ from outline import NUMBER, declared
 from pages import instead, read
 
 LIKE = 0.7
-SIGNS = {"AND": "&", "OR": "|", "NOT": "^", "EQ": "=", "NE": "^=", "LT": "<", "LE": "<=", "GT": ">", "GE": ">="}
-SIGNS |= {"= =": "=", "< >": "^=", "= >": ">=", "= <": "<="}
-NO_SIGN = re.compile(r"(?<=\S )(?:AND|OR|NOT|EQ|NE|LT|LE|GT|GE)(?= )|(?<= )(?:= =|< >|= >|= <)(?= )")
+SOUND = r"^(?:(?![^ @] (?:@ )?(?:AND|OR|NOT|EQ|NE|LT|LE|GT|GE) | (?:= (?:@ )?[=<>]|< (?:@ )?>) ).)*"
 PART = r"(?:\( (?:[^()]|\((?:[^()]|\([^()]*\))*\))*\) |(?![=(] )\S+ )"
 
 
@@ -17,7 +15,7 @@ PART = r"(?:\( (?:[^()]|\((?:[^()]|\([^()]*\))*\))*\) |(?![=(] )\S+ )"
 def rules():
     """The rules of leftout.txt: codes, patterns, and what is said."""
     text = re.sub(r"\.\.\.\n +|#.*\n", "", read("tools/pli/leftout.txt"))
-    lines = text.replace("WORDS", "(?:(?!, )PART)").replace("PART", PART).splitlines()
+    lines = text.replace("SOUND", SOUND).replace("WORDS", "(?:(?!, )PART)").replace("PART", PART).splitlines()
     parted = [re.split(" {2,}", line, maxsplit=2) for line in lines]
     return [(codes.split(), re.compile(rf"(?<!\S){pattern}(?!\S)"), said) for codes, pattern, said in parted]
 
@@ -38,12 +36,6 @@ def statement_at(tokens, at):
     words = ["''" if token.kind == "string" else token.spelled.upper() for token in tokens]
     text = " ".join(["", *words[:at], "@", *words[at:], ""])
     return re.search(r"(?:^|(?<=;))[^;]* @ (?:;|[^;]*)", text)[0]
-
-
-def wrong_sign(tokens, at, text):
-    """Tells of the first sign or word in an expression that there is not."""
-    found = NO_SIGN.search(text.replace("@ ", ""))
-    return found and f"there is no {found[0].replace(' ', '')}: write {SIGNS[found[0]]}"
 
 
 def ending(tokens, at, text):
@@ -78,10 +70,6 @@ def assigned(tokens, at, text):
     return out("conversion to bits", "write a comparison, as B = (X > 0)") if found[0].has({"BIT"}) else None
 
 
-BY_CODE = {"P8": ending, "A1": undeclared, "T5": assigned}
-BY_CODE |= dict.fromkeys(("P2", "P3", "P5", "P7"), wrong_sign)
-
-
 def left_out(code, tokens, at):
     """What the profile leaves out at the token of a diagnostic and what to write, in one line; None if not known."""
     if not 0 <= at < len(tokens):
@@ -89,4 +77,5 @@ def left_out(code, tokens, at):
     text = statement_at(tokens, at)
     fitting = ((said, found) for codes, pattern, said in rules() if code in codes and (found := pattern.search(text)))
     told = next(filter(None, (by_rule(*each) for each in fitting)), None)
-    return told or (BY_CODE[code](tokens, at, text) if code in BY_CODE else None)
+    more = {"P8": ending, "A1": undeclared, "T5": assigned}.get(code)
+    return told or more and more(tokens, at, text)

@@ -13,7 +13,6 @@ from streams import Stopped, Trouble, end_line, handle_signals, prepare, show, t
 from warn import warnings
 from workbench import Workbench, chosen
 
-VERSION = b"pli 1.0\n"
 STEPS = 999_999_999
 STEPS_IN_BATCH = 1_000_000
 NUMBERS = ("--steps", "--errors")
@@ -91,7 +90,7 @@ def done(call):
     if "--help" in call.given:
         show(printed("help"))
     elif "--version" in call.given:
-        show(VERSION)
+        show(b"pli 1.0\n")
     elif "--explain" in call.given:
         text = explain(call.given["--explain"])
         if text is None:

@@ -22,8 +22,7 @@ def returned(head):
 
 
 class Types:
-    """The types in a statement, by tokens: `pairs` has those of each operator and `=`, `calls` those of the arguments
-    and parameters of each called name, `whole` that of each expression."""
+    """Types in a statement, by tokens: `pairs` of operators and `=`, `calls` of names, `whole` of expressions."""
 
     def __init__(self, outline, number):
         self.outline, self.blocks = outline, outline.blocks_of(number)
@@ -39,16 +38,12 @@ class Types:
         self.at = max(self.at, each.at + 1)
         self.list(each.end)
 
-    def text(self):
-        """The token that comes next."""
-        return self.tokens[self.at].text
-
     def expression(self, level=0):
         """The type of the expression that begins here, which is passed."""
         if level == len(LEVELS):
             return self.operand()
         first, left = self.at, self.expression(level + 1)
-        while (sign := self.text()) in LEVELS[level]:
+        while (sign := self.tokens[self.at].text) in LEVELS[level]:
             at = self.at
             self.at += 1
             self.pairs[at] = left, self.expression(level + 1)
@@ -59,7 +54,7 @@ class Types:
 
     def operand(self):
         """The type of an operand without operators, or with one before it."""
-        at, text, kind = self.at, self.text(), self.tokens[self.at].kind
+        at, (kind, text, *_) = self.at, self.tokens[self.at]
         if kind == "name":
             return self.reference()
         self.at += 1
@@ -67,7 +62,7 @@ class Types:
             self.pairs[at] = (self.operand(),)
             return self.pairs[at][0]
         inside = self.expression() if text == "(" else CONSTANTS.get(kind, "")
-        self.at += text == "(" and self.text() == ")"
+        self.at += text == "(" and self.tokens[self.at].text == ")"
         return inside
 
     def reference(self):
@@ -75,14 +70,14 @@ class Types:
         sign = "->"
         while sign in (".", "->"):
             names, given, first = ([], [], self.at) if sign == "->" else (names, given, first)
-            names.append(self.text())
+            names.append(self.tokens[self.at].text)
             self.at += 1
-            if self.text() == "(":
+            if self.tokens[self.at].text == "(":
                 end = closing(self.tokens, self.at)
                 self.at += 1
                 given += self.list(end - 1)
                 self.at = end
-            sign = self.text()
+            sign = self.tokens[self.at].text
             self.at += sign in (".", "->")
         return self.meant(names, given, first)
 
@@ -92,7 +87,7 @@ class Types:
         while self.at < end:
             before = self.at
             several.append(self.expression())
-            self.at = max(self.at, before + 1) + (self.text() == ",")
+            self.at = max(self.at, before + 1) + (self.tokens[self.at].text == ",")
         self.at = end
         return several
 

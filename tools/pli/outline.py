@@ -11,13 +11,11 @@ NUMBER = {"FIXED", "BIN", "BINARY"}
 
 
 class Statement(namedtuple("Statement", "start at end word around is_else")):
-    """A statement: where its label and its first word stand and where its own tokens end, that word, the numbers of the
-    statements that are open around it, and whether ELSE is before it."""
+    """The places of its label, first word and end, that word, the numbers of those open around, and if after ELSE."""
 
 
 class Item(namedtuple("Item", "at name block parent level array attributes kind", defaults=(-1, -1, 1, 0, (), "item"))):
-    """A declared name: its token, its block, the token of what it is a member of, its level (1 where none is written),
-    whether it has dimensions, its attributes, and `item`, `parameter` or the word of the statement that it labels."""
+    """A declared name; `parent` is the token of its structure, `kind` also `parameter` or the word it labels."""
 
     def has(self, words):
         """Whether one of some attributes is among its own."""

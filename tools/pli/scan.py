@@ -6,11 +6,7 @@ GREATEST_NUMBER = 2147483647
 
 
 class Token(namedtuple("Token", "kind text spelled source line column")):
-    """A piece of text: its kind, its normalised text, as it is written, and its place.
-
-    A token is a name, number, binary, string, bits or sign. A directive is an include, at its `%`, whose text is the
-    name of the member in capitals. What is no token (X1 to X6) or no directive (I4) has its code for a kind.
-    """
+    """A token, a directive of kind `include`, whose text is a member's name, or what is neither, of its code's kind."""
 
     @property
     def is_fault(self):
@@ -48,8 +44,7 @@ def pieces(text, source):
 
 
 def scan(text, source):
-    """The tokens of a text, its directives in their places. What is no token ends the list; a `%` that begins no
-    directive does not."""
+    """The tokens of a text, its directives in their places, up to what is no token; a `%` alone ends nothing."""
     found = []
     for piece in pieces(text, source):
         if piece.kind in ("space", "comment"):

@@ -44,8 +44,7 @@ def answered(bench, members, command):
 
 
 def run(bench, command):
-    """The end of a run, by runs of fewer steps before it, of which only what is new is shown: so output comes while a
-    run goes on, though a workbench writes it in large pieces. The last byte waits, which may be the end's line feed."""
+    """The end of a run, behind runs of fewer steps that show output early; the last byte may be the end's line feed."""
     found, many, shown, seen, last = RUN.fullmatch(command), FIRST_STEPS, 0, 0, b""
     if bench.batch or not found:
         return bench.ask([command], show)

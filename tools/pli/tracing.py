@@ -1,7 +1,4 @@
-"""The last statements that ran, told by a program that counts its statements and prints where it is.
-
-What stands before each statement takes as many steps everywhere: SPREAD times the steps lead as far as without it.
-"""
+"""The last statements that ran, told by a program that counts them, of which SPREAD times the steps lead as far."""
 import re
 import textwrap
 from collections import deque
