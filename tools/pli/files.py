@@ -3,14 +3,13 @@ import re
 from functools import cached_property, partial
 from pathlib import Path
 
-from report import limited, placed
+from report import LONGEST_LINE, limited, placed
 from scan import scan
 from streams import Trouble
 
 NAME = re.compile(r"[A-Z][A-Z0-9_$]{0,30}")
 INCLUDED = (".INC", ".H", ".PLI", ".PL1")
 MOST_BYTES = 16_000_000
-LONGEST_LINE = 120
 MOST_LINES = 9_999
 MOST_MEMBERS = 998
 BAD_BYTE = re.compile(rb"[^\t -~]")

@@ -92,8 +92,7 @@ def done(call):
     elif "--version" in call.given:
         show(b"pli 1.0\n")
     elif "--explain" in call.given:
-        text = explain(call.given["--explain"])
-        if text is None:
+        if (text := explain(call.given["--explain"])) is None:
             raise Trouble(f"{call.given['--explain']} is no code of a diagnostic", 2)
         show(text.encode())
     elif call.units:

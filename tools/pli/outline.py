@@ -59,10 +59,9 @@ def declared(tokens):
         behind = closing(tokens, at) if at < last else at + 1
         dimensions = behind < last and tokens[behind].text == "("
         attributes = tokens[closing(tokens, behind) if dimensions else behind : last]
-        for place in range(at, min(behind, last)):
-            if tokens[place].kind == "name":
-                level = int(tokens[first].text) if at > first else 1
-                found.append(Item(place, tokens[place].text, -1, -1, level, dimensions, attributes))
+        level = int(tokens[first].text) if at > first else 1
+        names = [place for place in range(at, min(behind, last)) if tokens[place].kind == "name"]
+        found += [Item(place, tokens[place].text, -1, -1, level, dimensions, attributes) for place in names]
     return found
 
 

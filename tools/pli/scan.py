@@ -52,8 +52,7 @@ def scan(text, source):
         found.append(piece)
         if piece.is_fault:
             break
-        directive = piece.text == ";" and DIRECTIVE.fullmatch(" ".join(item.text for item in found[-4:]))
-        if directive:
+        if piece.text == ";" and (directive := DIRECTIVE.fullmatch(" ".join(item.text for item in found[-4:]))):
             name = directive[2].upper()
             found[-4:] = [found[-4]._replace(kind="include", text=name, spelled=f"%INCLUDE {name}")]
     return [item._replace(kind="I4") if item.text == "%" else item for item in found]
