@@ -4,7 +4,6 @@ import sys
 try:
     from main import main
 
-    status = main(sys.argv[1:])
+    sys.exit(main(sys.argv[1:]))
 except KeyboardInterrupt:
-    status = 130
-sys.exit(status)
+    sys.exit(130)

@@ -3,14 +3,13 @@ import re
 from functools import cached_property, partial
 from pathlib import Path
 
-from report import limited, placed
-from scan import Include, ScanFault, scan
+from report import LONGEST_LINE, limited, placed
+from scan import scan
 from streams import Trouble
 
 NAME = re.compile(r"[A-Z][A-Z0-9_$]{0,30}")
 INCLUDED = (".INC", ".H", ".PLI", ".PL1")
 MOST_BYTES = 16_000_000
-LONGEST_LINE = 120
 MOST_LINES = 9_999
 MOST_MEMBERS = 998
 BAD_BYTE = re.compile(rb"[^\t -~]")
@@ -21,37 +20,28 @@ class Member:
 
     def __init__(self, name, kind, lines=(), path=None, shown=None):
         self.name, self.kind, self.lines, self.path = name, kind, list(lines), path
-        self.shown = shown or str(path or name)
+        self.shown, self.text = shown or str(path or name), b"\n".join(self.lines).decode("latin-1")
 
     def __str__(self):
         return self.shown
 
-    def edited(self, lines):
-        """The member with other lines, which are not those of its file."""
-        return Member(self.name, self.kind, lines, self.path, f"{self.shown.removesuffix(' as edited')} as edited")
-
-    def text(self):
-        return b"\n".join(self.lines).decode("latin-1")
-
     @cached_property
     def items(self):
         """Its tokens and directives, up to what is no token."""
-        return scan(self.text(), self)
+        return scan(self.text, self)
 
     @cached_property
     def by_tokens(self):
         """A line for each token, with the item that it is of; none where that cannot be."""
-        lines = []
-        for item in self.items:
-            words = ["%", "INCLUDE", item.name, ";"] if isinstance(item, Include) else [item.spelled]
-            lines += [(word.encode("latin-1"), item) for word in words]
-        bad = any(isinstance(item, ScanFault) and item.code != "I4" for item in self.items[-1:])
+        lines = [(word.encode("latin-1"), item) for item in self.items
+                 for word in (["%", "INCLUDE", item.text, ";"] if item.kind == "include" else [item.spelled])]
+        bad = self.items and self.items[-1].kind.startswith("X")
         return None if bad or len(lines) > MOST_LINES else lines
 
     def item(self, line):
         """What stands on a line of it as it is typed by tokens."""
         if self.by_tokens is None:
-            return next((item for item in self.items[-1:] if isinstance(item, ScanFault) and item.line == line), None)
+            return next((item for item in self.items[-1:] if item.is_fault and item.line == line), None)
         return self.by_tokens[line - 1][1] if line <= len(self.by_tokens) else None
 
     def typed(self, by_tokens=False):
@@ -94,57 +84,48 @@ def found_in(folder, name):
     return min(found, key=lambda each: (wanted.index(each.name.upper()), each.name), default=None)
 
 
-class Gathering:
-    """The units of a call and all that they include."""
-
-    def __init__(self, units, folders):
-        self.members, self.folders, self.wrong = {}, folders, []
-        for path, name in units:
-            unit = unit_of(path, name)
-            other = self.members.setdefault(unit.name, unit)
-            if other is not unit:
-                raise Trouble(f"{unit}: {other} is the unit {unit.name} already; --as NAME FILE names it otherwise", 2)
-        todo = list(self.members.values())
-        while todo:
-            member = todo.pop(0)
-            todo += [new for item in member.items if isinstance(item, Include) and (new := self.included(member, item))]
-
-    def included(self, member, item):
-        """The new member that a directive asks for. One that stands already must be what the directive would find."""
-        folders = [member.path.parent if member.path else Path(), *self.folders]
-        path = next((path for folder in folders if (path := found_in(folder, item.name))), None)
-        stands = self.members.get(item.name)
-        if path is None or stands and stands.path and path.resolve() == stands.path.resolve():
-            return None
-        lines, means = read(path), f"%INCLUDE {item.name} means {path}"
-        if not stands:
-            self.members[item.name] = new = Member(item.name, "INCLUDE", lines, path)
-            return new
-        if stands.kind == "SOURCE":
-            told = f"{means}, but {stands} is the unit {item.name}; --as NAME FILE names it otherwise"
-            self.wrong.append((item, told))
-        elif lines != stands.lines:
-            self.wrong.append((item, f"{means} here, and {stands} elsewhere; rename one of them"))
+def include(members, item, folders):
+    """Adds the member that a directive asks for; says what is wrong where another stands in its place."""
+    beside = item.source.path.parent if item.source.path else Path()
+    path = next(filter(None, (found_in(folder, item.text) for folder in [beside, *folders])), None)
+    stands = members.get(item.text)
+    if path is None or stands and stands.path and path.resolve() == stands.path.resolve():
         return None
+    lines, means = read(path), f"%INCLUDE {item.text} means {path}"
+    if not stands:
+        members[item.text] = Member(item.text, "INCLUDE", lines, path)
+    elif stands.kind == "SOURCE":
+        return f"{means}, but {stands} is the unit {item.text}; --as NAME FILE names it otherwise"
+    return f"{means} here, and {stands} elsewhere; rename one of them" if stands and lines != stands.lines else None
 
 
-def refused(members):
-    """What the workbench would refuse of members: each a member, a line, a column and a message."""
-    for member in members:
-        for number, line in enumerate(member.lines[:MOST_LINES], 1):
-            if len(line) > LONGEST_LINE:
-                yield member, number, LONGEST_LINE + 1, f"M4 LINE TOO LONG: {len(line)} bytes, {LONGEST_LINE} at most"
-            elif bad := BAD_BYTE.search(line):
-                yield member, number, bad.start() + 1, f"M5 BAD BYTE: X'{line[bad.start()]:02X}'"
-        if len(member.lines) > MOST_LINES:
-            yield member, MOST_LINES + 1, 1, f"M6 TOO MANY LINES: a member has at most {MOST_LINES:,}"
+def refused(member):
+    """What the workbench would refuse of a member: lines, columns and messages."""
+    for number, line in enumerate(member.lines[:MOST_LINES], 1):
+        if len(line) > LONGEST_LINE:
+            yield number, LONGEST_LINE + 1, f"M4 LINE TOO LONG: {len(line)} bytes, {LONGEST_LINE} at most"
+        elif bad := BAD_BYTE.search(line):
+            yield number, bad.start() + 1, f"M5 BAD BYTE: X'{line[bad.start()]:02X}'"
+    if len(member.lines) > MOST_LINES:
+        yield MOST_LINES + 1, 1, f"M6 TOO MANY LINES: a member has at most {MOST_LINES:,}"
 
 
-def is_good(gathered, most):
-    """Whether all files can be members together; tells why not."""
-    if len(gathered.members) > MOST_MEMBERS:
-        raise Trouble(f"M7 TOO MANY MEMBERS: {len(gathered.members)} files, {MOST_MEMBERS} at most", 2)
-    wrong = [(item.source, item.line, item.column, message) for item, message in gathered.wrong]
-    wrong += refused(gathered.members.values())
-    limited([partial(placed, *place) for place in wrong], most)
-    return not wrong
+def gathered(units, folders, most):
+    """The units of a call and all that they include, by their names; none where one can be no member, which is told."""
+    members, wrong = {}, []
+    for path, name in units:
+        unit = unit_of(path, name)
+        other = members.setdefault(unit.name, unit)
+        if other is not unit:
+            raise Trouble(f"{unit}: {other} is the unit {unit.name} already; --as NAME FILE names it otherwise", 2)
+    todo = list(members.values())
+    for member in todo:
+        for item in member.items:
+            if item.kind == "include" and (message := include(members, item, folders)):
+                wrong.append((member, item.line, item.column, message))
+        todo += list(members.values())[len(todo) :]
+    if len(members) > MOST_MEMBERS:
+        raise Trouble(f"M7 TOO MANY MEMBERS: {len(members)} files, {MOST_MEMBERS} at most", 2)
+    wrong += [(member, *what) for member in members.values() for what in refused(member)]
+    limited([partial(placed, *each) for each in wrong], most)
+    return None if wrong else members

@@ -1,57 +1,87 @@
 """The outline of a unit: its statements, which blocks they stand in, and what is declared where."""
 from bisect import bisect_left, bisect_right
-from typing import NamedTuple
-
-from declared import closing, declared
-from scan import Include, Token
+from collections import namedtuple
 
 MOST_TOKENS = 200_000
 WHOLE = {"DCL": "DECLARE", "PROC": "PROCEDURE"}
 OPENING = {"PROCEDURE", "BEGIN", "DO"}
 INFIX = {"|", "&", "=", "^=", "<", "<=", ">", ">=", "||", "+", "-", "*"}
-PREFIX = {"+", "-", "^"}
+CHARACTER = {"CHAR", "CHARACTER"}
+NUMBER = {"FIXED", "BIN", "BINARY"}
 
 
-class Statement(NamedTuple):
-    """A statement: where its label and its first word stand and where its own tokens end, that word, the numbers of the
-    statements that are open around it, and whether ELSE is before it."""
-
-    start: int
-    at: int
-    end: int
-    word: str
-    around: tuple
-    is_else: bool
+class Statement(namedtuple("Statement", "start at end word around is_else")):
+    """The places of its label, first word and end, that word, the numbers of those open around, and if after ELSE."""
 
 
-class Declared(NamedTuple):
-    """A declared name: its token, the block it belongs to, the token of what it is a member of, and its item of a
-    DECLARE or a word."""
+class Item(namedtuple("Item", "at name block parent level array attributes kind", defaults=(-1, -1, 1, 0, (), "item"))):
+    """A declared name; `parent` is the token of its structure, `kind` also `parameter` or the word it labels."""
 
-    at: int
-    name: str
-    block: int
-    parent: int
-    item: object
+    def has(self, words):
+        """Whether one of some attributes is among its own."""
+        return any(token.text in words for token in self.attributes)
+
+    def size(self, words, default):
+        """The number in parentheses behind one of these attributes, or the default."""
+        texts = [token.text for token in self.attributes]
+        sizes = [texts[at + 2] for at, text in enumerate(texts[:-2]) if text in words and texts[at + 1] == "("]
+        return int(sizes[0]) if sizes and sizes[0].isdigit() else default
+
+
+def closing(tokens, at):
+    """The place behind a token, or behind the parenthesis that it opens; the statement's end where none closes it."""
+    depth = 0
+    for place in range(at, len(tokens)):
+        depth += {"(": 1, ")": -1}.get(tokens[place].text, 0)
+        if depth <= 0 or tokens[place].text == ";":
+            return place + (depth <= 0)
+    return len(tokens)
+
+
+def parts(tokens, first, last):
+    """The places of the items between two places, which commas outside of parentheses part."""
+    begin = at = first
+    while at < last:
+        if tokens[at].text == ",":
+            yield begin, at
+            begin = at + 1
+        at = closing(tokens, at)
+    yield begin, last
+
+
+def declared(tokens):
+    """All names that DECLARE statements declare, as far as tokens alone tell it, in the order of the text."""
+    ends = [-1, *(at for at, token in enumerate(tokens) if token.text == ";")]
+    starts = [(begin + 2, end) for begin, end in zip(ends, ends[1:]) if tokens[begin + 1].text in ("DCL", "DECLARE")]
+    found = []
+    for first, last in (part for each in starts if tokens[each[0]].text != "=" for part in parts(tokens, *each)):
+        at = first + (first < last and tokens[first].kind == "number")
+        behind = closing(tokens, at) if at < last else at + 1
+        dimensions = behind < last and tokens[behind].text == "("
+        attributes = tokens[closing(tokens, behind) if dimensions else behind : last]
+        level = int(tokens[first].text) if at > first else 1
+        names = [place for place in range(at, min(behind, last)) if tokens[place].kind == "name"]
+        found += [Item(place, tokens[place].text, -1, -1, level, dimensions, attributes) for place in names]
+    return found
 
 
 def expanded(members, name):
-    """The tokens of a unit with what it includes in their places, and of each the directives that lead to it; and the
-    directives to what ends this."""
+    """The tokens of a unit and all that it includes, of each the directives to it, and those to what ends this."""
     tokens, chains, read, opened = [], [], 0, [(name, (), iter(members[name].items))]
     while opened and read <= MOST_TOKENS:
         _, chain, items = opened[-1]
         item = next(items, None)
+        directive = item and item.kind == "include"
+        read += 4 if directive else 1
         if item is None:
             opened.pop()
-        elif isinstance(item, Token):
-            tokens.append(item)
-            chains.append(chain)
-        elif not isinstance(item, Include) or item.name not in members or item.name in [each for each, *_ in opened]:
+        elif directive and item.text in members and item.text not in [each for each, *_ in opened]:
+            opened.append((item.text, (*chain, item), iter(members[item.text].items)))
+        elif directive or item.is_fault:
             return tokens, chains, chain
         else:
-            opened.append((item.name, (*chain, item), iter(members[item.name].items)))
-        read += 4 if isinstance(item, Include) else 1
+            tokens.append(item)
+            chains.append(chain)
     return tokens, chains, ()
 
 
@@ -63,7 +93,7 @@ def after_expression(tokens, at):
         if operand and kind == "sign":
             if text == "(":
                 opened.append(False)
-            elif text not in PREFIX:
+            elif text not in ("+", "-", "^"):
                 return None
         elif operand:
             operand, reference = False, kind == "name"
@@ -112,24 +142,21 @@ def statements(tokens):
 
 def spelled(tokens):
     """Tokens as they are written, on one line."""
-    parts = []
+    text = ""
     for before, token in zip([None, *tokens], tokens):
-        beside = before and (before.source, before.line) == (token.source, token.line)
-        if before and not (beside and before.column + len(before.spelled) == token.column):
-            parts.append(" ")
-        parts.append(token.spelled)
-    return "".join(parts)
+        beside = before and (before.source, before.line, before.column + len(before.spelled)) == token[3:]
+        text += token.spelled if beside or not before else f" {token.spelled}"
+    return text
 
 
 class Outline:
-    """A unit's tokens and their directives, its statements, its blocks, each the number of its statement, and its
-    declared names."""
+    """A unit: its tokens, their directives, its statements, its blocks by their statements, and its declared names."""
 
     def __init__(self, members, name):
         self.tokens, self.chains, self.last = expanded(members, name)
         self.statements = statements(self.tokens)
         self.starts = [each.start for each in self.statements]
-        self.declared = {each.at: each for each in sorted(self.names())}
+        self.declared = {each.at: each for each in sorted(self.names(), key=lambda each: each.at)}
 
     def number_at(self, at):
         """The number, from 0, of the statement in which a token stands; -1 where there is none."""
@@ -148,17 +175,16 @@ class Outline:
         """Labels, procedures and parameters, and what DECLARE declares."""
         for number, each in enumerate(self.statements):
             if each.at > each.start:
-                yield Declared(each.start, self.tokens[each.start].text, self.blocks_of(number)[0], -1, each.word)
-            if each.word == "PROCEDURE" and self.tokens[each.at + 1].text == "(":
-                for at in range(each.at + 2, closing(self.tokens, each.at + 1)):
-                    if self.tokens[at].kind == "name":
-                        yield Declared(at, self.tokens[at].text, number, -1, "PARAMETER")
+                yield Item(each.start, self.tokens[each.start].text, self.blocks_of(number)[0], kind=each.word)
+            for at in range(each.at + 2, closing(self.tokens, each.at + 1)) if each.word == "PROCEDURE" else ():
+                if self.tokens[at].kind == "name":
+                    yield Item(at, self.tokens[at].text, number, kind="parameter")
         above = []
         for item in declared(self.tokens):
             above = [each for each in above if each.level < item.level and item.level > 1]
-            parent = above[-1].at if above else -1
+            block, parent = self.blocks_of(self.number_at(item.at))[0], above[-1].at if above else -1
+            yield item._replace(block=block, parent=parent)
             above.append(item)
-            yield Declared(item.at, item.name, self.blocks_of(self.number_at(item.at))[0], parent, item)
 
     def owners(self, found):
         """A declared name and all that it is a member of."""
@@ -170,8 +196,8 @@ class Outline:
         """What DECLARE, a label or a procedure makes of names in the first of some blocks that has them."""
         for block in blocks:
             here = [each for each in self.declared.values() if (each.block, each.name) == (block, names[-1])]
-            here = [each for each in here if each.item != "PARAMETER"]
-            here = [each for each in here if set(names) <= {owner.name for owner in self.owners(each)}]
+            here = [list(self.owners(each)) for each in here if each.kind != "parameter"]
+            here = [owners for owners in here if set(names) <= {owner.name for owner in owners}]
             if here:
-                return min(here, key=lambda each: len(list(self.owners(each))))
+                return min(here, key=len)[0]
         return None

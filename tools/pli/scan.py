@@ -1,51 +1,17 @@
-"""Tokens of PL/I text, each with its place, and what stands in the way of reading them.
-
-A source is the file that a text is of; `str(source)` is its path as it is shown. Lines and columns are counted from 1,
-columns in characters. A carriage return before a line feed is no part of a text that is scanned.
-"""
+"""Tokens of PL/I text, and what stands in the way of reading them, each with its source, line and column from 1."""
 import re
-from typing import NamedTuple
+from collections import namedtuple
 
 GREATEST_NUMBER = 2147483647
 
 
-class Token(NamedTuple):
-    """A token: its kind, as 'name', its normalised text, as it is written, and its place."""
+class Token(namedtuple("Token", "kind text spelled source line column")):
+    """A token, a directive of kind `include`, whose text is a member's name, or what is neither, of its code's kind."""
 
-    kind: str
-    text: str
-    spelled: str
-    source: object
-    line: int
-    column: int
-
-
-class Include(NamedTuple):
-    """A directive, at its `%`, with the name of the member that it includes, in capitals."""
-
-    name: str
-    source: object
-    line: int
-    column: int
-
-
-class ScanFault(NamedTuple):
-    """What is no token (X1 to X6) or no directive (I4), with what is written there."""
-
-    code: str
-    spelled: str
-    source: object
-    line: int
-    column: int
-
-
-class Comment(NamedTuple):
-    """A comment with its `/*` and `*/`."""
-
-    text: str
-    source: object
-    line: int
-    column: int
+    @property
+    def is_fault(self):
+        """Whether its kind is a code."""
+        return self.kind[1:].isdigit()
 
 
 # What a piece may be, the first that fits; a piece that is named for a code is no token.
@@ -62,54 +28,31 @@ PIECE = re.compile(
     re.VERBOSE | re.IGNORECASE | re.DOTALL,
 )
 SIGNS = {"~": "^", "~=": "^=", "^<": ">=", "~<": ">=", "^>": "<=", "~>": "<="}
-MEMBER_NAME = re.compile(r"[A-Z][A-Z0-9_$]{0,30}", re.IGNORECASE)
+DIRECTIVE = re.compile(r"% INCLUDE ('?)([A-Z][A-Z0-9_$]{0,30})\1 ;", re.IGNORECASE)
 
 
-def pieces(text):
-    """All that a text is made of: kind, what is written, line and column."""
+def pieces(text, source):
+    """All that a text is made of, spaces and comments too."""
     line, start = 1, 0
     for found in PIECE.finditer(text):
         kind, spelled = found.lastgroup, found.group()
-        great = kind == "number" and int(spelled) > GREATEST_NUMBER
-        yield "X4" if great else kind, spelled, line, found.start() - start + 1
+        kind = "X4" if kind == "number" and int(spelled) > GREATEST_NUMBER else kind
+        normal = spelled if kind == "string" else SIGNS.get(spelled, spelled.upper())
+        yield Token(kind, normal, spelled, source, line, found.start() - start + 1)
         line += spelled.count("\n")
         start = found.start() + spelled.rindex("\n") + 1 if "\n" in spelled else start
 
 
-def comments(text, source=""):
-    """The comments of a text that end."""
-    return [Comment(spelled, source, line, column) for kind, spelled, line, column in pieces(text) if kind == "comment"]
-
-
-def tokens(text, source):
-    """The tokens of a text, up to a fault."""
-    for kind, spelled, line, column in pieces(text):
-        if kind.startswith("X"):
-            yield ScanFault(kind, spelled, source, line, column)
-            return
-        if kind not in ("space", "comment"):
-            normal = spelled if kind == "string" else SIGNS.get(spelled, spelled.upper())
-            yield Token(kind, normal, spelled, source, line, column)
-
-
-def included(items):
-    """The name that `%INCLUDE name;` or `%INCLUDE 'name';` names; none where these items are no directive."""
-    if [type(item) for item in items] != [Token] * 4 or (items[1].text, items[3].text) != ("INCLUDE", ";"):
-        return None
-    name = items[2].spelled[1:-1] if items[2].kind == "string" else items[2].spelled
-    return name.upper() if items[2].kind in ("string", "name") and MEMBER_NAME.fullmatch(name) else None
-
-
 def scan(text, source):
-    """The tokens of a text, its directives in their places. What is no token ends the list; a `%` that begins no
-    directive does not."""
-    read, found, at = list(tokens(text, source)), [], 0
-    while at < len(read):
-        item, name = read[at], None
-        if isinstance(item, Token) and item.text == "%":
-            name = included(read[at : at + 4])
-            fault = ScanFault("I4", "%", source, item.line, item.column)
-            item = Include(name, source, item.line, item.column) if name else fault
-        found.append(item)
-        at += 4 if name else 1
-    return found
+    """The tokens of a text, its directives in their places, up to what is no token; a `%` alone ends nothing."""
+    found = []
+    for piece in pieces(text, source):
+        if piece.kind in ("space", "comment"):
+            continue
+        found.append(piece)
+        if piece.is_fault:
+            break
+        if piece.text == ";" and (directive := DIRECTIVE.fullmatch(" ".join(item.text for item in found[-4:]))):
+            name = directive[2].upper()
+            found[-4:] = [found[-4]._replace(kind="include", text=name, spelled=f"%INCLUDE {name}")]
+    return [item._replace(kind="I4") if item.text == "%" else item for item in found]

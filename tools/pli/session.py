@@ -1,72 +1,75 @@
-"""Members typed into a workbench, built and run, and what comes of it told."""
+"""Members typed into a workbench, built, run and traced, for a call and at the prompt, and what comes of it told."""
 import re
+import signal
+import textwrap
+from collections import deque
+from contextlib import suppress
+from pathlib import Path
 
-from files import Member
-from streams import Trouble, show, tell
-from tracing import questions, tell_trace
+from files import Member, gathered
+from outline import OPENING
+from pages import printed
+from report import LONGEST_LINE, Report
+from streams import Stopped, Trouble, end_line, show, tell
+from workbench import Workbench, chosen
 
 FIRST_STEPS = 10_000
 DEFAULT_STEPS = 1_000_000
+SPREAD = 7  # so many times the steps lead a program with marks as far as one without them
+SHOWN = 20
+EVERY = 4096
+MOST_IN_BATCH = 350_000
 RUN = re.compile(rb"RUN(?: ([0-9]{1,18}))?", re.IGNORECASE)
 ERROR = re.compile(r"ERROR (E\d+ .*) (\S+) (\d+)")
 EDIT = re.compile(r"(ADD|DELETE|INSERT|REPLACE|REMOVE) ([A-Z][A-Z0-9_$]*)(?: (\S+))?(?: (.*))?", re.IGNORECASE)
 
 
-def apply(members, command):
+def edit(members, command):
     """Makes the edit that a workbench accepted, if the command is one."""
-    edit = EDIT.fullmatch(command.decode("latin-1"))
-    if not edit:
+    if not (found := EDIT.fullmatch(command.decode("latin-1"))):
         return
-    word, name, first, rest = edit[1].upper(), edit[2].upper(), edit[3], edit[4] or ""
+    word, name, first, rest = found[1].upper(), found[2].upper(), found[3], found[4] or ""
     if word == "ADD":
         members[name] = Member(name, first.upper())
     elif word == "DELETE":
         del members[name]
     else:
-        at = int(first) - (word != "INSERT")
-        end = {"INSERT": at, "REPLACE": at + 1}.get(word) if word != "REMOVE" else int(rest)
-        lines = [] if word == "REMOVE" else [rest.encode("latin-1")]
-        members[name] = members[name].edited([*members[name].lines[:at], *lines, *members[name].lines[end:]])
+        at, old = int(first) - (word != "INSERT"), members[name]
+        end = int(rest) if word == "REMOVE" else at + (word == "REPLACE")
+        lines = [*old.lines[:at], *([] if word == "REMOVE" else [rest.encode("latin-1")]), *old.lines[end:]]
+        members[name] = Member(name, old.kind, lines, old.path, f"{str(old).removesuffix(' as edited')} as edited")
 
 
 def answered(bench, members, command):
     """The answers to a command that is no RUN, which are shown; an edit is made in the members too."""
-    own = f"{bench.mark} INCLUDE 1".encode()
-    answers = [line for line in bench.ask([command]) if line != own]
+    answers = [line for line in bench.ask([command]) if line != f"{bench.mark} INCLUDE 1".encode()]
     if answers == [b"OK"]:
-        apply(members, command)
+        edit(members, command)
     show(b"".join(answer + b"\n" for answer in answers))
     return answers
 
 
-class Growing:
-    """The output of runs of more and more steps, of which only what is new is shown. So output comes while a run goes
-    on, though a workbench writes it in large pieces. The last byte waits: it may be the line feed of a run's end."""
+def run(bench, command):
+    """The end of a run, behind runs of fewer steps that show output early; the last byte may be the end's line feed."""
+    found, many, shown, seen, last = RUN.fullmatch(command), FIRST_STEPS, 0, 0, b""
+    if bench.batch or not found:
+        return bench.ask([command], show)
 
-    def __init__(self):
-        self.shown, self.seen, self.last = 0, 0, b""
-
-    def emit(self, data):
-        """Takes what a run prints next."""
-        text = self.last + data
-        new = text[max(0, self.shown - self.seen + len(self.last)) : -1]
+    def emit(data):
+        nonlocal shown, seen, last
+        printed, last = (last + data)[:-1], (last + data)[-1:]
+        new = printed[max(0, shown - seen) :]
         show(new)
-        self.shown, self.seen, self.last = self.shown + len(new), self.seen + len(data), text[-1:]
+        shown, seen = shown + len(new), seen + len(printed)
 
-    def run(self, bench, command):
-        """The end of a run, by runs of fewer steps before it."""
-        found, many = RUN.fullmatch(command), FIRST_STEPS
-        if bench.batch or not found:
-            return bench.ask([command], show)
-        steps, ending = int(found[1] or DEFAULT_STEPS), b"OUT OF STEPS"
-        while ending == b"OUT OF STEPS":
-            self.seen, self.last = 0, b""
-            ending = bench.ask([f"RUN {min(many, steps)}".encode()], self.emit)
-            if many >= steps:
-                break
-            many *= 4
-        show(self.last if self.seen > self.shown else b"")
-        return ending
+    steps = int(found[1] or DEFAULT_STEPS)
+    while True:
+        seen, last = 0, b""
+        ending = bench.ask([f"RUN {min(many, steps)}".encode()], emit)
+        if ending != b"OUT OF STEPS" or many >= steps:
+            show(last)
+            return ending
+        many *= 4
 
 
 class Session:
@@ -79,12 +82,10 @@ class Session:
         """The commands that type all members and build them."""
         return [*(command for member in self.members.values() for command in member.typed(by_tokens)), b"BUILD"]
 
-    def deleting(self):
-        return [f"DELETE {name}".encode() for name in self.members]
-
     def by_tokens(self):
         """The commands that type the members by tokens and build, and type them again as they were."""
-        return [*self.deleting(), *self.typing(True), *self.deleting(), *self.typing()]
+        deleting = [f"DELETE {name}".encode() for name in self.members]
+        return [*deleting, *self.typing(True), *deleting, *self.typing()]
 
     def plan(self, commands, trace):
         """Asks a batch all that may be asked."""
@@ -98,20 +99,18 @@ class Session:
             if answer != b"OK":
                 raise Trouble(f"the workbench answers {answer.decode()} to {command[:60].decode('latin-1')}")
         lines = [line.decode() for line in answers[len(commands) - 1 :]]
-        if lines != ["BUILT"]:
-            self.report.diagnosed([line for line in lines if line != "NOT BUILT"], self.built_by_tokens())
-        return lines == ["BUILT"]
-
-    def built_by_tokens(self):
-        """The diagnostics of a build of the members by tokens; none where there is no such build."""
+        if lines == ["BUILT"]:
+            return True
         commands = self.by_tokens()
         answers, typed = self.bench.ask(commands) or [], commands.index(b"BUILD")
         end = answers.index(b"NOT BUILT") if b"NOT BUILT" in answers else 0
-        return [line.decode() for line in answers[typed:end]] if set(answers[:typed]) <= {b"OK"} else None
+        by_tokens = [line.decode() for line in answers[typed:end]] if set(answers[:typed]) <= {b"OK"} else None
+        self.report.diagnosed([line for line in lines if line != "NOT BUILT"], by_tokens)
+        return False
 
     def run(self, command, steps=None):
         """The status of a run, whose output is shown as it comes, with a trace where its steps are given."""
-        ending = Growing().run(self.bench, command).decode()
+        ending = run(self.bench, command).decode()
         if ending == "ENDED":
             return 0
         if error := ERROR.fullmatch(ending):
@@ -125,13 +124,188 @@ class Session:
 
     def command(self, command):
         """The status of a command of the workbench, whose answers are shown."""
-        word = command.split(b" ")[0].upper()
-        if word == b"RUN":
+        if command.split(b" ")[0].upper() == b"RUN":
             return self.run(command)
         if command.upper() == b"BUILD":
             built = self.build([command])
             show(b"BUILT\n" if built else b"NOT BUILT\n")
             return int(not built)
         answers = answered(self.bench, self.members, command)
-        self.report.forget()
+        self.report = Report(self.members, self.report.most)
         return int(answers[-1:] != [b"OK"])
+
+
+def traced(outline, declaration, counting):
+    """The words of a unit with marks. `counting` stands before a statement, whose number is its `#`: five steps."""
+    statements, words = outline.statements, []
+
+    def add(number, wrapped=False):
+        """Adds a statement with all that stands in it, wrapped behind THEN and ELSE; gives the number of the next."""
+        each, following = statements[number], number + 1
+        words.extend(["DO ;"] * wrapped + [token.spelled for token in outline.tokens[each.start : each.at]])
+        if each.word not in ("PROCEDURE", "DECLARE", "END"):
+            words.extend([part.replace("#", str(number + 1)) for part in counting] + [";"] * (not wrapped))
+        words.extend(token.spelled for token in outline.tokens[each.at : each.end])
+        if each.word == "IF":
+            following = add(following, True)
+            if following < len(statements) and statements[following].is_else:
+                words.append("ELSE")
+                following = add(following, True)
+        elif each.word in OPENING:
+            turns = each.word == "DO" and each.end - each.at > len(("DO", ";"))
+            words.extend(declaration * (not number) + [";"] * (SPREAD - 1) * (turns or each.word == "PROCEDURE"))
+            while statements[following].word != "END":
+                following = add(following)
+            words.append("END ;")
+            following += 1
+        words.extend(["END ;"] * wrapped)
+        return following
+
+    add(0)
+    return words
+
+
+def filled(words):
+    """Lines of words, which are parted between them alone."""
+    text = " ".join(word.replace(" ", "\0").replace("\t", "\1") for word in words)
+    lines = textwrap.wrap(text, LONGEST_LINE, break_long_words=False, break_on_hyphens=False)
+    return [line.replace("\0", " ").replace("\1", "\t") for line in lines]
+
+
+def questions(session, first, every, steps=MOST_IN_BATCH):
+    """The commands that build the program with marks from a statement on, that run it, and that take it away."""
+    units = {name: session.report.unit(name) for name in session.report.sources()}
+    used = {token.text for outline in units.values() for token in outline.tokens}
+    count, limit = [name for number in range(len(used) + 2) if (name := f"T${number}") not in used][:2]
+    declaration = ["DCL", f"{count} FIXED BIN(31) EXT ,", f"{limit} FIXED BIN(31) EXT INIT({first}) ;"]
+    before = [f"{count} = {count} + 1;", f"IF {count} >= {limit} THEN DO;", f"{limit} = {limit} + {every};"]
+    build = [f"DELETE {name}".encode() for name in session.members]
+    for unit, (name, outline) in enumerate(units.items()):
+        mark = f"PUT SKIP LIST('{session.bench.mark} {unit} #');"
+        lines = filled(traced(outline, declaration, [*before, mark, "END; ELSE DO; ; ; END;"]))
+        build += [f"ADD {name} SOURCE".encode()]
+        build += [f"INSERT {name} {at} {line}".encode("latin-1") for at, line in enumerate(lines)]
+    deleted = [f"DELETE {name}".encode() for name in units]
+    return [*build, b"BUILD"], [f"RUN {steps}".encode()], [*deleted, *session.typing()]
+
+
+def marks(session, first, every, steps):
+    """How many marks a run prints, the last of them, and how it ends; nothing where there can be no marks."""
+    build, run, restore = questions(session, first, every, steps)
+    last, seen = deque(maxlen=SHOWN), 0
+
+    def keep(data):
+        nonlocal seen
+        found = re.findall(rb"^%s (\d+) (\d+) " % session.bench.mark.encode(), data, re.MULTILINE)
+        seen += len(found)
+        last.extend(found)
+
+    answers = session.bench.ask(build)
+    ending = session.bench.ask(run, keep) if answers and answers[-1] == b"BUILT" else None
+    session.bench.ask(restore)
+    return ending and (seen, last, ending)
+
+
+def tell_trace(session, steps):
+    """Tells the last statements that a run of so many steps began."""
+    batch, most = session.bench.batch, MOST_IN_BATCH if session.bench.batch else SPREAD * steps
+    found = marks(session, *((1, 1) if batch else (EVERY, EVERY)), most)
+    too_long = batch and found and found[2] == b"OUT OF STEPS" and SPREAD * steps > most
+    if found and not batch:
+        found = marks(session, max(1, found[0] * EVERY - SHOWN + 1), 1, most)
+    if not found or too_long:
+        tell(f"pli: no trace: the {'run is too long for an unproved program' if found else 'program is too large'}")
+        return
+    tell(f"pli: the last {len(found[1])} statements")
+    for unit, number in found[1]:
+        place, text = session.report.place_of(session.report.sources()[int(unit)], int(number))
+        tell(f"{place}: {text}")
+
+
+class Shell:
+    """A prompt over a workbench, whose members are kept beside it."""
+
+    def __init__(self, call):
+        self.words, batch = chosen(call.given)
+        if batch:
+            raise Trouble("the prompt wants the proved program, which bin/prove makes, or one that --workbench names")
+        self.folders, self.members, self.bench = call.folders, {}, Workbench(self.words)
+
+    def serve(self):
+        """Answers lines until the end; the status."""
+        with suppress(ImportError):
+            import readline  # noqa: F401, gives `input` its history
+        tell("pli: HELP tells the commands")
+        line = ""
+        while line.strip().upper() != "QUIT":
+            try:
+                line = input("pli> ")
+                self.answer(line.encode("utf-8", "surrogateescape"))
+            except EOFError:
+                show(b"\n")
+                break
+            except Trouble as trouble:
+                if trouble.status == 3:
+                    raise
+                tell(f"pli: {trouble}")
+            except Stopped as stopped:
+                if stopped.args != (signal.SIGINT,):
+                    raise
+                self.begin_again()
+        return 0
+
+    def begin_again(self):
+        """Behind Ctrl-C: a new workbench with the same members, where one was asked."""
+        if not self.bench.busy:
+            show(b"\n")
+            return
+        handler = signal.signal(signal.SIGINT, signal.SIG_IGN)
+        self.bench.stop()
+        end_line()
+        self.bench = Workbench(self.words)
+        self.typed([], self.members)
+        tell("pli: stopped; the members are kept, and BUILD builds them")
+        signal.signal(signal.SIGINT, handler)
+
+    def typed(self, gone, members):
+        """Types members, behind the end of others."""
+        commands = [command for member in members.values() for command in member.typed()]
+        answers = self.bench.ask([f"DELETE {name}".encode() for name in gone] + commands)
+        for wrong in filter(b"OK".__ne__, answers):
+            raise Trouble(f"the workbench answers {wrong.decode()}")
+
+    def answer(self, line):
+        """Answers a line."""
+        word, *rest = [each.decode("utf-8", "surrogateescape") for each in line.split()[:3]] or [""]
+        own = {"LOAD": self.load, "SAVE": self.save}.get(word.upper())
+        if word.upper() == "HELP":
+            show(printed("prompt"))
+        elif own and not rest:
+            raise Trouble(f"{word} FILE: the file is missing", 2)
+        elif own:
+            own(Path(rest[0]), *rest[1:])
+            show(b"OK\n")
+        elif word.upper() == "RUN":
+            show(run(self.bench, line) + b"\n")
+        elif word and word.upper() != "QUIT":
+            answered(self.bench, self.members, line)
+
+    def load(self, path, name=None):
+        """Types a file and what it includes."""
+        members = gathered([(path, name)], self.folders, 1)
+        if members is None:
+            raise Trouble(f"{path} is not loaded", 2)
+        if path.suffix.lower() in (".inc", ".h"):
+            next(iter(members.values())).kind = "INCLUDE"
+        self.typed(members.keys() & self.members.keys(), members)
+        self.members |= members
+
+    def save(self, path, name=None):
+        """Writes a member to a file."""
+        given = (name or path.stem).upper()
+        if given not in self.members:
+            raise Trouble(f"there is no member {given}; SAVE FILE NAME names one", 2)
+        try:
+            path.write_bytes(b"".join(line + b"\n" for line in self.members[given].lines))
+        except OSError as error:
+            raise Trouble(f"{path}: {error.strerror}", 2) from None

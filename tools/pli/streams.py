@@ -1,9 +1,8 @@
 """What the tool writes, and what ends it: a trouble, told in one line, or a signal."""
+import errno
 import os
 import signal
 from contextlib import suppress
-
-STOPPING = (signal.SIGINT, signal.SIGTERM, signal.SIGHUP)
 
 
 class Trouble(Exception):
@@ -49,26 +48,20 @@ def tell(message):
         put(2, message.encode("utf-8", "surrogateescape") + b"\n")
 
 
-def stopped(number, _):
-    raise Stopped(number)
-
-
 def handle_signals(handler):
     """Says what signals do from here on, but where they are ignored already."""
-    for each in STOPPING:
+    for each in (signal.SIGINT, signal.SIGTERM, signal.SIGHUP):
         if signal.getsignal(each) != signal.SIG_IGN:
             signal.signal(each, handler)
 
 
 def prepare():
     """Makes sure of the three streams, so that no file takes the place of one, and of signals."""
+
+    def stopped(number, _):
+        raise Stopped(number)
+
     handle_signals(stopped)
-    wrong = None
-    for descriptor in range(3):
-        try:
-            os.fstat(descriptor)
-        except OSError as error:
-            os.open(os.devnull, os.O_RDWR)
-            wrong = error.strerror if descriptor == 1 else wrong
-    if wrong:
-        raise Trouble(f"standard output: {wrong}")
+    closed = {os.open(os.devnull, os.O_RDWR) for each in range(3) if not os.path.exists(f"/dev/fd/{each}")}
+    if 1 in closed:
+        raise Trouble(f"standard output: {os.strerror(errno.EBADF)}")

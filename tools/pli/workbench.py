@@ -1,8 +1,4 @@
-"""The workbench as a process: commands go to it, and answers come back as they come.
-
-Where answers end is known by a mark: a member of its own, of a random name and with a random line, that is listed
-behind the commands of each question. So nothing that a program prints is taken for the end of its run.
-"""
+"""The workbench as a process: commands go to it, and answers come back as they come, up to a random mark."""
 import os
 import queue
 import secrets
@@ -11,11 +7,11 @@ import subprocess
 import threading
 from collections import deque
 from contextlib import suppress
-from pathlib import Path
 
+from pages import TOP
 from streams import Trouble, put
 
-STARTER = str(Path(__file__).resolve().parents[2] / "bin" / "pliwb")
+STARTER = str(TOP / "bin" / "pliwb")
 CHUNK = 65536
 SECONDS_TO_END = 5
 
@@ -28,11 +24,10 @@ def started(words, **streams):
         raise Trouble(f"{words[0]}: {error.strerror}") from None
 
 
-def chosen(call):
-    """The words that start the workbench which a call wants, and whether it answers only when all is asked."""
-    proof = call.flags & {"--proved", "--unproved"}
-    program = call.workbench or not proof and os.environ.get("PLIWB")
-    if program:
+def chosen(given):
+    """The words that start the workbench which options want, and whether it answers only when all is asked."""
+    proof = {"--proved", "--unproved"} & given.keys()
+    if program := given.get("--workbench") or not proof and os.environ.get("PLIWB"):
         return [program], False
     if not proof:
         which = started([STARTER, "--which"], stdin=subprocess.DEVNULL).communicate()[0]
@@ -48,10 +43,10 @@ class Workbench:
     def __init__(self, words, batch=False):
         self.words, self.batch, self.planned, self.busy, self.emit = words, batch, deque(), False, None
         self.mark = f"MARK_{secrets.token_hex(12)}".upper()
-        self.pending, self.greeting = b"", f"OK\nOK\n1 {self.mark}\nOK\n".encode()
+        self.end, self.given = f"1 {self.mark}\n".encode(), queue.SimpleQueue()
+        self.pending, self.leading = b"", b"OK\nOK\n" + self.end + b"OK\n"
         self.child = started(words, stdin=subprocess.PIPE)
         self.alive.append(self)
-        self.given = queue.SimpleQueue()
         threading.Thread(target=self.feed, daemon=True).start()
         self.say([f"ADD {self.mark} INCLUDE".encode(), f"INSERT {self.mark} 0 {self.mark}".encode()])
 
@@ -74,8 +69,7 @@ class Workbench:
         self.given.put(None)
 
     def ask(self, commands, emit=None):
-        """The answers to commands, line by line; nothing where they were not planned. With `emit` the commands are one
-        RUN, `emit` gets what it prints as it comes, and the answer is its last line alone."""
+        """The answers to commands; nothing where they were not planned. Of a RUN `emit` gets all but the last line."""
         if not self.batch:
             self.busy = True
             self.say(commands)
@@ -95,34 +89,26 @@ class Workbench:
             raise Trouble(f"{self.words[0]} ended with status {self.child.wait()} before it had answered")
         self.pending += chunk
 
-    def greet(self):
-        """Sees that it is a workbench which answers."""
-        while len(self.pending) < len(self.greeting) and self.greeting.startswith(self.pending):
-            self.read()
-        if not self.pending.startswith(self.greeting):
-            raise Trouble(f"{self.words[0]} does not answer as a workbench")
-        self.pending, self.greeting = self.pending[len(self.greeting) :], b""
-
     def hear(self, emit=None):
-        """The answers up to the next mark, as `ask` gives them. What is passed on is held back by a line that ended,
-        which may be the end of the run."""
-        self.greet()
-        self.emit = emit
-        end = f"1 {self.mark}\n".encode()
-        while (at := self.pending.find(end)) < 0:
+        """The answers up to the next mark, as `ask` gives them; `emit` waits for a line that may be the run's end."""
+        while len(self.pending) < len(self.leading) and self.leading.startswith(self.pending):
+            self.read()
+        if not self.pending.startswith(self.leading):
+            raise Trouble(f"{self.words[0]} does not answer as a workbench")
+        self.pending, self.leading, self.emit = self.pending[len(self.leading) :], b"OK\n", emit
+        while (at := self.pending.find(self.end)) < 0:
             cut = self.pending.rfind(b"\n", 0, max(self.pending.rfind(b"\n"), 0)) + 1
             if emit and cut:
                 emit(self.pending[:cut])
                 self.pending = self.pending[cut:]
             self.read()
-        while len(self.pending) < at + len(end) + len(b"OK\n"):
-            self.read()
-        answers, self.pending = self.pending[:at], self.pending[at + len(end) + len(b"OK\n") :]
+        answers, self.pending = self.pending[:at], self.pending[at + len(self.end) :]
+        if not emit:
+            return answers.split(b"\n")[:-1]
         printed = answers.rfind(b"\n", 0, len(answers) - 1) + 1
-        if emit:
-            emit(answers[:printed])
+        emit(answers[:printed])
         self.emit = None
-        return answers[printed:-1] if emit else answers.split(b"\n")[:-1]
+        return answers[printed:-1]
 
     def stop(self):
         """Ends the workbench with all that it started, and passes on what it had printed of a run."""
@@ -134,14 +120,12 @@ class Workbench:
                     self.child.wait(SECONDS_TO_END)
         if self.emit:
             os.set_blocking(self.child.stdout.fileno(), False)
-            with suppress(OSError):
-                while chunk := os.read(self.child.stdout.fileno(), CHUNK):
-                    self.pending += chunk
-            printed = self.pending.partition(f"1 {self.mark}\n".encode())[0]
+            printed = (self.pending + (self.child.stdout.read() or b"")).partition(self.end)[0]
             with suppress(Trouble):
                 self.emit(printed and printed + b"\n")
 
     @classmethod
     def stop_all(cls):
+        """Ends every workbench."""
         for each in list(cls.alive):
             each.stop()

@@ -15,7 +15,7 @@ import answers  # noqa: E402
 import compared  # noqa: E402
 import meaning  # noqa: E402
 from outline import statements  # noqa: E402
-from scan import Include, ScanFault, scan  # noqa: E402
+from scan import scan  # noqa: E402
 
 TEXTS = """
     X1 UNENDED COMMENT, X2 UNENDED STRING, X3 BAD CHARACTER, X4 BAD NUMBER, X5 NAME TOO LONG, X6 BAD BITS,
@@ -122,22 +122,22 @@ class Second(answers.Workbench):
         """The tokens of a member with those that it includes in their places."""
         items = scan("\n".join(self.lines(name)), name)
         for item in items[-1:]:
-            if isinstance(item, ScanFault) and item.code != "I4":
-                raise Fault(item.code, name, item.line)
+            if item.kind.startswith("X"):
+                raise Fault(item.kind, name, item.line)
         for item in items:
-            if isinstance(item, ScanFault):
-                raise Fault(item.code, name, item.line)
-            self.read += 4 if isinstance(item, Include) else 1
+            if item.is_fault:
+                raise Fault(item.kind, name, item.line)
+            self.read += 4 if item.kind == "include" else 1
             if self.read > MOST_TOKENS:
                 raise Fault("I3", name, item.line)
-            if not isinstance(item, Include):
+            if item.kind != "include":
                 yield item
-            elif item.name in (*around, name):
+            elif item.text in (*around, name):
                 raise Fault("I2", name, item.line)
-            elif item.name not in self.members:
+            elif item.text not in self.members:
                 raise Fault("I1", name, item.line)
             else:
-                yield from self.tokens(item.name, (*around, name))
+                yield from self.tokens(item.text, (*around, name))
 
     def run(self, steps):
         if not self.module:

@@ -12,7 +12,7 @@ from asked import PROGRAM, SECOND, answered
 from examples import TOP, blocks, members, typed
 
 sys.path.insert(0, str(TOP / "tools" / "pli"))
-from scan import Include, scan  # noqa: E402
+from scan import scan  # noqa: E402
 
 CODES = {"X": 6, "I": 4, "P": 18, "A": 15, "Z": 1, "T": 14, "G": 1, "N": 6, "E": 13, "M": 8, "B": 2, "K": 8, "L": 8}
 ENDINGS = ["OUT OF STEPS", "MACHINE FAULT", "NO MEMORY"]
@@ -175,7 +175,7 @@ class Gallery(unittest.TestCase):
     def session(self, call):
         texts = [(path.stem.upper(), "SOURCE", path.read_text().splitlines()) for path in self.units(call)]
         for _, _, lines in list(texts):
-            names = [item.name for item in scan("\n".join(lines), "") if isinstance(item, Include)]
+            names = [item.text for item in scan("\n".join(lines), "") if item.kind == "include"]
             texts += [(name, "INCLUDE", (EXAMPLES / f"{name.lower()}.inc").read_text().splitlines()) for name in names]
         steps = call[call.index("--steps") + 1] if "--steps" in call else STEPS
         return [*typed(dict((text[0], text) for text in texts).values()), "BUILD", f"RUN {steps}"]
@@ -218,7 +218,7 @@ class Gallery(unittest.TestCase):
     @staticmethod
     def texts(text):
         """The tokens of a program, without the name of its procedure."""
-        tokens = [item.name if isinstance(item, Include) else item.text for item in scan(text, "")]
+        tokens = [item.text for item in scan(text, "")]
         return tuple([*tokens[1:-2], *tokens[-1:]])
 
 

@@ -5,7 +5,7 @@ import unittest
 from examples import TOP
 
 sys.path.insert(0, str(TOP / "tools" / "pli"))
-from explain import explain  # noqa: E402
+from pages import explain  # noqa: E402
 
 
 class Explain(unittest.TestCase):

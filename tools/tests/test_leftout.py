@@ -6,8 +6,9 @@ from asked import answered
 from examples import TOP, typed
 
 sys.path.insert(0, str(TOP / "tools" / "pli"))
-from leftout import left_out, listed  # noqa: E402
-from scan import ScanFault, scan  # noqa: E402
+from leftout import left_out  # noqa: E402
+from pages import instead  # noqa: E402
+from scan import scan  # noqa: E402
 
 # A code, a statement with `@` before the token at which it stands, and below it what is said, if anything.
 CASES = """
@@ -187,6 +188,7 @@ T5  DCL (X, Y) FIXED BIN(15); X @= Y = 0;
     several targets of an assignment; a second = compares, so write an assignment for each
 T5  DCL B BIT; B @= 1;
     conversion to bits; write a comparison, as B = (X > 0)
+T5  DCL 1 S, 2 B BIT, 2 N FIXED BIN(15); S @= 1;
 """
 
 
@@ -226,21 +228,21 @@ class LeftOut(unittest.TestCase):
     def test_a_fault_of_tokens_may_stand_alone(self):
         for code, statement, _ in cases():
             tokens, at = self.at(statement)
-            if isinstance(tokens[at], ScanFault):
+            if tokens[at].is_fault:
                 self.assertEqual(left_out(code, [tokens[at]], 0), left_out(code, tokens, at))
 
     def test_any_code_at_any_token(self):
         """There is no text that makes it fail."""
         codes = [f"{letter}{number}" for letter in "PATZGN" for number in range(1, 19)]
         for _, statement, _ in cases():
-            tokens = [token for token in scan(unit(statement), "") if not isinstance(token, ScanFault)]
+            tokens = [token for token in scan(unit(statement), "") if not token.is_fault]
             for at in range(len(tokens)):
                 for code in codes:
                     left_out(code, tokens[: at + 1], at)
                     left_out(code, tokens, at)
 
     def test_the_lists_of_the_page_are_read(self):
-        kinds = {kind for kind, _ in listed()}
+        kinds = {kind for kind, _ in instead()}
         self.assertEqual(kinds, {"attribute", "statement", "group", "PUT", "function", "character"})
 
 

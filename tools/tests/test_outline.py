@@ -9,7 +9,7 @@ import grown  # noqa: E402
 import mutations  # noqa: E402
 import reader  # noqa: E402
 from outline import statements  # noqa: E402
-from scan import Token, scan  # noqa: E402
+from scan import scan  # noqa: E402
 
 NAMES = "A B IF DO PUT ELSE THEN END LIST DCL ON CALL PROC".split()
 UNITS = 200
@@ -31,8 +31,7 @@ class Statements(unittest.TestCase):
     def check(self, text):
         placed = Placed(reader.tokens_of(text.split("\n")))
         placed.unit()
-        tokens = [item for item in scan(text, "") if isinstance(item, Token)]
-        self.assertEqual([each.start for each in statements(tokens)], placed.starts, text)
+        self.assertEqual([each.start for each in statements(scan(text, ""))], placed.starts, text)
 
     def test_programs(self):
         lines = (TOP / "bench" / "programs.txt").read_text().splitlines()

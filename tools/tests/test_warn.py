@@ -5,15 +5,15 @@ import unittest
 from examples import TOP
 
 sys.path.insert(0, str(TOP / "tools" / "pli"))
-from scan import comments, scan  # noqa: E402
+from files import Member  # noqa: E402
 from warn import warnings  # noqa: E402
 
 
 def warned(text, included=""):
     """The warnings of a unit, each with its place."""
-    tokens = scan(text, "M.pli")
-    tokens[-3:-3] = scan(included, "K.inc")
-    return [f"{place.line}:{place.column} {line}" for place, line in warnings(tokens, comments(text, "M.pli"))]
+    tokens, others = (Member("M", "SOURCE", each.encode().split(b"\n")).items for each in (text, included))
+    tokens[-3:-3] = others
+    return [f"{place.line}:{place.column} {line}" for place, line in warnings(tokens)]
 
 
 def body(text):
@@ -73,7 +73,7 @@ class Warn(unittest.TestCase):
     def test_texts_that_are_not_good(self):
         bad = "M: PROC; DCL 1; DCL ,; DCL X CHAR(; X = 'A';"
         for text in ("", "M", "M: PROC", "DCL", "DCL;", "M: PROC; DCL (X", "M: PROC; DCL X(", bad):
-            warnings(scan(text, ""), [])
+            warned(text)
 
 
 if __name__ == "__main__":
