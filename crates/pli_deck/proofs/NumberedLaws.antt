@@ -6,7 +6,7 @@ use Rattle.pli_base.specs.declared.statement.Condition.{Condition}
 use Rattle.pli_base.specs.declared.statement.Condition.TheVariants as conditions
 use Rattle.pli_code.specs.declared.ending.RunError.{RunError}
 use Rattle.pli_code.specs.declared.ending.RunError.TheVariants as errors
-use Rattle.pli_machine_step.specs.Program.{BlockKind, Procedure, BeginBlock, OnUnit}
+use Rattle.pli_program.specs.Program.{BlockKind, Procedure, BeginBlock, OnUnit}
 use Rattle.pli_operation.specs.declared.operation.Relation.{Relation}
 use Rattle.pli_operation.specs.declared.operation.Relation.TheVariants as relations
 use Rattle.pli_deck.specs.Fields.{u1, from_to}

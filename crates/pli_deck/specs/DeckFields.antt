@@ -9,7 +9,7 @@ use Rattle.pli_map.specs.Description.{Description}
 use Rattle.pli_value.specs.Packing.{packed, unpacked}
 use Rattle.pli_deck.specs.declared.fault.DeckFault.TheVariants.{Truncated, BadMagic, BadVersion}
 use Rattle.pli_deck.specs.declared.fault.DeckFault.{DeckFault}
-use Rattle.pli_machine_step.specs.Program.{BlockKind}
+use Rattle.pli_program.specs.Program.{BlockKind}
 use Rattle.pli_unit_code.specs.CodeTables.{CodedBlock}
 use Rattle.pli_unit_code.specs.declared.instruction.Instruction.{Instruction}
 use Rattle.pli_base.specs.Results.{◌>>=◌}

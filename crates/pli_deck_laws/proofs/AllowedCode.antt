@@ -7,7 +7,7 @@ use Rattle.pli_gen_tree.proofs.CodeEnds.{both_within, one_way_within, two_ways_w
 use Rattle.pli_gen_tree.proofs.SimpleCode.{behind_both}
 use Rattle.pli_gen_tree.specs.laws.ListLaws.{all_front, all_back}
 use Rattle.pli_gen_tree.specs.WellNumbered.{next_temporary, KeepsApart, KeepsApartForm, KeepApart}
-use Rattle.pli_machine_step.specs.Program as op
+use Rattle.pli_program.specs.Program as op
 use Rattle.pli_type_tree.specs.Iterations.{is_iterated}
 use Rattle.pli_type_tree.specs.TypedTree.{TypedExpression, TypedStatement, Statement, TypedStatements, NoStatement, StatementThen, NoElse, Else, TypedUnit}
 use Rattle.pli_type_tree.specs.TypedTree.{Form, Null, Assign, AssignAggregate, Put, If, Begin, Group, While, Iterate, Call, Goto, Return, ReturnValue, Stop}

@@ -4,7 +4,7 @@ use Rattle.pli_gen_emit.specs.TreeTranslation.{BlockTree, value_code, behind, ke
 use Rattle.pli_gen_tree.proofs.CodeEnds.{grows, one_way_ends, two_ways_ends, turns_ends}
 use Rattle.pli_gen_tree.proofs.IterationCode.{iterate_ends}
 use Rattle.pli_gen_tree.proofs.SimpleCode.{behind_both}
-use Rattle.pli_machine_step.specs.Program as op
+use Rattle.pli_program.specs.Program as op
 use Rattle.pli_type_tree.specs.Iterations.{kept_by, temporaries_of, is_iterated}
 use Rattle.pli_type_tree.specs.TypedTree.{TypedExpression, TypedStatement, Statement, TypedStatements, NoStatement, StatementThen, NoElse, Else, Iteration}
 use Rattle.pli_type_tree.specs.TypedTree.{Form, If, Group, While, Iterate}

@@ -6,10 +6,10 @@ use Rattle.std.proofs.lemmas.List.{length-map}
 use Rattle.pli_map.specs.Description.{Description, FixedBinary, Character, Varying, Bit}
 use Rattle.pli_map.specs.Sizes.{size_of}
 use Rattle.pli_map.specs.Values.{holds}
-use Rattle.pli_machine_step.specs.Program as op
+use Rattle.pli_program.specs.Program as op
 use Rattle.pli_type_tree.specs.Templates.{InitialScalar, Template}
 use Rattle.pli_type_tree.specs.TypedTree.{Signature, Global, OwnVariable, ExternalVariable, EntryPoint}
-use Rattle.pli_type_tree.specs.WellTyped.{scalars_of}
+use Rattle.pli_map.specs.Scalars.{scalars_of}
 use Rattle.pli_unit_code.specs.CodeTables as code
 use Rattle.pli_unit_code.specs.CodeTables.{there}
 use Rattle.pli_value.specs.Value.{Value, Number, Characters, Bits}

@@ -10,7 +10,7 @@ use Rattle.pli_map.specs.Description.{Description, FixedBinary, Character, Varyi
 use Rattle.pli_map.specs.Sizes.{count_of, alignment_of, size_of, end_behind, stride_of}
 use Rattle.pli_map.proofs.Members.{later}
 use Rattle.pli_map.proofs.Places.{fits_stride, element_inside}
-use Rattle.pli_type_tree.specs.WellTyped.{scalars_of, scalars_of_members}
+use Rattle.pli_map.specs.Scalars.{scalars_of, scalars_of_members}
 use Rattle.pli_deck.specs.DeckFaults.{scalar_at, scalar_among}
 use Rattle.pli_deck_code.specs.ScalarOffsets.{word, repeated, offsets_from, offsets_among, offsets_of}
 use Rattle.pli_deck_laws.specs.DeckLaws.{ScalarsAreFound}

@@ -15,7 +15,7 @@ use Rattle.pli_gen_tree.specs.Limits.{is_over, has_many_slots, has_wide_number, 
 use Rattle.pli_gen_tree.specs.WellNumbered.{IsWellNumbered}
 use Rattle.pli_map.specs.Description.{Description}
 use Rattle.pli_type_tree.specs.TypedTree.{TypedUnit}
-use Rattle.pli_type_tree.specs.WellTyped.{scalars_of}
+use Rattle.pli_map.specs.Scalars.{scalars_of}
 use Rattle.pli_unit_code.specs.CodeTables.{Code}
 use Rattle.pli_unit_code.specs.Modules.{LinkedUnit}
 

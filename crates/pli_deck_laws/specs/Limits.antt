@@ -13,7 +13,7 @@ use Rattle.pli_operation.specs.Operations.{Operation}
 use Rattle.pli_type_tree.specs.Templates.{InitialScalar, Template}
 use Rattle.pli_type_tree.specs.TypedTree.{Stride, Signature, Global, OwnVariable, ExternalVariable}
 use Rattle.pli_type_tree.specs.TypedTree.{EntryPoint}
-use Rattle.pli_type_tree.specs.WellTyped.{scalars_of}
+use Rattle.pli_map.specs.Scalars.{scalars_of}
 use Rattle.pli_value.specs.Value.{Value, Number, Characters, Bits}
 
 -- an activation is at most so many static links outward

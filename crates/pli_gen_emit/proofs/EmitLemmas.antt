@@ -1,7 +1,7 @@
 -- Instructions that were emitted, unless memory was wanting.
 use Rattle.std.proofs.Common.{◌≡◌, ◌<◌, ◌+◌, ◌++◌, ◌∷◌, ℕ, List, false, length, drop, get_or, ap, ◌∙◌, sym}
 use Rattle.std.proofs.lemmas.List.{append_assoc, at_drop_more}
-use Rattle.pli_machine_step.specs.Program.{Instruction}
+use Rattle.pli_program.specs.Program.{Instruction}
 use Rattle.pli_gen_emit.specs.answers.Emitting.{Emits}
 use Rattle.pli_gen_emit.specs.declared.emitter.Emitter.{Emitter}
 use Rattle.pli_gen_emit.specs.views.NamingView.{naming_code}

@@ -1,6 +1,6 @@
 -- Code with jumps that was emitted, unless memory was wanting.
 use Rattle.std.proofs.Common.{◌≡◌, ◌<◌, ◌+◌, ◌++◌, ◌∷◌, [], ℕ, List, false, length, drop, get_or, slice_set, ap, ◌∙◌, sym}
-use Rattle.pli_machine_step.specs.Program as op
+use Rattle.pli_program.specs.Program as op
 use Rattle.pli_type_tree.specs.Iterations.{is_iterated}
 use Rattle.pli_type_tree.specs.TypedTree.{Iteration}
 use Rattle.pli_type_tree.specs.declared.statement.TypedStatement.{TypedStatement}

@@ -1,7 +1,7 @@
 -- Code of groups with a control variable, whose jumps land behind it.
 use Rattle.std.proofs.Common.{◌≡◌, ◌+◌, ◌++◌, ◌∷◌, [], ℕ, suc, List, Option, Some, None, length, refl, ap, ◌∙◌, sym}
 use Rattle.std.proofs.lemmas.List.{append_assoc, length-append}
-use Rattle.pli_machine_step.specs.Program as op
+use Rattle.pli_program.specs.Program as op
 use Rattle.pli_type_tree.specs.Iterations.{is_iterated}
 use Rattle.pli_type_tree.specs.TypedTree.{Iteration}
 use Rattle.pli_gen_emit.specs.TreeTranslation.{behind, start_code, limit_test, while_test, guarded, tests_code, advances_code, back_code, turn_place, list_place, iterate_code}

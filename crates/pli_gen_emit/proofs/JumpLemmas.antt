@@ -1,7 +1,7 @@
 -- Code with jumps whose targets are put in when they are known.
 use Rattle.std.proofs.Common.{◌≡◌, ◌<◌, ◌+◌, ◌++◌, ◌∷◌, [], ℕ, zero, suc, List, length, map, slice_set, drop, get_or, refl, ap, ◌∙◌, sym, arith}
 use Rattle.std.proofs.lemmas.List.{append_assoc, at_drop_more, length-map, length-append}
-use Rattle.pli_machine_step.specs.Program as op
+use Rattle.pli_program.specs.Program as op
 use Rattle.pli_type_tree.specs.declared.statement.TypedStatement.{TypedStatement}
 use Rattle.pli_type_tree.specs.views.TypedView.{statement_view, statements_view}
 use Rattle.pli_gen_emit.specs.TreeTranslation.{BlockTree, behind, one_way, two_ways, turns_code, statement_code, list_code, block_code, blocks_code}

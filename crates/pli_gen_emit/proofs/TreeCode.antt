@@ -5,7 +5,7 @@ use Rattle.pli_map.specs.declared.description.Description.{Description}
 use Rattle.pli_map.specs.views.DescriptionView.{description_view}
 use Rattle.pli_operation.specs.declared.operation.Operation.{Operation}
 use Rattle.pli_operation.specs.views.OperationView.{operation_view}
-use Rattle.pli_machine_step.specs.Program as op
+use Rattle.pli_program.specs.Program as op
 use Rattle.pli_type_tree.specs.TypedTree.{TypedArguments, NoArgument}
 use Rattle.pli_type_tree.specs.views.TypedView.{root_view, callee_view, expression_view, reference_view, argument_before, operands_view, subscripts_view, arguments_view}
 use Rattle.pli_type_tree.specs.laws.TypedTreeLaws.{calculated_made, called_made, part_made}

@@ -5,11 +5,11 @@ use Rattle.std.specs.Prelude.{ℕ, suc, ◌+◌, nat_eq, Bool, true, false, Opti
 use Rattle.std.specs.Prelude.{map, length, if◌then◌else◌}
 use Rattle.std.specs.List.{filter, flat_map, range_with_len}
 use Rattle.pli_code.specs.declared.ending.RunError.TheVariants.{NoReturnedValue}
-use Rattle.pli_machine_step.specs.Program.{Instruction, Step, Line, Jump, JumpUnless, Local, Field}
-use Rattle.pli_machine_step.specs.Program.{Subscript, Constant, Load, Store, Copy, MakeDummy, Operate, Skip}
-use Rattle.pli_machine_step.specs.Program.{Raise}
-use Rattle.pli_machine_step.specs.Program.{BlockKind, Procedure, BeginBlock, Block, GlobalCode, UnitCode}
-use Rattle.pli_machine_step.specs.Program as op
+use Rattle.pli_program.specs.Program.{Instruction, Step, Line, Jump, JumpUnless, Local, Field}
+use Rattle.pli_program.specs.Program.{Subscript, Constant, Load, Store, Copy, MakeDummy, Operate, Skip}
+use Rattle.pli_program.specs.Program.{Raise}
+use Rattle.pli_program.specs.Program.{BlockKind, Procedure, BeginBlock, Block, GlobalCode, UnitCode}
+use Rattle.pli_program.specs.Program as op
 use Rattle.pli_operation.specs.Operations.{Operation, Add, Within}
 use Rattle.pli_type_tree.specs.Iterations.{kept_by, limit_number, step_number, is_iterated}
 use Rattle.pli_type_tree.specs.Templates.{variable_of}

@@ -1,6 +1,6 @@
 //! The code of groups with a control variable, round their lists.
 ghost use Rattle.std.specs.Prelude.{◌≡◌, ◌++◌, ◌∷◌, [], false, suc, map, length};
-ghost use Rattle.pli_machine_step.specs.Program as op;
+ghost use Rattle.pli_program.specs.Program as op;
 ghost use Rattle.pli_operation.specs.views.OperationView.{operation_view};
 ghost use Rattle.pli_type_tree.specs.Iterations as plain;
 ghost use Rattle.pli_type_tree.specs.Iterations.{kept_by};

@@ -3,7 +3,8 @@
 use Rattle.std.specs.Prelude.{◌≡◌, ℕ, Some, List, [], ◌∷◌}
 use Rattle.pli_machine_step.specs.Runs.{Outcome}
 use Rattle.pli_type_tree.specs.TypedTree.{TypedUnit}
-use Rattle.pli_unit_code.specs.Modules.{Module, RunsTo}
+use Rattle.pli_unit_code.specs.Modules.{Module}
+use Rattle.pli_machine_step.specs.ModuleRuns.{RunsTo}
 use Rattle.pli_gen_emit.specs.TreeTranslation.{unit_code}
 use Rattle.pli_gen_tree.specs.WellNumbered.{IsWellNumbered}
 use Rattle.pli_meaning_simulation.specs.CodeStands.{UnitStands}

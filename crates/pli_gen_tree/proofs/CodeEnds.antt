@@ -1,6 +1,6 @@
 -- Where code ends in which other code stands, and that its parts end no later.
 use Rattle.std.proofs.Common.{◌≡◌, ℕ, suc, ◌≤◌, List, [], ◌∷◌, ◌++◌, ap, ◌∙◌, arith}
-use Rattle.pli_machine_step.specs.Program as op
+use Rattle.pli_program.specs.Program as op
 use Rattle.pli_type_tree.specs.Iterations.{is_iterated}
 use Rattle.pli_type_tree.specs.TypedTree.{Iteration}
 use Rattle.pli_gen_emit.specs.TreeTranslation.{behind, one_way, two_ways, turns_code, advances_code, tests_code, back_code, turn_place, list_place, iterate_code}

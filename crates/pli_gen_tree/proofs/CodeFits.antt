@@ -1,7 +1,7 @@
 -- Targets of jumps are not past the end of code, and neither are places of statements and entries of blocks.
 use Rattle.std.proofs.Common.{◌≡◌, ℕ, zero, suc, ◌≤◌, ◌<◌, nat_eq, Bool, true, false, if◌then◌else◌, Option, Some, None, List, [], ◌∷◌, ◌++◌, get_or, length, refl, ap, sym, subst, arith}
 use Rattle.std.specs.List.{AllByRecursion}
-use Rattle.pli_machine_step.specs.Program as op
+use Rattle.pli_program.specs.Program as op
 use Rattle.pli_type_tree.specs.TypedTree.{TypedExpression, TypedStatement, Statement, TypedStatements, NoStatement, StatementThen, NoElse, Else}
 use Rattle.pli_type_tree.specs.TypedTree.{Form, If, Group, While, Iterate}
 use Rattle.pli_type_tree.specs.Iterations.{is_iterated}

@@ -2,7 +2,7 @@
 use Rattle.std.proofs.Common.{◌≡◌, ℕ, zero, suc, ◌<◌, ◌&&◌, Bool, true, false, true≢false, List, [], ◌∷◌, map, get_or, length, refl, sym, ap, ◌∙◌, arith}
 use Rattle.std.specs.List.{list_all}
 use Rattle.pli_operation.specs.Operations as calculate
-use Rattle.pli_machine_step.specs.Program as op
+use Rattle.pli_program.specs.Program as op
 use Rattle.pli_unit_code.specs.CodeFields as fields
 use Rattle.pli_gen_emit.specs.TreeTranslation.{BlockTree, behind, block_code}
 use Rattle.pli_gen_tree.specs.Encoding.{NumberedTables, operation_code, instruction_code, coded_blocks}

@@ -1,7 +1,7 @@
 -- Entries that were numbered, unless memory was wanting.
 use Rattle.std.proofs.Common.{◌≡◌, ℕ, ◌+◌, ◌<◌, ◌++◌, ◌∷◌, [], List, false, length, map, get_or, drop, ap, ◌∙◌, sym}
 use Rattle.std.specs.List.{flat_map}
-use Rattle.pli_machine_step.specs.Program.{Instruction}
+use Rattle.pli_program.specs.Program.{Instruction}
 use Rattle.pli_map.specs.Description.{Description}
 use Rattle.pli_map.specs.Same.{same}
 use Rattle.pli_type_tree.specs.Templates.{Template}

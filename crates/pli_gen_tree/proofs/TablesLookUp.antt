@@ -8,9 +8,9 @@ use Rattle.pli_map.specs.Same.{same}
 use Rattle.pli_operation.specs.Operations as calculate
 use Rattle.pli_operation.specs.Operations.{Operation, Relation}
 use Rattle.pli_operation.specs.views.OperationView.{relation_view}
-use Rattle.pli_store.specs.World.{Variable}
-use Rattle.pli_machine_step.specs.Program as op
-use Rattle.pli_machine_step.specs.Program.{Block, UnitCode}
+use Rattle.pli_map.specs.Variables.{Variable}
+use Rattle.pli_program.specs.Program as op
+use Rattle.pli_program.specs.Program.{Block, UnitCode}
 use Rattle.pli_type_tree.specs.Templates.{Template, variable_of}
 use Rattle.pli_type_tree.specs.TypedTree.{Global, OwnVariable, ExternalVariable, EntryPoint, TypedUnit}
 use Rattle.pli_unit_code.specs.CodeTables.{Code, looked_up, template_at, variables_at, block_looked_up, program_of, there, naming, with_description, described}

@@ -11,7 +11,7 @@ use Rattle.pli_operation.specs.Operations.{Operation, Relation}
 use Rattle.pli_operation.specs.declared.operation.Relation.TheVariants as relations
 use Rattle.pli_operation.specs.declared.operation.Relation as declared_relation
 use Rattle.pli_value.specs.Value.{Value}
-use Rattle.pli_machine_step.specs.Program as op
+use Rattle.pli_program.specs.Program as op
 use Rattle.pli_type_tree.specs.Templates.{Template}
 use Rattle.pli_type_tree.specs.TypedTree.{Signature, Global, OwnVariable, ExternalVariable, EntryPoint}
 use Rattle.pli_type_tree.specs.TypedTree.{TypedUnit}

@@ -7,7 +7,7 @@ use Rattle.std.specs.Map.{values_of}
 use Rattle.pli_base.specs.Name.{Name}
 use Rattle.pli_map.specs.Description.{Description}
 use Rattle.pli_map.specs.Sizes.{size_of}
-use Rattle.pli_store.specs.Storage.{byte_limit}
+use Rattle.pli_map.specs.Variables.{byte_limit}
 use Rattle.pli_type_tree.specs.Templates.{Template}
 use Rattle.pli_link.specs.ModuleSize.{is_oversized, are_too_large}
 use Rattle.pli_unit_code.specs.CodeTables.{there}

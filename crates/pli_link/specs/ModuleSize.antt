@@ -4,7 +4,7 @@ use Rattle.std.specs.List.{flat_map, list_any, sum_by}
 use Rattle.std.specs.Map.{values_of}
 use Rattle.pli_map.specs.Description.{Description}
 use Rattle.pli_map.specs.Sizes.{size_of}
-use Rattle.pli_store.specs.Storage.{byte_limit}
+use Rattle.pli_map.specs.Variables.{byte_limit}
 use Rattle.pli_type_tree.specs.Templates.{Template}
 use Rattle.pli_unit_code.specs.CodeTables.{Code, CodedGlobal, OwnVariable, ExternalVariable, EntryPoint}
 use Rattle.pli_unit_code.specs.CodeTables.{there, template_at}

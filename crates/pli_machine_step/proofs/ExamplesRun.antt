@@ -2,7 +2,7 @@
 use Rattle.std.specs.Prelude.{refl}
 use Rattle.std.specs.Fmt.{digits}
 use Rattle.pli_operation.specs.Operations.{calculated}
-use Rattle.pli_store.specs.World.{nothing, entered, made_of, left_by, parts_held, parts_stored, held, stored, cleared, at_statement, stepped, height_of, slot_place, static_place, printed, line_ended, error_at}
+use Rattle.pli_world.specs.World.{nothing, entered, made_of, left_by, parts_held, parts_stored, held, stored, cleared, at_statement, stepped, height_of, slot_place, static_place, printed, line_ended, error_at}
 use Rattle.pli_machine_step.specs.examples.MachineExamples as example
 
 pub smallest_stops : example.SmallestStops

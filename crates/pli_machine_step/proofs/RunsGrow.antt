@@ -3,10 +3,10 @@ use Rattle.std.specs.Prelude.{◌⊎◌, ℕ, zero, suc, ◌+◌, slice_get, ref
 use Rattle.std.proofs.Common.{◌≡◌, sym, ap, subst, ◌∙◌, inl, inr, ⊎_elim, arith}
 use Rattle.pli_code.specs.declared.ending.Ending.{Ending}
 use Rattle.pli_code.specs.declared.ending.Ending.TheVariants.{OutOfSteps}
-use Rattle.pli_store.specs.World.{World, nothing}
-use Rattle.pli_store.specs.laws.Operations.{IsPrefix}
-use Rattle.pli_store.specs.laws.OperationLaws.{prefix_same, prefix_then}
-use Rattle.pli_machine_step.specs.Program.{Program}
+use Rattle.pli_world.specs.World.{World, nothing}
+use Rattle.pli_world.specs.laws.Operations.{IsPrefix}
+use Rattle.pli_world.specs.laws.OperationLaws.{prefix_same, prefix_then}
+use Rattle.pli_program.specs.Program.{Program}
 use Rattle.pli_machine_step.specs.Machine.{State, At, Over, Move, Goes, Stops, Steps, ahead, act_in, resume, next_of, iterate}
 use Rattle.pli_machine_step.specs.Runs.{Outcome, first_move, outcome_of, start}
 use Rattle.pli_machine_step.specs.laws.Laws.{GoesOn, RunsGoOn, OneFrameEach}

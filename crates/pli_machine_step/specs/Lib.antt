@@ -1,5 +1,5 @@
 pub mod Machine
-pub mod Program
+pub mod ModuleRuns
 pub mod Runs
 pub mod examples
 pub mod laws

@@ -8,6 +8,7 @@ pub mod Sizes
 pub mod StoredValues
 pub mod Subscripts
 pub mod Values
+pub mod Variables
 pub mod examples
 pub mod laws
 pub mod views

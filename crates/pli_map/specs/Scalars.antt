@@ -2,7 +2,8 @@
 -- they stand, those of an array in row-major order. What an aggregate holds is the list of what they hold.
 use Rattle.std.specs.Prelude.{ℕ, ◌+◌, ◌-◌, ◌*◌, ◌/◌, ◌%◌, nat_eq, nat_lt, ◌&&◌, Option, Some, None}
 use Rattle.std.specs.Prelude.{option_map}
-use Rattle.std.specs.Prelude.{Bool, true, false, if◌then◌else◌}
+use Rattle.std.specs.Prelude.{Bool, true, false, if◌then◌else◌, List, [], ◌∷◌, ◌++◌, replicate}
+use Rattle.std.specs.List.{flat_map}
 use Rattle.std.specs.Int.{next_multiple_of}
 use Rattle.pli_map.specs.Description.{Description, Array, Structure, Members, NoMembers, MemberThen}
 use Rattle.pli_map.specs.Same.{same}
@@ -25,6 +26,18 @@ abbrev mutual
   pub scalars_among : Members → ℕ
   scalars_among NoMembers = 0
   scalars_among (MemberThen d ds) = scalars_in d + scalars_among ds
+
+-- the scalars themselves
+abbrev mutual
+  pub scalars_of : Description → List Description
+  scalars_of (Array bounds element) = flat_map (λ ds. ds) (replicate (count_of bounds) (scalars_of element))
+  scalars_of (Structure members) = scalars_of_members members
+  scalars_of scalar = scalar ∷ []
+
+  -- those of members, one member after another
+  pub scalars_of_members : Members → List Description
+  scalars_of_members NoMembers = []
+  scalars_of_members (MemberThen d ds) = scalars_of d ++ scalars_of_members ds
 
 -- a description stands here itself: at no distance, and the same
 abbrev pub stands_here : Description → (offset : ℕ) → (part : Description) → Bool

@@ -3,7 +3,7 @@ use Rattle.std.specs.Prelude.{◌≡◌, ◌≢◌, ℕ, Option, Some, None}
 use Rattle.pli_code.specs.declared.ending.Ending.{Ending}
 use Rattle.pli_code.specs.declared.ending.Ending.TheVariants.{Ended, OutOfSteps, Error, MachineFault}
 use Rattle.pli_value.specs.Value.{Value}
-use Rattle.pli_store.specs.World.{World}
+use Rattle.pli_world.specs.World.{World}
 use Rattle.pli_machine_step.specs.Runs.{Outcome}
 use Rattle.pli_gen_stands.proofs.ProgramsRun.{programs_run}
 use Rattle.pli_meaning_tree.specs.Effects.{Effect, Gives, Jumps, Fails, Spent, Lost, Short}

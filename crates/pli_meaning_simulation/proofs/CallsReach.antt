@@ -2,13 +2,13 @@
 use Rattle.std.specs.Prelude.{◌≡◌, ℕ, zero, suc, nat_eq, nat_lt, Bool, true, false, Option, Some, None, List, [], ◌∷◌, length, slice_get, if◌then◌else◌, refl}
 use Rattle.std.proofs.Common.{ap, ◌∙◌, sym, subst, arith}
 use Rattle.std.proofs.lemmas.Bool.{eqb-true}
-use Rattle.pli_store.specs.Storage.{Place}
+use Rattle.pli_world.specs.Storage.{Place}
 use Rattle.pli_code.specs.declared.ending.RunError.TheVariants.{TooManyActivations}
-use Rattle.pli_store.specs.Activations.{activation_limit}
-use Rattle.pli_store.specs.World.{World, Answer, Yields, Raises, Wrong, height, entered, left_by, stepped, error_at}
+use Rattle.pli_world.specs.Activations.{activation_limit}
+use Rattle.pli_world.specs.World.{World, Answer, Yields, Raises, Wrong, height, entered, left_by, stepped, error_at}
 use Rattle.pli_value.specs.Value.{Value}
-use Rattle.pli_machine_step.specs.Program as op
-use Rattle.pli_machine_step.specs.Program.{Procedure, is_external, Block, UnitCode, Program, head_of}
+use Rattle.pli_program.specs.Program as op
+use Rattle.pli_program.specs.Program.{Procedure, is_external, Block, UnitCode, Program, head_of}
 use Rattle.pli_machine_step.specs.Machine as machine
 use Rattle.pli_machine_step.specs.Machine.{Operand, Locals, Frame, State, At, Over, Move, Goes, Stops, Steps, given, calm, fresh, places_off, called, link_of, enters, faulty, resume}
 use Rattle.pli_type_tree.specs.TypedTree.{OfBlock, OfEntry, Global, OwnVariable, ExternalVariable, EntryPoint, TypedProcedure, TypedUnit}

@@ -2,13 +2,13 @@
 use Rattle.std.specs.Prelude.{◌≡◌, ℕ, zero, suc, ◌<◌, ◌≤◌, nat_eq, nat_lt, ◌&&◌, Bool, true, false, Option, Some, None, List, [], ◌∷◌, length, replicate, slice_get, if◌then◌else◌, refl}
 use Rattle.std.proofs.Common.{ap, ◌∙◌, sym, subst, arith}
 use Rattle.std.proofs.lemmas.Bool.{le-ltb, lt-ltb}
-use Rattle.pli_store.specs.Activations.{activation_limit}
-use Rattle.pli_store.specs.World.{World, Answer, Yields, Raises, Wrong, height, height_of, stepped, left_by, cleared, error_at}
+use Rattle.pli_world.specs.Activations.{activation_limit}
+use Rattle.pli_world.specs.World.{World, Answer, Yields, Raises, Wrong, height, height_of, stepped, left_by, cleared, error_at}
 use Rattle.pli_code.specs.declared.ending.RunError.TheVariants.{TooManyActivations}
 use Rattle.pli_value.specs.Value.{Value, Number, Characters, Bits}
 use Rattle.pli_operation.specs.Operations.{is_true}
-use Rattle.pli_machine_step.specs.Program as op
-use Rattle.pli_machine_step.specs.Program.{Instruction, UnitCode, Program}
+use Rattle.pli_program.specs.Program as op
+use Rattle.pli_program.specs.Program.{Instruction, UnitCode, Program}
 use Rattle.pli_machine_step.specs.Machine as machine
 use Rattle.pli_machine_step.specs.Machine.{Operand, OfValue, Locals, Frame, State, At, Over, Move, Goes, Stops, Steps, given, calm, fresh, lands, jumps_at, jump_limit, counted, counted_jump, jumped, resume}
 use Rattle.pli_meaning_tree.specs.Effects as effect

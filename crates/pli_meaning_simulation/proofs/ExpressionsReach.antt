@@ -2,11 +2,11 @@
 use Rattle.std.specs.Prelude.{◌≡◌, ℕ, ℤ, ◌+◌, Option, Some, None, List, [], ◌∷◌, length, slice_get, refl}
 use Rattle.std.proofs.Common.{ap, ◌∙◌, sym, subst, arith}
 use Rattle.pli_operation.specs.Operations.{Operation, operands_of, calculated}
-use Rattle.pli_store.specs.Storage.{Place, field_of}
-use Rattle.pli_store.specs.World.{World, Answer, held, slot_place, static_place, subscripted, calculation, dummy_of}
+use Rattle.pli_world.specs.Storage.{Place, field_of}
+use Rattle.pli_world.specs.World.{World, Answer, held, slot_place, static_place, subscripted, calculation, dummy_of}
 use Rattle.pli_value.specs.Value.{Value, Number, Characters, Bits}
-use Rattle.pli_machine_step.specs.Program as op
-use Rattle.pli_machine_step.specs.Program.{UnitCode, Program}
+use Rattle.pli_program.specs.Program as op
+use Rattle.pli_program.specs.Program.{UnitCode, Program}
 use Rattle.pli_machine_step.specs.Machine.{Operand, OfValue, AtPlace, Locals, Frame, At, values_off, places_off, operated, act, resume}
 use Rattle.pli_type_tree.specs.TypedTree.{Root, InSlot, OfProgram, Callee, TypedExpression, Literal, Held, Calculated, Called, TypedReference, Whole, Part, Operands, NoOperand, OperandThen, Subscripts, NoSubscript, SubscriptThen, TypedArguments, NoArgument, ByPlace, ByDummy}
 use Rattle.pli_meaning_tree.specs.Effects.{Doing, answered}

@@ -1,11 +1,11 @@
 -- The machine does what each form of a statement means, from what its parts do.
 use Rattle.std.specs.Prelude.{◌≡◌, ℕ, zero, suc, Bool, true, false, Option, Some, None, List, [], ◌∷◌, slice_get, if◌then◌else◌, refl}
 use Rattle.std.proofs.Common.{ap, ◌∙◌, sym, subst, arith}
-use Rattle.pli_store.specs.World.{World, stored, copied, printed, line_ended, entered, left_by, at_statement}
+use Rattle.pli_world.specs.World.{World, stored, copied, printed, line_ended, entered, left_by, at_statement}
 use Rattle.pli_value.specs.Value.{Value, Number, Characters, Bits}
 use Rattle.pli_value.specs.Conversions.{bit_constant}
-use Rattle.pli_machine_step.specs.Program as op
-use Rattle.pli_machine_step.specs.Program.{BlockKind, BeginBlock, Block, UnitCode, Program, head_of}
+use Rattle.pli_program.specs.Program as op
+use Rattle.pli_program.specs.Program.{BlockKind, BeginBlock, Block, UnitCode, Program, head_of}
 use Rattle.pli_machine_step.specs.Machine as machine
 use Rattle.pli_machine_step.specs.Machine.{Operand, OfValue, AtPlace, Locals, Frame, State, At, Over, Goes, calm, fresh, begun, enters, resume}
 use Rattle.pli_type_tree.specs.TypedTree.{Callee, TypedExpression, Called, TypedReference, TypedArguments, BlockHead, TypedStatements}

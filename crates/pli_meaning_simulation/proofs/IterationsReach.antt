@@ -3,10 +3,10 @@ use Rattle.std.specs.Prelude.{◌≡◌, ℕ, zero, suc, ◌+◌, ◌<◌, ◌�
 use Rattle.std.proofs.Common.{ap, ◌∙◌, sym, subst, arith}
 use Rattle.std.proofs.lemmas.Bool.{lt-ltb}
 use Rattle.pli_operation.specs.Operations.{Operation, Add, Within, calculated}
-use Rattle.pli_store.specs.World.{World, known, held, stored, calculation, at_statement}
+use Rattle.pli_world.specs.World.{World, known, held, stored, calculation, at_statement}
 use Rattle.pli_value.specs.Value.{Value}
-use Rattle.pli_machine_step.specs.Program as op
-use Rattle.pli_machine_step.specs.Program.{UnitCode, Program}
+use Rattle.pli_program.specs.Program as op
+use Rattle.pli_program.specs.Program.{UnitCode, Program}
 use Rattle.pli_machine_step.specs.Machine.{Operand, OfValue, AtPlace, Locals, Frame, At, Goes, faulty, taken, calm, resume}
 use Rattle.pli_type_tree.specs.Iterations.{kept_by, limit_number, step_number, is_iterated}
 use Rattle.pli_type_tree.specs.TypedTree.{TypedExpression, TypedRange, Once, ToBy, ByTo, Repeated, Iteration}

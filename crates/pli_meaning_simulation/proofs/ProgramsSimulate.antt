@@ -3,10 +3,10 @@ use Rattle.std.specs.Prelude.{◌≡◌, ◌≢◌, ℕ, zero, suc, nat_eq, ◌&
 use Rattle.std.proofs.Common.{ap, ◌∙◌, sym, subst}
 use Rattle.pli_code.specs.declared.ending.Ending.{Ending}
 use Rattle.pli_code.specs.declared.ending.Ending.TheVariants.{Ended, OutOfSteps, Error, MachineFault}
-use Rattle.pli_store.specs.World.{World, Answer, Yields, Raises, Wrong, further, nothing, entered, stepped, left_by, height, statics_made}
+use Rattle.pli_world.specs.World.{World, Answer, Yields, Raises, Wrong, further, nothing, entered, stepped, left_by, height, statics_made}
 use Rattle.pli_value.specs.Value.{Value}
-use Rattle.pli_machine_step.specs.Program as op
-use Rattle.pli_machine_step.specs.Program.{is_external, UnitCode, Program, head_of}
+use Rattle.pli_program.specs.Program as op
+use Rattle.pli_program.specs.Program.{is_external, UnitCode, Program, head_of}
 use Rattle.pli_machine_step.specs.Machine.{Locals, State, Over, Goes, Steps, given, enters, faulty, resume}
 use Rattle.pli_machine_step.specs.Runs.{Outcome, outcome_of, main_block, main_unit, all_statics_made, start, ProgramRunsTo}
 use Rattle.pli_type_tree.specs.Globals.{global_variable}

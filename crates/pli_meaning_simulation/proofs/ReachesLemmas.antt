@@ -3,10 +3,10 @@
 use Rattle.std.specs.Prelude.{◌≡◌, ℕ, zero, suc, ◌<◌, ◌≤◌, nat_eq, Bool, true, false, Option, Some, None, List, [], ◌∷◌, length, slice_get, if◌then◌else◌, refl}
 use Rattle.std.proofs.Common.{ap, ◌∙◌, subst, arith}
 use Rattle.pli_code.specs.declared.ending.Ending.TheVariants.{OutOfSteps}
-use Rattle.pli_store.specs.World.{World, Answer, Yields, Raises, Wrong, height, at_statement, stepped, left_by, cleared}
+use Rattle.pli_world.specs.World.{World, Answer, Yields, Raises, Wrong, height, at_statement, stepped, left_by, cleared}
 use Rattle.pli_value.specs.Value.{Value}
-use Rattle.pli_machine_step.specs.Program as op
-use Rattle.pli_machine_step.specs.Program.{Instruction, UnitCode, Program}
+use Rattle.pli_program.specs.Program as op
+use Rattle.pli_program.specs.Program.{Instruction, UnitCode, Program}
 use Rattle.pli_machine_step.specs.Machine.{Operand, OfValue, Locals, Frame, State, At, Over, Goes, given, calm, lands, returned, returned_with, act, act_in, resume, iterate}
 use Rattle.pli_meaning_tree.specs.Effects.{Effect, Gives, Jumps, Fails, Spent, Lost, Short, Flow, Next, Returned, Doing, and_then, after_flow, followed, closed, answered, as_statement}
 use Rattle.pli_meaning_simulation.specs.CodeStands.{Context, Is}

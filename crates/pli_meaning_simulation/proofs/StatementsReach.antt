@@ -2,8 +2,8 @@
 use Rattle.std.specs.Prelude.{◌≡◌, ℕ, nat_eq, Option, Some, None, List, [], slice_get, refl}
 use Rattle.std.proofs.Common.{ap, ◌∙◌, sym, subst}
 use Rattle.std.proofs.lemmas.Bool.{eqb-true}
-use Rattle.pli_store.specs.World.{World}
-use Rattle.pli_machine_step.specs.Program.{UnitCode, Program}
+use Rattle.pli_world.specs.World.{World}
+use Rattle.pli_program.specs.Program.{UnitCode, Program}
 use Rattle.pli_machine_step.specs.Machine.{Locals, Frame, At, calm}
 use Rattle.pli_type_tree.specs.TypedTree.{TypedExpression, TypedStatement, Statement, Form, Null, Assign, AssignAggregate, Put, If, Begin, Group, While, Iterate, Call, Goto, Return, ReturnValue, Stop, OtherWise, NoElse, Else, TypedStatements, NoStatement, StatementThen}
 use Rattle.pli_meaning_tree.specs.Effects.{Returned, and_then, followed, chosen}

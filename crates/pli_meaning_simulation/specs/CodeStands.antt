@@ -4,9 +4,9 @@ use Rattle.std.specs.Prelude.{◌≡◌, ℕ, suc, ◌+◌, ◌-◌, ◌≤◌, 
 use Rattle.std.specs.Prelude.{List, [], ◌∷◌, map, slice_get}
 use Rattle.pli_base.specs.Name.{Name}
 use Rattle.pli_code.specs.declared.ending.RunError.TheVariants.{NoReturnedValue}
-use Rattle.pli_machine_step.specs.Program as op
-use Rattle.pli_machine_step.specs.Program.{Instruction, BlockKind, Procedure, BeginBlock, Block, UnitCode}
-use Rattle.pli_machine_step.specs.Program.{Program}
+use Rattle.pli_program.specs.Program as op
+use Rattle.pli_program.specs.Program.{Instruction, BlockKind, Procedure, BeginBlock, Block, UnitCode}
+use Rattle.pli_program.specs.Program.{Program}
 use Rattle.pli_operation.specs.Operations.{Operation, Add, Within}
 use Rattle.pli_type_tree.specs.Iterations.{kept_by, temporaries_of, limit_number, step_number, is_iterated}
 use Rattle.pli_type_tree.specs.Templates.{variable_of}

@@ -2,7 +2,7 @@
 use Rattle.std.specs.Prelude.{refl}
 use Rattle.std.specs.Fmt.{digits}
 use Rattle.pli_operation.specs.Operations.{calculated}
-use Rattle.pli_store.specs.World.{nothing, made_of, parts_held, parts_stored, held, stored, copied, entered, left_by, cleared, at_statement, stepped, height_of, slot_place, static_place, dummy_of, printed, line_ended, error_at}
+use Rattle.pli_world.specs.World.{nothing, made_of, parts_held, parts_stored, held, stored, copied, entered, left_by, cleared, at_statement, stepped, height_of, slot_place, static_place, dummy_of, printed, line_ended, error_at}
 use Rattle.pli_meaning_tree.specs.examples.TreeExamples as example
 
 pub loop_ends : example.LoopEnds

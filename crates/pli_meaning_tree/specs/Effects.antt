@@ -5,9 +5,9 @@ use Rattle.std.specs.Prelude.{if◌then◌else◌}
 use Rattle.pli_code.specs.declared.ending.Ending.{Ending}
 use Rattle.pli_code.specs.declared.ending.RunError.TheVariants.{NoReturnedValue, TooManyActivations}
 use Rattle.pli_operation.specs.Operations.{is_true}
-use Rattle.pli_store.specs.Activations.{activation_limit}
-use Rattle.pli_store.specs.World.{World, Answer, Yields, Raises, Wrong, height, at_statement, stepped}
-use Rattle.pli_store.specs.World.{left_by, cleared, error_at}
+use Rattle.pli_world.specs.Activations.{activation_limit}
+use Rattle.pli_world.specs.World.{World, Answer, Yields, Raises, Wrong, height, at_statement, stepped}
+use Rattle.pli_world.specs.World.{left_by, cleared, error_at}
 use Rattle.pli_value.specs.Value.{Value, Bits}
 
 -- it gives a result and leaves so many steps; it jumps to a label of an activation, which is named by its

@@ -4,14 +4,15 @@ use Rattle.std.specs.Prelude.{List, [], ◌∷◌, ◌++◌, length, map, slice_
 use Rattle.pli_base.specs.Name.{Name}
 use Rattle.pli_code.specs.declared.ending.Ending.{Ending}
 use Rattle.pli_code.specs.declared.ending.Ending.TheVariants.{Ended, OutOfSteps, Error, MachineFault}
-use Rattle.pli_machine_step.specs.Program.{is_external}
+use Rattle.pli_program.specs.Program.{is_external}
 use Rattle.pli_machine_step.specs.Runs.{Outcome, outcome_of}
 use Rattle.pli_operation.specs.Operations.{Operation, Add, Within, calculated}
-use Rattle.pli_store.specs.Activations.{nearest_of}
-use Rattle.pli_store.specs.Storage.{Place, field_of}
-use Rattle.pli_store.specs.World.{World, Answer, Yields, known, further, nothing, height, held, stored}
-use Rattle.pli_store.specs.World.{copied, subscripted, calculation, Head, entered, height_of, slot_place}
-use Rattle.pli_store.specs.World.{static_place, dummy_of, printed, line_ended, statics_made}
+use Rattle.pli_world.specs.Activations.{nearest_of}
+use Rattle.pli_world.specs.Storage.{Place, field_of}
+use Rattle.pli_world.specs.World.{World, Answer, Yields, known, further, nothing, height, held, stored}
+use Rattle.pli_world.specs.World.{copied, subscripted, calculation, entered, height_of, slot_place}
+use Rattle.pli_program.specs.Program.{Head}
+use Rattle.pli_world.specs.World.{static_place, dummy_of, printed, line_ended, statics_made}
 use Rattle.pli_base.specs.Words.{same_name}
 use Rattle.pli_type_tree.specs.Globals.{global_variable}
 use Rattle.pli_type_tree.specs.Iterations.{kept_by, limit_number, step_number, is_iterated}

@@ -7,9 +7,9 @@ use Rattle.std.proofs.lemmas.Bool.{eqb-true, eq-eqb}
 use Rattle.pli_base.specs.Name.{Name}
 use Rattle.pli_base.specs.Words.{same_name}
 use Rattle.pli_map.specs.Description.{Description}
-use Rattle.pli_store.specs.Activations.{Activation, activation_at, outward_from, nearest_of, is_of}
-use Rattle.pli_store.specs.Storage.{Place}
-use Rattle.pli_store.specs.World.{World, Yields, known as there_is, further, height, height_of, slot_in, slot_place, static_place, newest_unit, static_in}
+use Rattle.pli_world.specs.Activations.{Activation, activation_at, outward_from, nearest_of, is_of}
+use Rattle.pli_world.specs.Storage.{Place}
+use Rattle.pli_world.specs.World.{World, Yields, known as there_is, further, height, height_of, slot_in, slot_place, static_place, newest_unit, static_in}
 use Rattle.pli_type_tree.specs.Globals.{description_of}
 use Rattle.pli_type_tree.specs.TypedTree.{Global, TypedUnit}
 use Rattle.pli_type_tree.specs.WellTyped.{BlockAround, AreAround, blocks_from, with_labels}

@@ -9,16 +9,17 @@ use Rattle.pli_code.specs.declared.ending.RunError.TheVariants.{SubscriptRange, 
 use Rattle.pli_map.specs.Description.{Description, FixedBinary, Character, Varying, Bit}
 use Rattle.pli_map.specs.Scalars.{first_scalar, is_scalar}
 use Rattle.pli_operation.specs.Operations.{Operation, Calculation, Calculates, RaisesCondition, OutOfString, Misfits, calculated}
-use Rattle.pli_store.specs.Storage.{Generation, Place, field_of, generation_in}
+use Rattle.pli_world.specs.Storage.{Generation, Place, field_of, generation_in}
 use Rattle.pli_map.specs.Values.{holds}
-use Rattle.pli_store.specs.World.{World, Answer, Yields, Raises, Wrong, held, slot_place, calculation, dummy_of}
+use Rattle.pli_world.specs.World.{World, Answer, Yields, Raises, Wrong, held, slot_place, calculation, dummy_of}
 use Rattle.pli_value.specs.Value.{Value, Number, Characters, Bits}
 use Rattle.pli_value.specs.declared.number.Raised.TheVariants as raised
 use Rattle.pli_type_tree.specs.TypedTree.{Root, InSlot, OfProgram, Callee, Global, TypedUnit, Stride, TypedExpression, Literal, Held, Calculated, Called, TypedReference}
 use Rattle.pli_type_tree.specs.TypedTree.{Whole, Part, Operands, NoOperand, OperandThen, Subscripts, NoSubscript, SubscriptThen}
 use Rattle.pli_type_tree.specs.TypedTree.{TypedArguments, NoArgument, ByPlace, ByDummy}
 use Rattle.pli_type_tree.specs.ValueTypes.{OfCharacters, OfBits, ValueType, Numbers, Strings, type_held, IsOf, AreOf, IsWithin, IsHeldBy, Operates}
-use Rattle.pli_type_tree.specs.WellTyped.{scalars_of, BlockAround, KnownProcedure, TypingContext, slot_of, root_of, LeadTo, IsCallee, IsTyped, IsPlaced, AreTyped}
+use Rattle.pli_type_tree.specs.WellTyped.{BlockAround, KnownProcedure, TypingContext, slot_of, root_of, LeadTo, IsCallee, IsTyped, IsPlaced, AreTyped}
+use Rattle.pli_map.specs.Scalars.{scalars_of}
 use Rattle.pli_type_tree.specs.WellTyped.{AreSubscripts, ArePassed}
 use Rattle.pli_meaning_tree.specs.Effects.{Effect, Doing, and_then, answered}
 use Rattle.pli_meaning_tree.specs.TreeMeaning.{Calls, a_value, in_order, root_place, element_of, value_of, operated, place_of, element_at, called_with}

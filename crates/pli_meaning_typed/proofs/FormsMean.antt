@@ -4,7 +4,7 @@ use Rattle.std.specs.Prelude.{List, [], ◌∷◌, length, slice_get, refl}
 use Rattle.std.proofs.Common.{arith, sym, subst}
 use Rattle.pli_base.specs.Name.{Name}
 use Rattle.pli_map.specs.Description.{Description}
-use Rattle.pli_store.specs.World.{World, stored, copied, line_ended}
+use Rattle.pli_world.specs.World.{World, stored, copied, line_ended}
 use Rattle.pli_value.specs.Conversions.{bit_constant}
 use Rattle.pli_value.specs.Value.{Value}
 use Rattle.pli_type_tree.specs.TypedTree.{Callee, TypedUnit, TypedExpression, TypedReference, TypedArguments, Assign}

@@ -6,12 +6,13 @@ use Rattle.pli_base.specs.Name.{Name}
 use Rattle.pli_map.specs.Description.{Description}
 use Rattle.pli_map.specs.Values.{holds}
 use Rattle.pli_operation.specs.Operations.{Operation, Add, Within, calculated}
-use Rattle.pli_store.specs.World.{World, known as looked_up, held, stored, calculation, at_statement}
+use Rattle.pli_world.specs.World.{World, known as looked_up, held, stored, calculation, at_statement}
 use Rattle.pli_value.specs.Value.{Value}
 use Rattle.pli_type_tree.specs.Iterations.{kept_by, limit_number, step_number, is_iterated}
 use Rattle.pli_type_tree.specs.TypedTree.{TypedUnit, TypedExpression, TypedRange, Once, ToBy, ByTo, Repeated, Iteration}
 use Rattle.pli_type_tree.specs.ValueTypes.{ValueType, Numbers, Strings, OfBits, type_held, IsOf, AreOf, Operates}
-use Rattle.pli_type_tree.specs.WellTyped.{scalars_of, TypingContext, IsTyped, IsPlaced, IsValueFor, Convert, Counts, IsRange, IsPossibleCondition, IsIteration}
+use Rattle.pli_type_tree.specs.WellTyped.{TypingContext, IsTyped, IsPlaced, IsValueFor, Convert, Counts, IsRange, IsPossibleCondition, IsIteration}
+use Rattle.pli_map.specs.Scalars.{scalars_of}
 use Rattle.pli_meaning_tree.specs.Effects.{Effect, Gives, Flow, Doing, and_then, nothing_done, answered, as_statement, back_at, truth}
 use Rattle.pli_meaning_tree.specs.TreeMeaning.{Calls, value_of, place_of, keeps, kept, converted, sets, advanced, within_limit, while_holds, may_turn}
 use Rattle.pli_meaning_tree.specs.TreeMeaning.{advances, turned, iterates}

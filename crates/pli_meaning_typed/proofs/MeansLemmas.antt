@@ -5,8 +5,8 @@ use Rattle.std.proofs.Common.{arith, sym, ◌∙◌, subst, true≢false}
 use Rattle.std.proofs.lemmas.Bool.{eqb-true}
 use Rattle.pli_code.specs.declared.ending.Ending.TheVariants.{MachineFault}
 use Rattle.pli_code.specs.declared.ending.RunError.TheVariants.{TooManyActivations}
-use Rattle.pli_store.specs.Activations.{activation_limit}
-use Rattle.pli_store.specs.World.{World, Answer, Yields, Raises, Wrong, height, stepped, at_statement, left_by, cleared, error_at}
+use Rattle.pli_world.specs.Activations.{activation_limit}
+use Rattle.pli_world.specs.World.{World, Answer, Yields, Raises, Wrong, height, stepped, at_statement, left_by, cleared, error_at}
 use Rattle.pli_type_tree.specs.TypedTree.{TypedUnit}
 use Rattle.pli_meaning_tree.specs.Effects.{Effect, Gives, Jumps, Fails, Spent, Lost, Short, Flow, Next, Returned, Doing, and_then}
 use Rattle.pli_meaning_tree.specs.Effects.{after_flow, followed, answered, as_step, as_statement, chosen, turns, on_jump, caught}

@@ -11,9 +11,10 @@ use Rattle.pli_map.specs.Same.{same}
 use Rattle.pli_map.specs.laws.SameLaws.{same_decides}
 use Rattle.pli_map.specs.Scalars.{scalars_in, scalars_among, stands_here, first_scalar, scalar_behind}
 use Rattle.pli_map.specs.Sizes.{count_of, alignment_of, size_of, stride_of}
-use Rattle.pli_store.specs.Storage.{values_from, with_values_at}
+use Rattle.pli_world.specs.Storage.{values_from, with_values_at}
 use Rattle.pli_value.specs.Value.{Value}
-use Rattle.pli_type_tree.specs.WellTyped.{scalars_of, scalars_of_members, AreHeld}
+use Rattle.pli_type_tree.specs.WellTyped.{AreHeld}
+use Rattle.pli_map.specs.Scalars.{scalars_of, scalars_of_members}
 
 abbrev copies : {A : Type 0} → ℕ → List A → List A
 copies n xs = flat_map (λ ds. ds) (replicate n xs)

@@ -9,11 +9,11 @@ use Rattle.pli_code.specs.declared.ending.Ending.{Ending}
 use Rattle.pli_code.specs.declared.ending.Ending.TheVariants.{Ended, OutOfSteps, Error, MachineFault}
 use Rattle.pli_code.specs.declared.ending.RunError.TheVariants.{NoReturnedValue}
 use Rattle.pli_map.specs.Description.{Description}
-use Rattle.pli_machine_step.specs.Program.{is_external}
+use Rattle.pli_program.specs.Program.{is_external}
 use Rattle.pli_machine_step.specs.Runs.{Outcome, outcome_of}
-use Rattle.pli_store.specs.Activations.{nearest_of}
-use Rattle.pli_store.specs.Storage.{Place}
-use Rattle.pli_store.specs.World.{World, at_statement, stepped}
+use Rattle.pli_world.specs.Activations.{nearest_of}
+use Rattle.pli_world.specs.Storage.{Place}
+use Rattle.pli_world.specs.World.{World, at_statement, stepped}
 use Rattle.pli_value.specs.Value.{Value}
 use Rattle.pli_type_tree.specs.Templates.{variable_of}
 use Rattle.pli_type_tree.specs.Globals.{signature_of}

@@ -7,9 +7,10 @@ use Rattle.std.proofs.lemmas.Bool.{eqb-true, eq-eqb}
 use Rattle.pli_base.specs.Name.{Name}
 use Rattle.pli_code.specs.declared.ending.Ending.TheVariants.{Ended, MachineFault}
 use Rattle.pli_map.specs.Description.{Description}
-use Rattle.pli_store.specs.Activations.{nearest_of}
-use Rattle.pli_store.specs.Storage.{Place}
-use Rattle.pli_store.specs.World.{World, Answer, Yields, Raises, Wrong, Head, entered, held, height, at_statement}
+use Rattle.pli_world.specs.Activations.{nearest_of}
+use Rattle.pli_world.specs.Storage.{Place}
+use Rattle.pli_world.specs.World.{World, Answer, Yields, Raises, Wrong, entered, held, height, at_statement}
+use Rattle.pli_program.specs.Program.{Head}
 use Rattle.pli_type_tree.specs.Templates.{Template, variable_of}
 use Rattle.pli_type_tree.specs.TypedTree.{TypedExpression, BlockHead, TypedStatement, Statement, Form, Null, Assign}
 use Rattle.pli_type_tree.specs.TypedTree.{AssignAggregate, Put, If, Begin, Group, While, Iterate, Call, Goto, Return, ReturnValue, Stop, OtherWise, NoElse, Else}

@@ -8,8 +8,9 @@ use Rattle.pli_base.specs.Name.{Name}
 use Rattle.pli_base.specs.Words.{same_name, is_among}
 use Rattle.pli_map.specs.Description.{Description}
 use Rattle.pli_map.specs.Sizes.{size_of}
-use Rattle.pli_store.specs.Storage.{Generation, Static as AsStatic, Place, whole, live_bytes, byte_limit, generation_limit}
-use Rattle.pli_store.specs.World.{Static, World, Answer, Yields, further, static_in, is_named, external_in, made_of, made_once, with_static, statics_made, nothing}
+use Rattle.pli_world.specs.Storage.{Generation, Static as AsStatic, Place, whole, live_bytes, generation_limit}
+use Rattle.pli_map.specs.Variables.{byte_limit}
+use Rattle.pli_world.specs.World.{Static, World, Answer, Yields, further, static_in, is_named, external_in, made_of, made_once, with_static, statics_made, nothing}
 use Rattle.pli_type_tree.specs.Globals.{global_variable, templates_in, description_of}
 use Rattle.pli_type_tree.specs.Templates.{Template, variable_of}
 use Rattle.pli_type_tree.specs.TypedTree.{Global, OwnVariable, ExternalVariable, EntryPoint, TypedUnit}

@@ -3,7 +3,7 @@ use Rattle.std.specs.Prelude.{◌≡◌, ℕ, nat_eq, Bool, true, false, not, co
 use Rattle.std.specs.List.{list_any}
 use Rattle.std.proofs.Common.{sym, ap, ◌∙◌, subst, inl, inr, true≢false}
 use Rattle.std.proofs.lemmas.Bool.{eqb-true}
-use Rattle.pli_store.specs.Storage.{Generation, generation_in, with_values, without}
+use Rattle.pli_world.specs.Storage.{Generation, generation_in, with_values, without}
 use Rattle.pli_value.specs.Value.{Value}
 
 some_same : {A : Type 0} {x y : A} → Some x ≡ Some y → x ≡ y

@@ -11,17 +11,21 @@ use Rattle.pli_map.specs.Same.{same}
 use Rattle.pli_map.specs.laws.SameLaws.{same_decides}
 use Rattle.pli_map.specs.Scalars.{first_scalar, is_scalar, scalars_in}
 use Rattle.pli_map.specs.Sizes.{size_of}
-use Rattle.pli_store.specs.Activations.{Activation, with_newest, without_newest}
-use Rattle.pli_store.specs.Storage.{Generation, Made, Automatic, Dummy, Place, whole, generation_in, scalar_at, values_from, with_values_at}
-use Rattle.pli_store.specs.Storage.{with_values, without, live_bytes, byte_limit, generation_limit}
+use Rattle.pli_world.specs.Activations.{Activation, with_newest, without_newest}
+use Rattle.pli_world.specs.Storage.{Generation, Made, Automatic, Dummy, Place, whole, generation_in, scalar_at, values_from, with_values_at}
+use Rattle.pli_world.specs.Storage.{with_values, without, live_bytes, generation_limit}
+use Rattle.pli_map.specs.Variables.{byte_limit}
 use Rattle.pli_map.specs.Values.{holds}
-use Rattle.pli_store.specs.World.{World, Answer, Yields, Raises, Wrong, further, known, made_of, unless_dead, parts_held}
-use Rattle.pli_store.specs.World.{parts_stored, single, held, stored, copied, Variable, Head, in_newest, with_slot, made_all}
-use Rattle.pli_store.specs.World.{without_handed, begun_in, entered, ended_with, prepared_by, left_by, cleared, at_statement, stepped, dummy_of}
-use Rattle.pli_store.specs.World.{static_in, printed, line_ended, error_in, error_at}
+use Rattle.pli_world.specs.World.{World, Answer, Yields, Raises, Wrong, further, known, made_of, unless_dead, parts_held}
+use Rattle.pli_world.specs.World.{parts_stored, single, held, stored, copied, in_newest, with_slot, made_all}
+use Rattle.pli_map.specs.Variables.{Variable}
+use Rattle.pli_program.specs.Program.{Head}
+use Rattle.pli_world.specs.World.{without_handed, begun_in, entered, ended_with, prepared_by, left_by, cleared, at_statement, stepped, dummy_of}
+use Rattle.pli_world.specs.World.{static_in, printed, line_ended, error_in, error_at}
 use Rattle.pli_value.specs.Value.{Value}
 use Rattle.pli_type_tree.specs.TypedTree.{TypedUnit}
-use Rattle.pli_type_tree.specs.WellTyped.{scalars_of, AreHeld, AreMade}
+use Rattle.pli_type_tree.specs.WellTyped.{AreHeld, AreMade}
+use Rattle.pli_map.specs.Scalars.{scalars_of}
 use Rattle.pli_meaning_typed.specs.SoundWorlds.{IsPartAt, IsGood, AreGood, HoldsValues, Shape, AreShaped, AreStatics}
 use Rattle.pli_meaning_typed.specs.SoundWorlds.{IsSound, IsLater, Answers}
 use Rattle.pli_meaning_typed.proofs.Parts.{part_held, part_stored, first_itself}

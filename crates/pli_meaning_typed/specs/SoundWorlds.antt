@@ -4,12 +4,13 @@ use Rattle.pli_base.specs.Name.{Name}
 use Rattle.pli_code.specs.declared.ending.Ending.TheVariants.{MachineFault}
 use Rattle.pli_map.specs.Description.{Description}
 use Rattle.pli_map.specs.Scalars.{first_scalar}
-use Rattle.pli_store.specs.Activations.{Activation}
-use Rattle.pli_store.specs.Storage.{Generation, Place, generation_in}
-use Rattle.pli_store.specs.World.{World, Answer, Yields, Raises, Wrong, static_in, error_at}
+use Rattle.pli_world.specs.Activations.{Activation}
+use Rattle.pli_world.specs.Storage.{Generation, Place, generation_in}
+use Rattle.pli_world.specs.World.{World, Answer, Yields, Raises, Wrong, static_in, error_at}
 use Rattle.pli_type_tree.specs.Globals.{description_of}
 use Rattle.pli_type_tree.specs.TypedTree.{Global, TypedUnit}
-use Rattle.pli_type_tree.specs.WellTyped.{scalars_of, AreHeld}
+use Rattle.pli_type_tree.specs.WellTyped.{AreHeld}
+use Rattle.pli_map.specs.Scalars.{scalars_of}
 
 -- each part of one description is a part of another, so many bytes further
 abbrev pub IsPartAt : (whole : Description) → (offset : ℕ) → (part : Description) → Type 0

@@ -8,7 +8,8 @@ use Rattle.pli_base.specs.Words.{same_name, is_among}
 use Rattle.pli_map.specs.Description.{Description}
 use Rattle.pli_map.specs.Sizes.{size_of}
 use Rattle.pli_machine_step.specs.Runs.{Outcome}
-use Rattle.pli_store.specs.Storage.{byte_limit, generation_limit}
+use Rattle.pli_world.specs.Storage.{generation_limit}
+use Rattle.pli_map.specs.Variables.{byte_limit}
 use Rattle.pli_type_tree.specs.Templates.{Template, variable_of}
 use Rattle.pli_type_tree.specs.Globals.{templates_in}
 use Rattle.pli_type_tree.specs.TypedTree.{TypedProcedure, Signature, Global, OwnVariable, ExternalVariable}

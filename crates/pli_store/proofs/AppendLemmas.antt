@@ -9,9 +9,9 @@ use Rattle.pli_map.specs.Scalars.{is_scalar}
 use Rattle.pli_map.specs.Values.{holds}
 use Rattle.pli_value.specs.Value.{Value, Characters, value_view}
 use Rattle.pli_value.specs.declared.value.Value as code
-use Rattle.pli_store.specs.Storage as plain
-use Rattle.pli_store.specs.Storage.{Place, with_values_at}
-use Rattle.pli_store.specs.World.{World, Yields, held, stored}
+use Rattle.pli_world.specs.Storage as plain
+use Rattle.pli_world.specs.Storage.{Place, with_values_at}
+use Rattle.pli_world.specs.World.{World, Yields, held, stored}
 use Rattle.pli_store.specs.answers.Found.{LeadsTo}
 use Rattle.pli_store.specs.answers.Kept.{rise}
 use Rattle.pli_store.specs.answers.Puts.{IsLengthenedAt, Lengthened, LengthenedIn, LengthenedAt}

@@ -4,8 +4,8 @@ use Rattle.std.proofs.lemmas.List.{take-map, drop-map, length-drop}
 use Rattle.pli_map.specs.Same.{same}
 use Rattle.pli_map.specs.Scalars.{scalars_in}
 use Rattle.pli_value.specs.Value.{Value, value_view}
-use Rattle.pli_store.specs.Storage.{Generation, Place, values_from}
-use Rattle.pli_store.specs.World.{World, Yields, Wrong, copied, parts_held, parts_stored}
+use Rattle.pli_world.specs.Storage.{Generation, Place, values_from}
+use Rattle.pli_world.specs.World.{World, Yields, Wrong, copied, parts_held, parts_stored}
 use Rattle.pli_store.specs.answers.Answered.{Answered}
 use Rattle.pli_store.specs.answers.Found.{LeadsTo, Leads}
 use Rattle.pli_store.specs.answers.Kept.{rise}

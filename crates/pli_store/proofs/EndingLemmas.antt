@@ -4,8 +4,8 @@ use Rattle.std.specs.List.{remove}
 use Rattle.std.proofs.lemmas.List.{map-append, take-map, drop-map}
 use Rattle.std.proofs.lemmas.Option.{same_Some, none-some, slice_get_read}
 use Rattle.pli_map.specs.Sizes.{size_of}
-use Rattle.pli_store.specs.Storage as plain
-use Rattle.pli_store.specs.Storage.{generation_in, without, live_bytes}
+use Rattle.pli_world.specs.Storage as plain
+use Rattle.pli_world.specs.Storage.{generation_in, without, live_bytes}
 use Rattle.pli_store.specs.answers.Found.{StandsAt}
 use Rattle.pli_store.specs.answers.Kept.{rise}
 use Rattle.pli_store.specs.declared.generation.Generation.{Generation}

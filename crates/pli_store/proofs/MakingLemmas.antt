@@ -6,8 +6,8 @@ use Rattle.pli_map.specs.Description.{Description}
 use Rattle.pli_map.specs.Sizes.{size_of}
 use Rattle.pli_map.specs.Values.{holds}
 use Rattle.pli_value.specs.Value.{Value}
-use Rattle.pli_store.specs.Storage.{Made, Dummy, Place, whole, live_bytes}
-use Rattle.pli_store.specs.World.{World, Yields, Raises, Wrong, made_of, dummy_of, in_newest}
+use Rattle.pli_world.specs.Storage.{Made, Dummy, Place, whole, live_bytes}
+use Rattle.pli_world.specs.World.{World, Yields, Raises, Wrong, made_of, dummy_of, in_newest}
 use Rattle.pli_store.specs.answers.Answered.{Answered}
 use Rattle.pli_store.specs.declared.fault.StoreFault.{StoreFault}
 use Rattle.pli_store.specs.declared.fault.StoreFault.TheVariants.{Raised, NoRule, OutOfMemory}

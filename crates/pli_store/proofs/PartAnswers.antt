@@ -10,8 +10,8 @@ use Rattle.pli_map.specs.Scalars.{is_scalar, scalars_in}
 use Rattle.pli_map.specs.Values.{holds}
 use Rattle.pli_value.specs.Value.{Value, value_view}
 use Rattle.pli_value.specs.declared.value.Value as code
-use Rattle.pli_store.specs.Storage.{Generation, Place, generation_in, values_from, with_values, with_values_at, live_bytes}
-use Rattle.pli_store.specs.World.{World, Answer, Yields, Raises, Wrong, held, stored, parts_held, parts_stored}
+use Rattle.pli_world.specs.Storage.{Generation, Place, generation_in, values_from, with_values, with_values_at, live_bytes}
+use Rattle.pli_world.specs.World.{World, Answer, Yields, Raises, Wrong, held, stored, parts_held, parts_stored}
 use Rattle.pli_store.specs.answers.Answered.{Answered}
 use Rattle.pli_store.specs.answers.Found.{LeadsTo, LeadsNowhere, Leads}
 use Rattle.pli_store.specs.answers.Kept.{rise}

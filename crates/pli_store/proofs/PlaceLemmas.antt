@@ -7,7 +7,7 @@ use Rattle.pli_map.specs.Description.{Description}
 use Rattle.pli_map.specs.Scalars.{first_scalar}
 use Rattle.pli_map.specs.Sizes.{size_of}
 use Rattle.pli_map.proofs.ScalarLawsHold.{scalars_lie_within}
-use Rattle.pli_store.specs.Storage.{Place, generation_in, live_bytes}
+use Rattle.pli_world.specs.Storage.{Place, generation_in, live_bytes}
 use Rattle.pli_store.specs.answers.Found.{StandsAt, LeadsTo, LeadsNowhere}
 use Rattle.pli_store.specs.declared.generation.Generation.{Generation}
 use Rattle.pli_store.specs.views.GenerationView.{generation_view}

@@ -5,7 +5,7 @@ use Rattle.std.proofs.lemmas.Option.{get_or_from_slice_get, slice_get_read}
 use Rattle.std.proofs.lemmas.Result.{on_ok_weaker, on_err_weaker}
 use Rattle.pli_value.specs.Value.{Value, value_view}
 use Rattle.pli_value.specs.declared.value.Value as code
-use Rattle.pli_store.specs.Storage.{with_values_at}
+use Rattle.pli_world.specs.Storage.{with_values_at}
 use Rattle.pli_store.specs.answers.Puts.{ValuesPut}
 use Rattle.pli_store.specs.declared.generation.Generation.{Generation}
 use Rattle.pli_store.specs.declared.part.GenerationPart.{GenerationPart}

@@ -6,7 +6,7 @@ use Rattle.std.proofs.lemmas.List.Folds.{list_any-append}
 use Rattle.std.proofs.lemmas.Option.{same_Some, none-some}
 use Rattle.pli_map.specs.Sizes.{size_of}
 use Rattle.pli_value.specs.Value.{Value}
-use Rattle.pli_store.specs.Storage.{Generation, generation_in, with_values, without, live_bytes}
+use Rattle.pli_world.specs.Storage.{Generation, generation_in, with_values, without, live_bytes}
 use Rattle.pli_store.specs.answers.Kept.{rise}
 
 -- ---- what rising numbers are

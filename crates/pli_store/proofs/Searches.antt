@@ -12,8 +12,8 @@ use Rattle.std.proofs.lemmas.List.{length-map}
 use Rattle.std.proofs.lemmas.List.Sorted.{searchable_from_sorted}
 use Rattle.std.proofs.lemmas.Map.Lookups.{exact_unsigned}
 use Rattle.std.proofs.lemmas.Option.{slice_get-map, slice_get_cases, slice_get_within, slice_get-get_or, same_Some, none-some}
-use Rattle.pli_store.specs.Storage as plain
-use Rattle.pli_store.specs.Storage.{generation_in}
+use Rattle.pli_world.specs.Storage as plain
+use Rattle.pli_world.specs.Storage.{generation_in}
 use Rattle.pli_store.specs.answers.Found.{StandsAt}
 use Rattle.pli_store.specs.answers.Kept.{rise}
 use Rattle.pli_store.specs.declared.generation.Generation.{Generation}

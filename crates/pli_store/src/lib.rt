@@ -1,11 +1,9 @@
-//! Storage, activations and output: what the meaning of a program and the machine share. Storage itself, as the machine
-//! keeps it.
+//! Storage, as the machine keeps it.
 #![tactic(auto)]
 
 mod appending;
 mod fault;
 mod generation;
-mod laws;
 mod part;
 mod place;
 mod putting;
@@ -15,6 +13,5 @@ mod values;
 
 pub use fault::StoreFault;
 pub use generation::Made;
-pub use laws::{operations_keep, worked_examples};
 pub use place::Place;
 pub use storage::Storage;

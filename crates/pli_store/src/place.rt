@@ -1,7 +1,7 @@
 //! Places: where references lead.
 ghost use Rattle.std.specs.Prelude.{◌≡◌, ◌≤◌, ◌+◌, ◌*◌, ◌^◌, ◌≤ℤ◌, ◌-ℤ◌, unsigned_abs, MatchOption};
 ghost use Rattle.pli_map.specs.views.DescriptionView.{description_view};
-ghost use Rattle.pli_store.specs.Storage.{field_of};
+ghost use Rattle.pli_world.specs.Storage.{field_of};
 
 use pli_map::Description;
 

@@ -1,8 +1,8 @@
 //! Storage: the generations that live.
 ghost use Rattle.std.specs.Prelude.{◌≡◌, ◌≤◌, ◌++◌, ◌∷◌, [], map, true, None, IfSome, MatchOption, MatchResult, OnErr};
 ghost use Rattle.pli_map.specs.views.DescriptionView.{description_view};
-ghost use Rattle.pli_store.specs.Storage.{generation_in, live_bytes, without};
-ghost use Rattle.pli_store.specs.World.{World, Yields, held, stored, copied, made_of, dummy_of, in_newest};
+ghost use Rattle.pli_world.specs.Storage.{generation_in, live_bytes, without};
+ghost use Rattle.pli_world.specs.World.{World, Yields, held, stored, copied, made_of, dummy_of, in_newest};
 ghost use Rattle.pli_store.specs.answers.Answered.{Answered};
 ghost use Rattle.pli_map.specs.Scalars.{is_scalar};
 ghost use Rattle.pli_store.specs.answers.Found.{StandsAt, Leads, LeadsTo};

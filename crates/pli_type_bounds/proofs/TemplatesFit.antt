@@ -27,7 +27,7 @@ use Rattle.pli_type_name_laws.proofs.PlainDescriptions.{plain_element, plain_mem
 use Rattle.pli_type_name_laws.proofs.RootsStand.{static_stored}
 use Rattle.pli_type_tree.specs.Templates.{Template}
 use Rattle.pli_type_tree.specs.TypedTree.{Global}
-use Rattle.pli_type_tree.specs.WellTyped.{scalars_of, scalars_of_members}
+use Rattle.pli_map.specs.Scalars.{scalars_of, scalars_of_members}
 use Rattle.pli_value.specs.Numbers.{has_digits}
 use Rattle.pli_value.specs.Strings.{fitted}
 use Rattle.pli_value.specs.Value.{Value, Number, Characters, Bits}

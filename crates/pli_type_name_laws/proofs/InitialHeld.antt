@@ -27,7 +27,8 @@ use Rattle.pli_type.proofs.TextNumbers.{same_items}
 use Rattle.pli_type_tree.specs.Globals.{templates_in}
 use Rattle.pli_type_tree.specs.Templates.{InitialScalar, Template, with_initial, variable_of}
 use Rattle.pli_type_tree.specs.TypedTree.{Global, OwnVariable, ExternalVariable, EntryPoint}
-use Rattle.pli_type_tree.specs.WellTyped.{scalars_of, scalars_of_members, AreHeld, AreMade}
+use Rattle.pli_type_tree.specs.WellTyped.{AreHeld, AreMade}
+use Rattle.pli_map.specs.Scalars.{scalars_of, scalars_of_members}
 use Rattle.pli_value.specs.Numbers.{has_digits}
 use Rattle.pli_value.specs.Strings.{fitted}
 use Rattle.pli_value.specs.Value.{Value, Number, Characters, Bits}

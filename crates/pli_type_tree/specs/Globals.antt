@@ -1,7 +1,7 @@
 -- What a unit's globals are: variables, which are made from templates, and entries, which have signatures.
 use Rattle.std.specs.Prelude.{Option, Some, None, List, [], ◌∷◌}
 use Rattle.pli_map.specs.Description.{Description}
-use Rattle.pli_store.specs.World.{GlobalVariable}
+use Rattle.pli_map.specs.Variables.{GlobalVariable}
 use Rattle.pli_type_tree.specs.Templates.{Template, variable_of}
 use Rattle.pli_type_tree.specs.TypedTree.{Signature, Global, OwnVariable, ExternalVariable, EntryPoint}
 

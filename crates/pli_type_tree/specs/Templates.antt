@@ -4,7 +4,7 @@ use Rattle.std.specs.Prelude.{ℕ, List, [], ◌∷◌, slice_set}
 use Rattle.pli_map.specs.Description.{Description}
 use Rattle.pli_value.specs.Value.{Value}
 use Rattle.pli_map.specs.Values.{first_values}
-use Rattle.pli_store.specs.World.{Variable}
+use Rattle.pli_map.specs.Variables.{Variable}
 
 -- an initial value, and the number of the scalar that has it
 pub record InitialScalar : Type 0 where

@@ -8,11 +8,11 @@ use Rattle.std.specs.List.{list_any}
 use Rattle.std.specs.List.{flat_map}
 use Rattle.std.specs.Prelude.{replicate}
 use Rattle.pli_map.specs.Description.{Description, Array, Structure, Members, NoMembers, MemberThen}
-use Rattle.pli_map.specs.Scalars.{first_scalar}
+use Rattle.pli_map.specs.Scalars.{first_scalar, scalars_of}
 use Rattle.pli_map.specs.Sizes.{count_of}
 use Rattle.pli_map.specs.Values.{holds}
 use Rattle.pli_operation.specs.Operations.{Operation}
-use Rattle.pli_store.specs.World.{Variable}
+use Rattle.pli_map.specs.Variables.{Variable}
 use Rattle.pli_value.specs.Value.{Value}
 use Rattle.pli_type_tree.specs.Globals.{description_of, signature_of}
 use Rattle.pli_type_tree.specs.Templates.{variable_of}
@@ -31,18 +31,6 @@ use Rattle.pli_type_tree.specs.TypedTree.{StatementThen}
 use Rattle.pli_type_tree.specs.ValueTypes.{StringKind, OfBits, ValueType, Numbers, Strings, type_held}
 use Rattle.pli_type_tree.specs.ValueTypes.{IsOf, IsHeldBy}
 use Rattle.pli_type_tree.specs.ValueTypes.{Operates}
-
--- the scalars of a description, in the order in which they stand
-abbrev mutual
-  pub scalars_of : Description → List Description
-  scalars_of (Array bounds element) = flat_map (λ ds. ds) (replicate (count_of bounds) (scalars_of element))
-  scalars_of (Structure members) = scalars_of_members members
-  scalars_of scalar = scalar ∷ []
-
-  -- those of members, one member after another
-  pub scalars_of_members : Members → List Description
-  scalars_of_members NoMembers = []
-  scalars_of_members (MemberThen d ds) = scalars_of d ++ scalars_of_members ds
 
 -- a value for each scalar
 abbrev pub AreHeld : List Description → List Value → Type 0

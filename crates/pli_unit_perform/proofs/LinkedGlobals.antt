@@ -7,10 +7,11 @@ use Rattle.std.proofs.lemmas.Option.{slice_get-map, slice_get-get_or, slice_get_
 use Rattle.pli_base.specs.Name.{Name}
 use Rattle.pli_base.specs.Words.{same_name}
 use Rattle.pli_base.specs.laws.NameLaws.{equal_from_pointwise, pointwise-from_equal}
-use Rattle.pli_machine_step.specs.Program as op
-use Rattle.pli_machine_step.specs.Program.{GlobalCode, global_variable}
-use Rattle.pli_store.specs.Storage as plain
-use Rattle.pli_store.specs.World.{World, Answer, Raises, Wrong, Static, Variable, further, made_once, made_before, external_in, is_named, statics_made, with_static}
+use Rattle.pli_program.specs.Program as op
+use Rattle.pli_program.specs.Program.{GlobalCode, global_variable}
+use Rattle.pli_world.specs.Storage as plain
+use Rattle.pli_world.specs.World.{World, Answer, Raises, Wrong, Static, further, made_once, made_before, external_in, is_named, statics_made, with_static}
+use Rattle.pli_map.specs.Variables.{Variable}
 use Rattle.pli_store.specs.answers.Answered.{Answered}
 use Rattle.pli_store.specs.declared.fault.StoreFault.{StoreFault}
 use Rattle.pli_store.specs.declared.fault.StoreFault.TheVariants as fault

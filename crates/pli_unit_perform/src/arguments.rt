@@ -1,7 +1,7 @@
 //! Arguments of calls.
 ghost use Rattle.std.specs.Prelude.{◌≡◌, not, nat_eq, [], None, Some, map, IfOk, MatchOption};
 ghost use Rattle.std.specs.List.{filter, list_all, list_any};
-ghost use Rattle.pli_store.specs.World.{is_given};
+ghost use Rattle.pli_world.specs.World.{is_given};
 ghost use Rattle.pli_store.specs.views.StorageView.{place_view};
 ghost use Rattle.pli_machine_step.specs.Machine.{places_off};
 ghost use Rattle.pli_unit_operate.specs.views.OperandView.{stack};

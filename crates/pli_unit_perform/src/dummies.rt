@@ -3,7 +3,7 @@ ghost use Rattle.std.specs.Prelude.{◌∷◌, IfOk};
 ghost use Rattle.pli_map.specs.views.DescriptionView.{description_view};
 ghost use Rattle.pli_value.specs.Value.{value_view};
 ghost use Rattle.pli_machine_step.specs.Machine.{OfValue, dummied};
-ghost use Rattle.pli_machine_step.specs.Program.{MakeDummy};
+ghost use Rattle.pli_program.specs.Program.{MakeDummy};
 ghost use Rattle.pli_unit_perform.specs.views.Image.{Image};
 ghost use Rattle.pli_unit_perform.specs.views.MachineView.{Does, Moves};
 

@@ -3,7 +3,7 @@ ghost use Rattle.std.specs.Prelude.{◌≡◌, ◌<◌, ℕ, List, [], ◌∷◌
 ghost use Rattle.pli_unit_perform.specs.views.Image.{Image, name_at, unit_with};
 ghost use Rattle.pli_store.specs.views.StorageView.{place_view};
 ghost use Rattle.pli_machine_step.specs.Machine.{enters, fresh};
-ghost use Rattle.pli_machine_step.specs.Program.{head_of};
+ghost use Rattle.pli_program.specs.Program.{head_of};
 ghost use Rattle.pli_unit_code.specs.CodeTables.{block_looked_up};
 ghost use Rattle.pli_unit_code.specs.views.CodeView.{code_view, block_view};
 ghost use Rattle.pli_unit_perform.specs.answers.Activated.{HasBegun};

@@ -1,7 +1,7 @@
 //! Calls of other units.
 ghost use Rattle.std.specs.Prelude.{List, slice_get, IfOk};
 ghost use Rattle.pli_machine_step.specs.Machine.{called_entry, called_unit};
-ghost use Rattle.pli_store.specs.World.{Static};
+ghost use Rattle.pli_world.specs.World.{Static};
 ghost use Rattle.pli_unit_code.specs.Modules.{unit_of, program_of};
 ghost use Rattle.pli_unit_code.specs.views.CodeView.{module_view, unit_view};
 ghost use Rattle.pli_unit_perform.specs.views.Image.{image_with};

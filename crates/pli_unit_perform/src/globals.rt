@@ -1,7 +1,7 @@
 //! What the globals of a unit lead to.
 ghost use Rattle.std.specs.Prelude.{◌≡◌, None, option_map, map, slice_get, MatchOption};
 ghost use Rattle.pli_base.specs.Name.{Name};
-ghost use Rattle.pli_store.specs.World.{static_in};
+ghost use Rattle.pli_world.specs.World.{static_in};
 ghost use Rattle.pli_store.specs.views.StorageView.{place_view};
 ghost use Rattle.pli_unit_code.specs.Modules.{unit_of};
 ghost use Rattle.pli_unit_code.specs.views.CodeView.{unit_view};

@@ -2,7 +2,7 @@
 ghost use Rattle.std.specs.Prelude.{ℕ, map, slice_get, IfOk};
 ghost use Rattle.pli_map.specs.views.DescriptionView.{description_view};
 ghost use Rattle.pli_operation.specs.Operations.{Fit, Within};
-ghost use Rattle.pli_machine_step.specs.Program.{Jump, JumpUnless, Load, Store, Copy, Field, Subscript, Operate};
+ghost use Rattle.pli_program.specs.Program.{Jump, JumpUnless, Load, Store, Copy, Field, Subscript, Operate};
 ghost use Rattle.pli_unit_code.specs.CodeTables.{looked_up};
 ghost use Rattle.pli_unit_code.specs.declared.instruction.Instruction.TheVariants as coded;
 ghost use Rattle.pli_unit_code.specs.views.CodeView.{code_view};

@@ -1,6 +1,6 @@
 //! Constants and temporaries.
 ghost use Rattle.std.specs.Prelude.{◌≡◌, ◌<◌, length, slice_set, Some, IfOk};
-ghost use Rattle.pli_machine_step.specs.Program.{Constant, SetTemporary, TakeTemporary};
+ghost use Rattle.pli_program.specs.Program.{Constant, SetTemporary, TakeTemporary};
 ghost use Rattle.pli_value.specs.Value.{value_view};
 ghost use Rattle.pli_unit_perform.specs.views.MachineView.{Does};
 

@@ -1,9 +1,9 @@
 //! GOTO.
 ghost use Rattle.std.specs.Prelude.{[], ◌∷◌};
 ghost use Rattle.pli_unit_perform.specs.views.Image.{Image};
-ghost use Rattle.pli_store.specs.World.{cleared};
+ghost use Rattle.pli_world.specs.World.{cleared};
 ghost use Rattle.pli_machine_step.specs.Machine.{counted_jump, lands};
-ghost use Rattle.pli_machine_step.specs.Program.{Goto};
+ghost use Rattle.pli_program.specs.Program.{Goto};
 ghost use Rattle.pli_unit_perform.specs.views.MachineView.{Does, Moves};
 
 use crate::jumping::count_jump;

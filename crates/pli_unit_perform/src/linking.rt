@@ -3,7 +3,7 @@ ghost use Rattle.std.specs.Prelude.{◌≡◌, ◌∷◌, ◌++◌, ℕ, List, [
 ghost use Rattle.std.specs.HashMap.{get};
 ghost use Rattle.pli_base.specs.Name.{Name};
 ghost use Rattle.pli_base.specs.Words.{same_name};
-ghost use Rattle.pli_store.specs.World.{Static};
+ghost use Rattle.pli_world.specs.World.{Static};
 ghost use Rattle.pli_unit_code.specs.CodeTables as plain;
 ghost use Rattle.pli_unit_code.specs.CodeTables.{there, variable_at};
 ghost use Rattle.pli_unit_code.specs.Modules.{unit_of};

@@ -1,11 +1,11 @@
 //! Steps, and the statement that is being executed.
-ghost use Rattle.pli_machine_step.specs.Program.{Step, Line};
+ghost use Rattle.pli_program.specs.Program.{Step, Line};
 ghost use Rattle.pli_unit_perform.specs.views.MachineView.{Does};
 
 use crate::machine::{Machine, Stop};
 
 /// Begins a statement, if a step is left.
-#[tactic(auto, unfolding(pli_store::specs::World::stepped, pli_store::specs::World::at_statement))]
+#[tactic(auto, unfolding(pli_world::specs::World::stepped, pli_world::specs::World::at_statement))]
 #[inline]
 pub fn step(machine: &mut Machine, statement: u32) -> Option<Stop>
     ensures { Does (Step statement) machine.old machine.new result }
@@ -20,7 +20,7 @@ pub fn step(machine: &mut Machine, statement: u32) -> Option<Stop>
 }
 
 /// Changes the statement, with no step.
-#[tactic(auto, unfolding(pli_store::specs::World::at_statement))]
+#[tactic(auto, unfolding(pli_world::specs::World::at_statement))]
 #[inline]
 pub fn line(machine: &mut Machine, statement: u32) -> Option<Stop>
     ensures { Does (Line statement) machine.old machine.new result }

@@ -3,8 +3,8 @@ ghost use Rattle.std.specs.Prelude.{◌≡◌, ◌<◌, suc, length, List, None,
 ghost use Rattle.pli_base.specs.Words.{same_name};
 ghost use Rattle.pli_unit_code.specs.views.CodeView.{module_view};
 ghost use Rattle.pli_unit_perform.specs.views.Image.{Image, name_at, image_with};
-ghost use Rattle.pli_store.specs.Activations.{outward_from, nearest_of, is_of};
-ghost use Rattle.pli_store.specs.World.{Static};
+ghost use Rattle.pli_world.specs.Activations.{outward_from, nearest_of, is_of};
+ghost use Rattle.pli_world.specs.World.{Static};
 ghost use Rattle.pli_unit_perform.specs.views.MachineView.{activation_view, activations_of};
 
 use crate::machine::{Activation, Machine};

@@ -5,7 +5,7 @@ use Rattle.pli_code.specs.declared.ending.RunError.TheVariants as errors
 use Rattle.pli_map.specs.Description.{Bit}
 use Rattle.pli_operation.specs.declared.operation.Relation.TheVariants as relations
 use Rattle.pli_deck.specs.declared.fault.DeckFault.TheVariants.{BadMagic, Truncated, Trailing, OutOfRange}
-use Rattle.pli_machine_step.specs.Program.{Procedure}
+use Rattle.pli_program.specs.Program.{Procedure}
 use Rattle.pli_unit_code.specs.CodeTables.{CodedBlock}
 use Rattle.pli_unit_code.specs.declared.instruction.Instruction.TheVariants as op
 use Rattle.pli_deck.specs.Decks.{DeckTemplate, DeckSignature, ExternalStatic, ExternalEntry, Deck}

@@ -3,7 +3,7 @@ use Rattle.std.specs.Prelude.{◌≡◌, ℕ, None, List, [], ◌∷◌, map, co
 use Rattle.pli_base.specs.Name.{Name}
 use Rattle.pli_deck.specs.ModuleFields.{External}
 use Rattle.pli_deck.specs.examples.ModuleExamples.{one_unit, two_units}
-use Rattle.pli_machine_step.specs.Program.{Procedure}
+use Rattle.pli_program.specs.Program.{Procedure}
 use Rattle.pli_map.specs.Description.{Description, FixedBinary, Character, Bit, Array, Structure, NoMembers}
 use Rattle.pli_map.specs.Description.{MemberThen}
 use Rattle.pli_unit_code.specs.CodeTables.{Code, CodedBlock, CodedSignature, CodedGlobal}

@@ -1,6 +1,6 @@
 -- What emitting answers.
 use Rattle.std.specs.Prelude.{◌≡◌, ◌++◌, List, false}
-use Rattle.pli_machine_step.specs.Program.{Instruction}
+use Rattle.pli_program.specs.Program.{Instruction}
 use Rattle.pli_gen_emit.specs.declared.emitter.Emitter.{Emitter}
 use Rattle.pli_gen_emit.specs.views.NamingView.{naming_code}
 

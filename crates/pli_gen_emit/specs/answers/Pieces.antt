@@ -1,7 +1,7 @@
 -- What the parts of the emitter answer.
 use Rattle.std.specs.Prelude.{ℕ, ◌≡◌, List, [], ◌∷◌, ◌++◌, Option, Some, None, slice_set}
-use Rattle.pli_machine_step.specs.Program.{Instruction, Store, Copy}
-use Rattle.pli_machine_step.specs.Program as op
+use Rattle.pli_program.specs.Program.{Instruction, Store, Copy}
+use Rattle.pli_program.specs.Program as op
 use Rattle.pli_type_tree.specs.TypedTree.{Form, Assign, AssignAggregate, Put, Begin, Call, Goto, Return}
 use Rattle.pli_type_tree.specs.TypedTree.{ReturnValue, Stop, Iteration}
 use Rattle.pli_gen_emit.specs.TreeTranslation.{BlockTree, behind, block_code, place_code, value_code}

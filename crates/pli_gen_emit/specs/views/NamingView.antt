@@ -4,7 +4,7 @@ use Rattle.pli_map.specs.views.DescriptionView.{description_view}
 use Rattle.pli_operation.specs.Operations as calculate
 use Rattle.pli_operation.specs.views.OperationView.{operation_view}
 use Rattle.pli_value.specs.Value.{Number, value_view}
-use Rattle.pli_machine_step.specs.Program as plain
+use Rattle.pli_program.specs.Program as plain
 use Rattle.pli_gen_emit.specs.declared.naming.NamingInstruction.{NamingInstruction}
 use Rattle.pli_gen_emit.specs.declared.naming.NamingInstruction.TheVariants as naming
 

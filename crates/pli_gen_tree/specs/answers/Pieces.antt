@@ -4,8 +4,8 @@ use Rattle.std.specs.Prelude.{length, if◌then◌else◌}
 use Rattle.std.specs.List.{list_any, AllByRecursion}
 use Rattle.pli_map.specs.Same.{same}
 use Rattle.pli_map.specs.Sizes.{size_of}
-use Rattle.pli_machine_step.specs.Program.{Instruction, Step}
-use Rattle.pli_machine_step.specs.Program as op
+use Rattle.pli_program.specs.Program.{Instruction, Step}
+use Rattle.pli_program.specs.Program as op
 use Rattle.pli_type_tree.specs.Templates.{Template}
 use Rattle.pli_unit_code.specs.CodeFields.{is_byte, is_short, parent_fits}
 use Rattle.pli_unit_code.specs.CodeTables.{CodedBlock, Code}

@@ -4,10 +4,10 @@ use Rattle.pli_code.specs.declared.ending.RunError.TheVariants.{NoReturnedValue}
 use Rattle.pli_map.specs.Description.{FixedBinary, Character, Bit}
 use Rattle.pli_operation.specs.Operations as calculate
 use Rattle.pli_value.specs.Value.{Number, Characters}
-use Rattle.pli_machine_step.specs.Program.{Instruction, Step, Line, Jump, JumpUnless, Local, Field, Subscript}
-use Rattle.pli_machine_step.specs.Program.{Constant, Load, Store, Copy, MakeDummy, Operate, Skip, Raise}
-use Rattle.pli_machine_step.specs.Program.{Procedure, BeginBlock}
-use Rattle.pli_machine_step.specs.Program as op
+use Rattle.pli_program.specs.Program.{Instruction, Step, Line, Jump, JumpUnless, Local, Field, Subscript}
+use Rattle.pli_program.specs.Program.{Constant, Load, Store, Copy, MakeDummy, Operate, Skip, Raise}
+use Rattle.pli_program.specs.Program.{Procedure, BeginBlock}
+use Rattle.pli_program.specs.Program as op
 use Rattle.pli_type_tree.specs.TypedTree.{InSlot, TypedExpression, Literal, Held, Calculated, Called, Whole}
 use Rattle.pli_type_tree.specs.TypedTree.{TypedReference, Part, NoOperand, OperandThen, NoSubscript}
 use Rattle.pli_type_tree.specs.TypedTree.{SubscriptThen, NoArgument, ByPlace, ByDummy, BlockHead, Statement}

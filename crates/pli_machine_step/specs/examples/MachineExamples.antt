@@ -9,14 +9,14 @@ use Rattle.pli_map.specs.Description.{FixedBinary, Array}
 use Rattle.pli_operation.specs.Operations.{Operation, ToCharacters, Add, Compare, AtMost, Less, Substring}
 use Rattle.pli_value.specs.Value.{Value, Number, Characters, Bits}
 use Rattle.pli_map.specs.Values.{first_values}
-use Rattle.pli_store.specs.World.{Variable}
-use Rattle.pli_machine_step.specs.Program.{Instruction, Step, Line, Jump, JumpUnless, Goto, Call}
-use Rattle.pli_machine_step.specs.Program.{CallExternal}
-use Rattle.pli_machine_step.specs.Program.{Begin, Raise, Return, ReturnValue, Local, Global, Field, Subscript}
-use Rattle.pli_machine_step.specs.Program.{Constant}
-use Rattle.pli_machine_step.specs.Program.{Load, Store, Operate, Put, Skip}
-use Rattle.pli_machine_step.specs.Program.{BlockKind, Procedure, BeginBlock, Block, GlobalCode, OwnVariable}
-use Rattle.pli_machine_step.specs.Program.{ExternalVariable, EntryPoint, UnitCode, Program}
+use Rattle.pli_map.specs.Variables.{Variable}
+use Rattle.pli_program.specs.Program.{Instruction, Step, Line, Jump, JumpUnless, Goto, Call}
+use Rattle.pli_program.specs.Program.{CallExternal}
+use Rattle.pli_program.specs.Program.{Begin, Raise, Return, ReturnValue, Local, Global, Field, Subscript}
+use Rattle.pli_program.specs.Program.{Constant}
+use Rattle.pli_program.specs.Program.{Load, Store, Operate, Put, Skip}
+use Rattle.pli_program.specs.Program.{BlockKind, Procedure, BeginBlock, Block, GlobalCode, OwnVariable}
+use Rattle.pli_program.specs.Program.{ExternalVariable, EntryPoint, UnitCode, Program}
 use Rattle.pli_machine_step.specs.Machine.{State, At, Over, iterate}
 use Rattle.pli_machine_step.specs.Runs.{Outcome, outcome_of, start, ProgramRunsTo}
 

@@ -1,6 +1,6 @@
 -- What an operation of the program answers.
 use Rattle.std.specs.Prelude.{◌≡◌, Result, Ok, Err}
-use Rattle.pli_store.specs.World.{World, Answer, Yields, Raises, Wrong}
+use Rattle.pli_world.specs.World.{World, Answer, Yields, Raises, Wrong}
 use Rattle.pli_store.specs.declared.fault.StoreFault.{StoreFault}
 use Rattle.pli_store.specs.declared.fault.StoreFault.TheVariants.{Raised, NoRule, OutOfMemory}
 

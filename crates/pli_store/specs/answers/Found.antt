@@ -1,7 +1,7 @@
 -- What look-ups of the program answer.
 use Rattle.std.specs.Prelude.{◌≡◌, ℕ, min, Some, None, Result, Ok, Err, List, slice_get}
 use Rattle.pli_code.specs.declared.ending.RunError.TheVariants.{DeadLocator}
-use Rattle.pli_store.specs.Storage.{Generation, Place, generation_in, scalar_at}
+use Rattle.pli_world.specs.Storage.{Generation, Place, generation_in, scalar_at}
 use Rattle.pli_store.specs.declared.fault.StoreFault.{StoreFault}
 use Rattle.pli_store.specs.declared.fault.StoreFault.TheVariants.{Raised, NoRule, OutOfMemory}
 use Rattle.pli_store.specs.declared.part.GenerationPart.{GenerationPart}

@@ -1,6 +1,6 @@
 -- What storage of the program keeps.
 use Rattle.std.specs.Prelude.{ℕ, suc, nat_le, Bool, ◌&&◌, List, [], ◌∷◌}
-use Rattle.pli_store.specs.Storage.{Generation}
+use Rattle.pli_world.specs.Storage.{Generation}
 
 -- numbers of generations rise from this one on, and are below that one
 abbrev pub rise : (from : ℕ) → List Generation → (to : ℕ) → Bool

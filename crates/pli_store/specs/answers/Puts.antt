@@ -1,7 +1,7 @@
 -- What changes where values are put into storage of the program.
 use Rattle.std.specs.Prelude.{◌≡◌, ◌≤◌, ℕ, Bool, true, false, Some, List, [], ◌∷◌, ◌++◌, length}
 use Rattle.std.specs.Prelude.{slice_get, slice_set}
-use Rattle.pli_store.specs.Storage.{Generation, with_values_at}
+use Rattle.pli_world.specs.Storage.{Generation, with_values_at}
 use Rattle.pli_store.specs.declared.part.GenerationPart.{GenerationPart}
 use Rattle.pli_value.specs.Value.{Value, Characters}
 

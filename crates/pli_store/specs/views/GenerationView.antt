@@ -2,7 +2,7 @@
 use Rattle.std.specs.Prelude.{map}
 use Rattle.pli_map.specs.views.DescriptionView.{description_view}
 use Rattle.pli_value.specs.Value.{value_view}
-use Rattle.pli_store.specs.Storage as plain
+use Rattle.pli_world.specs.Storage as plain
 use Rattle.pli_store.specs.declared.generation.Generation.{Generation}
 use Rattle.pli_store.specs.declared.generation.Made.{Made}
 use Rattle.pli_store.specs.declared.generation.Made.TheVariants as made

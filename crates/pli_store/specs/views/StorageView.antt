@@ -1,8 +1,8 @@
 -- What storage of the program says.
 use Rattle.std.specs.Prelude.{◌≡◌, ◌≤◌, ℕ, ℤ, Bool, true, false, List, ◌++◌, length, map}
 use Rattle.pli_map.specs.views.DescriptionView.{description_view}
-use Rattle.pli_store.specs.World.{World, Yields, held, stored}
-use Rattle.pli_store.specs.Storage as plain
+use Rattle.pli_world.specs.World.{World, Yields, held, stored}
+use Rattle.pli_world.specs.Storage as plain
 use Rattle.pli_store.specs.views.GenerationView.{generation_view}
 use Rattle.pli_value.specs.Value.{Number, Characters}
 use Rattle.pli_store.specs.declared.place.Place.{Place}

@@ -6,10 +6,11 @@ use Rattle.std.specs.HashMap.{get}
 use Rattle.pli_base.specs.Name.{Name}
 use Rattle.pli_base.specs.Words.{same_name}
 use Rattle.pli_code.specs.declared.ending.RunError.{RunError}
-use Rattle.pli_machine_step.specs.Program.{GlobalCode, global_variable}
+use Rattle.pli_program.specs.Program.{GlobalCode, global_variable}
 use Rattle.pli_machine_step.specs.Runs.{all_statics_made}
-use Rattle.pli_store.specs.World.{World, Answer, Yields, Raises, Static, Variable}
-use Rattle.pli_store.specs.World.{made_once, made_before, external_in, statics_made}
+use Rattle.pli_world.specs.World.{World, Answer, Yields, Raises, Static}
+use Rattle.pli_map.specs.Variables.{Variable}
+use Rattle.pli_world.specs.World.{made_once, made_before, external_in, statics_made}
 use Rattle.pli_store.specs.declared.fault.StoreFault.{StoreFault}
 use Rattle.pli_store.specs.declared.fault.StoreFault.TheVariants.{Raised, NoRule, OutOfMemory}
 use Rattle.pli_store.specs.declared.place.Place.{Place}

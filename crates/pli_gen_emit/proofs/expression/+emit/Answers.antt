@@ -1,5 +1,5 @@
 use Rattle.std.proofs.Common.{◌++◌, ◌∷◌, [], length, arith, ap, ◌∙◌, sym, append_assoc}
-use Rattle.pli_machine_step.specs.Program as op
+use Rattle.pli_program.specs.Program as op
 use Rattle.pli_map.specs.views.DescriptionView.{description_view}
 use Rattle.pli_operation.specs.views.OperationView.{operation_view}
 use Rattle.pli_type_tree.specs.TypedTree.{NoArgument}

@@ -3,7 +3,7 @@ use Rattle.pli_type_tree.specs.TypedTree as plain
 use Rattle.pli_type_tree.specs.views.TypedView.{expression_view, iteration_view, form_view, statement_view, statements_view}
 use Rattle.pli_type_tree.specs.laws.TypedTreeLaws.{boxed_view, if_made, group_made, while_made, iterate_made}
 use Rattle.pli_type_tree.specs.Iterations.{is_iterated}
-use Rattle.pli_machine_step.specs.Program as op
+use Rattle.pli_program.specs.Program as op
 use Rattle.pli_gen_emit.specs.TreeTranslation.{value_code, start_code, tests_code, advances_code, back_code, statement_code, form_code, list_code}
 use Rattle.pli_gen_emit.specs.answers.Pieces.{IsTurn}
 use Rattle.pli_gen_emit.specs.declared.naming.NamingInstruction.TheVariants as naming

@@ -1,6 +1,6 @@
 use Rattle.std.proofs.Common.{ℕ, nat_eq, sym, ◌∙◌, map}
 use Rattle.std.specs.List.{list_any}
-use Rattle.pli_store.specs.World.{is_given}
+use Rattle.pli_world.specs.World.{is_given}
 use Rattle.pli_store.specs.views.StorageView.{place_view}
 use Rattle.pli_unit_perform.proofs.GivenPlaces.{given_as, keeps_all, leaves_none}
 use Rattle.pli_unit_perform.proofs.arguments.hand_over.Goals as goal

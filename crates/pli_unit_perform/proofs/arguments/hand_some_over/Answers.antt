@@ -2,7 +2,7 @@ use Rattle.std.proofs.Common.{◌∙◌, map, sym, ap, arith}
 use Rattle.std.specs.Prelude.{not, get_or}
 use Rattle.std.specs.List.{filter}
 use Rattle.std.proofs.lemmas.List.{take_all}
-use Rattle.pli_store.specs.World.{is_given}
+use Rattle.pli_world.specs.World.{is_given}
 use Rattle.pli_store.specs.views.StorageView.{place_view}
 use Rattle.pli_unit_perform.proofs.GivenPlaces.{given_as, passes_more, fails_more}
 use Rattle.pli_unit_perform.proofs.arguments.hand_some_over.Goals as goal

@@ -1,7 +1,7 @@
 use Rattle.std.proofs.Common.{◌≡◌, take, map}
 use Rattle.std.specs.Prelude.{not}
 use Rattle.std.specs.List.{filter}
-use Rattle.pli_store.specs.World.{is_given}
+use Rattle.pli_world.specs.World.{is_given}
 use Rattle.pli_store.specs.views.StorageView.{place_view}
 use Rattle.pli_unit_perform.proofs.arguments.hand_some_over.Given as goal
 

@@ -2,7 +2,7 @@ use Rattle.std.proofs.Common.{Some, ◌∷◌, map, refl, sym, ap, ◌∙◌, ar
 use Rattle.std.proofs.lemmas.Result.{IfOk-weaker}
 use Rattle.pli_store.specs.views.StorageView.{place_view}
 use Rattle.pli_machine_step.specs.Machine.{enters}
-use Rattle.pli_machine_step.specs.Program.{head_of}
+use Rattle.pli_program.specs.Program.{head_of}
 use Rattle.pli_unit_code.specs.CodeTables.{block_looked_up}
 use Rattle.pli_unit_code.specs.views.CodeView.{code_view, block_view, module_view}
 use Rattle.pli_unit_perform.specs.views.Image.{unit_with, image_with}

@@ -1,7 +1,7 @@
 use Rattle.std.proofs.Common.{◌≡◌, ℕ, false, Option, Some, List, sym, ap, ◌∙◌, arith}
 use Rattle.pli_machine_step.specs.Machine.{link_of}
-use Rattle.pli_store.specs.Activations.{nearest_of, is_of}
-use Rattle.pli_store.specs.World.{Static}
+use Rattle.pli_world.specs.Activations.{nearest_of, is_of}
+use Rattle.pli_world.specs.World.{Static}
 use Rattle.pli_unit_code.specs.CodeTables.{Code}
 use Rattle.pli_unit_code.specs.Modules.{Module}
 use Rattle.pli_unit_code.specs.views.CodeView.{module_view}

@@ -1,7 +1,7 @@
 use Rattle.std.proofs.Common.{◌∷◌, [], ◌++◌, refl, sym, ap, ◌∙◌}
 use Rattle.pli_map.specs.views.DescriptionView.{description_view}
 use Rattle.pli_value.specs.Value.{value_view}
-use Rattle.pli_store.specs.World.{dummy_of}
+use Rattle.pli_world.specs.World.{dummy_of}
 use Rattle.pli_store.specs.views.StorageView.{place_view, with_storage}
 use Rattle.pli_machine_step.specs.Machine.{OfValue, AtPlace, At, pushes, with_operands}
 use Rattle.pli_unit_perform.specs.views.MachineView.{Running, activation_view, activations_of, frame_view, frames_of, world_of, left_of}

@@ -3,7 +3,7 @@ use Rattle.std.specs.Prelude.{option_map}
 use Rattle.pli_unit_perform.specs.views.Image.{Image, name_at}
 use Rattle.pli_value.specs.Value.{value_view}
 use Rattle.pli_value.specs.Value as plain
-use Rattle.pli_store.specs.Activations as pli
+use Rattle.pli_world.specs.Activations as pli
 use Rattle.pli_store.specs.views.StorageView.{place_view}
 use Rattle.pli_machine_step.specs.Machine.{Operand, Frame}
 use Rattle.pli_unit_operate.specs.views.OperandView.{stack}

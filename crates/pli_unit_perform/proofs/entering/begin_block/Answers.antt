@@ -1,8 +1,8 @@
 use Rattle.std.proofs.Common.{◌≡◌, ℕ, List, [], ◌∷◌, map, reverse, refl, ap, ◌∙◌}
 use Rattle.std.specs.Prelude.{not}
 use Rattle.std.specs.List.{filter}
-use Rattle.pli_store.specs.Activations as pli
-use Rattle.pli_store.specs.World.{is_given}
+use Rattle.pli_world.specs.Activations as pli
+use Rattle.pli_world.specs.World.{is_given}
 use Rattle.pli_store.specs.views.StorageView.{place_view}
 use Rattle.pli_unit_perform.specs.views.Image.{name_at}
 use Rattle.pli_unit_perform.specs.views.MachineView.{activation_view, activations_of, frame_view, frames_of, world_of}

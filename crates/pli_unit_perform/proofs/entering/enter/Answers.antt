@@ -1,7 +1,7 @@
 use Rattle.std.proofs.Common.{◌∷◌, map, sym, ap, subst, ◌∙◌}
-use Rattle.pli_store.specs.World.{made_all}
+use Rattle.pli_world.specs.World.{made_all}
 use Rattle.pli_store.specs.views.StorageView.{place_view}
-use Rattle.pli_machine_step.specs.Program.{head_of}
+use Rattle.pli_program.specs.Program.{head_of}
 use Rattle.pli_unit_code.specs.CodeTables.{block_looked_up, variables_at}
 use Rattle.pli_unit_code.specs.views.CodeView.{code_view, block_view}
 use Rattle.pli_unit_perform.specs.answers.Making.{EndsAs}

@@ -1,5 +1,5 @@
 use Rattle.std.proofs.Common.{◌≡◌, map}
-use Rattle.pli_store.specs.World.{static_in}
+use Rattle.pli_world.specs.World.{static_in}
 use Rattle.pli_unit_perform.specs.views.ImageView.{image_of}
 use Rattle.pli_unit_perform.proofs.StaticPlaces.{from_unit}
 use Rattle.pli_unit_perform.proofs.globals.first_place.Given as goal

@@ -1,6 +1,6 @@
 use Rattle.std.specs.Prelude.{slice_get}
 use Rattle.pli_map.specs.views.DescriptionView.{description_view}
-use Rattle.pli_machine_step.specs.Program as op
+use Rattle.pli_program.specs.Program as op
 use Rattle.pli_unit_code.specs.views.CodeView.{code_view}
 use Rattle.pli_unit_perform.proofs.FoundInTables.{does_found, does_none, found, none_found}
 use Rattle.pli_unit_perform.proofs.instructions.field.Goals as goal

@@ -1,6 +1,6 @@
 use Rattle.std.proofs.Common.{◌∷◌, refl, sym, ap, ◌∙◌}
-use Rattle.pli_store.specs.Storage.{without}
-use Rattle.pli_store.specs.World.{cleared}
+use Rattle.pli_world.specs.Storage.{without}
+use Rattle.pli_world.specs.World.{cleared}
 use Rattle.pli_store.specs.views.StorageView.{storage_view}
 use Rattle.pli_machine_step.specs.Machine.{counted_jump}
 use Rattle.pli_unit_perform.specs.views.MachineView.{leads, after, activation_view, activations_of, frame_view, frames_of, world_of, left_of}

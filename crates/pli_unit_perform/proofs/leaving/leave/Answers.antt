@@ -1,6 +1,6 @@
 use Rattle.std.proofs.Common.{◌∷◌, map, reverse, refl, sym, ap, ◌∙◌}
-use Rattle.pli_store.specs.Storage.{without}
-use Rattle.pli_store.specs.World.{left_by}
+use Rattle.pli_world.specs.Storage.{without}
+use Rattle.pli_world.specs.World.{left_by}
 use Rattle.pli_store.specs.views.StorageView.{storage_view}
 use Rattle.pli_unit_perform.specs.views.MachineView.{activation_view, activations_of, frame_view, frames_of, world_of}
 use Rattle.pli_store.proofs.RisingNumbers.{without_append}

@@ -1,5 +1,5 @@
 use Rattle.std.proofs.Common.{List, map, drop}
-use Rattle.pli_store.specs.World.{Static}
+use Rattle.pli_world.specs.World.{Static}
 use Rattle.pli_unit_code.specs.views.CodeView.{code_view, global_view}
 use Rattle.pli_unit_perform.specs.answers.Making.{AreKnown}
 use Rattle.pli_unit_perform.proofs.LinkedGlobals.{SoFar}

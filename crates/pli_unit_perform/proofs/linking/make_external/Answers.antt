@@ -3,7 +3,8 @@ use Rattle.std.specs.Prelude.{option_map}
 use Rattle.std.specs.HashMap.{get}
 use Rattle.pli_base.specs.Name.{Name}
 use Rattle.pli_base.specs.Words.{same_name}
-use Rattle.pli_store.specs.World.{Static, Variable}
+use Rattle.pli_world.specs.World.{Static}
+use Rattle.pli_map.specs.Variables.{Variable}
 use Rattle.pli_store.specs.declared.fault.StoreFault.{StoreFault}
 use Rattle.pli_store.specs.declared.place.Place.{Place}
 use Rattle.pli_store.specs.declared.storage.Storage.{Storage}

@@ -2,8 +2,8 @@ use Rattle.std.proofs.Common.{None, Some, Ok, Err, map, sym, ap, subst, ◌∙�
 use Rattle.std.specs.Prelude.{option_map}
 use Rattle.pli_map.specs.views.DescriptionView.{description_view}
 use Rattle.pli_value.specs.Value.{value_view}
-use Rattle.pli_store.specs.Storage.{Static}
-use Rattle.pli_store.specs.World.{made_of}
+use Rattle.pli_world.specs.Storage.{Static}
+use Rattle.pli_world.specs.World.{made_of}
 use Rattle.pli_store.specs.views.StorageView.{place_view}
 use Rattle.pli_type_tree.specs.Templates.{variable_of}
 use Rattle.pli_unit_perform.specs.answers.Making.{Placed, first_world}

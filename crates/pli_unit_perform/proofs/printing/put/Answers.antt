@@ -1,6 +1,6 @@
 use Rattle.std.proofs.Common.{◌≡◌, ℕ, List, ap, ◌∙◌, refl}
 use Rattle.pli_machine_step.specs.Machine.{Operand, Frame, Goes, At, put, with_operands}
-use Rattle.pli_store.specs.World.{World, printed}
+use Rattle.pli_world.specs.World.{World, printed}
 use Rattle.pli_value.specs.Conversions.{bit_constant}
 use Rattle.pli_unit_operate.specs.views.OperandView.{stack}
 use Rattle.pli_unit_perform.specs.declared.machine.Machine.{Machine}

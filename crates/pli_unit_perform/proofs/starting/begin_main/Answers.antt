@@ -1,8 +1,8 @@
 use Rattle.std.proofs.Common.{◌-◌, [], map, reverse, sym, ap, subst, ◌∙◌, arith}
-use Rattle.pli_store.specs.Activations as pli
-use Rattle.pli_store.specs.World.{made_all, stepped}
+use Rattle.pli_world.specs.Activations as pli
+use Rattle.pli_world.specs.World.{made_all, stepped}
 use Rattle.pli_machine_step.specs.Machine.{Frame}
-use Rattle.pli_machine_step.specs.Program.{head_of}
+use Rattle.pli_program.specs.Program.{head_of}
 use Rattle.pli_unit_code.specs.CodeTables.{block_looked_up, variables_at}
 use Rattle.pli_unit_code.specs.views.CodeView.{code_view, block_view}
 use Rattle.pli_unit_perform.specs.answers.Making.{EndsAs, first_world}

@@ -1,8 +1,8 @@
 use Rattle.std.proofs.Common.{◌∷◌, map, sym, ap, ◌∙◌}
 use Rattle.pli_map.specs.views.DescriptionView.{description_view}
 use Rattle.pli_value.specs.Value.{value_view}
-use Rattle.pli_store.specs.Storage.{Automatic}
-use Rattle.pli_store.specs.World.{made_of, made_all, further, in_newest, with_slot}
+use Rattle.pli_world.specs.Storage.{Automatic}
+use Rattle.pli_world.specs.World.{made_of, made_all, further, in_newest, with_slot}
 use Rattle.pli_store.specs.views.StorageView.{place_view, with_storage}
 use Rattle.pli_unit_perform.specs.views.MachineView.{activations_of, world_of}
 use Rattle.pli_unit_perform.proofs.MadeVariables.{answer_ends, never_wrong, same_storage}

@@ -1,6 +1,6 @@
 use Rattle.std.proofs.Common.{◌+◌, drop, ap, ◌∙◌}
 use Rattle.std.proofs.lemmas.List.{drop_more}
-use Rattle.pli_store.specs.World.{made_all}
+use Rattle.pli_world.specs.World.{made_all}
 use Rattle.pli_unit_code.specs.CodeTables.{variables_at}
 use Rattle.pli_unit_code.specs.views.CodeView.{code_view}
 use Rattle.pli_unit_perform.specs.views.MachineView.{world_of}

@@ -1,6 +1,6 @@
 use Rattle.std.proofs.Common.{◌≡◌, ◌≤◌, List, length, map}
-use Rattle.pli_store.specs.Activations.{nearest_of}
-use Rattle.pli_store.specs.World.{Static}
+use Rattle.pli_world.specs.Activations.{nearest_of}
+use Rattle.pli_world.specs.World.{Static}
 use Rattle.pli_unit_code.specs.views.CodeView.{module_view}
 use Rattle.pli_unit_perform.specs.views.Image.{name_at, image_with}
 use Rattle.pli_unit_perform.specs.views.MachineView.{activation_view, activations_of}

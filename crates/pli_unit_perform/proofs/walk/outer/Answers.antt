@@ -1,5 +1,5 @@
 use Rattle.std.proofs.Common.{◌∙◌, ◌-◌, ◌+◌, ap, arith}
-use Rattle.pli_store.specs.Activations.{outward_from}
+use Rattle.pli_world.specs.Activations.{outward_from}
 use Rattle.pli_unit_perform.proofs.LinkWalkLemmas.{first_of}
 use Rattle.pli_unit_perform.proofs.LinkLemmas.{views, no_link, past_link, next_link, end_link}
 use Rattle.pli_unit_perform.proofs.walk.outer.Goals as goal

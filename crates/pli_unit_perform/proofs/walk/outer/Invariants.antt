@@ -1,6 +1,6 @@
 use Rattle.std.proofs.Common.{◌≡◌, ◌-◌, ◌≤◌, length, map}
 use Rattle.pli_unit_perform.specs.views.Image.{Image}
-use Rattle.pli_store.specs.Activations.{outward_from}
+use Rattle.pli_world.specs.Activations.{outward_from}
 use Rattle.pli_unit_perform.specs.views.MachineView.{activation_view, activations_of}
 use Rattle.pli_unit_perform.proofs.LinkWalkLemmas.{first_of}
 use Rattle.pli_unit_perform.proofs.walk.outer.Given as goal

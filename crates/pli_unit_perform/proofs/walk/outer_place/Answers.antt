@@ -1,5 +1,5 @@
 use Rattle.std.proofs.Common.{sym, ap, ◌∙◌}
-use Rattle.pli_store.specs.Activations.{outward_from}
+use Rattle.pli_world.specs.Activations.{outward_from}
 use Rattle.pli_unit_perform.specs.views.MachineView.{activations_of}
 use Rattle.pli_unit_perform.proofs.DisplayLemmas.{stands}
 use Rattle.pli_unit_perform.proofs.walk.outer_place.Goals as goal

@@ -1,6 +1,6 @@
 use Rattle.std.proofs.Common.{◌≡◌, ◌+◌, ◌-◌, ◌<◌, [], ◌∷◌, length, drop, get_or, refl, sym, ap, ◌∙◌, arith}
 use Rattle.std.proofs.lemmas.List.{drop_all, drop_more}
-use Rattle.pli_store.specs.Storage.{without}
+use Rattle.pli_world.specs.Storage.{without}
 use Rattle.pli_store.specs.views.StorageView.{storage_view}
 use Rattle.pli_store.proofs.RisingNumbers.{none_end, without_first}
 use Rattle.pli_store.proofs.storage.Storage.end.Goals as goal

@@ -1,5 +1,5 @@
 use Rattle.std.proofs.Common.{◌≡◌, drop}
-use Rattle.pli_store.specs.Storage.{without}
+use Rattle.pli_world.specs.Storage.{without}
 use Rattle.pli_store.specs.views.StorageView.{storage_view, made_count}
 use Rattle.pli_store.proofs.storage.Storage.end.Given as goal
 

@@ -1,5 +1,5 @@
 use Rattle.std.proofs.Common.{map, sym, ap, ◌∙◌, arith}
-use Rattle.pli_store.specs.Storage.{live_bytes}
+use Rattle.pli_world.specs.Storage.{live_bytes}
 use Rattle.pli_store.specs.answers.Kept.{rise}
 use Rattle.pli_store.specs.views.GenerationView.{generation_view}
 use Rattle.pli_store.specs.views.StorageView.{storage_view}

@@ -2,8 +2,8 @@ use Rattle.std.proofs.Common.{List, map, sym, subst}
 use Rattle.pli_map.specs.views.DescriptionView.{description_view}
 use Rattle.pli_value.specs.Value.{value_view}
 use Rattle.pli_value.specs.declared.value.Value as code
-use Rattle.pli_store.specs.Storage.{Dummy}
-use Rattle.pli_store.specs.World.{made_of}
+use Rattle.pli_world.specs.Storage.{Dummy}
+use Rattle.pli_world.specs.World.{made_of}
 use Rattle.pli_store.specs.answers.Answered.{Answered}
 use Rattle.pli_store.specs.declared.place.Place.{Place}
 use Rattle.pli_store.specs.views.StorageView.{place_view, with_storage}

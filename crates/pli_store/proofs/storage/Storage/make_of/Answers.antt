@@ -2,8 +2,8 @@ use Rattle.std.proofs.Common.{◌≡◌, suc, [], ◌∷◌, ◌++◌, map, sym,
 use Rattle.std.proofs.lemmas.List.{map_push}
 use Rattle.pli_map.specs.views.DescriptionView.{description_view}
 use Rattle.pli_value.specs.Value.{value_view}
-use Rattle.pli_store.specs.Storage.{live_bytes, whole}
-use Rattle.pli_store.specs.World.{Yields}
+use Rattle.pli_world.specs.Storage.{live_bytes, whole}
+use Rattle.pli_world.specs.World.{Yields}
 use Rattle.pli_store.specs.declared.generation.Generation.{Generation}
 use Rattle.pli_store.specs.views.GenerationView.{generation_view, made_view}
 use Rattle.pli_store.specs.views.StorageView.{with_storage}

@@ -21,12 +21,15 @@ use Rattle.pli_map.specs.Sizes.{size_of}
 use Rattle.pli_value.specs.Value.{Value}
 use Rattle.pli_value.specs.declared.number.Raised.TheVariants as raised
 use Rattle.pli_operation.specs.Operations.{Calculation, Calculates, RaisesCondition, OutOfString, Misfits}
-use Rattle.pli_store.specs.Activations.{Activation, outward_from, with_newest, without_newest}
-use Rattle.pli_store.specs.Activations.{activation_at}
-use Rattle.pli_store.specs.Storage.{Generation, Made, Automatic, Static as AsStatic, Dummy, Place, whole}
-use Rattle.pli_store.specs.Storage.{field_of, generation_in, scalar_at, values_from, with_values_at}
-use Rattle.pli_store.specs.Storage.{with_values, without, live_bytes, byte_limit, generation_limit}
+use Rattle.pli_world.specs.Activations.{Activation, outward_from, with_newest, without_newest}
+use Rattle.pli_world.specs.Activations.{activation_at}
+use Rattle.pli_world.specs.Storage.{Generation, Made, Automatic, Static as AsStatic, Dummy, Place, whole}
+use Rattle.pli_world.specs.Storage.{field_of, generation_in, scalar_at, values_from, with_values_at}
+use Rattle.pli_world.specs.Storage.{with_values, without, live_bytes, generation_limit}
+use Rattle.pli_map.specs.Variables.{byte_limit}
 use Rattle.pli_map.specs.Values.{holds}
+use Rattle.pli_map.specs.Variables.{Variable, GlobalVariable}
+use Rattle.pli_program.specs.Program.{Head}
 
 -- a variable that was made before the program began, as a unit has it: the unit and the number among its
 -- globals; its name, if it is external; and its place, which is the same in all units that declare the name
@@ -75,7 +78,7 @@ height w = length w.activations
 
 -- storage
 
--- a new generation, unless a limit is passed
+-- a new generation, unless a limit is passed; it is wrong where its scalars may not hold these values
 unfoldable pub made_of : Description → Made → List Value → World → Answer Place
 made_of d how vs w =
     if nat_lt w.made generation_limit && nat_le (live_bytes w.storage + size_of d) byte_limit
@@ -149,19 +152,6 @@ calculation OutOfString w = Raises StringRange w
 calculation Misfits w = Wrong
 
 -- activations
-
--- a variable: its description, and the values with which its scalars begin
-pub record Variable : Type 0 where
-  pub description : Description
-  pub initial : List Value
-
--- what an activation of a block begins with: the unit and the block, its statement, and its AUTOMATIC
--- variables in the order of the text
-pub record Head : Type 0 where
-  pub unit : Name
-  pub block : ℕ
-  pub statement : ℕ
-  pub variables : List Variable
 
 -- the newest activation changed
 abbrev pub in_newest : (Activation → Activation) → World → World
@@ -284,11 +274,6 @@ unfoldable pub static_place : (number : ℕ) → World → Answer Place
 static_place number w =
     further (known (newest_unit w.activations) w)
     (λ unit w. known (static_in w.statics unit number) w)
-
--- such a variable: its name, if it is external
-pub record GlobalVariable : Type 0 where
-  pub external : Option Name
-  pub variable : Variable
 
 -- a variable is the external one of this name
 abbrev pub is_named : (name : Name) → Option Name → Bool

@@ -1,6 +1,6 @@
 use Rattle.std.specs.Prelude.{refl}
-use Rattle.pli_store.specs.World.{nothing, made_of, parts_held, parts_stored, held, stored, copied, entered, cleared, left_by, height_of, slot_place, dummy_of, static_place}
-use Rattle.pli_store.proofs.laws.worked_examples.Goals as goal
+use Rattle.pli_world.specs.World.{nothing, made_of, parts_held, parts_stored, held, stored, copied, entered, cleared, left_by, height_of, slot_place, dummy_of, static_place}
+use Rattle.pli_world.proofs.laws.worked_examples.Goals as goal
 
 -- each by computing it
 pub returns : goal.returns

@@ -6,12 +6,14 @@ use Rattle.pli_map.specs.Description.{MemberThen}
 use Rattle.pli_value.specs.Value.{Value, Number, Characters}
 use Rattle.pli_code.specs.declared.ending.RunError.{RunError}
 use Rattle.pli_code.specs.declared.ending.RunError.TheVariants.{DeadLocator, SubscriptRange}
-use Rattle.pli_store.specs.Storage.{Automatic, Place, whole, field_of}
+use Rattle.pli_world.specs.Storage.{Automatic, Place, whole, field_of}
 use Rattle.pli_map.specs.Values.{first_values}
-use Rattle.pli_store.specs.World.{World, nothing, Answer, Yields, Raises, Wrong, further, Variable, Head}
-use Rattle.pli_store.specs.World.{GlobalVariable}
-use Rattle.pli_store.specs.World.{made_of, entered, left_by, cleared, dummy_of, parts_held, held, slot_place}
-use Rattle.pli_store.specs.World.{stored, copied, subscripted, static_place, statics_made}
+use Rattle.pli_world.specs.World.{World, nothing, Answer, Yields, Raises, Wrong, further}
+use Rattle.pli_map.specs.Variables.{Variable}
+use Rattle.pli_program.specs.Program.{Head}
+use Rattle.pli_map.specs.Variables.{GlobalVariable}
+use Rattle.pli_world.specs.World.{made_of, entered, left_by, cleared, dummy_of, parts_held, held, slot_place}
+use Rattle.pli_world.specs.World.{stored, copied, subscripted, static_place, statics_made}
 
 -- a procedure with one variable, FIXED BINARY(15)
 abbrev pub procedure : Head

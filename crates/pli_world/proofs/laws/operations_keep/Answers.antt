@@ -1,5 +1,5 @@
-use Rattle.pli_store.specs.laws.OperationLaws as law
-use Rattle.pli_store.proofs.laws.operations_keep.Goals as goal
+use Rattle.pli_world.specs.laws.OperationLaws as law
+use Rattle.pli_world.proofs.laws.operations_keep.Goals as goal
 
 pub returns-clause-making : goal.returns-clause-making
 returns-clause-making c = law.making_keeps

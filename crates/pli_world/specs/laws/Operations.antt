@@ -5,11 +5,13 @@ use Rattle.pli_base.specs.Name.{Name}
 use Rattle.pli_map.specs.Description.{Description}
 use Rattle.pli_value.specs.Value.{Value}
 use Rattle.pli_operation.specs.Operations.{Calculation}
-use Rattle.pli_store.specs.Storage.{Made, Place}
-use Rattle.pli_store.specs.World.{World, Answer, Yields, Raises, Wrong, GlobalVariable, Head, height, made_of}
-use Rattle.pli_store.specs.World.{parts_held, parts_stored, held, stored, copied, subscripted, calculation}
-use Rattle.pli_store.specs.World.{entered, left_by, cleared, at_statement, stepped, height_of, slot_place}
-use Rattle.pli_store.specs.World.{static_place, statics_made, dummy_of, printed, line_ended}
+use Rattle.pli_world.specs.Storage.{Made, Place}
+use Rattle.pli_world.specs.World.{World, Answer, Yields, Raises, Wrong, height, made_of}
+use Rattle.pli_map.specs.Variables.{GlobalVariable}
+use Rattle.pli_program.specs.Program.{Head}
+use Rattle.pli_world.specs.World.{parts_held, parts_stored, held, stored, copied, subscripted, calculation}
+use Rattle.pli_world.specs.World.{entered, left_by, cleared, at_statement, stepped, height_of, slot_place}
+use Rattle.pli_world.specs.World.{static_place, statics_made, dummy_of, printed, line_ended}
 
 -- a list begins another
 pub record IsPrefix (short long : List ℕ) : Type 0 where

@@ -79,10 +79,6 @@ abbrev pub live_bytes : List Generation → ℕ
 live_bytes [] = 0
 live_bytes (g ∷ gs) = size_of g.description + live_bytes gs
 
--- how many bytes may live at once (own)
-abbrev pub byte_limit : ℕ
-byte_limit = 16777216
-
 -- how many generations may ever be made (own)
 abbrev pub generation_limit : ℕ
 generation_limit = 4294967294

@@ -1,13 +1,13 @@
 //! Laws of the operations on the world.
-ghost use Rattle.pli_store.specs.laws.Operations.{MakingKeeps, LoadingKeeps, StoringKeeps, WalkingKeeps};
-ghost use Rattle.pli_store.specs.laws.Operations.{SlotKeeps, DummyKeeps, EnteringAdds, LeavingTakes};
-ghost use Rattle.pli_store.specs.laws.Operations.{ClearingKeeps, StatementKeeps, PrintingKeeps, SteppingCounts};
-ghost use Rattle.pli_store.specs.laws.Operations.{PartsHeldKeep, PartsStoredKeep, CopyingKeeps, SubscriptKeeps};
-ghost use Rattle.pli_store.specs.laws.Operations.{CalculatingKeeps, StaticKeeps, StaticsKeep, LineKeeps};
-ghost use Rattle.pli_store.specs.examples.StorageExamples.{OuterVariable, DummyNumber, DummyEnds, TooLong};
-ghost use Rattle.pli_store.specs.examples.StorageExamples.{DummyDead, PartStored, PartHeld, ElementCopied};
-ghost use Rattle.pli_store.specs.examples.StorageExamples.{AggregateHeld, NoElement, NoPart, StaticStays};
-ghost use Rattle.pli_store.specs.examples.StorageExamples.{StaticOfOther, ExternalIsShared};
+ghost use Rattle.pli_world.specs.laws.Operations.{MakingKeeps, LoadingKeeps, StoringKeeps, WalkingKeeps};
+ghost use Rattle.pli_world.specs.laws.Operations.{SlotKeeps, DummyKeeps, EnteringAdds, LeavingTakes};
+ghost use Rattle.pli_world.specs.laws.Operations.{ClearingKeeps, StatementKeeps, PrintingKeeps, SteppingCounts};
+ghost use Rattle.pli_world.specs.laws.Operations.{PartsHeldKeep, PartsStoredKeep, CopyingKeeps, SubscriptKeeps};
+ghost use Rattle.pli_world.specs.laws.Operations.{CalculatingKeeps, StaticKeeps, StaticsKeep, LineKeeps};
+ghost use Rattle.pli_world.specs.examples.StorageExamples.{OuterVariable, DummyNumber, DummyEnds, TooLong};
+ghost use Rattle.pli_world.specs.examples.StorageExamples.{DummyDead, PartStored, PartHeld, ElementCopied};
+ghost use Rattle.pli_world.specs.examples.StorageExamples.{AggregateHeld, NoElement, NoPart, StaticStays};
+ghost use Rattle.pli_world.specs.examples.StorageExamples.{StaticOfOther, ExternalIsShared};
 
 /// A law: no operation takes a step or prints over what was printed, and each leaves as many activations as it
 /// should.

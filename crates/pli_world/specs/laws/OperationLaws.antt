@@ -10,24 +10,26 @@ use Rattle.pli_map.specs.Sizes.{size_of}
 use Rattle.pli_value.specs.Value.{Value}
 use Rattle.pli_value.specs.declared.number.Raised.TheVariants as raised
 use Rattle.pli_operation.specs.Operations.{Calculates, RaisesCondition, OutOfString, Misfits}
-use Rattle.pli_store.specs.Activations.{Activation, activation_at, outward_from, with_newest, without_newest}
-use Rattle.pli_store.specs.Storage.{Generation, Automatic, Static as AsStatic, Dummy, Place, whole}
-use Rattle.pli_store.specs.Storage.{generation_in, scalar_at, live_bytes, byte_limit, generation_limit}
+use Rattle.pli_world.specs.Activations.{Activation, activation_at, outward_from, with_newest, without_newest}
+use Rattle.pli_world.specs.Storage.{Generation, Automatic, Static as AsStatic, Dummy, Place, whole}
+use Rattle.pli_world.specs.Storage.{generation_in, scalar_at, live_bytes, generation_limit}
+use Rattle.pli_map.specs.Variables.{byte_limit}
 use Rattle.pli_map.specs.Values.{holds}
-use Rattle.pli_store.specs.World.{World, Answer, Yields, Raises, Wrong, further, known, Variable, height}
-use Rattle.pli_store.specs.World.{made_of, unless_dead, living, parts_held, parts_stored, single, held}
-use Rattle.pli_store.specs.World.{stored}
-use Rattle.pli_store.specs.World.{copied, made_all, in_newest, with_slot, begun_in}
-use Rattle.pli_store.specs.World.{without_handed, entered, left_by, cleared, at_statement, stepped, height_of}
-use Rattle.pli_store.specs.World.{slot_in, slot_place, newest_unit, static_in, static_place, made_before}
-use Rattle.pli_store.specs.World.{made_once, with_static, statics_made}
-use Rattle.pli_store.specs.World.{dummy_of, printed, line_ended}
-use Rattle.pli_store.specs.laws.Operations.{IsPrefix, Follows, AnswerFollows, MakingKeeps, LoadingKeeps}
-use Rattle.pli_store.specs.laws.Operations.{StoringKeeps, PartsHeldKeep, PartsStoredKeep, CopyingKeeps}
-use Rattle.pli_store.specs.laws.Operations.{SubscriptKeeps, CalculatingKeeps, WalkingKeeps, SlotKeeps}
-use Rattle.pli_store.specs.laws.Operations.{StaticKeeps, StaticsKeep, DummyKeeps, EnteringAdds}
-use Rattle.pli_store.specs.laws.Operations.{LeavingTakes, ClearingKeeps, StatementKeeps, PrintingKeeps}
-use Rattle.pli_store.specs.laws.Operations.{LineKeeps, SteppingCounts}
+use Rattle.pli_world.specs.World.{World, Answer, Yields, Raises, Wrong, further, known, height}
+use Rattle.pli_map.specs.Variables.{Variable}
+use Rattle.pli_world.specs.World.{made_of, unless_dead, living, parts_held, parts_stored, single, held}
+use Rattle.pli_world.specs.World.{stored}
+use Rattle.pli_world.specs.World.{copied, made_all, in_newest, with_slot, begun_in}
+use Rattle.pli_world.specs.World.{without_handed, entered, left_by, cleared, at_statement, stepped, height_of}
+use Rattle.pli_world.specs.World.{slot_in, slot_place, newest_unit, static_in, static_place, made_before}
+use Rattle.pli_world.specs.World.{made_once, with_static, statics_made}
+use Rattle.pli_world.specs.World.{dummy_of, printed, line_ended}
+use Rattle.pli_world.specs.laws.Operations.{IsPrefix, Follows, AnswerFollows, MakingKeeps, LoadingKeeps}
+use Rattle.pli_world.specs.laws.Operations.{StoringKeeps, PartsHeldKeep, PartsStoredKeep, CopyingKeeps}
+use Rattle.pli_world.specs.laws.Operations.{SubscriptKeeps, CalculatingKeeps, WalkingKeeps, SlotKeeps}
+use Rattle.pli_world.specs.laws.Operations.{StaticKeeps, StaticsKeep, DummyKeeps, EnteringAdds}
+use Rattle.pli_world.specs.laws.Operations.{LeavingTakes, ClearingKeeps, StatementKeeps, PrintingKeeps}
+use Rattle.pli_world.specs.laws.Operations.{LineKeeps, SteppingCounts}
 
 -- prefixes
 

@@ -4,7 +4,7 @@ use Rattle.std.specs.Prelude.{ℕ, zero, suc, nat_eq, Bool, ◌&&◌, Option, So
 use Rattle.std.specs.Prelude.{if◌then◌else◌}
 use Rattle.pli_base.specs.Name.{Name}
 use Rattle.pli_base.specs.Words.{same_name}
-use Rattle.pli_store.specs.Storage.{Place}
+use Rattle.pli_world.specs.Storage.{Place}
 
 -- an activation of a block of a unit, at a statement. Outer names mean the activation whose height is the
 -- static link, 0 for none. A slot is a parameter or an AUTOMATIC variable. Pending are the dummy arguments of

@@ -1,0 +1,2 @@
+//! Programs as the machine runs them: definitions alone.
+#![tactic(auto)]
