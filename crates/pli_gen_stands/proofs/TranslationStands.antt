@@ -4,6 +4,7 @@ use Rattle.std.specs.List.{flat_map, list_any, AllByRecursion}
 use Rattle.std.specs.Prelude.{◌||◌, if◌then◌else◌}
 use Rattle.std.proofs.Common.{arith, ap, ◌∙◌, sym, subst, true≢false}
 use Rattle.std.proofs.lemmas.Bool.{eq-eqb}
+use Rattle.pli_base.specs.Name.{Name}
 use Rattle.pli_code.specs.declared.ending.RunError.TheVariants.{NoReturnedValue}
 use Rattle.pli_program.specs.Program as op
 use Rattle.pli_operation.specs.Operations.{Operation, Add, Within}
@@ -25,6 +26,7 @@ use Rattle.pli_gen_tree.specs.laws.ListLaws.{all_front, all_back}
 use Rattle.pli_gen_tree.specs.WellNumbered.{AreDistinct, HasTurns, HasRoom, HaveRoom, next_temporary, KeepsApart, KeepApart, IsWellNumbered}
 use Rattle.pli_gen_tree.specs.WellNumbered.{numbers_in, numbers_in_form, numbers_in_else, numbers_among, numbers_of}
 use Rattle.std.proofs.lemmas.List.{map-append}
+use Rattle.pli_meaning_tree.specs.Effects.{Label}
 use Rattle.pli_meaning_tree.specs.TreeMeaning.{number_of}
 use Rattle.pli_meaning_simulation.specs.CodeStands as stand
 use Rattle.pli_meaning_simulation.specs.CodeStands.{Span, Empty, Then, Context, arguments_in, UnitStands}
@@ -43,7 +45,11 @@ behind_both (x ∷ xs) ys p = behind_both xs ys (suc p)
 behind_three : (xs ys zs : List Instruction) (p : ℕ) → behind (xs ++ ys ++ zs) p ≡ behind zs (behind ys (behind xs p))
 behind_three xs ys zs p = behind_both (xs ++ ys) zs p ∙ ap (behind zs) (behind_both xs ys p)
 
-module _ (u : UnitCode) (places : List (ℕ × ℕ)) where
+-- the labels of a unit of this name lead to the places of its statements
+abbrev pub Lead : (at : Label → ℕ) → Name → List (ℕ × ℕ) → Type 0
+Lead at name places = (number : ℕ) → at (record { unit = name; number = number }) ≡ statement_place places number
+
+module _ (u : UnitCode) (places : List (ℕ × ℕ)) (at : Label → ℕ) (lead : Lead at u.name places) where
   -- this code stands at a place, with the targets of its jumps
   abbrev Stand : List Instruction → ℕ → Type 0
   Stand [] p = Unit {0}
@@ -191,9 +197,6 @@ module _ (u : UnitCode) (places : List (ℕ × ℕ)) where
   later [] p = omega arith
   later (i ∷ is) p = let le = later is (suc p) in omega (arith, le)
 
-  abbrev at : ℕ → ℕ
-  at = statement_place places
-
   deeper_fits : (c : Context) → Fits c → Fits (stand.deeper c)
   deeper_fits c f = let a = f.most in let b = f.depth in record { most = omega (arith, a); depth = omega (arith, b) }
 
@@ -201,8 +204,8 @@ module _ (u : UnitCode) (places : List (ℕ × ℕ)) where
   nests c f two = record { least = two; most = f.most }
 
   -- a statement's label is where it begins
-  starts : (s : TypedStatement) (p : ℕ) → Known (places_in s p) → at (number_of s) ≡ p
-  starts (Statement number form) p known = known.0
+  starts : (s : TypedStatement) (p : ℕ) → Known (places_in s p) → at (record { unit = u.name; number = number_of s }) ≡ p
+  starts (Statement number form) p known = lead number ∙ known.0
 
   -- iterations
 
@@ -479,7 +482,8 @@ module _ (u : UnitCode) (places : List (ℕ × ℕ)) where
           },
         )
     form_stands (Call callee args) number block c fits room apart inner p known h = call_stands callee args (arguments_stand args) p h
-    form_stands (Goto outward label) number block c fits room apart inner p known h = one (op.Goto outward label) p h
+    form_stands (Goto outward label) number block c fits room apart inner p known h =
+        subst (λ k. stand.Is u (op.Goto outward k) p (suc p)) (sym (lead label)) (one (op.Goto outward label) p h)
     form_stands (Return outward) number block c fits room apart inner p known h = one (op.Return outward) p h
     form_stands (ReturnValue outward e) number block c fits room apart inner p known h =
         joined (value_code e) (op.ReturnValue outward ∷ []) (stand.ValueStands u e) (stand.Is u (op.ReturnValue outward)) (value_stands e) (one (op.ReturnValue outward)) p h
@@ -632,18 +636,18 @@ globals_stand program (EntryPoint name s ∷ gs) [] h = absurd h
 globals_stand program (EntryPoint name s ∷ gs) (n ∷ ns) h =
     (record { number = n; is = refl; unit = h.0.unit; named = h.0.named; there = h.0.there }, globals_stand program gs ns h.1)
 
-pub code_stands : (program : List TypedUnit) (t : TypedUnit) (entries : List ℕ) → IsWellNumbered t → AreEntries program t.globals entries → UnitStands program t (unit_code t entries)
-code_stands program t entries well linked =
+pub unit_stands : (program : List TypedUnit) (at : Label → ℕ) (t : TypedUnit) (entries : List ℕ) → IsWellNumbered t → AreEntries program t.globals entries
+    → Lead at t.name (places_of (blocks_of t) 0) → UnitStands program at t (unit_code t entries)
+unit_stands program at t entries well linked lead =
     let bs = blocks_of t in
     let places = places_of bs 0 in
     let u = unit_code t entries in
     let code = blocks_code bs 0 in
     let zero_and : (k : ℕ) → 0 + k ≡ k = λ k. omega arith in
-    let all = stand_all u places code 0 (λ k. ap (slice_get u.instructions) (zero_and k)) in
-    let find = found u places bs 0 (slice_get u.blocks) all (λ i. refl) (each_has_its_place places (subst AreDistinct (sym (numbered_blocks bs 0)) well.statements)) in
+    let all = stand_all u places at lead code 0 (λ k. ap (slice_get u.instructions) (zero_and k)) in
+    let find = found u places at lead bs 0 (slice_get u.blocks) all (λ i. refl) (each_has_its_place places (subst AreDistinct (sym (numbered_blocks bs 0)) well.statements)) in
     record {
-      at = statement_place places;
       names = refl;
       globals = globals_stand program t.globals entries linked;
-      procedures = procedures_stand u places t.procedures (all_placed u places bs (flat_map blocks_of_procedure t.procedures) find well.blocks well.loops well.temporaries);
+      procedures = procedures_stand u places at lead t.procedures (all_placed u places at lead bs (flat_map blocks_of_procedure t.procedures) find well.blocks well.loops well.temporaries);
     }

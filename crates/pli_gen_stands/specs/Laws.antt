@@ -1,28 +1,26 @@
--- The code of a unit, made by the translation, is the code that stands for it in the simulation (own). So the
--- module of a well-typed program does what the program means.
+-- The code of a program, made by the translation, is the code that stands for it in the simulation (own). So
+-- the module of a well-typed program does what the program means.
 use Rattle.std.specs.Prelude.{◌≡◌, ℕ, Some, List, [], ◌∷◌}
 use Rattle.pli_machine_step.specs.Runs.{Outcome}
 use Rattle.pli_type_tree.specs.TypedTree.{TypedUnit}
-use Rattle.pli_unit_code.specs.Modules.{Module}
+use Rattle.pli_unit_code.specs.Modules.{Module, program_of}
 use Rattle.pli_machine_step.specs.ModuleRuns.{RunsTo}
-use Rattle.pli_gen_emit.specs.TreeTranslation.{unit_code}
 use Rattle.pli_gen_tree.specs.WellNumbered.{IsWellNumbered}
-use Rattle.pli_meaning_simulation.specs.CodeStands.{UnitStands}
+use Rattle.pli_meaning_simulation.specs.CodeStands.{ProgramStands}
 use Rattle.pli_meaning_tree.specs.TreeMeaning.{TypedProgram, whole_run}
-use Rattle.pli_meaning_typed.specs.TypedPrograms.{WellTyped}
-use Rattle.pli_gen_stands.specs.Linked.{AreEntries, IsModuleOf}
+use Rattle.pli_meaning_typed.specs.TypedPrograms.{AreNamedApart, WellTyped}
+use Rattle.pli_gen_stands.specs.Linked.{IsModuleOf}
 
--- where blocks and statements are numbered well and loops do not nest too deep, in a program that has the
--- units of the entries
-abbrev pub CodeStands : Type 0
-CodeStands =
-    (program : List TypedUnit) (t : TypedUnit) (entries : List ℕ) → IsWellNumbered t
-    → AreEntries program t.globals entries → UnitStands program t (unit_code t entries)
-
--- all units are numbered so
+-- in all units blocks and statements are numbered well, and loops do not nest too deep
 abbrev pub AreWellNumbered : List TypedUnit → Type 0
 AreWellNumbered [] = Unit {0}
 AreWellNumbered (t ∷ ts) = IsWellNumbered t × AreWellNumbered ts
+
+-- where units are numbered so and no two have one name, as labels have the names of their units
+abbrev pub CodeStands : Type 0
+CodeStands =
+    (t : TypedProgram) (m : Module) → AreWellNumbered t.units → AreNamedApart t.units → IsModuleOf t m
+    → ProgramStands t (program_of m)
 
 -- with so many steps a program has a meaning, and the run of its module gives just that
 pub record RunsAsMeant (t : TypedProgram) (m : Module) (steps : ℕ) : Type 0 where

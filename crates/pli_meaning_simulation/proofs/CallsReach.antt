@@ -1,28 +1,26 @@
 -- The machine does what calls mean, at each level.
-use Rattle.std.specs.Prelude.{◌≡◌, ℕ, zero, suc, nat_eq, nat_lt, Bool, true, false, Option, Some, None, List, [], ◌∷◌, length, slice_get, if◌then◌else◌, refl}
+use Rattle.std.specs.Prelude.{◌≡◌, ℕ, zero, suc, nat_eq, Bool, true, false, Option, Some, None, List, [], ◌∷◌, length, slice_get, if◌then◌else◌, refl}
 use Rattle.std.proofs.Common.{ap, ◌∙◌, sym, subst, arith}
 use Rattle.std.proofs.lemmas.Bool.{eqb-true}
 use Rattle.pli_world.specs.Storage.{Place}
-use Rattle.pli_code.specs.declared.ending.RunError.TheVariants.{TooManyActivations}
-use Rattle.pli_world.specs.Activations.{activation_limit}
-use Rattle.pli_world.specs.World.{World, Answer, Yields, Raises, Wrong, height, entered, left_by, stepped, error_at}
+use Rattle.pli_world.specs.World.{World, entered, left_by, stepped}
 use Rattle.pli_value.specs.Value.{Value}
 use Rattle.pli_program.specs.Program as op
 use Rattle.pli_program.specs.Program.{Procedure, is_external, Block, UnitCode, Program, head_of}
 use Rattle.pli_machine_step.specs.Machine as machine
-use Rattle.pli_machine_step.specs.Machine.{Operand, Locals, Frame, State, At, Over, Move, Goes, Stops, Steps, given, calm, fresh, places_off, called, link_of, enters, faulty, resume}
-use Rattle.pli_type_tree.specs.TypedTree.{OfBlock, OfEntry, Global, OwnVariable, ExternalVariable, EntryPoint, TypedProcedure, TypedUnit}
+use Rattle.pli_machine_step.specs.Machine.{Operand, Locals, Frame, State, At, Over, Move, Goes, Stops, Steps, given, calm, fresh, places_off, called, link_of, enters, faulty, act, resume}
+use Rattle.pli_type_tree.specs.TypedTree.{Callee, OfBlock, OfEntry, Global, OwnVariable, ExternalVariable, EntryPoint, TypedProcedure, TypedUnit}
 use Rattle.pli_meaning_tree.specs.Effects as effect
-use Rattle.pli_meaning_tree.specs.Effects.{Effect, Gives, Jumps, Fails, Spent, Lost, Short, Flow, Next, Returned, Doing, and_then, answered, leaving, closed, procedure_end}
-use Rattle.pli_meaning_tree.specs.TreeMeaning.{Calls, in_order, head_in, static_link, activation_of, does_from, does_list, procedure_run, activates_in, activates, procedure_in, unit_named, entry_unit, activates_outer, activates_unit, calls}
-use Rattle.pli_meaning_simulation.specs.CodeStands.{Context, block_of, EndStands, ProcedureStands, ProceduresStand, GlobalStands, GlobalsStand, UnitStands, UnitsStand}
-use Rattle.pli_meaning_simulation.proofs.ReachesLemmas.{Fine, calm_kept, calm_fine, Target, stays, from, frame, flows, returns, Reaches, gives, then_reaches, keeping, closed_run, goes}
+use Rattle.pli_meaning_tree.specs.Effects.{Label, Effect, Lost, Flow, Next, Returned, leaving, procedure_end}
+use Rattle.pli_meaning_tree.specs.TreeMeaning.{Calls, in_order, head_in, static_link, activation_of, does_from, does_list, procedure_run, activates_in, activates, procedure_in, unit_named, entry_unit, activates_outer, activates_unit, called_in, calls}
+use Rattle.pli_meaning_simulation.specs.CodeStands.{Context, call_of, block_of, EndStands, ProcedureStands, ProceduresStand, GlobalStands, GlobalsStand, UnitStands, UnitsStand}
+use Rattle.pli_meaning_simulation.proofs.ReachesLemmas.{Fine, calm_kept, calm_fine, stays, from, frame, flows, returns, Reaches, gives, keeping, goes}
 use Rattle.pli_meaning_simulation.proofs.ExpressionsReach.{CallsRun, places_above, places_come_off, as_long}
 use Rattle.pli_meaning_simulation.proofs.ControlReaches.{fresh_fine, leaves, full_run, step_run, enters_run}
 use Rattle.pli_meaning_simulation.proofs.FormsReach.{list_run}
 use Rattle.pli_meaning_simulation.proofs.StatementsReach.{from_run}
 
-module _ (p : Program) (number : ℕ) (u : UnitCode) (at : ℕ → ℕ) where
+module _ (p : Program) (number : ℕ) (u : UnitCode) (at : Label → ℕ) where
   -- what a look-up of a procedure finds has its number, and its code stands
   abbrev pub Found : (block : ℕ) → Option TypedProcedure → Type 0
   Found block None = Unit
@@ -60,13 +58,13 @@ module _ (p : Program) (number : ℕ) (u : UnitCode) (at : ℕ → ℕ) where
         (fresh f.head.temporaries) (fresh_fine f.head.temporaries is.bound is.some) fs w left
 
 -- a call that stands in one unit, of a procedure of another one or of the same
-module _ (p : Program) (number : ℕ) (u : UnitCode) (at : ℕ → ℕ) (other : ℕ) (v : UnitCode) (to : ℕ → ℕ) (there : slice_get p.units other ≡ Some v) where
+module _ (p : Program) (number : ℕ) (u : UnitCode) (at : Label → ℕ) (other : ℕ) (v : UnitCode) (there : slice_get p.units other ≡ Some v) where
   -- the end of a procedure
-  procedure_end_run : (function_end : Option ℕ) (x : Flow) (finish behind : ℕ) {b : ℕ} {ops : List Operand} → EndStands v to function_end finish behind → {c : Context} (n l : Locals) → Fine c l
+  procedure_end_run : (function_end : Option ℕ) (x : Flow) (finish behind : ℕ) {b : ℕ} {ops : List Operand} → EndStands v at function_end finish behind → {c : Context} (n l : Locals) → Fine c l
       → (fs : List Frame) (w : World) (left : ℕ)
       → Reaches p number u at c (flows p other v finish (frame p number u b ops l ∷ fs) n x w left) l (returns p number u b ops fs) fs (procedure_end function_end x w left)
-  procedure_end_run None Next finish behind is n l fine fs w left = gives p number u at None (left_by w) left fine (goes p other v to there is refl)
-  procedure_end_run (Some s) Next finish behind is n l fine fs w left = record { by = from p (goes p other v to there is.fst refl) (goes p other v to there is.snd refl) }
+  procedure_end_run None Next finish behind is n l fine fs w left = gives p number u at None (left_by w) left fine (goes p other v at there is refl)
+  procedure_end_run (Some s) Next finish behind is n l fine fs w left = record { by = from p (goes p other v at there is.fst refl) (goes p other v at there is.snd refl) }
   procedure_end_run None (Returned zero None) finish behind is n l fine fs w left = gives p number u at None (left_by w) left fine (stays p _)
   procedure_end_run (Some s) (Returned zero None) finish behind is n l fine fs w left = gives p number u at None (left_by w) left fine (stays p _)
   procedure_end_run None (Returned zero (Some x)) finish behind is n l fine fs w left = gives p number u at (Some x) (left_by w) left fine (stays p _)
@@ -74,134 +72,72 @@ module _ (p : Program) (number : ℕ) (u : UnitCode) (at : ℕ → ℕ) (other :
   procedure_end_run None (Returned (suc d) o) finish behind is n l fine fs w left = record { by = tt }
   procedure_end_run (Some s) (Returned (suc d) o) finish behind is n l fine fs w left = record { by = tt }
 
-  -- the end of an activation out of which no jump leads
-  leaves_closed : {A B : Type 0} {d c : Context} {s : State} {l m : Locals} {target : Target A} {target2 : Target B} {fs gs : List Frame} (o : Effect A) (go : A → Doing B)
-      → Reaches p other v to d s l target gs o
-      → ((n : Locals) → Fine d n → (x : A) (w : World) (left : ℕ) → Reaches p number u at c (target n x w left) m target2 fs (go x w left))
-      → Reaches p number u at c s m target2 fs (closed (leaving o go))
-  leaves_closed (Gives x w left) go r f = closed_run p number u at (go x w left) (then_reaches p number u at r.by.comes (f r.by.locals r.by.kept.fine x w left))
-  leaves_closed {c} {s} {m} {target2} {fs} (Jumps h k w left) go r f = by (nat_eq h (height w))
-    where
-      by : (mine : Bool) → Reaches p number u at c s m target2 fs (closed (if mine then Lost else Jumps h k (left_by w) left))
-      by true = record { by = tt }
-      by false = record { by = tt }
-  leaves_closed (Fails e w) go r f = record { by = r.by }
-  leaves_closed (Spent w) go r f = record { by = r.by }
-  leaves_closed Lost go r f = record { by = tt }
-  leaves_closed Short go r f = record { by = tt }
-
-  module _ (call : Calls) (calls_run : CallsRun p other v to call) (level : ℕ) (f : TypedProcedure) (is : ProcedureStands v to f)
+  module _ (call : Calls) (calls_run : CallsRun p other v at call) (level : ℕ) (f : TypedProcedure) (is : ProcedureStands v at f)
       (c : Context) (b : ℕ) (ops : List Operand) (l : Locals) (fine : Fine c l) (fs : List Frame) where
     abbrev block : Block
-    block = code p other v to there call calls_run level f is
+    block = code p other v at there call calls_run level f is
 
-    abbrev waiting : Frame
-    waiting = frame p number u b ops (calm l)
-
-    -- where no jump leads out of the procedure: from behind the test of its parameters and its link
-    closed_activation_run : (link : ℕ) (places : List Place) (w : World) (left : ℕ)
+    -- its activation
+    activation_run : (link : ℕ) (places : List Place) (w : World) (left : ℕ)
         → Reaches p number u at c (resume (machine.calls other v f.head.number block (Some link) places (frame p number u b ops l) fs w) left) l (returns p number u b ops fs) fs
-        (closed (effect.unless_full (procedure_run p.greatest call level v.name f link places) w left))
-    closed_activation_run link places w left = full (nat_lt (height w) activation_limit)
-      where
-        entering : World → Move
-        entering w = enters (head_of v f.head.number block) other block link places (waiting ∷ fs) w
+        (effect.unless_full (procedure_run p.greatest call level v.name f link places) w left)
+    activation_run link places w left =
+        let waiting = frame p number u b ops (calm l) in
+        full_run p number u at (procedure_run p.greatest call level v.name f link places)
+        (Steps w (enters (head_of v f.head.number block) other block link places (waiting ∷ fs) (stepped w))) w left
+        (step_run p number u at
+        (activation_of (head_in v.name f.head) link places (does_list p.greatest call v.name level f.head.number f.statements) (procedure_end f.function_end))
+        (enters (head_of v f.head.number block) other block link places (waiting ∷ fs) (stepped w)) w left
+        (λ left. enters_run p number u at (first p other v at there call calls_run level f is) (entered (head_in v.name f.head) link places (stepped w))
+        (λ _ w left. leaving (does_list p.greatest call v.name level f.head.number f.statements w left) (procedure_end f.function_end)) (stepped w) left
+        (λ x. keeping p number u at (calm_kept c l fine)
+        (leaves p number u at other v {d = context p other v at there call calls_run level f is} {to = flows p other v is.finish (waiting ∷ fs)}
+        (does_list p.greatest call v.name level f.head.number f.statements x left) (procedure_end f.function_end) (calm_fine c l fine) refl
+        (body_run p other v at there call calls_run level f is (waiting ∷ fs) x left)
+        (λ n fine2 x w left. procedure_end_run f.function_end x is.finish is.behind is.ends n (calm l) (calm_fine c l fine) fs w left)))))
 
-        answer : (before : World) (o : Answer Unit) (left : ℕ)
-            → Reaches p number u at c (resume (given before o (λ _ x. Goes (first p other v to there call calls_run level f is) (waiting ∷ fs) x)) left) l (returns p number u b ops fs) fs
-            (closed (and_then (answered o left) (λ _ w left. leaving (does_list p.greatest call v.name level f.head.number f.statements w left) (procedure_end f.function_end))))
-        answer before (Yields x z) left =
-            keeping p number u at (calm_kept c l fine)
-            (leaves_closed {target = flows p other v is.finish (waiting ∷ fs)} (does_list p.greatest call v.name level f.head.number f.statements z left) (procedure_end f.function_end)
-            (body_run p other v to there call calls_run level f is (waiting ∷ fs) z left)
-            (λ n fine2 x w left. procedure_end_run f.function_end x is.finish is.behind is.ends n (calm l) (calm_fine c l fine) fs w left))
-        answer before (Raises e z) left = record { by = stays p _ }
-        answer before Wrong left = record { by = tt }
+    -- from the test
+    tested_run : (link : Option ℕ) (places : List Place) (w : World) (left : ℕ) (t : Bool) → nat_eq f.parameters (length places) ≡ t
+        → Reaches p number u at c (resume (if t then machine.calls other v f.head.number block link places (frame p number u b ops l) fs w else faulty w) left) l (returns p number u b ops fs) fs
+        (activates_in p.greatest call level v.name f link places w left)
+    tested_run None places w left t e = record { by = tt }
+    tested_run (Some link) places w left true e =
+        subst (λ t. Reaches p number u at c (resume (machine.calls other v f.head.number block (Some link) places (frame p number u b ops l) fs w) left) l (returns p number u b ops fs) fs
+        (if t then effect.unless_full (procedure_run p.greatest call level v.name f link places) w left else Lost)) (sym e) (activation_run link places w left)
+    tested_run (Some link) places w left false e =
+        subst (λ t. Reaches p number u at c (resume (faulty w) left) l (returns p number u b ops fs) fs
+        (if t then effect.unless_full (procedure_run p.greatest call level v.name f link places) w left else Lost)) (sym e) (record { by = tt })
 
-        step : (left : ℕ)
-            → Reaches p number u at c (resume (Steps w (entering (stepped w))) left) l (returns p number u b ops fs) fs (closed (procedure_run p.greatest call level v.name f link places w left))
-        step zero = record { by = stays p _ }
-        step (suc left) = answer (stepped w) (entered (head_in v.name f.head) link places (stepped w)) left
-
-        full : (t : Bool)
-            → Reaches p number u at c (resume (if t then Steps w (entering (stepped w)) else Stops (error_at TooManyActivations w) w) left) l (returns p number u b ops fs) fs
-            (closed (if t then procedure_run p.greatest call level v.name f link places w left else Fails (error_at TooManyActivations w) w))
-        full true = step left
-        full false = record { by = stays p _ }
-
-    -- what its activation does, with or without jumps out of it
-    module _ (shut : Effect (Option Value) → Effect (Option Value)) (lost : shut Lost ≡ Lost)
-        (activation : (link : ℕ) (places : List Place) (w : World) (left : ℕ)
-        → Reaches p number u at c (resume (machine.calls other v f.head.number block (Some link) places (frame p number u b ops l) fs w) left) l (returns p number u b ops fs) fs
-        (shut (effect.unless_full (procedure_run p.greatest call level v.name f link places) w left))) where
-      nothing_run : (s : State) → Reaches p number u at c s l (returns p number u b ops fs) fs (shut Lost)
-      nothing_run s = subst (λ o. Reaches p number u at c s l (returns p number u b ops fs) fs o) (sym lost) (record { by = tt })
-
-      -- from the test
-      tested_run : (link : Option ℕ) (places : List Place) (w : World) (left : ℕ) (t : Bool) → nat_eq f.parameters (length places) ≡ t
-          → Reaches p number u at c (resume (if t then machine.calls other v f.head.number block link places (frame p number u b ops l) fs w else faulty w) left) l (returns p number u b ops fs) fs
-          (shut (activates_in p.greatest call level v.name f link places w left))
-      tested_run None places w left t e = nothing_run _
-      tested_run (Some link) places w left true e =
-          subst (λ t. Reaches p number u at c (resume (machine.calls other v f.head.number block (Some link) places (frame p number u b ops l) fs w) left) l (returns p number u b ops fs) fs
-          (shut (if t then effect.unless_full (procedure_run p.greatest call level v.name f link places) w left else Lost))) (sym e) (activation link places w left)
-      tested_run (Some link) places w left false e =
-          subst (λ t. Reaches p number u at c (resume (faulty w) left) l (returns p number u b ops fs) fs
-          (shut (if t then effect.unless_full (procedure_run p.greatest call level v.name f link places) w left else Lost))) (sym e) (nothing_run _)
-
-      -- from the call
-      found_run : (before : List Place) (w : World) (left : ℕ)
-          → Reaches p number u at c (resume (machine.called_with other v f.head.number block (length before) (places_off (length before) [] (places_above before ops))
-          (frame p number u b (places_above before ops) l) fs w) left) l
-          (returns p number u b ops fs) fs (shut (activates_in p.greatest call level v.name f (static_link v.name f.parent w) (in_order before []) w left))
-      found_run before w left =
-          let places = in_order before [] in
-          let here = frame p number u b (places_above before ops) l in
-          let count : length before ≡ length places = let e = as_long before [] in omega arith in
-          let same =
-          ap (λ x. resume (machine.called_with other v f.head.number block (length before) x here fs w) left) (places_come_off before [] ops)
-          ∙ ap (λ n. resume (if nat_eq f.parameters n then machine.calls other v f.head.number block (link_of v f.parent w) places (frame p number u b ops l) fs w else faulty w) left) count
-          ∙ ap (λ x. resume (if nat_eq f.parameters (length places) then machine.calls other v f.head.number block x places (frame p number u b ops l) fs w else faulty w) left)
-          (links_same p other v to f.parent w) in
-          subst (λ s. Reaches p number u at c s l (returns p number u b ops fs) fs (shut (activates_in p.greatest call level v.name f (static_link v.name f.parent w) places w left))) (sym same)
-          (tested_run (static_link v.name f.parent w) places w left (nat_eq f.parameters (length places)) refl)
-
--- a call within a unit
-module _ (p : Program) (number : ℕ) (u : UnitCode) (at : ℕ → ℕ) (there : slice_get p.units number ≡ Some u)
-    (call : Calls) (calls_run : CallsRun p number u at call) (level : ℕ) (f : TypedProcedure) (is : ProcedureStands u at f) where
-  abbrev own_block : Block
-  own_block = code p number u at there call calls_run level f is
-
-  own_activation_run : (c : Context) (b : ℕ) (ops : List Operand) (l : Locals) → Fine c l → (fs : List Frame) (link : ℕ) (places : List Place) (w : World) (left : ℕ)
-      → Reaches p number u at c (resume (machine.calls number u f.head.number own_block (Some link) places (frame p number u b ops l) fs w) left) l (returns p number u b ops fs) fs
-      (effect.unless_full (procedure_run p.greatest call level u.name f link places) w left)
-  own_activation_run c b ops l fine fs link places w left =
-      full_run p number u at (procedure_run p.greatest call level u.name f link places)
-      (Steps w (enters (head_of u f.head.number own_block) number own_block link places (frame p number u b ops (calm l) ∷ fs) (stepped w))) w left
-      (step_run p number u at
-      (activation_of (head_in u.name f.head) link places (does_list p.greatest call u.name level f.head.number f.statements) (procedure_end f.function_end))
-      (enters (head_of u f.head.number own_block) number own_block link places (frame p number u b ops (calm l) ∷ fs) (stepped w)) w left
-      (λ left. enters_run p number u at (first p number u at there call calls_run level f is) (entered (head_in u.name f.head) link places (stepped w))
-      (λ _ w left. leaving (does_list p.greatest call u.name level f.head.number f.statements w left) (procedure_end f.function_end)) (stepped w) left
-      (λ v. keeping p number u at (calm_kept c l fine)
-      (leaves p number u at {d = context p number u at there call calls_run level f is} {to = flows p number u is.finish (frame p number u b ops (calm l) ∷ fs)}
-      (does_list p.greatest call u.name level f.head.number f.statements v left) (procedure_end f.function_end) (calm_fine c l fine) refl
-      (body_run p number u at there call calls_run level f is (frame p number u b ops (calm l) ∷ fs) v left)
-      (λ n fine2 x w left. procedure_end_run p number u at number u at there f.function_end x is.finish is.behind is.ends n (calm l) (calm_fine c l fine) fs w left)))))
+    -- from the call
+    found_run : (before : List Place) (w : World) (left : ℕ)
+        → Reaches p number u at c (resume (machine.called_with other v f.head.number block (length before) (places_off (length before) [] (places_above before ops))
+        (frame p number u b (places_above before ops) l) fs w) left) l
+        (returns p number u b ops fs) fs (activates_in p.greatest call level v.name f (static_link v.name f.parent w) (in_order before []) w left)
+    found_run before w left =
+        let places = in_order before [] in
+        let here = frame p number u b (places_above before ops) l in
+        let count : length before ≡ length places = let e = as_long before [] in omega arith in
+        let same =
+        ap (λ x. resume (machine.called_with other v f.head.number block (length before) x here fs w) left) (places_come_off before [] ops)
+        ∙ ap (λ n. resume (if nat_eq f.parameters n then machine.calls other v f.head.number block (link_of v f.parent w) places (frame p number u b ops l) fs w else faulty w) left) count
+        ∙ ap (λ x. resume (if nat_eq f.parameters (length places) then machine.calls other v f.head.number block x places (frame p number u b ops l) fs w else faulty w) left)
+        (links_same p other v at f.parent w) in
+        subst (λ s. Reaches p number u at c s l (returns p number u b ops fs) fs (activates_in p.greatest call level v.name f (static_link v.name f.parent w) places w left)) (sym same)
+        (tested_run (static_link v.name f.parent w) places w left (nat_eq f.parameters (length places)) refl)
 
 -- where a unit of a program stands among its code
-abbrev pub IsThere : List TypedUnit → Option TypedUnit → List UnitCode → ℕ → Type 0
-IsThere program None us k = Unit
-IsThere program (Some t) us k = (u : UnitCode) × (slice_get us k ≡ Some u) × UnitStands program t u
+abbrev pub IsThere : List TypedUnit → (Label → ℕ) → Option TypedUnit → List UnitCode → ℕ → Type 0
+IsThere program at None us k = Unit
+IsThere program at (Some t) us k = (u : UnitCode) × (slice_get us k ≡ Some u) × UnitStands program at t u
 
-pub unit_there : (program ts : List TypedUnit) (us : List UnitCode) (k : ℕ) → UnitsStand program ts us → IsThere program (slice_get ts k) us k
-unit_there program [] us zero stand = tt
-unit_there program [] us (suc k) stand = tt
-unit_there program (t ∷ ts) [] k stand = absurd stand
-unit_there program (t ∷ ts) (u ∷ us) zero stand = (u, refl, stand.0)
-unit_there program (t ∷ ts) (u ∷ us) (suc k) stand = behind (slice_get ts k) (unit_there program ts us k stand.1)
+pub unit_there : (program : List TypedUnit) (at : Label → ℕ) (ts : List TypedUnit) (us : List UnitCode) (k : ℕ) → UnitsStand program at ts us → IsThere program at (slice_get ts k) us k
+unit_there program at [] us zero stand = tt
+unit_there program at [] us (suc k) stand = tt
+unit_there program at (t ∷ ts) [] k stand = absurd stand
+unit_there program at (t ∷ ts) (u ∷ us) zero stand = (u, refl, stand.0)
+unit_there program at (t ∷ ts) (u ∷ us) (suc k) stand = behind (slice_get ts k) (unit_there program at ts us k stand.1)
   where
-    behind : (o : Option TypedUnit) → IsThere program o us k → IsThere program o (u ∷ us) (suc k)
+    behind : (o : Option TypedUnit) → IsThere program at o us k → IsThere program at o (u ∷ us) (suc k)
     behind None h = tt
     behind (Some t) h = (h.0, h.1, h.2)
 
@@ -222,16 +158,16 @@ global_there program (x ∷ xs) (g ∷ gs) (suc n) stand = behind (slice_get xs 
     behind (Some x) h = (h.0, h.1, h.2)
 
 -- calls in a program
-module _ (p : Program) (units : List TypedUnit) (stand : UnitsStand units units p.units) where
+module _ (p : Program) (units : List TypedUnit) (at : Label → ℕ) (stand : UnitsStand units at units p.units) where
   -- those of each unit
   abbrev AllRun : (level : ℕ) → Type 0
   AllRun level =
-      (number : ℕ) (u : UnitCode) → slice_get p.units number ≡ Some u → (t : TypedUnit) (is : UnitStands units t u) → CallsRun p number u is.at (calls p.greatest units level t)
+      (number : ℕ) (u : UnitCode) → slice_get p.units number ≡ Some u → (t : TypedUnit) (is : UnitStands units at t u) → CallsRun p number u at (calls p.greatest units level t)
 
-  module _ (level : ℕ) (run : AllRun level) (number : ℕ) (u : UnitCode) (there : slice_get p.units number ≡ Some u) (t : TypedUnit) (is : UnitStands units t u)
+  module _ (level : ℕ) (run : AllRun level) (number : ℕ) (u : UnitCode) (there : slice_get p.units number ≡ Some u) (t : TypedUnit) (is : UnitStands units at t u)
       (before : List Place) (c : Context) (b : ℕ) (ops : List Operand) (l : Locals) (fs : List Frame) (fine : Fine c l) (w : World) (left : ℕ) where
     abbrev Does : Move → Effect (Option Value) → Type 0
-    Does m o = Reaches p number u is.at c (resume m left) l (returns p number u b ops fs) fs o
+    Does m o = Reaches p number u at c (resume m left) l (returns p number u b ops fs) fs o
 
     abbrev here : Frame
     here = frame p number u b (places_above before ops) l
@@ -242,35 +178,34 @@ module _ (p : Program) (units : List TypedUnit) (stand : UnitsStand units units 
     -- of a procedure of the unit
     inside_run : (block : ℕ) → Does (called u block (length before) (slice_get u.blocks block) here fs w)
         (activates p.greatest (calls p.greatest units level t) level t.name (procedure_in t.procedures block) places w left)
-    inside_run block = by (procedure_in t.procedures block) (procedure_there p number u is.at t.procedures block is.procedures)
+    inside_run block = by (procedure_in t.procedures block) (procedure_there p number u at t.procedures block is.procedures)
       where
         call : Calls
         call = calls p.greatest units level t
 
-        by : (o : Option TypedProcedure) → Found p number u is.at block o
+        by : (o : Option TypedProcedure) → Found p number u at block o
             → Does (called u block (length before) (slice_get u.blocks block) here fs w) (activates p.greatest call level t.name o places w left)
         by None found = record { by = tt }
         by (Some f) found =
             subst (λ k. Does (called u k (length before) (slice_get u.blocks k) here fs w) (activates p.greatest call level t.name (Some f) places w left)) found.0
             (subst (λ name. Does (called u f.head.number (length before) (slice_get u.blocks f.head.number) here fs w) (activates p.greatest call level name (Some f) places w left)) is.names
             (subst (λ x. Does (called u f.head.number (length before) x here fs w) (activates p.greatest call level u.name (Some f) places w left)) (sym found.1.there)
-            (found_run p number u is.at number u is.at there call (run number u there t is) level f found.1 c b ops l fine fs (λ o. o) refl
-            (own_activation_run p number u is.at there call (run number u there t is) level f found.1 c b ops l fine fs) before w left)))
+            (found_run p number u at number u there call (run number u there t is) level f found.1 c b ops l fine fs before w left)))
 
     -- of the external procedure of a unit
-    outer_run : (k : ℕ) (s : TypedUnit) (v : UnitCode) → slice_get p.units k ≡ Some v → (stands : UnitStands units s v)
+    outer_run : (k : ℕ) (s : TypedUnit) (v : UnitCode) → slice_get p.units k ≡ Some v → (stands : UnitStands units at s v)
         → Does (machine.called_outside k v (length before) (slice_get v.blocks 0) here fs w)
         (activates_outer p.greatest (calls p.greatest units level s) level s.name (procedure_in s.procedures 0) places w left)
-    outer_run k s v found stands = by (procedure_in s.procedures 0) (procedure_there p k v stands.at s.procedures 0 stands.procedures)
+    outer_run k s v found stands = by (procedure_in s.procedures 0) (procedure_there p k v at s.procedures 0 stands.procedures)
       where
         call : Calls
         call = calls p.greatest units level s
 
-        by : (o : Option TypedProcedure) → Found p k v stands.at 0 o
+        by : (o : Option TypedProcedure) → Found p k v at 0 o
             → Does (machine.called_outside k v (length before) (slice_get v.blocks 0) here fs w) (activates_outer p.greatest call level s.name o places w left)
         by None has = record { by = tt }
         by (Some f) has =
-            let block = code p k v stands.at found call (run k v found s stands) level f has.1 in
+            let block = code p k v at found call (run k v found s stands) level f has.1 in
             subst (λ x. Does (machine.called_outside k v (length before) x here fs w) (activates_outer p.greatest call level s.name (Some f) places w left))
             (sym (ap (slice_get v.blocks) (sym has.0) ∙ has.1.there))
             (subst (λ name. Does (machine.called_outside k v (length before) (Some block) here fs w) (activates_outer p.greatest call level name (Some f) places w left)) stands.names
@@ -279,17 +214,16 @@ module _ (p : Program) (units : List TypedUnit) (stand : UnitsStand units units 
             (tested (f.parent) refl)))
           where
             way : Move
-            way = machine.called_with k v f.head.number (code p k v stands.at found call (run k v found s stands) level f has.1) (length before) (places_off (length before) [] (places_above before ops)) here fs w
+            way = machine.called_with k v f.head.number (code p k v at found call (run k v found s stands) level f has.1) (length before) (places_off (length before) [] (places_above before ops)) here fs w
 
             what : Option ℕ → Effect (Option Value)
-            what link = closed (activates_in p.greatest call level v.name f link places w left)
+            what link = activates_in p.greatest call level v.name f link places w left
 
             tested : (parent : Option ℕ) → f.parent ≡ parent → Does (if is_external f.parent then way else faulty w) (if is_external f.parent then what (Some 0) else Lost)
             tested None e =
                 subst (λ x. Does (if is_external x then way else faulty w) (if is_external x then what (Some 0) else Lost)) (sym e)
                 (subst (λ x. Does way (what (static_link v.name x w))) e
-                (found_run p number u is.at k v stands.at found call (run k v found s stands) level f has.1 c b ops l fine fs closed refl
-                (closed_activation_run p number u is.at k v stands.at found call (run k v found s stands) level f has.1 c b ops l fine fs) before w left))
+                (found_run p number u at k v found call (run k v found s stands) level f has.1 c b ops l fine fs before w left))
             tested (Some parent) e =
                 subst (λ x. Does (if is_external x then way else faulty w) (if is_external x then what (Some 0) else Lost)) (sym e) (record { by = tt })
 
@@ -298,7 +232,7 @@ module _ (p : Program) (units : List TypedUnit) (stand : UnitsStand units units 
         (activates_unit p.greatest (calls p.greatest units level) level (entry_unit units (slice_get t.globals n)) places w left)
     outside_run n = by (slice_get t.globals n) (global_there units t.globals u.globals n is.globals)
       where
-        unit_run : (k : ℕ) (s : TypedUnit) → IsThere units (Some s) p.units k
+        unit_run : (k : ℕ) (s : TypedUnit) → IsThere units at (Some s) p.units k
             → Does (machine.called_unit k (slice_get p.units k) (length before) here fs w) (activates_unit p.greatest (calls p.greatest units level) level (Some s) places w left)
         unit_run k s h =
             subst (λ x. Does (machine.called_unit k x (length before) here fs w) (activates_unit p.greatest (calls p.greatest units level) level (Some s) places w left)) (sym h.1)
@@ -314,9 +248,14 @@ module _ (p : Program) (units : List TypedUnit) (stand : UnitsStand units units 
             (sym (h.1 ∙ ap Some h.2.is))
             (subst (λ o. Does (machine.called_unit h.2.number (slice_get p.units h.2.number) (length before) here fs w) (activates_unit p.greatest (calls p.greatest units level) level o places w left))
             (sym h.2.named)
-            (unit_run h.2.number h.2.unit (subst (λ o. IsThere units o p.units h.2.number) h.2.there (unit_there units units p.units h.2.number stand))))
+            (unit_run h.2.number h.2.unit (subst (λ o. IsThere units at o p.units h.2.number) h.2.there (unit_there units at units p.units h.2.number stand))))
 
   pub calls_run : (level : ℕ) → AllRun level
-  calls_run zero number u there t is callee before c b ops l fs fine w left = record { by = tt }
-  calls_run (suc level) number u there t is (OfBlock block) before c b ops l fs fine w left = inside_run level (calls_run level) number u there t is before c b ops l fs fine w left block
-  calls_run (suc level) number u there t is (OfEntry n) before c b ops l fs fine w left = outside_run level (calls_run level) number u there t is before c b ops l fs fine w left n
+  calls_run zero number u there t is = record { procedure = λ callee before c b ops l fs fine w left. record { by = tt } }
+  calls_run (suc level) number u there t is = record { procedure = λ callee before c b ops l fs fine w left. by (calls_run level) callee before c b ops l fs fine w left }
+    where
+      by : AllRun level → (callee : Callee) (before : List Place) (c : Context) (b : ℕ) (ops : List Operand) (l : Locals) (fs : List Frame) (fine : Fine c l) (w : World) (left : ℕ)
+          → Reaches p number u at c (resume (act p u (Some (call_of callee (length before))) (frame p number u b (places_above before ops) l) fs w) left) l (returns p number u b ops fs) fs
+          (called_in p.greatest units (calls p.greatest units level) level t callee (in_order before []) w left)
+      by run (OfBlock block) before c b ops l fs fine w left = inside_run level run number u there t is before c b ops l fs fine w left block
+      by run (OfEntry n) before c b ops l fs fine w left = outside_run level run number u there t is before c b ops l fs fine w left n

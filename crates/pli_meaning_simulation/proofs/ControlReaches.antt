@@ -12,7 +12,7 @@ use Rattle.pli_program.specs.Program.{Instruction, UnitCode, Program}
 use Rattle.pli_machine_step.specs.Machine as machine
 use Rattle.pli_machine_step.specs.Machine.{Operand, OfValue, Locals, Frame, State, At, Over, Move, Goes, Stops, Steps, given, calm, fresh, lands, jumps_at, jump_limit, counted, counted_jump, jumped, resume}
 use Rattle.pli_meaning_tree.specs.Effects as effect
-use Rattle.pli_meaning_tree.specs.Effects.{Effect, Gives, Jumps, Fails, Spent, Lost, Short, Flow, Next, Returned, Doing, and_then, nothing_done, followed, answered, as_step, chosen, truth, turns, on_jump, caught, leaving}
+use Rattle.pli_meaning_tree.specs.Effects.{Label, Effect, Gives, Jumps, Fails, Spent, Lost, Short, Flow, Next, Returned, Doing, and_then, nothing_done, followed, answered, as_step, chosen, truth, turns, on_jump, caught, leaving}
 use Rattle.pli_meaning_tree.specs.TreeMeaning.{jumps_to}
 use Rattle.pli_meaning_simulation.specs.CodeStands.{Context, deeper, Nests, Is, Forward}
 use Rattle.pli_meaning_simulation.proofs.ReachesLemmas.{Fine, Kept, kept_out, kept_same, WithinContext, Target, Comes, stays, Arrives, arrives_from, frame, flows, tested, landed, Reaches, gives, then_reaches, keeping, bound, goes_on_in, goes}
@@ -73,7 +73,7 @@ module _ (p : Program) (number : ℕ) (u : UnitCode) where
       by true e = record { locals = counted w l; same = refl; few = let a = few_jumps w l in omega arith; goes = ap way e ∙ counted_goes target b old [] l fs w less }
       by false e = record { locals = l; same = refl; few = omega arith; goes = ap way e }
 
-  module _ (at : ℕ → ℕ) where
+  module _ (at : Label → ℕ) where
     -- one of two ways behind a test
     pub chosen_run : {c : Context} {a b q : ℕ} {m : Locals} {fs : List Frame} (t : Bool) (if_true if_false : Doing Flow) (w : World) (left : ℕ)
         → Reaches p number u at c (At (frame p number u a [] m) fs w left) m (flows p number u q fs) fs (if_true w left)
@@ -83,14 +83,14 @@ module _ (p : Program) (number : ℕ) (u : UnitCode) where
     chosen_run false if_true if_false w left yes_run no_run = no_run
 
     -- from the front of a list, or from a label
-    abbrev pub start_of : (front : ℕ) → Option ℕ → ℕ
+    abbrev pub start_of : (front : ℕ) → Option Label → ℕ
     start_of a None = a
     start_of a (Some k) = at k
 
     -- a jump to a label that is held goes on there
-    on_jump_run : {c : Context} {s : State} {l : Locals} {q : ℕ} {fs : List Frame} (held : ℕ → Bool) (o : Effect Flow) (go : ℕ → Doing Flow)
+    on_jump_run : {c : Context} {s : State} {l : Locals} {q : ℕ} {fs : List Frame} (held : Label → Bool) (o : Effect Flow) (go : Label → Doing Flow)
         → Reaches p number u at c s l (flows p number u q fs) fs o
-        → ((k : ℕ) (m : Locals) → Fine c m → (w : World) (left : ℕ) → Reaches p number u at c (At (frame p number u (at k) [] m) fs w left) m (flows p number u q fs) fs (go k w left))
+        → ((k : Label) (m : Locals) → Fine c m → (w : World) (left : ℕ) → Reaches p number u at c (At (frame p number u (at k) [] m) fs w left) m (flows p number u q fs) fs (go k w left))
         → Reaches p number u at c s l (flows p number u q fs) fs (on_jump held o go)
     on_jump_run held (Gives x w left) go r f = r
     on_jump_run {c} {s} {l} {q} {fs} held (Jumps h k w left) go r f = by (nat_eq h (height w)) (held k) refl
@@ -108,16 +108,16 @@ module _ (p : Program) (number : ℕ) (u : UnitCode) where
     on_jump_run held Lost go r f = r
     on_jump_run held Short go r f = r
 
-    pub caught_run : {c : Context} {a q : ℕ} {fs : List Frame} (level : ℕ) (held : ℕ → Bool) (run : Option ℕ → Doing Flow)
-        → ((start : Option ℕ) (m : Locals) → Fine c m → (w : World) (left : ℕ) → Reaches p number u at c (At (frame p number u (start_of a start) [] m) fs w left) m (flows p number u q fs) fs (run start w left))
-        → (start : Option ℕ) (l : Locals) → Fine c l → (w : World) (left : ℕ)
+    pub caught_run : {c : Context} {a q : ℕ} {fs : List Frame} (level : ℕ) (held : Label → Bool) (run : Option Label → Doing Flow)
+        → ((start : Option Label) (m : Locals) → Fine c m → (w : World) (left : ℕ) → Reaches p number u at c (At (frame p number u (start_of a start) [] m) fs w left) m (flows p number u q fs) fs (run start w left))
+        → (start : Option Label) (l : Locals) → Fine c l → (w : World) (left : ℕ)
         → Reaches p number u at c (At (frame p number u (start_of a start) [] l) fs w left) l (flows p number u q fs) fs (caught level held run start w left)
     caught_run zero held run f start l fine w left = record { by = tt }
     caught_run (suc level) held run f start l fine w left =
         on_jump_run held (run start w left) (λ k. caught level held run (Some k)) (f start l fine w left) (λ k m fine w left. caught_run level held run f (Some k) m fine w left)
 
     -- a jump that leaves an activation lands in the one that waits for it, or goes on out
-    pub lands_out : (h k : ℕ) {c : Context} (b : ℕ) (ops : List Operand) (l : Locals) (fs : List Frame) → Fine c l → l.jumps ≡ 0 → (w : World) (left : ℕ)
+    pub lands_out : (h : ℕ) (k : Label) {c : Context} (b : ℕ) (ops : List Operand) (l : Locals) (fs : List Frame) → Fine c l → l.jumps ≡ 0 → (w : World) (left : ℕ)
         → Arrives p c (resume (lands h (at k) (frame p number u b ops l ∷ fs) w) left) l (λ m. landed p number u at h k m fs w left)
     lands_out h k {c} b ops l fs fine none w left = by (nat_eq h (height w))
       where
@@ -134,25 +134,25 @@ module _ (p : Program) (number : ℕ) (u : UnitCode) where
             }
         by false = record { locals = l; kept = kept_same c l fine; comes = stays p _ }
 
-    -- the end of an activation
-    pub leaves : {A B : Type 0} {d c : Context} {s : State} {l m : Locals} {to : Target A} {to2 : Target B} {fs : List Frame} {b : ℕ} {ops : List Operand} (o : Effect A) (go : A → Doing B)
-        → Fine c m → m.jumps ≡ 0 → Reaches p number u at d s l to (frame p number u b ops m ∷ fs) o
+    -- the end of an activation, of any unit
+    pub leaves : {A B : Type 0} (other : ℕ) (v : UnitCode) {d c : Context} {s : State} {l m : Locals} {to : Target A} {to2 : Target B} {fs : List Frame} {b : ℕ} {ops : List Operand}
+        (o : Effect A) (go : A → Doing B) → Fine c m → m.jumps ≡ 0 → Reaches p other v at d s l to (frame p number u b ops m ∷ fs) o
         → ((n : Locals) → Fine d n → (x : A) (w : World) (left : ℕ) → Reaches p number u at c (to n x w left) m to2 fs (go x w left))
         → Reaches p number u at c s m to2 fs (leaving o go)
-    leaves (Gives x w left) go fine none r f = then_reaches p number u at r.by.comes (f r.by.locals r.by.kept.fine x w left)
-    leaves {c} {s} {m} {to2} {fs} {b} {ops} (Jumps h k w left) go fine none r f = by (nat_eq h (height w)) refl
+    leaves other v (Gives x w left) go fine none r f = then_reaches p number u at r.by.comes (f r.by.locals r.by.kept.fine x w left)
+    leaves other v {c} {s} {m} {to2} {fs} {b} {ops} (Jumps h k w left) go fine none r f = by (nat_eq h (height w)) refl
       where
         by : (mine : Bool) → nat_eq h (height w) ≡ mine → Reaches p number u at c s m to2 fs (if mine then Lost else Jumps h k (left_by w) left)
         by true e = record { by = tt }
         by false e =
             let a = r.by in
-            let come = subst (λ b2. Comes p s (if b2 then At (frame p number u (at k) [] a.locals) (frame p number u b ops m ∷ fs) (cleared w) left
+            let come = subst (λ b2. Comes p s (if b2 then At (frame p other v (at k) [] a.locals) (frame p number u b ops m ∷ fs) (cleared w) left
             else resume (lands h (at k) (frame p number u b ops m ∷ fs) (left_by w)) left)) e a.comes in
             record { by = arrives_from p come (lands_out h k b ops m fs fine none (left_by w) left) }
-    leaves (Fails e w) go fine none r f = record { by = r.by }
-    leaves (Spent w) go fine none r f = record { by = r.by }
-    leaves Lost go fine none r f = record { by = tt }
-    leaves Short go fine none r f = record { by = tt }
+    leaves other v (Fails e w) go fine none r f = record { by = r.by }
+    leaves other v (Spent w) go fine none r f = record { by = r.by }
+    leaves other v Lost go fine none r f = record { by = tt }
+    leaves other v Short go fine none r f = record { by = tt }
 
     -- the limit of activations
     pub full_run : {A : Type 0} {c : Context} {l : Locals} {to : Target A} {fs : List Frame} (go : Doing A) (move : Move) (w : World) (left : ℕ)
@@ -196,7 +196,7 @@ module _ (p : Program) (number : ℕ) (u : UnitCode) where
           by false e = gives p number u at false w left fine (goes p number u at there is.is (ap way e ∙ ap (λ m. resume m left) (jump_on (OfValue (Bits bits) ∷ []) [] l fs w is.on)))
 
       -- a jump to a label of an activation outward
-      pub goto_run : (outward k : ℕ) {a b : ℕ} → Is u (op.Goto outward (at k)) a b → {c : Context} (l : Locals) → Fine c l → l.jumps ≡ 0 → {q : ℕ} (fs : List Frame) (w : World) (left : ℕ)
+      pub goto_run : (outward : ℕ) (k : Label) {a b : ℕ} → Is u (op.Goto outward (at k)) a b → {c : Context} (l : Locals) → Fine c l → l.jumps ≡ 0 → {q : ℕ} (fs : List Frame) (w : World) (left : ℕ)
           → Reaches p number u at c (At (frame p number u a [] l) fs w left) l (flows p number u q fs) fs (jumps_to outward k w left)
       goto_run outward k {a} {b} is {c} l fine none {q} fs w left = by (height_of outward w) refl
         where

@@ -9,7 +9,7 @@ use Rattle.pli_program.specs.Program as op
 use Rattle.pli_program.specs.Program.{UnitCode, Program}
 use Rattle.pli_machine_step.specs.Machine.{Operand, OfValue, AtPlace, Locals, Frame, At, values_off, places_off, operated, act, resume}
 use Rattle.pli_type_tree.specs.TypedTree.{Root, InSlot, OfProgram, Callee, TypedExpression, Literal, Held, Calculated, Called, TypedReference, Whole, Part, Operands, NoOperand, OperandThen, Subscripts, NoSubscript, SubscriptThen, TypedArguments, NoArgument, ByPlace, ByDummy}
-use Rattle.pli_meaning_tree.specs.Effects.{Doing, answered}
+use Rattle.pli_meaning_tree.specs.Effects.{Label, Doing, answered}
 use Rattle.pli_meaning_tree.specs.TreeMeaning as meaning
 use Rattle.pli_meaning_tree.specs.TreeMeaning.{Calls, a_value, in_order, root_place, element_of, value_of, place_of, element_at, called_with}
 use Rattle.pli_meaning_simulation.specs.CodeStands.{Then, Context, arguments_in, call_of, Is, RootStands, ValueStands, OperandsStand, PlaceStands, SubscriptsStand, ArgumentsStand}
@@ -37,13 +37,13 @@ pub as_long : {A : Type 0} (xs behind : List A) → length (in_order xs behind) 
 as_long [] behind = omega arith
 as_long (x ∷ xs) behind = let e = as_long xs (x ∷ behind) in omega arith
 
-module _ (p : Program) (number : ℕ) (u : UnitCode) (at : ℕ → ℕ) where
+module _ (p : Program) (number : ℕ) (u : UnitCode) (at : Label → ℕ) where
   -- a call does what it means, from its instruction on
-  abbrev pub CallsRun : Calls → Type 0
-  CallsRun call =
-      (callee : Callee) (before : List Place) (c : Context) (b : ℕ) (ops : List Operand) (l : Locals) (fs : List Frame) → Fine c l → (w : World) (left : ℕ)
-      → Reaches p number u at c (resume (act p u (Some (call_of callee (length before))) (frame p number u b (places_above before ops) l) fs w) left) l
-      (returns p number u b ops fs) fs (call callee (in_order before []) w left)
+  pub record CallsRun (call : Calls) : Type 0 where
+    pub procedure :
+        (callee : Callee) (before : List Place) (c : Context) (b : ℕ) (ops : List Operand) (l : Locals) (fs : List Frame) → Fine c l → (w : World) (left : ℕ)
+        → Reaches p number u at c (resume (act p u (Some (call_of callee (length before))) (frame p number u b (places_above before ops) l) fs w) left) l
+        (returns p number u b ops fs) fs (call.procedure callee (in_order before []) w left)
 
   module _ (there : slice_get p.units number ≡ Some u) (call : Calls) (calls_run : CallsRun call) (c : Context) where
     -- what a thing pushes when it stands from a to b
@@ -136,7 +136,7 @@ module _ (p : Program) (number : ℕ) (u : UnitCode) (at : ℕ → ℕ) where
       called_run NoArgument callee count {a} {b} is before all ops l fine fs w left =
           let n : count ≡ length before = omega arith in
           let here : Is u (call_of callee (length before)) a b = subst (λ k. Is u (call_of callee k) a b) n (subst (λ q. Is u (call_of callee count) q b) (sym is.fst) is.snd) in
-          then_reaches p number u at (goes p number u at there here refl) (calls_run callee before c b ops l fs fine w left)
+          then_reaches p number u at (goes p number u at there here refl) (calls_run.procedure callee before c b ops l fs fine w left)
       called_run (ByPlace r more) callee count is before all ops l fine fs w left =
           bound p number u at (place_of p.greatest call r w left) _ (place_run r is.fst.fst (places_above before ops) l fine fs w left)
           (λ m k q w left. called_run more callee count (record { middle = is.middle; fst = is.fst.snd; snd = is.snd }) (q ∷ before) (omega arith) ops m k.fine fs w left)

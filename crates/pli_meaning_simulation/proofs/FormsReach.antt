@@ -9,14 +9,14 @@ use Rattle.pli_program.specs.Program.{BlockKind, BeginBlock, Block, UnitCode, Pr
 use Rattle.pli_machine_step.specs.Machine as machine
 use Rattle.pli_machine_step.specs.Machine.{Operand, OfValue, AtPlace, Locals, Frame, State, At, Over, Goes, calm, fresh, begun, enters, resume}
 use Rattle.pli_type_tree.specs.TypedTree.{Callee, TypedExpression, Called, TypedReference, TypedArguments, BlockHead, TypedStatements}
-use Rattle.pli_meaning_tree.specs.Effects.{Effect, Gives, Jumps, Fails, Spent, Lost, Short, Flow, Next, Returned, Doing, and_then, nothing_done, answered, as_statement, back_at, truth, chosen, turns, leaving, block_end}
+use Rattle.pli_meaning_tree.specs.Effects.{Label, Effect, Gives, Jumps, Fails, Spent, Lost, Short, Flow, Next, Returned, Doing, and_then, nothing_done, answered, as_statement, back_at, truth, chosen, turns, leaving, block_end}
 use Rattle.pli_meaning_tree.specs.TreeMeaning.{Calls, no_value, printed_item, value_of, place_of, called_with, condition, assigns, assigns_aggregate, puts, skips, does_call, returns_value, labels_in, as_list, head_in, static_link, activation_of, in_block}
 use Rattle.pli_meaning_simulation.specs.CodeStands.{Span, Empty, Then, Context, deeper, Nests, arguments_in, block_of, Is, Guarded, Choice, Loop, BeginStands, ValueStands, PlaceStands, ConditionStands, ItemsStand, SkipStands}
 use Rattle.pli_meaning_simulation.proofs.ReachesLemmas.{Fine, Target, Comes, stays, from, frame, flows, tested, returns, Reaches, gives, passes, then_reaches, bound, goes_on, goes, begins, answers}
 use Rattle.pli_meaning_simulation.proofs.ExpressionsReach.{CallsRun, value_run, place_run, called_run}
 use Rattle.pli_meaning_simulation.proofs.ControlReaches.{turn_kept, fresh_fine, jump_on, chosen_run, start_of, caught_run, leaves, full_run, enters_run, truth_run, turns_run}
 
-module _ (p : Program) (number : ℕ) (u : UnitCode) (at : ℕ → ℕ) where
+module _ (p : Program) (number : ℕ) (u : UnitCode) (at : Label → ℕ) where
   -- the same run, which ends elsewhere
   pub elsewhere : {c : Context} {s : State} {l : Locals} {a b : ℕ} {fs : List Frame} (o : Effect Flow) → Reaches p number u at c s l (flows p number u a fs) fs o
       → ((m : Locals) (w : World) (left : ℕ) → Comes p (At (frame p number u a [] m) fs w left) (At (frame p number u b [] m) fs w left))
@@ -91,7 +91,7 @@ module _ (p : Program) (number : ℕ) (u : UnitCode) (at : ℕ → ℕ) where
             (full_run p number u at (activation_of (head_in u.name head) link [] run block_end)
             (enters (head_of u head.number code) number code link [] (frame p number u b [] l ∷ fs) w) w left
             (enters_run p number u at (frame p number u is.block.entry [] (fresh head.temporaries)) (entered (head_in u.name head) link [] w) (λ _ w left. leaving (run w left) block_end) w left
-            (λ v. leaves p number u at {d = d} {to = flows p number u is.block.finish (frame p number u b [] l ∷ fs)} (run v left) block_end fine none
+            (λ v. leaves p number u at number u {d = d} {to = flows p number u is.block.finish (frame p number u b [] l ∷ fs)} (run v left) block_end fine none
             (body d is.block.entry is.block.finish is.block.does (fresh head.temporaries) (fresh_fine head.temporaries is.block.bound is.block.some) (frame p number u b [] l ∷ fs) v left)
             (λ n fine2 x w left. block_end_run x is.block.ends n l fine fs w left))))
 
@@ -161,11 +161,11 @@ module _ (p : Program) (number : ℕ) (u : UnitCode) (at : ℕ → ℕ) where
           (other_run is.target b is.does_other m k.fine fs w left))
 
       -- a list, from the run of its statements
-      pub list_run : (ss : TypedStatements) (run : Option ℕ → Doing Flow) {c : Context} {a b : ℕ}
-          → ((start : Option ℕ) (l : Locals) → Fine c l → (fs : List Frame) (w : World) (left : ℕ)
+      pub list_run : (ss : TypedStatements) (run : Option Label → Doing Flow) {c : Context} {a b : ℕ}
+          → ((start : Option Label) (l : Locals) → Fine c l → (fs : List Frame) (w : World) (left : ℕ)
           → Reaches p number u at c (At (frame p number u (start_of p number u at a start) [] l) fs w left) l (flows p number u b fs) fs (run start w left))
-          → Runs c (as_list level ss run) a b
-      list_run ss run f l fine fs w left = caught_run p number u at level (labels_in ss) run (λ start m fine w left. f start m fine fs w left) None l fine w left
+          → Runs c (as_list level u.name ss run) a b
+      list_run ss run f l fine fs w left = caught_run p number u at level (labels_in u.name ss) run (λ start m fine w left. f start m fine fs w left) None l fine w left
 
       -- a DO WHILE
       pub while_run : (n : ℕ) (e : TypedExpression) (list : Context → Span) (run : Doing Flow) {c : Context} {a b : ℕ} → Nests c

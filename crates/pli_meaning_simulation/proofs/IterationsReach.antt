@@ -10,7 +10,7 @@ use Rattle.pli_program.specs.Program.{UnitCode, Program}
 use Rattle.pli_machine_step.specs.Machine.{Operand, OfValue, AtPlace, Locals, Frame, At, Goes, faulty, taken, calm, resume}
 use Rattle.pli_type_tree.specs.Iterations.{kept_by, limit_number, step_number, is_iterated}
 use Rattle.pli_type_tree.specs.TypedTree.{TypedExpression, TypedRange, Once, ToBy, ByTo, Repeated, Iteration}
-use Rattle.pli_meaning_tree.specs.Effects.{Gives, Flow, Next, Doing, nothing_done, followed, answered, as_statement, back_at, truth, chosen}
+use Rattle.pli_meaning_tree.specs.Effects.{Label, Gives, Flow, Next, Doing, nothing_done, followed, answered, as_statement, back_at, truth, chosen}
 use Rattle.pli_meaning_tree.specs.TreeMeaning.{Calls, value_of, place_of, keeps, kept, converted, sets, advanced, within_limit, while_holds, may_turn, advances, turned, iterates}
 use Rattle.pli_meaning_simulation.specs.CodeStands.{Span, Then, Context, using, deeper, Is, KeepsStand, ConversionStands, SetsStand, AdvancedStands, LimitStands, WhileStands, TestStands, AdvancesStand, TurnsStand, IterateStands}
 use Rattle.pli_meaning_simulation.proofs.ReachesLemmas.{Fine, Kept, kept_on, calm_kept, WithinContext, Comes, stays, frame, pushes, flows, tested, Reaches, gives, passes, then_reaches, keeping, reach_out, bound, goes_on, goes, begins, answers}
@@ -75,7 +75,7 @@ using_within n m c some le = record { size = refl; depth = le; bound = omega ari
 using_fine : (n : ℕ) (c : Context) (l : Locals) → Fine c l → Fine (using n c) l
 using_fine n c l fine = record { room = fine.room; few = fine.few; some = fine.some }
 
-module _ (p : Program) (number : ℕ) (u : UnitCode) (at : ℕ → ℕ) (there : slice_get p.units number ≡ Some u) (call : Calls) (calls_run : CallsRun p number u at call) (level : ℕ) where
+module _ (p : Program) (number : ℕ) (u : UnitCode) (at : Label → ℕ) (there : slice_get p.units number ≡ Some u) (call : Calls) (calls_run : CallsRun p number u at call) (level : ℕ) where
   -- a temporary is taken
   kept_run : (t k : ℕ) (vs : List Value) {a b : ℕ} → Is u (op.TakeTemporary (t + k)) a b → {c : Context} (ops : List Operand) (l : Locals) → Fine c l → Holds t vs l → (fs : List Frame) (w : World) (left : ℕ)
       → Reaches p number u at c (At (frame p number u a ops l) fs w left) l (pushes p number u OfValue b ops fs) fs (kept p.greatest call vs k w left)

@@ -11,7 +11,7 @@ use Rattle.pli_machine_step.specs.Machine.{Locals, State, Over, Goes, Steps, giv
 use Rattle.pli_machine_step.specs.Runs.{Outcome, outcome_of, main_block, main_unit, all_statics_made, start, ProgramRunsTo}
 use Rattle.pli_type_tree.specs.Globals.{global_variable}
 use Rattle.pli_type_tree.specs.TypedTree.{Global, OwnVariable, ExternalVariable, EntryPoint, TypedProcedure, TypedUnit}
-use Rattle.pli_meaning_tree.specs.Effects.{Effect, Gives, Jumps, Fails, Spent, Lost, Short, Flow, Next, Returned, and_then, answered, leaving, procedure_end}
+use Rattle.pli_meaning_tree.specs.Effects.{Label, Effect, Gives, Jumps, Fails, Spent, Lost, Short, Flow, Next, Returned, and_then, answered, leaving, procedure_end}
 use Rattle.pli_meaning_tree.specs.TreeMeaning.{Calls, head_in, does_list, procedure_run, procedure_in, calls, all_made, main_run, unit_run, run_effect, ended_as, ran}
 use Rattle.pli_meaning_simulation.specs.CodeStands.{Context, EndStands, ProcedureStands, GlobalsStand, UnitStands, UnitsStand}
 use Rattle.pli_meaning_simulation.specs.laws.Laws.{Simulation, NoFault}
@@ -36,14 +36,14 @@ variables_same program (ExternalVariable name t ∷ xs) (g ∷ gs) stand =
 variables_same program (EntryPoint name signature ∷ xs) (g ∷ gs) stand =
     ap (λ g. op.global_variable g ∷ map op.global_variable gs) stand.0.is ∙ ap (λ vs. global_variable (EntryPoint name signature) ∷ vs) (variables_same program xs gs stand.1)
 
-statics_same : (program ts : List TypedUnit) (us : List UnitCode) (w : World) → UnitsStand program ts us → all_statics_made us w ≡ all_made ts w
-statics_same program [] [] w stand = refl
-statics_same program [] (u ∷ us) w stand = absurd stand
-statics_same program (t ∷ ts) [] w stand = absurd stand
-statics_same program (t ∷ ts) (u ∷ us) w stand =
+statics_same : (program : List TypedUnit) (at : Label → ℕ) (ts : List TypedUnit) (us : List UnitCode) (w : World) → UnitsStand program at ts us → all_statics_made us w ≡ all_made ts w
+statics_same program at [] [] w stand = refl
+statics_same program at [] (u ∷ us) w stand = absurd stand
+statics_same program at (t ∷ ts) [] w stand = absurd stand
+statics_same program at (t ∷ ts) (u ∷ us) w stand =
     ap (λ name. further (statics_made name 0 (map op.global_variable u.globals) w) (λ _ w. all_statics_made us w)) stand.0.names
     ∙ ap (λ vs. further (statics_made t.name 0 vs w) (λ _ w. all_statics_made us w)) (variables_same program t.globals u.globals stand.0.globals)
-    ∙ further_same (statics_made t.name 0 (map global_variable t.globals) w) (λ _ w. all_statics_made us w) (λ _ w. all_made ts w) (λ x w. statics_same program ts us w stand.1)
+    ∙ further_same (statics_made t.name 0 (map global_variable t.globals) w) (λ _ w. all_statics_made us w) (λ _ w. all_made ts w) (λ x w. statics_same program at ts us w stand.1)
 
 some_is : (a b : Outcome) → Some a ≡ Some b → a ≡ b
 some_is a b e = cc
@@ -68,11 +68,11 @@ module _ (p : Program) where
   ends_from s t Lost h r = tt
   ends_from s t Short h r = tt
 
-  ends_lost : (s : State) (h k left : ℕ) (w : World) (b : Bool) → Ends s (if b then Lost else Jumps h k w left)
-  ends_lost s h k left w true = tt
-  ends_lost s h k left w false = tt
+  ends_lost : (s : State) (h : ℕ) (k : Label) (w : World) (left : ℕ) (b : Bool) → Ends s (if b then Lost else Jumps h k w left)
+  ends_lost s h k w left true = tt
+  ends_lost s h k w left false = tt
 
-  module _ (number : ℕ) (u : UnitCode) (at : ℕ → ℕ) (there : slice_get p.units number ≡ Some u) where
+  module _ (number : ℕ) (u : UnitCode) (at : Label → ℕ) (there : slice_get p.units number ≡ Some u) where
     -- the end of the main procedure
     end_run : (function_end : Option ℕ) (x : Flow) (finish behind : ℕ) → EndStands u at function_end finish behind → (l : Locals) (w : World) (left : ℕ)
         → Ends (flows p number u finish [] l x w left) (procedure_end function_end x w left)
@@ -89,7 +89,7 @@ module _ (p : Program) where
         → Reaches p number u at c s l (flows p number u finish []) [] o → Ends s (leaving o (procedure_end function_end))
     main_leaves function_end finish behind is {s = s} (Gives x w left) r =
         ends_from s (flows p number u finish [] r.by.locals x w left) (procedure_end function_end x w left) r.by.comes (end_run function_end x finish behind is r.by.locals w left)
-    main_leaves function_end finish behind is {s = s} (Jumps h k w left) r = ends_lost s h k left (left_by w) (nat_eq h (height w))
+    main_leaves function_end finish behind is {s = s} (Jumps h k w left) r = ends_lost s h k (left_by w) left (nat_eq h (height w))
     main_leaves function_end finish behind is (Fails e w) r = r.by
     main_leaves function_end finish behind is (Spent w) r = r.by
     main_leaves function_end finish behind is Lost r = tt
@@ -121,22 +121,22 @@ module _ (p : Program) where
       main_ends w left false = tt
 
   -- block 0 of the main unit
-  block_ends : (program : List TypedUnit) → UnitsStand program program p.units → (number : ℕ) (u : UnitCode) → slice_get p.units number ≡ Some u
-      → (t : TypedUnit) (stand : UnitStands program t u) (level : ℕ) (w : World) (left : ℕ)
+  block_ends : (program : List TypedUnit) (at : Label → ℕ) → UnitsStand program at program p.units → (number : ℕ) (u : UnitCode) → slice_get p.units number ≡ Some u
+      → (t : TypedUnit) (stand : UnitStands program at t u) (level : ℕ) (w : World) (left : ℕ)
       → Ends (resume (main_block number u (slice_get u.blocks 0) w) left) (main_run p.greatest (calls p.greatest program level t) level t.name (procedure_in t.procedures 0) w left)
-  block_ends program all number u there t stand level w left = by (procedure_in t.procedures 0) (procedure_there p number u stand.at t.procedures 0 stand.procedures)
+  block_ends program at all number u there t stand level w left = by (procedure_in t.procedures 0) (procedure_there p number u at t.procedures 0 stand.procedures)
     where
       call : Calls
       call = calls p.greatest program level t
 
-      run : CallsRun p number u stand.at call
-      run = calls_run p program all level number u there t stand
+      run : CallsRun p number u at call
+      run = calls_run p program at all level number u there t stand
 
-      by : (o : Option TypedProcedure) → Found p number u stand.at 0 o
+      by : (o : Option TypedProcedure) → Found p number u at 0 o
           → Ends (resume (main_block number u (slice_get u.blocks 0) w) left) (main_run p.greatest call level t.name o w left)
       by None found = tt
       by (Some f) found =
-          let b = code p number u stand.at there call run level f found.1 in
+          let b = code p number u at there call run level f found.1 in
           let block : slice_get u.blocks 0 ≡ Some b = ap (slice_get u.blocks) (sym found.0) ∙ found.1.there in
           subst (λ name. Ends (resume (main_block number u (slice_get u.blocks 0) w) left)
           (if is_external f.parent && nat_eq f.parameters 0 then procedure_run p.greatest call level name f 0 [] w left else Lost)) stand.names
@@ -144,24 +144,24 @@ module _ (p : Program) where
           (if is_external f.parent && nat_eq f.parameters 0 then procedure_run p.greatest call level u.name f 0 [] w left else Lost)) (sym block)
           (subst (λ k. Ends (resume (if is_external f.parent && nat_eq f.parameters 0 then Steps w (enters (head_of u k b) number b 0 [] [] (stepped w)) else faulty w) left)
           (if is_external f.parent && nat_eq f.parameters 0 then procedure_run p.greatest call level u.name f 0 [] w left else Lost)) found.0
-          (main_ends number u stand.at there call run level f found.1 w left (is_external f.parent && nat_eq f.parameters 0))))
+          (main_ends number u at there call run level f found.1 w left (is_external f.parent && nat_eq f.parameters 0))))
 
   -- the main unit
-  unit_ends : (program : List TypedUnit) → UnitsStand program program p.units → (o : Option TypedUnit) (number : ℕ) → IsThere program o p.units number → (level : ℕ) (w : World) (left : ℕ)
+  unit_ends : (program : List TypedUnit) (at : Label → ℕ) → UnitsStand program at program p.units → (o : Option TypedUnit) (number : ℕ) → IsThere program at o p.units number → (level : ℕ) (w : World) (left : ℕ)
       → Ends (resume (main_unit number (slice_get p.units number) w) left) (unit_run p.greatest (calls p.greatest program level) level o w left)
-  unit_ends program all None number is level w left = tt
-  unit_ends program all (Some t) number is level w left =
+  unit_ends program at all None number is level w left = tt
+  unit_ends program at all (Some t) number is level w left =
       subst (λ x. Ends (resume (main_unit number x w) left) (unit_run p.greatest (calls p.greatest program level) level (Some t) w left)) (sym is.1)
-      (block_ends program all number is.0 is.1 t is.2 level w left)
+      (block_ends program at all number is.0 is.1 t is.2 level w left)
 
   -- behind the variables that are made once
-  program_ends : (o : Answer Unit) (units : List TypedUnit) → UnitsStand units units p.units → (steps : ℕ)
+  program_ends : (o : Answer Unit) (units : List TypedUnit) (at : Label → ℕ) → UnitsStand units at units p.units → (steps : ℕ)
       → Ends (resume (given nothing o (λ _ w. main_unit p.main (slice_get p.units p.main) w)) steps)
       (and_then (answered o steps) (λ _ w left. unit_run p.greatest (calls p.greatest units (suc steps)) (suc steps) (slice_get units p.main) w left))
-  program_ends (Yields x w) units stand steps =
-      unit_ends units stand (slice_get units p.main) p.main (unit_there units units p.units p.main stand) (suc steps) w steps
-  program_ends (Raises e w) units stand steps = stays p _
-  program_ends Wrong units stand steps = tt
+  program_ends (Yields x w) units at stand steps =
+      unit_ends units at stand (slice_get units p.main) p.main (unit_there units at units p.units p.main stand) (suc steps) w steps
+  program_ends (Raises e w) units at stand steps = stays p _
+  program_ends Wrong units at stand steps = tt
 
 -- from the end to which a run leads
 outcome_from : (p : Program) (n : ℕ) (e : Ending) (w : World) (outcome : Outcome) → Comes p (start p n) (Over e w) → Some (outcome_of e w) ≡ Some outcome → ProgramRunsTo p n outcome
@@ -185,8 +185,8 @@ simulation t p stand n o e =
     (subst (λ g. Ends p (start p n) (and_then (answered (all_made t.units nothing) n) (λ _ w left. unit_run g (calls g t.units (suc n)) (suc n) (slice_get t.units t.main) w left))) stand.greatest
     (subst (λ m. Ends p (start p n) (and_then (answered (all_made t.units nothing) n) (λ _ w left. unit_run p.greatest (calls p.greatest t.units (suc n)) (suc n) (slice_get t.units m) w left))) stand.main
     (subst (λ a. Ends p (resume (given nothing a (λ _ w. main_unit p.main (slice_get p.units p.main) w)) n)
-    (and_then (answered (all_made t.units nothing) n) (λ _ w left. unit_run p.greatest (calls p.greatest t.units (suc n)) (suc n) (slice_get t.units p.main) w left))) (sym (statics_same t.units t.units p.units nothing stand.units))
-    (program_ends p (all_made t.units nothing) t.units stand.units n))))
+    (and_then (answered (all_made t.units nothing) n) (λ _ w left. unit_run p.greatest (calls p.greatest t.units (suc n)) (suc n) (slice_get t.units p.main) w left))) (sym (statics_same t.units stand.at t.units p.units nothing stand.units))
+    (program_ends p (all_made t.units nothing) t.units stand.at stand.units n))))
 
 -- no meaning is a fault of the machine
 ended_without_fault : (e : Ending) (w : World) (o : Outcome) → ended_as e w ≡ Some o → o.ending ≢ MachineFault

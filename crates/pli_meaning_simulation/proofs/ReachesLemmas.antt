@@ -8,7 +8,7 @@ use Rattle.pli_value.specs.Value.{Value}
 use Rattle.pli_program.specs.Program as op
 use Rattle.pli_program.specs.Program.{Instruction, UnitCode, Program}
 use Rattle.pli_machine_step.specs.Machine.{Operand, OfValue, Locals, Frame, State, At, Over, Goes, given, calm, lands, returned, returned_with, act, act_in, resume, iterate}
-use Rattle.pli_meaning_tree.specs.Effects.{Effect, Gives, Jumps, Fails, Spent, Lost, Short, Flow, Next, Returned, Doing, and_then, after_flow, followed, closed, answered, as_statement}
+use Rattle.pli_meaning_tree.specs.Effects.{Label, Effect, Gives, Jumps, Fails, Spent, Lost, Short, Flow, Next, Returned, Doing, and_then, after_flow, followed, answered, as_statement}
 use Rattle.pli_meaning_simulation.specs.CodeStands.{Context, Is}
 
 -- a frame's temporaries are those of the block, and it has made no more backward jumps than may be
@@ -101,9 +101,9 @@ module _ (p : Program) (number : ℕ) (u : UnitCode) where
   returns b ops fs l None w left = At (frame b ops l) fs w left
   returns b ops fs l (Some v) w left = At (frame b (OfValue v ∷ ops) l) fs w left
 
-  module _ (at : ℕ → ℕ) where
+  module _ (at : Label → ℕ) where
     -- a jump to a label of the newest activation, or of one that waits
-    abbrev pub landed : (height label : ℕ) → Locals → List Frame → World → (left : ℕ) → State
+    abbrev pub landed : (height : ℕ) → Label → Locals → List Frame → World → (left : ℕ) → State
     landed h k l fs w left =
         if nat_eq h (height w) then At (frame (at k) [] l) fs (cleared w) left else resume (lands h (at k) fs (left_by w)) left
 
@@ -184,15 +184,6 @@ module _ (p : Program) (number : ℕ) (u : UnitCode) where
     bound_in inner (Spent w) go r f = record { by = r.by }
     bound_in inner Lost go r f = record { by = tt }
     bound_in inner Short go r f = record { by = tt }
-
-    -- what no jump leads out of
-    pub closed_run : {A : Type 0} {c : Context} {s : State} {l : Locals} {to : Target A} {fs : List Frame} (o : Effect A) → Reaches c s l to fs o → Reaches c s l to fs (closed o)
-    closed_run (Gives x w left) r = r
-    closed_run (Jumps h k w left) r = record { by = tt }
-    closed_run (Fails e w) r = r
-    closed_run (Spent w) r = r
-    closed_run Lost r = r
-    closed_run Short r = r
 
     -- the next statement
     pub goes_on : {c : Context} {s : State} {l : Locals} {a b : ℕ} {fs : List Frame} (o : Effect Flow) (go : Doing Flow)

@@ -1,13 +1,16 @@
 -- The machine does what statements mean: a clause for each form.
-use Rattle.std.specs.Prelude.{◌≡◌, ℕ, nat_eq, Option, Some, None, List, [], slice_get, refl}
+use Rattle.std.specs.Prelude.{◌≡◌, ℕ, nat_eq, true, Option, Some, None, List, [], slice_get, refl}
+use Rattle.std.specs.Cmp.Lexicographic.{same_text}
 use Rattle.std.proofs.Common.{ap, ◌∙◌, sym, subst}
-use Rattle.std.proofs.lemmas.Bool.{eqb-true}
+use Rattle.std.proofs.lemmas.Bool.{and_parts, eqb-true}
+use Rattle.pli_base.specs.Name.{Name}
+use Rattle.pli_base.specs.Words.{same_name}
 use Rattle.pli_world.specs.World.{World}
 use Rattle.pli_program.specs.Program.{UnitCode, Program}
 use Rattle.pli_machine_step.specs.Machine.{Locals, Frame, At, calm}
 use Rattle.pli_type_tree.specs.TypedTree.{TypedExpression, TypedStatement, Statement, Form, Null, Assign, AssignAggregate, Put, If, Begin, Group, While, Iterate, Call, Goto, Return, ReturnValue, Stop, OtherWise, NoElse, Else, TypedStatements, NoStatement, StatementThen}
-use Rattle.pli_meaning_tree.specs.Effects.{Returned, and_then, followed, chosen}
-use Rattle.pli_meaning_tree.specs.TreeMeaning.{Calls, condition, number_of, as_list, does, does_form, does_else, does_from}
+use Rattle.pli_meaning_tree.specs.Effects.{Label, Returned, and_then, followed, chosen}
+use Rattle.pli_meaning_tree.specs.TreeMeaning.{Calls, condition, number_of, bears, as_list, does, does_form, does_else, does_from}
 use Rattle.pli_meaning_simulation.specs.CodeStands.{Context, deeper, ConditionStands, StatementStands, FormStands, IfStands, ListStands}
 use Rattle.pli_meaning_simulation.proofs.ReachesLemmas.{Fine, calm_kept, frame, flows, Reaches, gives, passes, goes_on, goes, begins}
 use Rattle.pli_meaning_simulation.proofs.ExpressionsReach.{CallsRun}
@@ -15,7 +18,14 @@ use Rattle.pli_meaning_simulation.proofs.ControlReaches.{start_of, goto_run}
 use Rattle.pli_meaning_simulation.proofs.FormsReach.{either, Runs, RunsCalm, begin_run, assign_run, copy_run, put_run, call_run, return_run, guarded_run, choice_run, list_run, while_run}
 use Rattle.pli_meaning_simulation.proofs.IterationsReach.{iterate_run}
 
-module _ (p : Program) (number : ℕ) (u : UnitCode) (at : ℕ → ℕ) (there : slice_get p.units number ≡ Some u) (call : Calls) (calls_run : CallsRun p number u at call) (level : ℕ) where
+-- a statement stands where the label that it bears leads
+borne : (at : Label → ℕ) (unit : Name) (s : TypedStatement) (k : Label) → bears unit s k ≡ true → at (record { unit = unit; number = number_of s }) ≡ at k
+borne at unit s k h =
+    let both = and_parts (same_name unit k.unit) (nat_eq (number_of s) k.number) h in
+    ap (λ name. at (record { unit = name; number = number_of s })) (same_text unit k.unit (sym both.0))
+    ∙ ap (λ n. at (record { unit = k.unit; number = n })) (eqb-true (number_of s) k.number both.1)
+
+module _ (p : Program) (number : ℕ) (u : UnitCode) (at : Label → ℕ) (there : slice_get p.units number ≡ Some u) (call : Calls) (calls_run : CallsRun p number u at call) (level : ℕ) where
   mutual
     pub does_run : (s : TypedStatement) (block : ℕ) (c : Context) (a b : ℕ) → StatementStands u at block s c a b → Runs p number u at there c (does p.greatest call u.name level block s) a b
     does_run (Statement n form) block c a b is l fine fs w left =
@@ -31,21 +41,21 @@ module _ (p : Program) (number : ℕ) (u : UnitCode) (at : ℕ → ℕ) (there :
         if_run alternative block c a b e consequence is
         (λ x y is l fine fs w left. does_run consequence block c x y is l fine fs w left) l fine fs w left
     form_run (Begin head statements) block n c a b is l fine none fs w left =
-        begin_run p number u at there block head (ListStands u at head.number statements) (as_list level statements (does_from p.greatest call u.name level head.number statements)) is
+        begin_run p number u at there block head (ListStands u at head.number statements) (as_list level u.name statements (does_from p.greatest call u.name level head.number statements)) is
         (λ d x y is l fine fs w left. list_run p number u at there call calls_run level statements (does_from p.greatest call u.name level head.number statements)
         (λ start l fine fs w left. from_run statements head.number d x y is start l fine fs w left) l fine fs w left) l fine none fs w left
     form_run (Group statements) block n c a b is l fine none fs w left =
         list_run p number u at there call calls_run level statements (does_from p.greatest call u.name level block statements) (λ start l fine fs w left. from_run statements block c a b is start l fine fs w left) l fine fs w left
     form_run (While e statements) block n c a b is l fine none fs w left =
-        while_run p number u at there call calls_run level n e (ListStands u at block statements) (as_list level statements (does_from p.greatest call u.name level block statements)) is.0 is.1
+        while_run p number u at there call calls_run level n e (ListStands u at block statements) (as_list level u.name statements (does_from p.greatest call u.name level block statements)) is.0 is.1
         (λ x y is l fine fs w left. list_run p number u at there call calls_run level statements (does_from p.greatest call u.name level block statements)
         (λ start l fine fs w left. from_run statements block (deeper c) x y is start l fine fs w left) l fine fs w left) l fine fs w left
     form_run (Iterate iteration statements) block n c a b is l fine none fs w left =
-        iterate_run p number u at there call calls_run level n iteration (ListStands u at block statements) (as_list level statements (does_from p.greatest call u.name level block statements)) is
+        iterate_run p number u at there call calls_run level n iteration (ListStands u at block statements) (as_list level u.name statements (does_from p.greatest call u.name level block statements)) is
         (λ d x y is l fine fs w left. list_run p number u at there call calls_run level statements (does_from p.greatest call u.name level block statements)
         (λ start l fine fs w left. from_run statements block d x y is start l fine fs w left) l fine fs w left) l fine fs w left
     form_run (Call called arguments) block n c a b is l fine none fs w left = call_run p number u at there call calls_run level called arguments is l fine fs w left
-    form_run (Goto outward label) block n c a b is l fine none fs w left = goto_run p number u at there outward label is l fine none fs w left
+    form_run (Goto outward label) block n c a b is l fine none fs w left = goto_run p number u at there outward (record { unit = u.name; number = label }) is l fine none fs w left
     form_run (Return outward) block n c a b is l fine none fs w left = gives p number u at (Returned outward None) w left fine (goes p number u at there is refl)
     form_run (ReturnValue outward e) block n c a b is l fine none fs w left = return_run p number u at there call calls_run level outward e is l fine fs w left
     form_run Stop block n c a b is l fine none fs w left = record { by = goes p number u at there is refl }
@@ -61,7 +71,7 @@ module _ (p : Program) (number : ℕ) (u : UnitCode) (at : ℕ → ℕ) (there :
         (λ x y is l fine fs w left. does_run s block c x y is l fine fs w left) l fine fs w left
 
     pub from_run : (ss : TypedStatements) (block : ℕ) (c : Context) (a b : ℕ) → ListStands u at block ss c a b
-        → (start : Option ℕ) (l : Locals) → Fine c l → (fs : List Frame) (w : World) (left : ℕ)
+        → (start : Option Label) (l : Locals) → Fine c l → (fs : List Frame) (w : World) (left : ℕ)
         → Reaches p number u at c (At (frame p number u (start_of p number u at a start) [] l) fs w left) l (flows p number u b fs) fs
         (does_from p.greatest call u.name level block ss start w left)
     from_run NoStatement block c a b is None l fine fs w left = passes p number u at is fine w left
@@ -70,10 +80,10 @@ module _ (p : Program) (number : ℕ) (u : UnitCode) (at : ℕ → ℕ) (there :
         goes_on p number u at {a = is.1.middle} {b = b} (does p.greatest call u.name level block s w left) (does_from p.greatest call u.name level block more None) (does_run s block c a is.1.middle is.1.fst l fine fs w left)
         (λ m k w left. from_run more block c is.1.middle b is.1.snd None m k.fine fs w left)
     from_run (StatementThen s more) block c a b is (Some k) l fine fs w left =
-        either p number u at (nat_eq (number_of s) k)
+        either p number u at (bears u.name s k)
         (λ e. subst (λ x. Reaches p number u at c (At (frame p number u x [] l) fs w left) l (flows p number u b fs) fs
         (followed (does p.greatest call u.name level block s w left) (does_from p.greatest call u.name level block more None)))
-        (sym is.0 ∙ ap at (eqb-true (number_of s) k e))
+        (sym is.0 ∙ borne at u.name s k e)
         (goes_on p number u at {a = is.1.middle} {b = b} (does p.greatest call u.name level block s w left) (does_from p.greatest call u.name level block more None) (does_run s block c a is.1.middle is.1.fst l fine fs w left)
         (λ m k w left. from_run more block c is.1.middle b is.1.snd None m k.fine fs w left)))
         (from_run more block c is.1.middle b is.1.snd (Some k) l fine fs w left)

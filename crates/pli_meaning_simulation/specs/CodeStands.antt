@@ -20,6 +20,7 @@ use Rattle.pli_type_tree.specs.TypedTree.{Call, Goto, Return, ReturnValue, Stop,
 use Rattle.pli_type_tree.specs.TypedTree.{TypedStatements, NoStatement, StatementThen, TypedProcedure}
 use Rattle.pli_type_tree.specs.TypedTree.{Callee, OfBlock, OfEntry, Global, OwnVariable, ExternalVariable}
 use Rattle.pli_type_tree.specs.TypedTree.{EntryPoint, TypedUnit}
+use Rattle.pli_meaning_tree.specs.Effects.{Label}
 use Rattle.pli_meaning_tree.specs.TreeMeaning.{TypedProgram, number_of, unit_named}
 
 -- what stands from a place up to a place
@@ -265,9 +266,9 @@ module _ (u : UnitCode) where
     pub block : BlockStands
         (block_of BeginBlock (Some parent) 0 head) head.number head.temporaries list (Is (op.Return 0))
 
-  -- statements, where labels stand at these places
+  -- statements, where labels stand at these places, each in the code of its unit
 
-  module _ (at : (label : ℕ) → ℕ) where
+  module _ (at : Label → ℕ) where
     abbrev mutual
       -- a statement begins with its step
       pub StatementStands : (block : ℕ) → TypedStatement → Context → Span
@@ -295,7 +296,8 @@ module _ (u : UnitCode) where
           IterateStands number iteration (λ c. Then (Is (op.Step number)) (ListStands block statements c)) c
       FormStands block number (Call callee arguments) c =
           Then (ArgumentsStand arguments) (Is (call_of callee (arguments_in arguments)))
-      FormStands block number (Goto outward label) c = Is (op.Goto outward (at label))
+      FormStands block number (Goto outward label) c =
+          Is (op.Goto outward (at (record { unit = u.name; number = label })))
       FormStands block number (Return outward) c = Is (op.Return outward)
       FormStands block number (ReturnValue outward e) c = Then (ValueStands e) (Is (op.ReturnValue outward))
       FormStands block number Stop c = Is op.Stop
@@ -309,7 +311,8 @@ module _ (u : UnitCode) where
       pub ListStands : (block : ℕ) → TypedStatements → Context → Span
       ListStands block NoStatement c = Empty
       ListStands block (StatementThen s more) c =
-          λ p q. (at (number_of s) ≡ p) × Then (StatementStands block s c) (ListStands block more c) p q
+          λ p q. (at (record { unit = u.name; number = number_of s }) ≡ p)
+          × Then (StatementStands block s c) (ListStands block more c) p q
 
     -- the end of a procedure, and of a function, which must not reach it
     abbrev pub EndStands : (function_end : Option ℕ) → Span
@@ -349,22 +352,24 @@ GlobalsStand program (x ∷ xs) (g ∷ gs) = GlobalStands program x g × Globals
 GlobalsStand program [] (g ∷ gs) = ⊥
 GlobalsStand program (x ∷ xs) [] = ⊥
 
--- the code of a unit
-pub record UnitStands (program : List TypedUnit) (t : TypedUnit) (u : UnitCode) : Type 0 where
-  pub at : (label : ℕ) → ℕ
+-- the code of a unit, where labels stand at these places
+pub record UnitStands (program : List TypedUnit) (at : Label → ℕ) (t : TypedUnit) (u : UnitCode)
+    : Type 0 where
   pub names : u.name ≡ t.name
   pub globals : GlobalsStand program t.globals u.globals
   pub procedures : ProceduresStand u at t.procedures
 
 -- the code of units, one for one
-abbrev pub UnitsStand : (program : List TypedUnit) → List TypedUnit → List UnitCode → Type 0
-UnitsStand program [] [] = Unit
-UnitsStand program (t ∷ ts) (u ∷ us) = UnitStands program t u × UnitsStand program ts us
-UnitsStand program [] (u ∷ us) = ⊥
-UnitsStand program (t ∷ ts) [] = ⊥
+abbrev pub UnitsStand : (program : List TypedUnit) → (at : Label → ℕ) → List TypedUnit → List UnitCode
+    → Type 0
+UnitsStand program at [] [] = Unit
+UnitsStand program at (t ∷ ts) (u ∷ us) = UnitStands program at t u × UnitsStand program at ts us
+UnitsStand program at [] (u ∷ us) = ⊥
+UnitsStand program at (t ∷ ts) [] = ⊥
 
--- the code of a program
+-- the code of a program, and where its labels stand
 pub record ProgramStands (t : TypedProgram) (p : Program) : Type 0 where
-  pub units : UnitsStand t.units t.units p.units
+  pub at : Label → ℕ
+  pub units : UnitsStand t.units at t.units p.units
   pub main : p.main ≡ t.main
   pub greatest : p.greatest ≡ t.greatest

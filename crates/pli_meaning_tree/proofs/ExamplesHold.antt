@@ -61,6 +61,10 @@ pub goto_group_begins_anew : example.GotoGroupBeginsAnew
 unfolding calculated nothing made_of parts_held parts_stored held stored copied entered left_by cleared at_statement stepped height_of slot_place static_place dummy_of printed line_ended error_at digits
 goto_group_begins_anew = refl
 
+pub labels_are_of_units : example.LabelsAreOfUnits
+unfolding nothing cleared
+labels_are_of_units = (refl, refl)
+
 pub return_leaves_block : example.ReturnLeavesBlock
 unfolding calculated nothing made_of parts_held parts_stored held stored copied entered left_by cleared at_statement stepped height_of slot_place static_place dummy_of printed line_ended error_at digits
 return_leaves_block = refl

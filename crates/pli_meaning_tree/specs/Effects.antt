@@ -2,6 +2,7 @@
 -- recursion of a definition; the steps left are what the language counts, and go from one thing to the next.
 use Rattle.std.specs.Prelude.{ℕ, zero, suc, nat_eq, nat_lt, Bool, true, false, ◌&&◌, Option, Some, None}
 use Rattle.std.specs.Prelude.{if◌then◌else◌}
+use Rattle.pli_base.specs.Name.{Name}
 use Rattle.pli_code.specs.declared.ending.Ending.{Ending}
 use Rattle.pli_code.specs.declared.ending.RunError.TheVariants.{NoReturnedValue, TooManyActivations}
 use Rattle.pli_operation.specs.Operations.{is_true}
@@ -10,12 +11,17 @@ use Rattle.pli_world.specs.World.{World, Answer, Yields, Raises, Wrong, height, 
 use Rattle.pli_world.specs.World.{left_by, cleared, error_at}
 use Rattle.pli_value.specs.Value.{Value, Bits}
 
+-- a label: the name of its unit, as activations have it, and the number of its statement there
+pub record Label : Type 0 where
+  pub unit : Name
+  pub number : ℕ
+
 -- it gives a result and leaves so many steps; it jumps to a label of an activation, which is named by its
 -- height; it ends the run; it has spent the steps; it has no meaning; or the level was too low for it, which
 -- never comes
 pub data Effect (A : Type 0) : Type 0 where
   Gives : (result : A) (world : World) (left : ℕ) → Effect A
-  Jumps : (activation label : ℕ) (world : World) (left : ℕ) → Effect A
+  Jumps : (activation : ℕ) (label : Label) (world : World) (left : ℕ) → Effect A
   Fails : (ending : Ending) (world : World) → Effect A
   Spent : (world : World) → Effect A
   Lost : Effect A
@@ -93,7 +99,7 @@ turns (suc level) test list between w left =
 
 -- a jump to a label of the newest activation that a list holds goes on there; the calls that the activation
 -- prepares are given up. Any other goes on out
-abbrev pub on_jump : (held : ℕ → Bool) → Effect Flow → (ℕ → Doing Flow) → Effect Flow
+abbrev pub on_jump : (held : Label → Bool) → Effect Flow → (Label → Doing Flow) → Effect Flow
 on_jump held (Gives x w left) go = Gives x w left
 on_jump held (Jumps h k w left) go =
     if nat_eq h (height w) && held k then go k (cleared w) left else Jumps h k w left
@@ -104,7 +110,8 @@ on_jump held Short go = Short
 
 -- a list runs from its front or from a label, and again from a label as often as a jump leads to one that it
 -- holds
-abbrev pub caught : (level : ℕ) → (held : ℕ → Bool) → (Option ℕ → Doing Flow) → Option ℕ → Doing Flow
+abbrev pub caught : (level : ℕ) → (held : Label → Bool) → (Option Label → Doing Flow) → Option Label
+    → Doing Flow
 caught zero held run from w left = Short
 caught (suc level) held run from w left =
     on_jump held (run from w left) (λ k. caught level held run (Some k))
@@ -123,15 +130,6 @@ leaving (Fails e w) go = Fails e w
 leaving (Spent w) go = Spent w
 leaving Lost go = Lost
 leaving Short go = Short
-
--- no jump leads out of an external procedure
-abbrev pub closed : {A : Type 0} → Effect A → Effect A
-closed (Gives x w left) = Gives x w left
-closed (Jumps h k w left) = Lost
-closed (Fails e w) = Fails e w
-closed (Spent w) = Spent w
-closed Lost = Lost
-closed Short = Short
 
 -- a BEGIN block ends behind its last statement, or by the RETURN of its procedure
 abbrev pub block_end : Flow → Doing Flow

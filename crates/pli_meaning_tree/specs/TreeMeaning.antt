@@ -28,10 +28,10 @@ use Rattle.pli_type_tree.specs.TypedTree.{TypedStatements, NoStatement, Statemen
 use Rattle.pli_type_tree.specs.TypedTree.{Callee, OfBlock, OfEntry, Global, EntryPoint, TypedUnit}
 use Rattle.pli_value.specs.Conversions.{bit_constant}
 use Rattle.pli_value.specs.Value.{Value, Number, Characters, Bits}
-use Rattle.pli_meaning_tree.specs.Effects.{Effect, Gives, Jumps, Fails, Spent, Lost, Short, Flow, Next}
-use Rattle.pli_meaning_tree.specs.Effects.{Returned, Doing, and_then, nothing_done, followed, answered}
-use Rattle.pli_meaning_tree.specs.Effects.{as_step, as_statement, back_at, truth, chosen, turns, caught}
-use Rattle.pli_meaning_tree.specs.Effects.{unless_full, leaving, closed, block_end, procedure_end}
+use Rattle.pli_meaning_tree.specs.Effects.{Label, Effect, Gives, Jumps, Fails, Spent, Lost, Short, Flow}
+use Rattle.pli_meaning_tree.specs.Effects.{Next, Returned, Doing, and_then, nothing_done, followed}
+use Rattle.pli_meaning_tree.specs.Effects.{answered, as_step, as_statement, back_at, truth, chosen, turns}
+use Rattle.pli_meaning_tree.specs.Effects.{caught, unless_full, leaving, block_end, procedure_end}
 
 -- a program: its units, and which of them is the main one; no number has more binary digits than the greatest
 -- precision
@@ -41,8 +41,8 @@ pub record TypedProgram : Type 0 where
   pub greatest : ℕ
 
 -- what calls do: a procedure runs with its arguments, and gives a value if it is a function
-abbrev pub Calls : Type 0
-Calls = Callee → List Place → Doing (Option Value)
+pub record Calls : Type 0 where
+  pub procedure : Callee → List Place → Doing (Option Value)
 
 -- the value that a function has given; to none there is no meaning
 abbrev pub a_value : Option Value → Doing Value
@@ -111,7 +111,7 @@ module _ (greatest : ℕ) (call : Calls) where
     -- a procedure called with arguments, one after the other: a place is handed over as it is, and a value
     -- becomes a dummy argument before the next is looked at; the places before, the last first
     pub called_with : (callee : Callee) → TypedArguments → (before : List Place) → Doing (Option Value)
-    called_with callee NoArgument before w left = call callee (in_order before []) w left
+    called_with callee NoArgument before w left = call.procedure callee (in_order before []) w left
     called_with callee (ByPlace r more) before w left =
         and_then (place_of r w left) (λ p w left. called_with callee more (p ∷ before) w left)
     called_with callee (ByDummy description e more) before w left =
@@ -235,24 +235,28 @@ module _ (greatest : ℕ) (call : Calls) where
       and_then (value_of e w left) (λ v w left. Gives (Returned outward (Some v)) w left)
 
 -- a jump to a label of the activation so many static links outward
-abbrev pub jumps_to : (outward label : ℕ) → Doing Flow
+abbrev pub jumps_to : (outward : ℕ) → Label → Doing Flow
 jumps_to outward label w left =
     and_then (answered (height_of outward w) left) (λ h w left. Jumps h label w left)
 
 -- labels
 
--- a label is the number of its statement
+-- the number of a statement, which is that of its label
 abbrev pub number_of : TypedStatement → ℕ
 number_of (Statement number form) = number
 
+-- a statement of a unit bears a label of the unit that has its number
+abbrev pub bears : (unit : Name) → TypedStatement → Label → Bool
+bears unit s label = same_name unit label.unit && nat_eq (number_of s) label.number
+
 -- a list holds the labels of its own statements
-abbrev pub labels_in : TypedStatements → (label : ℕ) → Bool
-labels_in NoStatement label = false
-labels_in (StatementThen s more) label = nat_eq (number_of s) label || labels_in more label
+abbrev pub labels_in : (unit : Name) → TypedStatements → Label → Bool
+labels_in unit NoStatement label = false
+labels_in unit (StatementThen s more) label = bears unit s label || labels_in unit more label
 
 -- a list catches the jumps to its labels
-abbrev pub as_list : (level : ℕ) → TypedStatements → (Option ℕ → Doing Flow) → Doing Flow
-as_list level ss run = caught level (labels_in ss) run None
+abbrev pub as_list : (level : ℕ) → (unit : Name) → TypedStatements → (Option Label → Doing Flow) → Doing Flow
+as_list level unit ss run = caught level (labels_in unit ss) run None
 
 -- blocks
 
@@ -302,17 +306,19 @@ module _ (greatest : ℕ) (call : Calls) (unit : Name) (level : ℕ) where
         (λ b w left. chosen b (does block consequence) (does_else block alternative) w left)
     does_form block number (Begin head statements) w left =
         in_block (head_in unit head) (static_link unit (Some block) w)
-        (as_list level statements (does_from head.number statements)) w left
+        (as_list level unit statements (does_from head.number statements)) w left
     does_form block number (Group statements) w left =
-        as_list level statements (does_from block statements) w left
+        as_list level unit statements (does_from block statements) w left
     does_form block number (While e statements) w left =
         turns level (back_at number (condition greatest call e))
-        (as_statement number (as_list level statements (does_from block statements))) nothing_done w left
+        (as_statement number (as_list level unit statements (does_from block statements))) nothing_done w
+        left
     does_form block number (Iterate iteration statements) w left =
         iterates greatest call level number iteration
-        (as_list level statements (does_from block statements)) w left
+        (as_list level unit statements (does_from block statements)) w left
     does_form block number (Call called arguments) w left = does_call greatest call called arguments w left
-    does_form block number (Goto outward label) w left = jumps_to outward label w left
+    does_form block number (Goto outward label) w left =
+        jumps_to outward (record { unit = unit; number = label }) w left
     does_form block number (Return outward) w left = Gives (Returned outward None) w left
     does_form block number (ReturnValue outward e) w left = returns_value greatest call outward e w left
     does_form block number Stop w left = Fails Ended w
@@ -323,18 +329,18 @@ module _ (greatest : ℕ) (call : Calls) (unit : Name) (level : ℕ) where
     does_else block (Else s) w left = does block s w left
 
     -- the statements of a list one after the other, from the first one or from a label
-    pub does_from : (block : ℕ) → TypedStatements → (from : Option ℕ) → Doing Flow
+    pub does_from : (block : ℕ) → TypedStatements → (from : Option Label) → Doing Flow
     does_from block NoStatement None w left = Gives Next w left
     does_from block NoStatement (Some label) w left = Lost
     does_from block (StatementThen s more) None w left =
         followed (does block s w left) (does_from block more None)
     does_from block (StatementThen s more) (Some label) w left =
-        if nat_eq (number_of s) label then followed (does block s w left) (does_from block more None)
+        if bears unit s label then followed (does block s w left) (does_from block more None)
         else does_from block more (Some label) w left
 
   -- the statements of a list, with the jumps to its labels
   abbrev pub does_list : (block : ℕ) → TypedStatements → Doing Flow
-  does_list block ss = as_list level ss (does_from block ss)
+  does_list block ss = as_list level unit ss (does_from block ss)
 
 -- procedures
 
@@ -381,8 +387,7 @@ abbrev pub activates_outer : (greatest : ℕ) → Calls → (level : ℕ) → (u
     → List Place → Doing (Option Value)
 activates_outer greatest call level unit None places w left = Lost
 activates_outer greatest call level unit (Some f) places w left =
-    if is_external f.parent then closed (activates_in greatest call level unit f (Some 0) places w left)
-    else Lost
+    if is_external f.parent then activates_in greatest call level unit f (Some 0) places w left else Lost
 
 -- a call of the external procedure of a unit, if it is there
 abbrev pub activates_unit : (greatest : ℕ) → (call : TypedUnit → Calls) → (level : ℕ) → Option TypedUnit
@@ -391,15 +396,19 @@ activates_unit greatest call level None places w left = Lost
 activates_unit greatest call level (Some u) places w left =
     activates_outer greatest (call u) level u.name (procedure_in u.procedures 0) places w left
 
--- the calls that stand in a unit of a program, at a level: what is called inside may do is the level below
+-- a call that stands in a unit of a program
+abbrev pub called_in : (greatest : ℕ) → List TypedUnit → (call : TypedUnit → Calls) → (level : ℕ) → TypedUnit
+    → Callee → List Place → Doing (Option Value)
+called_in greatest us call level u (OfBlock block) places w left =
+    activates greatest (call u) level u.name (procedure_in u.procedures block) places w left
+called_in greatest us call level u (OfEntry number) places w left =
+    activates_unit greatest call level (entry_unit us (slice_get u.globals number)) places w left
+
+-- the calls that stand in a unit, at a level: what is called inside may do is the level below
 abbrev pub calls : (greatest : ℕ) → List TypedUnit → (level : ℕ) → TypedUnit → Calls
-calls greatest us zero u callee places w left = Short
-calls greatest us (suc level) u (OfBlock block) places w left =
-    activates greatest (calls greatest us level u) level u.name (procedure_in u.procedures block) places w
-    left
-calls greatest us (suc level) u (OfEntry number) places w left =
-    activates_unit greatest (calls greatest us level) level
-    (entry_unit us (slice_get u.globals number)) places w left
+calls greatest us zero u = record { procedure = λ callee places w left. Short }
+calls greatest us (suc level) u =
+    record { procedure = called_in greatest us (calls greatest us level) level u }
 
 -- programs
 

@@ -3,14 +3,15 @@ ghost use Rattle.pli_meaning_tree.specs.examples.TreeExamples.{LoopEnds, LoopSto
 ghost use Rattle.pli_meaning_tree.specs.examples.TreeExamples.{AggregateIsCopied, BitsArePrinted, ItemBeforeIsWritten};
 ghost use Rattle.pli_meaning_tree.specs.examples.TreeExamples.{FunctionCallsItself, FunctionStops, ByReferenceChanges};
 ghost use Rattle.pli_meaning_tree.specs.examples.TreeExamples.{NoValueIsReturned, GotoLeavesBlock, GotoLeavesCall};
-ghost use Rattle.pli_meaning_tree.specs.examples.TreeExamples.{GotoGroupBeginsAnew, ReturnLeavesBlock, TurnsAreSteps};
-ghost use Rattle.pli_meaning_tree.specs.examples.TreeExamples.{NoTurnAndOne, StartMustFit, StepMayBeNegative};
-ghost use Rattle.pli_meaning_tree.specs.examples.TreeExamples.{StepOverflows, VariableIsLookedAtAnew, RepeatGoesOn};
+ghost use Rattle.pli_meaning_tree.specs.examples.TreeExamples.{GotoGroupBeginsAnew, LabelsAreOfUnits, ReturnLeavesBlock};
+ghost use Rattle.pli_meaning_tree.specs.examples.TreeExamples.{TurnsAreSteps, NoTurnAndOne, StartMustFit};
+ghost use Rattle.pli_meaning_tree.specs.examples.TreeExamples.{StepMayBeNegative, StepOverflows};
+ghost use Rattle.pli_meaning_tree.specs.examples.TreeExamples.{VariableIsLookedAtAnew, RepeatGoesOn};
 ghost use Rattle.pli_meaning_tree.specs.examples.TreeExamples.{UnitsShare, UnitFails};
 
 /// What programs give with so many steps: loops of all forms, IF, an element out of bounds, an aggregate copied, bits
-/// printed, functions that call themselves, an argument changed by the procedure, GOTO out of blocks and calls, RETURN,
-/// STOP, a call of another unit's procedure and a variable that both units have.
+/// printed, functions that call themselves, an argument changed by the procedure, GOTO out of blocks and calls, labels of
+/// units, RETURN, STOP, a call of another unit's procedure and a variable that both units have.
 pub fn worked_examples()
     ensures loop_ends { LoopEnds }
     ensures loop_stops { LoopStops }
@@ -26,6 +27,7 @@ pub fn worked_examples()
     ensures goto_leaves_block { GotoLeavesBlock }
     ensures goto_leaves_call { GotoLeavesCall }
     ensures goto_group_begins_anew { GotoGroupBeginsAnew }
+    ensures labels_are_of_units { LabelsAreOfUnits }
     ensures return_leaves_block { ReturnLeavesBlock }
     ensures turns_are_steps { TurnsAreSteps }
     ensures no_turn_and_one { NoTurnAndOne }

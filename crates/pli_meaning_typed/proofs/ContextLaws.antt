@@ -13,14 +13,17 @@ use Rattle.pli_world.specs.World.{World, Yields, known as there_is, further, hei
 use Rattle.pli_type_tree.specs.Globals.{description_of}
 use Rattle.pli_type_tree.specs.TypedTree.{Global, TypedUnit}
 use Rattle.pli_type_tree.specs.WellTyped.{BlockAround, AreAround, blocks_from, with_labels}
+use Rattle.pli_meaning_tree.specs.Effects.{Label}
 use Rattle.pli_meaning_typed.specs.SoundWorlds.{IsGood, AreGood, Shape, AreShaped, IsSound}
 
 -- which labels of which activations, by their height, a jump may lead to
 abbrev pub Known : Type 0
-Known = (activation label : ℕ) → Bool
+Known = (activation : ℕ) → Label → Bool
 
-abbrev pub AreKnown : Known → (activation : ℕ) → List ℕ → Type 0
-AreKnown known h labels = (label : ℕ) → IsTrue (list_any (nat_eq label) labels) → IsTrue (known h label)
+-- the labels of a unit that have these numbers
+abbrev pub AreKnown : (unit : Name) → Known → (activation : ℕ) → List ℕ → Type 0
+AreKnown unit known h labels =
+    (number : ℕ) → IsTrue (list_any (nat_eq number) labels) → IsTrue (known h (record { unit = unit; number = number }))
 
 -- from the activation of a height on, along static links, stand the blocks of a context, which are of a unit
 abbrev pub Stand : (unit : Name) → Known → List Shape → (height : ℕ) → List BlockAround → Type 0
@@ -29,7 +32,7 @@ Stand unit known [] h (b ∷ bs) = ⊥
 Stand unit known (s ∷ older) h [] = Unit {0}
 Stand unit known (s ∷ older) h (b ∷ bs) =
     ((h ≤ length older) × Stand unit known older h (b ∷ bs))
-    ⊎ ((h ≡ suc (length older)) × (s.block ≡ b.number) × (s.slots ≡ b.slots) × AreKnown known h b.labels
+    ⊎ ((h ≡ suc (length older)) × (s.block ≡ b.number) × (s.slots ≡ b.slots) × AreKnown unit known h b.labels
     × Stand unit known older s.link bs × (s.unit ≡ unit))
 
 none_some : {A : Type 0} {x : A} → None ≡ Some x → ⊥
@@ -57,19 +60,19 @@ shaped_length w (s ∷ ss) [] h = absurd h
 shaped_length w (s ∷ ss) (a ∷ older) h = ap (λ n. suc n) (shaped_length w ss older h.4)
 
 -- the activation of a block outward
-pub record Found (known : Known) (w : World) (stack : List Activation) (from outward : ℕ) (b : BlockAround) : Type 0 where
+pub record Found (unit : Name) (known : Known) (w : World) (stack : List Activation) (from outward : ℕ) (b : BlockAround) : Type 0 where
   pub height : ℕ
   pub activation : Activation
   pub walked : outward_from stack from outward ≡ Some height
   pub there : activation_at stack height ≡ Some activation
   pub good : AreGood w b.slots activation.slots
-  pub labels : AreKnown known height b.labels
+  pub labels : AreKnown unit known height b.labels
   pub below : height ≤ length stack
 
 -- behind an activation more
-found_older : (known : Known) (w : World) (a : Activation) (older : List Activation) (from outward : ℕ) (b : BlockAround)
-    → from ≤ length older → Found known w older from outward b → Found known w (a ∷ older) from outward b
-found_older known w a older from zero b le f = record {
+found_older : (unit : Name) (known : Known) (w : World) (a : Activation) (older : List Activation) (from outward : ℕ) (b : BlockAround)
+    → from ≤ length older → Found unit known w older from outward b → Found unit known w (a ∷ older) from outward b
+found_older unit known w a older from zero b le f = record {
   height = f.height;
   activation = f.activation;
   walked = ap (λ c. if c then Some from else outward_from older from zero) (unequal from (suc (length older)) (omega (arith, le))) ∙ f.walked;
@@ -78,7 +81,7 @@ found_older known w a older from zero b le f = record {
   labels = f.labels;
   below = omega (arith, f.below);
 }
-found_older known w a older from (suc outward) b le f = record {
+found_older unit known w a older from (suc outward) b le f = record {
   height = f.height;
   activation = f.activation;
   walked = ap (λ c. if c then outward_from older a.link outward else outward_from older from (suc outward)) (unequal from (suc (length older)) (omega (arith, le))) ∙ f.walked;
@@ -89,9 +92,9 @@ found_older known w a older from (suc outward) b le f = record {
 }
 
 -- along a link
-found_along : (known : Known) (w : World) (a : Activation) (older : List Activation) (from outward : ℕ) (b : BlockAround)
-    → from ≡ suc (length older) → Found known w older a.link outward b → Found known w (a ∷ older) from (suc outward) b
-found_along known w a older from outward b e f = record {
+found_along : (unit : Name) (known : Known) (w : World) (a : Activation) (older : List Activation) (from outward : ℕ) (b : BlockAround)
+    → from ≡ suc (length older) → Found unit known w older a.link outward b → Found unit known w (a ∷ older) from (suc outward) b
+found_along unit known w a older from outward b e f = record {
   height = f.height;
   activation = f.activation;
   walked = ap (λ c. if c then outward_from older a.link outward else outward_from older from (suc outward)) (eq-eqb from (suc (length older)) e) ∙ f.walked;
@@ -103,16 +106,16 @@ found_along known w a older from outward b e f = record {
 
 module _ (unit : Name) (known : Known) (w : World) where
   pub find : (ss : List Shape) (stack : List Activation) (h : ℕ) (blocks : List BlockAround) (outward : ℕ) (b : BlockAround)
-      → AreShaped w ss stack → Stand unit known ss h blocks → slice_get blocks outward ≡ Some b → Found known w stack h outward b
+      → AreShaped w ss stack → Stand unit known ss h blocks → slice_get blocks outward ≡ Some b → Found unit known w stack h outward b
   find [] stack h [] outward b shaped stand e = absurd (none_some e)
   find [] stack h (c ∷ cs) outward b shaped stand e = absurd stand
   find (s ∷ ss) [] h blocks outward b shaped stand e = absurd shaped
   find (s ∷ ss) (a ∷ older) h [] outward b shaped stand e = absurd (none_some e)
   find (s ∷ ss) (a ∷ older) h (c ∷ cs) zero b shaped (inl stand) e =
-      found_older known w a older h zero b (omega (arith, stand.0, shaped_length w ss older shaped.4))
+      found_older unit known w a older h zero b (omega (arith, stand.0, shaped_length w ss older shaped.4))
       (find ss older h (c ∷ cs) zero b shaped.4 stand.1 e)
   find (s ∷ ss) (a ∷ older) h (c ∷ cs) (suc n) b shaped (inl stand) e =
-      found_older known w a older h (suc n) b (omega (arith, stand.0, shaped_length w ss older shaped.4))
+      found_older unit known w a older h (suc n) b (omega (arith, stand.0, shaped_length w ss older shaped.4))
       (find ss older h (c ∷ cs) (suc n) b shaped.4 stand.1 e)
   find (s ∷ ss) (a ∷ older) h (c ∷ cs) zero b shaped (inr stand) e =
       let top : h ≡ suc (length older) = stand.0 ∙ ap (λ n. suc n) (sym (shaped_length w ss older shaped.4)) in
@@ -122,13 +125,13 @@ module _ (unit : Name) (known : Known) (w : World) where
         walked = ap (λ t. if t then Some h else outward_from older h zero) (eq-eqb h (suc (length older)) top);
         there = ap (λ t. if t then Some a else activation_at older h) (eq-eqb h (suc (length older)) top);
         good = subst (λ c. AreGood w c.slots a.slots) same (subst (λ ds. AreGood w ds a.slots) stand.2 shaped.3);
-        labels = subst (λ c. AreKnown known h c.labels) same stand.3;
+        labels = subst (λ c. AreKnown unit known h c.labels) same stand.3;
         below = omega (arith, top);
       }
   find (s ∷ ss) (a ∷ older) h (c ∷ cs) (suc n) b shaped (inr stand) e =
       let top : h ≡ suc (length older) = stand.0 ∙ ap (λ n. suc n) (sym (shaped_length w ss older shaped.4)) in
-      found_along known w a older h n b top
-      (subst (λ l. Found known w older l n b) (sym shaped.2) (find ss older s.link cs n b shaped.4 stand.4 e))
+      found_along unit known w a older h n b top
+      (subst (λ l. Found unit known w older l n b) (sym shaped.2) (find ss older s.link cs n b shaped.4 stand.4 e))
 
 -- with an activation more
 raised : (unit : Name) (known : Known) (s : Shape) (ss : List Shape) (h : ℕ) (blocks : List BlockAround) → h ≤ length ss → Stand unit known ss h blocks
@@ -219,7 +222,7 @@ stand_around unit known (s ∷ ss) h (b ∷ bs) (c ∷ cs) same (inr stand) =
 
 -- labels more
 abbrev pub Wider : Known → Known → Type 0
-Wider known more = (h k : ℕ) → IsTrue (known h k) → IsTrue (more h k)
+Wider known more = (h : ℕ) (k : Label) → IsTrue (known h k) → IsTrue (more h k)
 
 in_either : (label : ℕ) (labels more : List ℕ) → list_any (nat_eq label) (labels ++ more) ≡ true
     → (list_any (nat_eq label) labels ≡ true) ⊎ (list_any (nat_eq label) more ≡ true)
@@ -239,21 +242,21 @@ stand_wider unit known more [] h (b ∷ bs) wide stand = absurd stand
 stand_wider unit known more (s ∷ ss) h [] wide stand = tt
 stand_wider unit known more (s ∷ ss) h (b ∷ bs) wide (inl stand) = inl (stand.0, stand_wider unit known more ss h (b ∷ bs) wide stand.1)
 stand_wider unit known more (s ∷ ss) h (b ∷ bs) wide (inr stand) =
-    inr (stand.0, stand.1, stand.2, λ l k. wide h l (stand.3 l k), stand_wider unit known more ss s.link bs wide stand.4, stand.5)
+    inr (stand.0, stand.1, stand.2, λ n k. wide h (record { unit = unit; number = n }) (stand.3 n k), stand_wider unit known more ss s.link bs wide stand.4, stand.5)
 
 pub stand_labels : (unit : Name) (known more : Known) (labels : List ℕ) (ss : List Shape) (h : ℕ) (blocks : List BlockAround) → Wider known more
-    → AreKnown more h labels → Stand unit known ss h blocks → Stand unit more ss h (with_labels labels blocks)
+    → AreKnown unit more h labels → Stand unit known ss h blocks → Stand unit more ss h (with_labels labels blocks)
 stand_labels unit known more labels [] h [] wide new stand = tt
 stand_labels unit known more labels [] h (b ∷ bs) wide new stand = absurd stand
 stand_labels unit known more labels (s ∷ ss) h [] wide new stand = tt
 stand_labels unit known more labels (s ∷ ss) h (b ∷ bs) wide new (inl stand) =
     inl (stand.0, stand_labels unit known more labels ss h (b ∷ bs) wide new stand.1)
 stand_labels unit known more labels (s ∷ ss) h (b ∷ bs) wide new (inr stand) =
-    inr (stand.0, stand.1, stand.2, λ l k. by l (in_either l labels b.labels k), stand_wider unit known more ss s.link bs wide stand.4, stand.5)
+    inr (stand.0, stand.1, stand.2, λ n k. by n (in_either n labels b.labels k), stand_wider unit known more ss s.link bs wide stand.4, stand.5)
   where
-    by : (l : ℕ) → (list_any (nat_eq l) labels ≡ true) ⊎ (list_any (nat_eq l) b.labels ≡ true) → IsTrue (more h l)
-    by l (inl k) = new l k
-    by l (inr k) = wide h l (stand.3 l k)
+    by : (n : ℕ) → (list_any (nat_eq n) labels ≡ true) ⊎ (list_any (nat_eq n) b.labels ≡ true) → IsTrue (more h (record { unit = unit; number = n }))
+    by n (inl k) = new n k
+    by n (inr k) = wide h (record { unit = unit; number = n }) (stand.3 n k)
 
 -- the operations that walk
 good_at : (w : World) (ds : List Description) (ps : List Place) (n : ℕ) (d : Description) → AreGood w ds ps → slice_get ds n ≡ Some d
@@ -265,13 +268,13 @@ good_at w (c ∷ ds) (p ∷ ps) (suc n) d good e = good_at w ds ps n d good.1 e
 
 module _ (unit : Name) (units : List TypedUnit) (known : Known) (ss : List Shape) (blocks : List BlockAround) where
   walked_to : (w : World) (outward : ℕ) (b : BlockAround) → IsSound units ss w → Stand unit known ss (length ss) blocks
-      → slice_get blocks outward ≡ Some b → Found known w w.activations (height w) outward b
+      → slice_get blocks outward ≡ Some b → Found unit known w w.activations (height w) outward b
   walked_to w outward b sound stand e =
-      subst (λ h. Found known w w.activations h outward b) (sym (shaped_length w ss w.activations sound.stack))
+      subst (λ h. Found unit known w w.activations h outward b) (sym (shaped_length w ss w.activations sound.stack))
       (find unit known w ss w.activations (length ss) blocks outward b sound.stack stand e)
 
   pub height_there : (w : World) (outward : ℕ) (b : BlockAround) → IsSound units ss w → Stand unit known ss (length ss) blocks
-      → slice_get blocks outward ≡ Some b → (h : ℕ) × (height_of outward w ≡ Yields h w) × AreKnown known h b.labels
+      → slice_get blocks outward ≡ Some b → (h : ℕ) × (height_of outward w ≡ Yields h w) × AreKnown unit known h b.labels
   unfolding height_of
   height_there w outward b sound stand e =
       let f = walked_to w outward b sound stand e in (f.height, ap (λ o. there_is o w) f.walked, f.labels)

@@ -108,13 +108,13 @@ abbrev pub Gives : Option Description → Option Value → World → Type 0
 Gives d v w = IsReturned d v
 
 -- what is called means something
-abbrev pub CallsMean : List TypedUnit → (unit : Name) → List Global → (ℕ → Option KnownProcedure) → (level : ℕ) → Calls → Type 0
-CallsMean units unit globals procedures level call =
-    (callee : Callee) (parameters : List Description) (value : Option Description) (known : Known) (x : Shape) (ss : List Shape) (blocks : List BlockAround)
-    → IsCallee globals procedures blocks callee parameters value
-    → Stand unit known (x ∷ ss) (suc (length ss)) blocks → IsBelow known (suc (length ss))
-    → (places : List Place) (w : World) (left : ℕ) → IsSound units (x ∷ ss) w → AreGood w parameters places
-    → Means units level left known (x ∷ ss) w (Gives value) (call callee places w left)
+pub record CallsMean (units : List TypedUnit) (unit : Name) (globals : List Global) (procedures : ℕ → Option KnownProcedure) (level : ℕ) (call : Calls) : Type 0 where
+  pub procedure :
+      (callee : Callee) (parameters : List Description) (value : Option Description) (known : Known) (x : Shape) (ss : List Shape) (blocks : List BlockAround)
+      → IsCallee globals procedures blocks callee parameters value
+      → Stand unit known (x ∷ ss) (suc (length ss)) blocks → IsBelow known (suc (length ss))
+      → (places : List Place) (w : World) (left : ℕ) → IsSound units (x ∷ ss) w → AreGood w parameters places
+      → Means units level left known (x ∷ ss) w (Gives value) (call.procedure callee places w left)
 
 -- a part of a unit's text, which the newest activation runs
 pub record IsInside (units : List TypedUnit) (unit : Name) (globals : List Global) (x : Shape) : Type 0 where
@@ -318,7 +318,7 @@ module _ (units : List TypedUnit) (greatest level : ℕ) (call : Calls) (unit : 
         → (w : World) (left : ℕ) → Sound w → AreGood w done before
         → Here left w (Gives value) (called_with greatest call callee arguments before w left)
     called_means NoArgument parameters callee all value before done passed same found w left sound good =
-        calls callee all value known x ss s.blocks found stand below (in_order before []) w left sound
+        calls.procedure callee all value known x ss s.blocks found stand below (in_order before []) w left sound
         (subst (λ ds. AreGood w ds (in_order before [])) (ap (λ ds. in_order done ds) (sym passed) ∙ same) (ordered_good w done [] before [] good tt))
     called_means (ByPlace r more) parameters callee all value before done passed same found w left sound good =
         then_here (AtPlace passed.0) (Gives value) left w (place_of greatest call r w left) _ (place_means r passed.0 passed.3 w left sound)

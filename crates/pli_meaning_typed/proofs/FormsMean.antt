@@ -147,15 +147,15 @@ module _ (units : List TypedUnit) (greatest level : ℕ) (call : Calls) (unit : 
         (λ v w l is sound later. no_value_means None v w l refl is sound)
 
     pub jump_means : (outward label : ℕ) → knows_label (slice_get s.blocks outward) label → (w : World) (left : ℕ) → Sound w
-        → Means units level (suc left) known (x ∷ ss) w (Flows s) (jumps_to outward label w left)
+        → Means units level (suc left) known (x ∷ ss) w (Flows s) (jumps_to outward (record { unit = unit; number = label }) w left)
     jump_means outward label typed w left sound = by (slice_get s.blocks outward) refl typed
       where
         by : (o : Option BlockAround) → slice_get s.blocks outward ≡ o → knows_label o label
-            → Means units level (suc left) known (x ∷ ss) w (Flows s) (jumps_to outward label w left)
+            → Means units level (suc left) known (x ∷ ss) w (Flows s) (jumps_to outward (record { unit = unit; number = label }) w left)
         by None e k = absurd k
         by (Some b) e k =
             let h = height_there unit units known (x ∷ ss) s.blocks w outward b sound fits.stand e in
-            subst (λ a. Means units level (suc left) known (x ∷ ss) w (Flows s) (and_then (answered a left) (λ h w left. Jumps h label w left))) (sym h.1)
+            subst (λ a. Means units level (suc left) known (x ∷ ss) w (Flows s) (and_then (answered a left) (λ h w left. Jumps h (record { unit = unit; number = label }) w left))) (sym h.1)
             (omega arith, h.2 label k, sound, later_same w)
 
     pub return_means : (outward : ℕ) → outward ≡ s.begins → s.value ≡ None → (w : World) (left : ℕ) → Sound w

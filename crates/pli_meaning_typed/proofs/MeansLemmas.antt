@@ -8,19 +8,19 @@ use Rattle.pli_code.specs.declared.ending.RunError.TheVariants.{TooManyActivatio
 use Rattle.pli_world.specs.Activations.{activation_limit}
 use Rattle.pli_world.specs.World.{World, Answer, Yields, Raises, Wrong, height, stepped, at_statement, left_by, cleared, error_at}
 use Rattle.pli_type_tree.specs.TypedTree.{TypedUnit}
-use Rattle.pli_meaning_tree.specs.Effects.{Effect, Gives, Jumps, Fails, Spent, Lost, Short, Flow, Next, Returned, Doing, and_then}
+use Rattle.pli_meaning_tree.specs.Effects.{Label, Effect, Gives, Jumps, Fails, Spent, Lost, Short, Flow, Next, Returned, Doing, and_then}
 use Rattle.pli_meaning_tree.specs.Effects.{after_flow, followed, answered, as_step, as_statement, chosen, turns, on_jump, caught}
-use Rattle.pli_meaning_tree.specs.Effects.{unless_full, leaving, closed, nothing_done}
+use Rattle.pli_meaning_tree.specs.Effects.{unless_full, leaving, nothing_done}
 use Rattle.pli_meaning_typed.specs.SoundWorlds.{Shape, IsSound, IsLater, Answers}
 use Rattle.pli_meaning_typed.proofs.ContextLaws.{Known, shaped_length}
 use Rattle.pli_meaning_typed.proofs.WorldLaws.{later_same, later_then, error_named, statement_sound, stepped_sound, cleared_sound, cleared_later, left_sound, left_later}
 
 -- no jump leads further in than the newest activation
 abbrev pub IsBelow : Known → ℕ → Type 0
-IsBelow known height = (h k : ℕ) → height < h → known h k ≡ false
+IsBelow known height = (h : ℕ) (k : Label) → height < h → known h k ≡ false
 
 -- what is caught by a list of the newest activation too
-abbrev pub also : (held : ℕ → Bool) → (height : ℕ) → Known → Known
+abbrev pub also : (held : Label → Bool) → (height : ℕ) → Known → Known
 also held height known h k = if nat_eq h height && held k then true else known h k
 
 abbrev pub Anything : {A : Type 0} → A → World → Type 0
@@ -103,11 +103,11 @@ module _ (units : List TypedUnit) where
   heights : (ss : List Shape) (w : World) → IsSound units ss w → height w ≡ length ss
   heights ss w sound = shaped_length w ss w.activations sound.stack
 
-  pub caught_means : (P : Flow → World → Type 0) (n : ℕ) (known : Known) (ss : List Shape) (held : ℕ → Bool) (run : Option ℕ → Doing Flow)
-      (Starts : Option ℕ → Type 0) → ((k : ℕ) → held k ≡ true → Starts (Some k))
-      → ((from : Option ℕ) → Starts from → (w : World) (left : ℕ) → IsSound units ss w
+  pub caught_means : (P : Flow → World → Type 0) (n : ℕ) (known : Known) (ss : List Shape) (held : Label → Bool) (run : Option Label → Doing Flow)
+      (Starts : Option Label → Type 0) → ((k : Label) → held k ≡ true → Starts (Some k))
+      → ((from : Option Label) → Starts from → (w : World) (left : ℕ) → IsSound units ss w
       → Means n left (also held (length ss) known) ss w P (run from w left))
-      → (m : ℕ) → m ≤ n → (from : Option ℕ) → Starts from → (w : World) (left : ℕ) → IsSound units ss w
+      → (m : ℕ) → m ≤ n → (from : Option Label) → Starts from → (w : World) (left : ℕ) → IsSound units ss w
       → Means m left known ss w P (caught m held run from w left)
   caught_means P n known ss held run Starts labels f zero le from starts w left sound = omega arith
   caught_means P n known ss held run Starts labels f (suc m) le from starts w left sound =
@@ -122,9 +122,9 @@ module _ (units : List TypedUnit) where
       again v rest Lost lt later h = h
       again v rest Short lt later h = omega (arith, h, lt)
 
-      jump : (h k : ℕ) (v : World) (rest : ℕ) (b : Bool) → (nat_eq h (length ss) && held k) ≡ b → rest < left
+      jump : (h : ℕ) (k : Label) (v : World) (rest : ℕ) (b : Bool) → (nat_eq h (length ss) && held k) ≡ b → rest < left
           → IsTrue (if b then true else known h k) → IsSound units ss v → IsLater w v
-          → ((k : ℕ) → held k ≡ true → (v : World) (rest : ℕ) → IsSound units ss v → Means m rest known ss v P (caught m held run (Some k) v rest))
+          → ((k : Label) → held k ≡ true → (v : World) (rest : ℕ) → IsSound units ss v → Means m rest known ss v P (caught m held run (Some k) v rest))
           → Means (suc m) left known ss w P (if b then caught m held run (Some k) (cleared v) rest else Jumps h k v rest)
       jump h k v rest true e lt known sound later f =
           again (cleared v) rest (caught m held run (Some k) (cleared v) rest) lt (later_then w v (cleared v) later (cleared_later units v))
@@ -136,7 +136,7 @@ module _ (units : List TypedUnit) where
       jump h k v rest false e lt known sound later f = (lt, known, sound, later)
 
       by : (o : Effect Flow) → Means n left (also held (length ss) known) ss w P o
-          → ((k : ℕ) → held k ≡ true → (v : World) (rest : ℕ) → IsSound units ss v → Means m rest known ss v P (caught m held run (Some k) v rest))
+          → ((k : Label) → held k ≡ true → (v : World) (rest : ℕ) → IsSound units ss v → Means m rest known ss v P (caught m held run (Some k) v rest))
           → Means (suc m) left known ss w P (on_jump held o (λ k. caught m held run (Some k)))
       by (Gives x v rest) h f = h
       by (Jumps h k v rest) j f =
@@ -166,16 +166,6 @@ module _ (units : List TypedUnit) where
   leaving_means P Q n l known s ss u (Spent w) go below h f = h
   leaving_means P Q n l known s ss u Lost go below h f = h
   leaving_means P Q n l known s ss u Short go below h f = h
-
-  -- no jump leads out, where none is known outside
-  pub closed_means : {A : Type 0} (P : A → World → Type 0) (n l : ℕ) (known : Known) (ss : List Shape) (u : World) (o : Effect A)
-      → Means n l (λ h k. false) ss u P o → Means n l known ss u P (closed o)
-  closed_means P n l known ss u (Gives x w left) h = h
-  closed_means P n l known ss u (Jumps i k w left) h = absurd (true≢false (sym h.1))
-  closed_means P n l known ss u (Fails e w) h = h
-  closed_means P n l known ss u (Spent w) h = h
-  closed_means P n l known ss u Lost h = h
-  closed_means P n l known ss u Short h = h
 
   -- unless there are too many activations
   pub full_means : {A : Type 0} (P : A → World → Type 0) (n left : ℕ) (known : Known) (s : Shape) (ss : List Shape) (go : Doing A) (w : World)

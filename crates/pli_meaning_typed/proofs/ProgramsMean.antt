@@ -17,15 +17,15 @@ use Rattle.pli_world.specs.World.{World, at_statement, stepped}
 use Rattle.pli_value.specs.Value.{Value}
 use Rattle.pli_type_tree.specs.Templates.{variable_of}
 use Rattle.pli_type_tree.specs.Globals.{signature_of}
-use Rattle.pli_type_tree.specs.TypedTree.{OfBlock, OfEntry, Global, OwnVariable, ExternalVariable, EntryPoint, TypedProcedure, TypedUnit}
-use Rattle.pli_type_tree.specs.WellTyped.{BlockAround, KnownProcedure, IsReached}
-use Rattle.pli_meaning_tree.specs.Effects.{Effect, Gives, Jumps, Fails, Spent, Lost, Short, Flow, Next, Returned, and_then, answered, unless_full, closed, procedure_end}
-use Rattle.pli_meaning_tree.specs.TreeMeaning.{Calls, static_link, head_in, activation_of, does_list, procedure_run, activates_in, activates, procedure_in, unit_named, entry_unit, activates_outer, activates_unit, calls}
+use Rattle.pli_type_tree.specs.TypedTree.{Callee, OfBlock, OfEntry, Global, OwnVariable, ExternalVariable, EntryPoint, TypedProcedure, TypedUnit}
+use Rattle.pli_type_tree.specs.WellTyped.{BlockAround, KnownProcedure, IsReached, IsCallee}
+use Rattle.pli_meaning_tree.specs.Effects.{Effect, Gives, Jumps, Fails, Spent, Lost, Short, Flow, Next, Returned, and_then, answered, unless_full, procedure_end}
+use Rattle.pli_meaning_tree.specs.TreeMeaning.{Calls, static_link, head_in, activation_of, does_list, procedure_run, activates_in, activates, procedure_in, unit_named, entry_unit, activates_outer, activates_unit, called_in, calls}
 use Rattle.pli_meaning_tree.specs.TreeMeaning.{main_run, unit_run, ended_as, ran}
 use Rattle.pli_meaning_typed.specs.SoundWorlds.{AreGood, Shape, HoldsValues, AreShaped, AreStatics, IsSound}
 use Rattle.pli_meaning_typed.specs.TypedPrograms.{context_in, HasEnd, IsTypedProcedure, IsOuter, IsTypedUnit, AreTypedUnits, IsLinked, HasMain, EveryRunIsMeant}
 use Rattle.pli_meaning_typed.proofs.ExpressionsMean.{IsReturned, Gives as GivesBack, CallsMean}
-use Rattle.pli_meaning_typed.proofs.MeansLemmas.{IsBelow, Means, closed_means, behind_step, full_means}
+use Rattle.pli_meaning_typed.proofs.MeansLemmas.{IsBelow, Means, behind_step, full_means}
 use Rattle.pli_meaning_typed.proofs.ContextLaws.{IsUnit, Known, Stand, near, stand_around, shaped_length}
 use Rattle.pli_meaning_typed.proofs.FormsMean.{FlowIs}
 use Rattle.pli_meaning_typed.proofs.StatementsMean.{in_own_block, activation_means, list_means}
@@ -172,12 +172,11 @@ module _ (units : List TypedUnit) (greatest : ℕ) (all_typed : AreTypedUnits gr
         → Mean u.signature.result (activates_outer greatest (calls greatest units level u) level u.name (procedure_in u.procedures 0) places w left)
     outer_means i u there good =
         subst (λ o. Mean p.value (activates_outer greatest call level u.name o places w left)) (sym f.1)
-        (subst (λ b. Mean p.value (if b then closed (activates_in greatest call level u.name f.0 (Some 0) places w left) else Lost)) (sym (ap is_external f.2.parent))
-        (closed_means units (GivesBack p.value) (suc level) left known (x ∷ ss) w (activates_in greatest call level u.name f.0 (Some 0) places w left)
-        (subst (λ b. Means units (suc level) left (λ h k. false) (x ∷ ss) w (GivesBack p.value) (if b then unless_full (procedure_run greatest call level u.name f.0 0 places) w left else Lost))
+        (subst (λ b. Mean p.value (if b then activates_in greatest call level u.name f.0 (Some 0) places w left else Lost)) (sym (ap is_external f.2.parent))
+        (subst (λ b. Mean p.value (if b then unless_full (procedure_run greatest call level u.name f.0 0 places) w left else Lost))
         (sym (eq-eqb f.0.parameters (length places) (f.2.parameters ∙ good_length w p.parameters places good)))
-        (full_means units (GivesBack p.value) (suc level) left (λ h k. false) x ss (procedure_run greatest call level u.name f.0 0 places) w sound
-        (procedure_means units greatest u own typed.procedures level call f.0 p (λ h k. false) (x ∷ ss) 0 places f.2 (means i u there typed) tt (λ h k lt. refl) w left sound good)))))
+        (full_means units (GivesBack p.value) (suc level) left known x ss (procedure_run greatest call level u.name f.0 0 places) w sound
+        (procedure_means units greatest u own typed.procedures level call f.0 p known (x ∷ ss) 0 places f.2 (means i u there typed) tt below w left sound good))))
       where
         typed : IsTypedUnit greatest u
         typed = unit_typed greatest units i u all_typed there
@@ -215,13 +214,23 @@ module _ (units : List TypedUnit) (greatest : ℕ) (all_typed : AreTypedUnits gr
             (outer_means n.0 v.0 n.1 (subst (λ ds. AreGood w ds places) (sym (ap (λ s. s.parameters) same)) good)))
 
   pub calls_mean : (level : ℕ) → AllMean level
-  calls_mean zero i u there typed callee parameters value known x ss blocks found stand below places w left sound good = omega arith
-  calls_mean (suc level) i u there typed (OfBlock block) parameters value known x ss blocks found stand below places w left sound good =
-      let p = found.0 in
-      subst (λ d. Means units (suc level) left known (x ∷ ss) w (GivesBack d) (activates greatest (calls greatest units level u) level u.name (procedure_in u.procedures block) places w left)) found.4
-      (inside_means level (calls_mean level) known x ss below places w left sound i u there typed blocks block p found.1 found.2 stand (subst (λ ds. AreGood w ds places) (sym found.3) good))
-  calls_mean (suc level) i u there typed (OfEntry number) parameters value known x ss blocks found stand below places w left sound good =
-      entry_means level (calls_mean level) known x ss below places w left sound i u there number parameters value found good
+  calls_mean zero i u there typed = record { procedure = λ callee parameters value known x ss blocks found stand below places w left sound good. omega arith }
+  calls_mean (suc level) i u there typed =
+      record {
+        procedure = λ callee parameters value known x ss blocks found stand below places w left sound good.
+            by (calls_mean level) callee parameters value known x ss blocks found stand below places w left sound good;
+      }
+    where
+      by : AllMean level → (callee : Callee) (parameters : List Description) (value : Option Description) (known : Known) (x : Shape) (ss : List Shape) (blocks : List BlockAround)
+          → IsCallee u.globals typed.procedures blocks callee parameters value → Stand u.name known (x ∷ ss) (suc (length ss)) blocks → IsBelow known (suc (length ss))
+          → (places : List Place) (w : World) (left : ℕ) → IsSound units (x ∷ ss) w → AreGood w parameters places
+          → Means units (suc level) left known (x ∷ ss) w (GivesBack value) (called_in greatest units (calls greatest units level) level u callee places w left)
+      by means (OfBlock block) parameters value known x ss blocks found stand below places w left sound good =
+          let p = found.0 in
+          subst (λ d. Means units (suc level) left known (x ∷ ss) w (GivesBack d) (activates greatest (calls greatest units level u) level u.name (procedure_in u.procedures block) places w left)) found.4
+          (inside_means level means known x ss below places w left sound i u there typed blocks block p found.1 found.2 stand (subst (λ ds. AreGood w ds places) (sym found.3) good))
+      by means (OfEntry number) parameters value known x ss blocks found stand below places w left sound good =
+          entry_means level means known x ss below places w left sound i u there number parameters value found good
 
 -- a run: what has a meaning ends so
 ended : (e : Ending) (w : World) → e ≢ MachineFault → (o : Outcome) × (ended_as e w ≡ Some o)

@@ -18,10 +18,10 @@ use Rattle.pli_type_tree.specs.TypedTree.{TypedStatements, NoStatement, Statemen
 use Rattle.pli_type_tree.specs.ValueTypes.{OfBits}
 use Rattle.pli_type_tree.specs.WellTyped.{AreMade, BlockAround, TypingContext, blocks_from, IsString, labels_of, with_labels}
 use Rattle.pli_type_tree.specs.WellTyped.{in_group, block_of, in_begin, IsTypedStatement, IsTypedForm, IsTypedElse, AreTypedStatements}
-use Rattle.pli_meaning_tree.specs.Effects.{Effect, Gives, Flow, Next, Returned, Doing, and_then, nothing_done, followed, answered, back_at}
+use Rattle.pli_meaning_tree.specs.Effects.{Label, Effect, Gives, Flow, Next, Returned, Doing, and_then, nothing_done, followed, answered, back_at}
 use Rattle.pli_meaning_tree.specs.Effects.{leaving, block_end}
 use Rattle.pli_meaning_tree.specs.TreeMeaning.{Calls, condition, assigns, assigns_aggregate, puts, skips}
-use Rattle.pli_meaning_tree.specs.TreeMeaning.{does_call, returns_value, number_of, labels_in, head_in, static_link, activation_of, in_block, does, does_form, does_else}
+use Rattle.pli_meaning_tree.specs.TreeMeaning.{does_call, returns_value, bears, labels_in, head_in, static_link, activation_of, in_block, does, does_form, does_else}
 use Rattle.pli_meaning_tree.specs.TreeMeaning.{does_list, does_from}
 use Rattle.pli_meaning_typed.specs.SoundWorlds.{AreGood, Shape, IsSound, IsLater, Answers}
 use Rattle.pli_meaning_typed.proofs.MeansLemmas.{IsBelow, also, Means, Anything, means_from, then_means, statement_means, chosen_means}
@@ -30,37 +30,41 @@ use Rattle.pli_meaning_typed.proofs.ExpressionsMean.{CallsMean}
 use Rattle.pli_meaning_typed.proofs.FormsMean.{FlowIs, Fits, condition_means, assigns_means, aggregate_means, skips_means, call_means}
 use Rattle.pli_meaning_typed.proofs.FormsMean.{jump_means, return_means, value_returned}
 use Rattle.pli_meaning_typed.proofs.IterationsMean.{iterates_means}
-use Rattle.pli_meaning_typed.proofs.ContextLaws.{IsUnit, Known, Wider, AreKnown, Stand, near, stand_wider, stand_labels, shaped_length}
+use Rattle.pli_meaning_typed.proofs.ContextLaws.{IsUnit, Known, Wider, AreKnown, Stand, near, stand_wider, stand_labels, same_self, shaped_length}
 use Rattle.pli_meaning_typed.proofs.WorldLaws.{later_same, entered_answers, left_sound, left_later, statement_sound}
 
 ended_other : Ended ≢ MachineFault
 ended_other e = absurd (cc)
 
 -- labels
-pub held_labels : (statements : TypedStatements) (label : ℕ) → IsTrue (list_any (nat_eq label) (labels_of statements)) → labels_in statements label ≡ true
-held_labels NoStatement label h = h
-held_labels (StatementThen (Statement number form) more) label h =
-    by (nat_eq label number) (nat_eq number label) refl refl h (held_labels more label)
+pub held_labels : (unit : Name) (statements : TypedStatements) (label : ℕ) → IsTrue (list_any (nat_eq label) (labels_of statements))
+    → labels_in unit statements (record { unit = unit; number = label }) ≡ true
+held_labels unit NoStatement label h = h
+held_labels unit (StatementThen (Statement number form) more) label h =
+    ap (λ b. b && nat_eq number label || labels_in unit more (record { unit = unit; number = label })) (same_self unit)
+    ∙ by (nat_eq label number) (nat_eq number label) refl refl h (held_labels unit more label)
   where
     by : (b c : Bool) → nat_eq label number ≡ b → nat_eq number label ≡ c → b || list_any (nat_eq label) (labels_of more) ≡ true
-        → (list_any (nat_eq label) (labels_of more) ≡ true → labels_in more label ≡ true) → c || labels_in more label ≡ true
+        → (list_any (nat_eq label) (labels_of more) ≡ true → labels_in unit more (record { unit = unit; number = label }) ≡ true)
+        → c || labels_in unit more (record { unit = unit; number = label }) ≡ true
     by b true e f h rest = refl
     by true false e f h rest = absurd (true≢false (sym (eq-eqb number label (sym (eqb-true label number e))) ∙ f))
     by false false e f h rest = rest h
 
-also_wide : (held : ℕ → Bool) (height : ℕ) (known : Known) → Wider known (also held height known)
+also_wide : (held : Label → Bool) (height : ℕ) (known : Known) → Wider known (also held height known)
 also_wide held height known h k t = by (nat_eq h height && held k)
   where
     by : (b : Bool) → (if b then true else known h k) ≡ true
     by true = refl
     by false = t
 
-also_new : (statements : TypedStatements) (height : ℕ) (known : Known) → AreKnown (also (labels_in statements) height known) height (labels_of statements)
-also_new statements height known l h =
-    ap (λ b. if b && labels_in statements l then true else known height l) (eq-eqb height height refl)
-    ∙ ap (λ b. if b then true else known height l) (held_labels statements l h)
+also_new : (unit : Name) (statements : TypedStatements) (height : ℕ) (known : Known) → AreKnown unit (also (labels_in unit statements) height known) height (labels_of statements)
+also_new unit statements height known n h =
+    let label : Label = record { unit = unit; number = n } in
+    ap (λ b. if b && labels_in unit statements label then true else known height label) (eq-eqb height height refl)
+    ∙ ap (λ b. if b then true else known height label) (held_labels unit statements n h)
 
-also_below : (held : ℕ → Bool) (height : ℕ) (known : Known) → IsBelow known height → IsBelow (also held height known) height
+also_below : (held : Label → Bool) (height : ℕ) (known : Known) → IsBelow known height → IsBelow (also held height known) height
 also_below held height known below h k lt = by (nat_eq h height) refl
   where
     by : (b : Bool) → nat_eq h height ≡ b → (if b && held k then true else known h k) ≡ false
@@ -68,19 +72,19 @@ also_below held height known below h k lt = by (nat_eq h height) refl
     by false e = below h k lt
 
 -- a list begins at its front or at a label of its own
-abbrev Starts : TypedStatements → Option ℕ → Type 0
-Starts statements None = Unit {0}
-Starts statements (Some label) = labels_in statements label ≡ true
+abbrev Starts : (unit : Name) → TypedStatements → Option Label → Type 0
+Starts unit statements None = Unit {0}
+Starts unit statements (Some label) = labels_in unit statements label ≡ true
 
 in_own_group : (units : List TypedUnit) (unit : Name) (known : Known) (x : Shape) (ss : List Shape) (s : TypingContext) (block : ℕ) (statements : TypedStatements) → Fits units unit known x ss s block
-    → Fits units unit (also (labels_in statements) (suc (length ss)) known) x ss (in_group statements s) block
+    → Fits units unit (also (labels_in unit statements) (suc (length ss)) known) x ss (in_group statements s) block
 in_own_group units unit known x ss s block statements f =
-    let more = also (labels_in statements) (suc (length ss)) known in record {
+    let more = also (labels_in unit statements) (suc (length ss)) known in record {
       inside = record { own = f.inside.own; top = f.inside.top };
       stand =
-          stand_labels unit known more (labels_of statements) (x ∷ ss) (suc (length ss)) s.blocks (also_wide (labels_in statements) (suc (length ss)) known)
-          (also_new statements (suc (length ss)) known) f.stand;
-      below = also_below (labels_in statements) (suc (length ss)) known f.below;
+          stand_labels unit known more (labels_of statements) (x ∷ ss) (suc (length ss)) s.blocks (also_wide (labels_in unit statements) (suc (length ss)) known)
+          (also_new unit statements (suc (length ss)) known) f.stand;
+      below = also_below (labels_in unit statements) (suc (length ss)) known f.below;
       first = record f.first { labels = labels_of statements ++ f.first.labels };
       others = f.others;
       blocks = ap (λ bs. with_labels (labels_of statements) bs) f.blocks;
@@ -95,11 +99,11 @@ variables_described (t ∷ ts) = ap (λ ds. t.description ∷ ds) (variables_des
 -- a block's own statements
 pub in_own_block : (units : List TypedUnit) (unit : Name) (known : Known) (head : BlockHead) (parameters : List Description) (statements : TypedStatements) (link : ℕ) (ss : List Shape)
     (s : TypingContext) (around : List BlockAround) → s.blocks ≡ block_of head parameters statements ∷ around → IsUnit units unit s.globals → Stand unit known ss link around → IsBelow known (length ss)
-    → Fits units unit (also (labels_in statements) (suc (length ss)) known)
+    → Fits units unit (also (labels_in unit statements) (suc (length ss)) known)
     (record { unit = unit; block = head.number; link = link; slots = parameters ++ map (λ v. v.description) (map variable_of head.variables) }) ss s head.number
 in_own_block units unit known head parameters statements link ss s around e own stand below =
     let h = suc (length ss) in
-    let more = also (labels_in statements) h known in
+    let more = also (labels_in unit statements) h known in
     let y : Shape = record { unit = unit; block = head.number; link = link; slots = parameters ++ map (λ v. v.description) (map variable_of head.variables) } in record {
       inside = record { own = own; top = refl };
       stand = subst (λ bs. Stand unit more (y ∷ ss) h bs) (sym e)
@@ -107,11 +111,11 @@ in_own_block units unit known head parameters statements link ss s around e own 
             refl,
             refl,
             ap (λ ds. parameters ++ ds) (variables_described head.variables),
-            also_new statements h known,
-            stand_wider unit known more ss link around (also_wide (labels_in statements) h known) stand,
+            also_new unit statements h known,
+            stand_wider unit known more ss link around (also_wide (labels_in unit statements) h known) stand,
             refl,
           ));
-      below = also_below (labels_in statements) h known (λ i k lt. below i k (omega (arith, lt)));
+      below = also_below (labels_in unit statements) h known (λ i k lt. below i k (omega (arith, lt)));
       first = block_of head parameters statements;
       others = around;
       blocks = e;
@@ -164,18 +168,18 @@ module _ (units : List TypedUnit) (greatest level : ℕ) (call : Calls) (unit : 
 
   -- a list, which catches the jumps to its labels
   list_run : (s : TypingContext) (known : Known) (x : Shape) (ss : List Shape) (block : ℕ) (statements : TypedStatements)
-      → ((from : Option ℕ) → Starts statements from → (w : World) (left : ℕ) → IsSound units (x ∷ ss) w
-      → Here s (also (labels_in statements) (suc (length ss)) known) x ss left w (Flows s) (does_from greatest call unit level block statements from w left))
+      → ((from : Option Label) → Starts unit statements from → (w : World) (left : ℕ) → IsSound units (x ∷ ss) w
+      → Here s (also (labels_in unit statements) (suc (length ss)) known) x ss left w (Flows s) (does_from greatest call unit level block statements from w left))
       → (w : World) (left : ℕ) → IsSound units (x ∷ ss) w
       → Here s known x ss left w (Flows s) (does_list greatest call unit level block statements w left)
   list_run s known x ss block statements f w left sound =
-      caught_means units (Flows s) level known (x ∷ ss) (labels_in statements) (does_from greatest call unit level block statements)
-      (Starts statements) (λ k e. e) f level (omega arith) None tt w left sound
+      caught_means units (Flows s) level known (x ∷ ss) (labels_in unit statements) (does_from greatest call unit level block statements)
+      (Starts unit statements) (λ k e. e) f level (omega arith) None tt w left sound
 
   -- a BEGIN block
   begun : (s : TypingContext) (known : Known) (x : Shape) (ss : List Shape) (block : ℕ) (head : BlockHead) (statements : TypedStatements) → Fits units unit known x ss s block
       → AreMade (map variable_of head.variables)
-      → ((y : Shape) → Fits units unit (also (labels_in statements) (suc (length (x ∷ ss))) known) y (x ∷ ss) (in_begin head statements s) head.number
+      → ((y : Shape) → Fits units unit (also (labels_in unit statements) (suc (length (x ∷ ss))) known) y (x ∷ ss) (in_begin head statements s) head.number
       → (w : World) (left : ℕ) → IsSound units (y ∷ x ∷ ss) w
       → Here (in_begin head statements s) known y (x ∷ ss) left w (Flows (in_begin head statements s)) (does_list greatest call unit level head.number statements w left))
       → (w : World) (left : ℕ) → IsSound units (x ∷ ss) w
@@ -255,12 +259,12 @@ module _ (units : List TypedUnit) (greatest level : ℕ) (call : Calls) (unit : 
         grown s known x ss w left (does_form greatest call unit level block number (Begin head statements) w left)
         (begun s known x ss block head statements fits typed.0
         (λ y f v l sound. list_run (in_begin head statements s) known y (x ∷ ss) head.number statements
-        (λ from starts u m sound. from_means statements from (in_begin head statements s) (also (labels_in statements) (suc (length (x ∷ ss))) known) y (x ∷ ss) head.number typed.1 f calls starts u m sound)
+        (λ from starts u m sound. from_means statements from (in_begin head statements s) (also (labels_in unit statements) (suc (length (x ∷ ss))) known) y (x ∷ ss) head.number typed.1 f calls starts u m sound)
         v l sound) w left sound)
     form_means (Group statements) s known x ss block number typed fits calls w left sound =
         grown s known x ss w left (does_list greatest call unit level block statements w left)
         (list_run (in_group statements s) known x ss block statements
-        (λ from starts u m sound. from_means statements from (in_group statements s) (also (labels_in statements) (suc (length ss)) known) x ss block typed (in_own_group units unit known x ss s block statements fits) calls starts u m sound)
+        (λ from starts u m sound. from_means statements from (in_group statements s) (also (labels_in unit statements) (suc (length ss)) known) x ss block typed (in_own_group units unit known x ss s block statements fits) calls starts u m sound)
         w left sound)
     form_means (While e statements) s known x ss block number typed fits calls w left sound =
         grown s known x ss w left (does_form greatest call unit level block number (While e statements) w left)
@@ -268,7 +272,7 @@ module _ (units : List TypedUnit) (greatest level : ℕ) (call : Calls) (unit : 
         (does_list greatest call unit level block statements) nothing_done (λ w. tt)
         (λ v l sound. test_means s known x ss block number e typed.0 fits calls v l sound)
         (λ v l sound. list_run (in_group statements s) known x ss block statements
-        (λ from starts u m sound. from_means statements from (in_group statements s) (also (labels_in statements) (suc (length ss)) known) x ss block typed.1 (in_own_group units unit known x ss s block statements fits) calls starts u m sound)
+        (λ from starts u m sound. from_means statements from (in_group statements s) (also (labels_in unit statements) (suc (length ss)) known) x ss block typed.1 (in_own_group units unit known x ss s block statements fits) calls starts u m sound)
         v l sound)
         (λ v l sound. (omega arith, tt, sound, later_same v))
         level (omega arith) w left sound)
@@ -276,7 +280,7 @@ module _ (units : List TypedUnit) (greatest level : ℕ) (call : Calls) (unit : 
         grown s known x ss w left (does_form greatest call unit level block number (Iterate iteration statements) w left)
         (iterates_means units greatest level call unit s known x ss block fits calls number iteration (does_list greatest call unit level block statements) typed.0
         (λ v l sound. list_run (in_group statements s) known x ss block statements
-        (λ from starts u m sound. from_means statements from (in_group statements s) (also (labels_in statements) (suc (length ss)) known) x ss block typed.1 (in_own_group units unit known x ss s block statements fits) calls starts u m sound)
+        (λ from starts u m sound. from_means statements from (in_group statements s) (also (labels_in unit statements) (suc (length ss)) known) x ss block typed.1 (in_own_group units unit known x ss s block statements fits) calls starts u m sound)
         v l sound)
         w left sound)
     form_means (Call callee arguments) s known x ss block number typed fits calls w left sound =
@@ -298,8 +302,8 @@ module _ (units : List TypedUnit) (greatest level : ℕ) (call : Calls) (unit : 
     else_means NoElse s known x ss block typed fits calls w left sound = (omega arith, tt, sound, later_same w)
     else_means (Else st) s known x ss block typed fits calls w left sound = does_means st s known x ss block typed fits calls w left sound
 
-    from_means : (statements : TypedStatements) (from : Option ℕ) (s : TypingContext) (known : Known) (x : Shape) (ss : List Shape) (block : ℕ)
-        → AreTypedStatements greatest s statements → Fits units unit known x ss s block → CallsIn s → Starts statements from
+    from_means : (statements : TypedStatements) (from : Option Label) (s : TypingContext) (known : Known) (x : Shape) (ss : List Shape) (block : ℕ)
+        → AreTypedStatements greatest s statements → Fits units unit known x ss s block → CallsIn s → Starts unit statements from
         → (w : World) (left : ℕ) → IsSound units (x ∷ ss) w
         → Here s known x ss left w (Flows s) (does_from greatest call unit level block statements from w left)
     from_means NoStatement None s known x ss block typed fits calls starts w left sound = (omega arith, tt, sound, later_same w)
@@ -309,7 +313,7 @@ module _ (units : List TypedUnit) (greatest level : ℕ) (call : Calls) (unit : 
         (does_means st s known x ss block typed.0 fits calls w left sound)
         (λ v l le sound. from_means more None s known x ss block typed.1 fits calls tt v l sound)
     from_means (StatementThen st more) (Some label) s known x ss block typed fits calls starts w left sound =
-        picked s known x ss w left (nat_eq (number_of st) label) (labels_in more label)
+        picked s known x ss w left (bears unit st label) (labels_in unit more label)
         (followed (does greatest call unit level block st w left) (does_from greatest call unit level block more None))
         (does_from greatest call unit level block more (Some label) w left) starts
         (followed_means units (Flows s) level left known (x ∷ ss) w (does greatest call unit level block st w left) _
@@ -318,10 +322,10 @@ module _ (units : List TypedUnit) (greatest level : ℕ) (call : Calls) (unit : 
         (λ there. from_means more (Some label) s known x ss block typed.1 fits calls there w left sound)
 
   pub list_means : (statements : TypedStatements) (s : TypingContext) (known : Known) (x : Shape) (ss : List Shape) (block : ℕ)
-      → AreTypedStatements greatest s statements → Fits units unit (also (labels_in statements) (suc (length ss)) known) x ss s block → CallsIn s
+      → AreTypedStatements greatest s statements → Fits units unit (also (labels_in unit statements) (suc (length ss)) known) x ss s block → CallsIn s
       → (w : World) (left : ℕ) → IsSound units (x ∷ ss) w
       → Here s known x ss left w (Flows s) (does_list greatest call unit level block statements w left)
   list_means statements s known x ss block typed fits calls w left sound =
       list_run s known x ss block statements
-      (λ from starts v l sound. from_means statements from s (also (labels_in statements) (suc (length ss)) known) x ss block typed fits calls starts v l sound)
+      (λ from starts v l sound. from_means statements from s (also (labels_in unit statements) (suc (length ss)) known) x ss block typed fits calls starts v l sound)
       w left sound

@@ -1,12 +1,14 @@
 -- Worked examples of the meaning, in a unit M whose external procedure is block 0 and statement 1.
 use Rattle.std.specs.Prelude.{◌≡◌, ℕ, pos, neg_ℤ, true, false, Option, Some, None, List, [], ◌∷◌, ◌++◌}
 use Rattle.std.specs.Prelude.{map, codes}
+use Rattle.pli_base.specs.Name.{Name}
 use Rattle.pli_code.specs.declared.ending.Ending.{Ending}
 use Rattle.pli_code.specs.declared.ending.Ending.TheVariants.{Ended, OutOfSteps, Error}
 use Rattle.pli_code.specs.declared.ending.RunError.TheVariants.{SubscriptRange, FixedOverflow}
 use Rattle.pli_code.specs.declared.ending.RunError.TheVariants.{NoReturnedValue}
 use Rattle.pli_map.specs.Description.{Description, FixedBinary, Array}
 use Rattle.pli_operation.specs.Operations.{Operation, Add, Subtract, Compare, Less, ToCharacters, Fit}
+use Rattle.pli_world.specs.World.{nothing, cleared}
 use Rattle.pli_value.specs.Value.{Number, Characters, Bits}
 use Rattle.pli_type_tree.specs.Templates.{Template}
 use Rattle.pli_type_tree.specs.TypedTree.{InSlot, OfProgram, OfBlock, OfEntry, TypedExpression}
@@ -19,7 +21,8 @@ use Rattle.pli_type_tree.specs.TypedTree.{Return, Null, TypedRange, Once, ToBy, 
 use Rattle.pli_type_tree.specs.TypedTree.{ReturnValue, Stop, NoElse, Else, TypedStatements, NoStatement}
 use Rattle.pli_type_tree.specs.TypedTree.{StatementThen, TypedProcedure, Signature, Global, ExternalVariable}
 use Rattle.pli_type_tree.specs.TypedTree.{EntryPoint, TypedUnit}
-use Rattle.pli_meaning_tree.specs.TreeMeaning.{TypedProgram, whole_run}
+use Rattle.pli_meaning_tree.specs.Effects.{Label, Effect, Gives, Jumps, Flow, Next, Doing}
+use Rattle.pli_meaning_tree.specs.TreeMeaning.{TypedProgram, as_list, whole_run}
 
 -- variables without initial values
 abbrev pub of : Description → Template
@@ -251,6 +254,26 @@ GotoGroupBeginsAnew =
     Prints (alone (FixedBinary 15 ∷ []) (Statement 2 (Group (listed (Statement 3 (adds 1)
     ∷ Statement 4 (If (is_less 2) (Statement 5 (Goto 0 2)) NoElse) ∷ []))) ∷ []))
     8 [] Ended 1
+
+-- label 7 of a unit
+abbrev pub seven_of : (unit : Name) → Label
+seven_of unit = record { unit = unit; number = 7 }
+
+-- from its front a list jumps to a label, and from a label it ends at once
+abbrev pub jumps_first : Label → (from : Option Label) → Doing Flow
+jumps_first label None w left = Jumps 0 label w left
+jumps_first label (Some own) w left = Gives Next w left
+
+-- what such a list comes to, which is of unit M and holds statement 7
+abbrev pub jump_in_list : Label → Effect Flow
+jump_in_list label =
+    as_list 2 (codes "M") (listed (Statement 7 Null ∷ [])) (jumps_first label) nothing 5
+
+-- the list catches a jump to its own label, and not one to the label of the same number of another unit
+abbrev pub LabelsAreOfUnits : Type 0
+LabelsAreOfUnits =
+    (jump_in_list (seven_of (codes "M")) ≡ Gives Next (cleared nothing) 5)
+    × (jump_in_list (seven_of (codes "N")) ≡ Jumps 0 (seven_of (codes "N")) nothing 5)
 
 -- RETURN in a BEGIN block returns from the procedure, and STOP ends the run
 abbrev pub ReturnLeavesBlock : Type 0

@@ -43,6 +43,9 @@ returns-clause-goto_leaves_call c = holds.goto_leaves_call
 pub returns-clause-goto_group_begins_anew : goal.returns-clause-goto_group_begins_anew
 returns-clause-goto_group_begins_anew c = holds.goto_group_begins_anew
 
+pub returns-clause-labels_are_of_units : goal.returns-clause-labels_are_of_units
+returns-clause-labels_are_of_units c = holds.labels_are_of_units
+
 pub returns-clause-return_leaves_block : goal.returns-clause-return_leaves_block
 returns-clause-return_leaves_block c = holds.return_leaves_block
 
