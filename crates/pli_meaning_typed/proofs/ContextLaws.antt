@@ -6,15 +6,18 @@ use Rattle.std.proofs.Common.{arith, sym, ap, ◌∙◌, subst, inl, inr}
 use Rattle.std.proofs.lemmas.Bool.{eqb-true, eq-eqb}
 use Rattle.pli_base.specs.Name.{Name}
 use Rattle.pli_base.specs.Words.{same_name}
+use Rattle.pli_code.specs.declared.ending.RunError.TheVariants.{NoGeneration}
 use Rattle.pli_map.specs.Description.{Description}
 use Rattle.pli_world.specs.Activations.{Activation, activation_at, outward_from, nearest_of, is_of}
 use Rattle.pli_world.specs.Storage.{Place}
-use Rattle.pli_world.specs.World.{World, Yields, known as there_is, further, height, height_of, slot_in, slot_place, static_place, newest_unit, static_in}
+use Rattle.pli_world.specs.World.{Standing, Lies, Stacked, World, Yields, known as there_is, further, height, height_of, slot_in, slot_place}
+use Rattle.pli_world.specs.World.{static_place, newest_unit, static_in, newest_in, place_standing}
 use Rattle.pli_type_tree.specs.Globals.{description_of}
 use Rattle.pli_type_tree.specs.TypedTree.{Global, TypedUnit}
 use Rattle.pli_type_tree.specs.WellTyped.{BlockAround, AreAround, blocks_from, with_labels}
 use Rattle.pli_meaning_tree.specs.Effects.{Label}
-use Rattle.pli_meaning_typed.specs.SoundWorlds.{IsGood, AreGood, Shape, AreShaped, IsSound}
+use Rattle.pli_meaning_typed.specs.SoundWorlds.{IsGood, AreGood, Shape, AreShaped, EachGood, StandsGood, IsSound, IsLater, Answers}
+use Rattle.pli_meaning_typed.proofs.WorldLaws.{later_same, error_named}
 
 -- which labels of which activations, by their height, a jump may lead to
 abbrev pub Known : Type 0
@@ -305,14 +308,24 @@ pub record IsUnit (units : List TypedUnit) (name : Name) (globals : List Global)
   pub named : unit.name ≡ name
   pub has : unit.globals ≡ globals
 
-pub static_there : (units : List TypedUnit) (unit : Name) (globals : List Global) (s : Shape) (ss : List Shape) (w : World) (number : ℕ) (d : Description)
+pub static_answers : (units : List TypedUnit) (unit : Name) (globals : List Global) (s : Shape) (ss : List Shape) (w : World) (number : ℕ) (d : Description)
     → IsUnit units unit globals → s.unit ≡ unit → IsSound units (s ∷ ss) w → description_of (slice_get globals number) ≡ Some d
-    → (p : Place) × (static_place number w ≡ Yields p w) × IsGood w d p
+    → Answers (λ p v. IsGood v d p × IsSound units (s ∷ ss) v × IsLater w v) (static_place number w)
 unfolding static_place
-static_there units unit globals s ss w number d own top sound e =
-    let p = sound.made own.number own.unit own.there number d (ap (λ gs. description_of (slice_get gs number)) own.has ∙ e) in (
-      p.0,
-      ap (λ o. further (there_is o w) (λ unit w. there_is (static_in w.statics unit number) w)) (first_unit w s ss w.activations sound.stack)
-          ∙ ap (λ n. there_is (static_in w.statics n number) w) (top ∙ sym own.named) ∙ ap (λ o. there_is o w) p.1,
-      p.2,
-    )
+static_answers units unit globals s ss w number d own top sound e =
+    let t = sound.made own.number own.unit own.there number d (ap (λ gs. description_of (slice_get gs number)) own.has ∙ e) in
+    subst (λ o. Answers Good o)
+    (sym (ap (λ o. further (there_is o w) (λ unit w. further (there_is (static_in w.statics unit number) w) place_standing)) (first_unit w s ss w.activations sound.stack)
+    ∙ ap (λ n. further (there_is (static_in w.statics n number) w) place_standing) (top ∙ sym own.named) ∙ ap (λ o. further (there_is o w) place_standing) t.1))
+    (placed t.0 t.2)
+  where
+    Good : Place → World → Type 0
+    Good p v = IsGood v d p × IsSound units (s ∷ ss) v × IsLater w v
+
+    newest : (ps : List Place) → EachGood w d ps → Answers Good (newest_in ps w)
+    newest [] good = error_named units s ss w NoGeneration sound
+    newest (p ∷ ps) good = (good.0, sound, later_same w)
+
+    placed : (t : Standing) → StandsGood w d t → Answers Good (place_standing t w)
+    placed (Lies p) good = (good, sound, later_same w)
+    placed (Stacked list) good = subst (λ o. Answers Good (further (there_is o w) newest_in)) (sym good.1) (newest good.0 good.2)

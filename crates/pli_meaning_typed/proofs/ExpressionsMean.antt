@@ -11,7 +11,7 @@ use Rattle.pli_map.specs.Scalars.{first_scalar, is_scalar}
 use Rattle.pli_operation.specs.Operations.{Operation, Calculation, Calculates, RaisesCondition, OutOfString, Misfits, calculated}
 use Rattle.pli_world.specs.Storage.{Generation, Place, field_of, generation_in}
 use Rattle.pli_map.specs.Values.{holds}
-use Rattle.pli_world.specs.World.{World, Answer, Yields, Raises, Wrong, held, slot_place, calculation, dummy_of}
+use Rattle.pli_world.specs.World.{World, Answer, Yields, Raises, Wrong, held, slot_place, static_place, calculation, dummy_of}
 use Rattle.pli_value.specs.Value.{Value, Number, Characters, Bits}
 use Rattle.pli_value.specs.declared.number.Raised.TheVariants as raised
 use Rattle.pli_type_tree.specs.TypedTree.{Root, InSlot, OfProgram, Callee, Global, TypedUnit, Stride, TypedExpression, Literal, Held, Calculated, Called, TypedReference}
@@ -27,7 +27,7 @@ use Rattle.pli_meaning_typed.specs.SoundWorlds.{IsPartAt, IsGood, AreGood, Shape
 use Rattle.pli_meaning_typed.proofs.MeansLemmas.{IsBelow, Means, then_means, answer_means}
 use Rattle.pli_meaning_typed.proofs.OperationsFit.{IsCalculated, operated_fits}
 use Rattle.pli_meaning_typed.proofs.PartsWithin.{parts_within}
-use Rattle.pli_meaning_typed.proofs.ContextLaws.{IsUnit, Known, Stand, slot_there, static_there}
+use Rattle.pli_meaning_typed.proofs.ContextLaws.{IsUnit, Known, Stand, slot_there, static_answers}
 use Rattle.pli_meaning_typed.proofs.WorldLaws.{later_same, later_then, goods_later, error_named, held_answers, dummy_answers}
 
 some_same : {A : Type 0} {x y : A} → Some x ≡ Some y → x ≡ y
@@ -203,8 +203,7 @@ module _ (units : List TypedUnit) (greatest level : ℕ) (call : Calls) (unit : 
           let p = slot_there unit units known (x ∷ ss) s.blocks w outward slot b d sound stand f e in
           subst (λ a. Here left w (AtPlace d) (answered a left)) (sym p.1) (omega arith, p.2, sound, later_same w)
   root_means (OfProgram number) d e w left sound =
-      let p = static_there units unit s.globals x ss w number d inside.own inside.top sound e in
-      subst (λ a. Here left w (AtPlace d) (answered a left)) (sym p.1) (omega arith, p.2, sound, later_same w)
+      answer_means units (AtPlace d) level left known (x ∷ ss) w (static_place number w) (static_answers units unit s.globals x ss w number d inside.own inside.top sound e)
 
   -- what an operation comes to
   calculation_answers : (t : ValueType) (c : Calculation) (w : World) → Sound w → IsCalculated t c

@@ -8,18 +8,18 @@ use Rattle.pli_base.specs.Name.{Name}
 use Rattle.pli_base.specs.Words.{same_name, is_among}
 use Rattle.pli_map.specs.Description.{Description}
 use Rattle.pli_map.specs.Sizes.{size_of}
-use Rattle.pli_world.specs.Storage.{Generation, Static as AsStatic, Place, whole, live_bytes, generation_limit}
+use Rattle.pli_world.specs.Storage.{Generation, Static as AsStatic, whole, live_bytes, generation_limit}
 use Rattle.pli_map.specs.Variables.{byte_limit}
-use Rattle.pli_world.specs.World.{Static, World, Answer, Yields, further, static_in, is_named, external_in, made_of, made_once, with_static, statics_made, nothing}
+use Rattle.pli_world.specs.World.{Standing, Lies, Static, World, Answer, Yields, further, static_in, is_named, external_in, made_once, with_static, statics_made, nothing}
 use Rattle.pli_type_tree.specs.Globals.{global_variable, templates_in, description_of}
 use Rattle.pli_type_tree.specs.Templates.{Template, variable_of}
 use Rattle.pli_type_tree.specs.TypedTree.{Global, OwnVariable, ExternalVariable, EntryPoint, TypedUnit}
 use Rattle.pli_type_tree.specs.WellTyped.{AreMade}
 use Rattle.pli_meaning_tree.specs.TreeMeaning.{all_made}
-use Rattle.pli_meaning_typed.specs.SoundWorlds.{IsGood, HoldsValues, AreStatics, IsLater}
+use Rattle.pli_meaning_typed.specs.SoundWorlds.{HoldsValues, StandsGood, AreStatics, IsLater}
 use Rattle.pli_meaning_typed.specs.TypedPrograms.{NoneIsNamed, AreNamedApart, all_globals, IsLinked, unless, made_for, bytes_of, AreTypedUnits}
 use Rattle.pli_meaning_typed.proofs.ContextLaws.{same_self}
-use Rattle.pli_meaning_typed.proofs.WorldLaws.{later_same, later_then, good_later, new_generation, with_new, new_later, new_values, new_good, room_gives}
+use Rattle.pli_meaning_typed.proofs.WorldLaws.{later_same, later_then, stands_later, new_generation, with_new, new_later, new_values, new_good, room_gives}
 
 none_some : {A : Type 0} {x : A} → None ≡ Some x → ⊥
 none_some e = absurd (cc)
@@ -27,24 +27,24 @@ none_some e = absurd (cc)
 some_same : {A : Type 0} {x y : A} → Some x ≡ Some y → x ≡ y
 some_same e = cc
 
-more_kept : (ss : List Static) (s : Static) (unit : Name) (k : ℕ) (p : Place) → static_in ss unit k ≡ Some p → static_in (ss ++ s ∷ []) unit k ≡ Some p
+more_kept : (ss : List Static) (s : Static) (unit : Name) (k : ℕ) (p : Standing) → static_in ss unit k ≡ Some p → static_in (ss ++ s ∷ []) unit k ≡ Some p
 more_kept [] s unit k p h = absurd (none_some h)
 more_kept (t ∷ ss) s unit k p h = by (same_name t.unit unit && nat_eq t.number k) h (more_kept ss s unit k p)
   where
-    by : (b : Bool) → (if b then Some t.place else static_in ss unit k) ≡ Some p
+    by : (b : Bool) → (if b then Some t.standing else static_in ss unit k) ≡ Some p
         → (static_in ss unit k ≡ Some p → static_in (ss ++ s ∷ []) unit k ≡ Some p)
-        → (if b then Some t.place else static_in (ss ++ s ∷ []) unit k) ≡ Some p
+        → (if b then Some t.standing else static_in (ss ++ s ∷ []) unit k) ≡ Some p
     by true h rest = h
     by false h rest = rest h
 
 more_behind : (ss : List Static) (s : Static) (unit : Name) (k : ℕ) → static_in ss unit k ≡ None
-    → static_in (ss ++ s ∷ []) unit k ≡ (if same_name s.unit unit && nat_eq s.number k then Some s.place else None)
+    → static_in (ss ++ s ∷ []) unit k ≡ (if same_name s.unit unit && nat_eq s.number k then Some s.standing else None)
 more_behind [] s unit k h = refl
 more_behind (t ∷ ss) s unit k h = by (same_name t.unit unit && nat_eq t.number k) h (more_behind ss s unit k)
   where
-    by : (b : Bool) → (if b then Some t.place else static_in ss unit k) ≡ None
-        → (static_in ss unit k ≡ None → static_in (ss ++ s ∷ []) unit k ≡ (if same_name s.unit unit && nat_eq s.number k then Some s.place else None))
-        → (if b then Some t.place else static_in (ss ++ s ∷ []) unit k) ≡ (if same_name s.unit unit && nat_eq s.number k then Some s.place else None)
+    by : (b : Bool) → (if b then Some t.standing else static_in ss unit k) ≡ None
+        → (static_in ss unit k ≡ None → static_in (ss ++ s ∷ []) unit k ≡ (if same_name s.unit unit && nat_eq s.number k then Some s.standing else None))
+        → (if b then Some t.standing else static_in (ss ++ s ∷ []) unit k) ≡ (if same_name s.unit unit && nat_eq s.number k then Some s.standing else None)
     by true h rest = absurd (none_some (sym h))
     by false h rest = rest h
 
@@ -96,21 +96,21 @@ bytes_in_parts [] us = omega arith
 bytes_in_parts (t ∷ ts) us = omega (arith, bytes_in_parts ts us)
 
 -- a static more, by the names of external variables
-abbrev first_of : Option Place → Option Place → Option Place
+abbrev first_of : Option Standing → Option Standing → Option Standing
 first_of (Some p) o = Some p
 first_of None o = o
 
-external_more : (ss : List Static) (s : Static) (name : Name) → external_in (ss ++ s ∷ []) name ≡ first_of (external_in ss name) (if is_named name s.external then Some s.place else None)
+external_more : (ss : List Static) (s : Static) (name : Name) → external_in (ss ++ s ∷ []) name ≡ first_of (external_in ss name) (if is_named name s.external then Some s.standing else None)
 external_more [] s name = refl
 external_more (t ∷ ss) s name = by (is_named name t.external) (external_more ss s name)
   where
-    by : (b : Bool) → external_in (ss ++ s ∷ []) name ≡ first_of (external_in ss name) (if is_named name s.external then Some s.place else None)
-        → (if b then Some t.place else external_in (ss ++ s ∷ []) name)
-        ≡ first_of (if b then Some t.place else external_in ss name) (if is_named name s.external then Some s.place else None)
+    by : (b : Bool) → external_in (ss ++ s ∷ []) name ≡ first_of (external_in ss name) (if is_named name s.external then Some s.standing else None)
+        → (if b then Some t.standing else external_in (ss ++ s ∷ []) name)
+        ≡ first_of (if b then Some t.standing else external_in ss name) (if is_named name s.external then Some s.standing else None)
     by true rest = refl
     by false rest = rest
 
-first_alone : (o : Option Place) → first_of o None ≡ o
+first_alone : (o : Option Standing) → first_of o None ≡ o
 first_alone (Some p) = refl
 first_alone None = refl
 
@@ -119,8 +119,8 @@ abbrev Declared : List Global → Name → Template → Type 0
 Declared all name t = (k : ℕ) × (slice_get all k ≡ Some (ExternalVariable name t))
 
 -- the external variables of these names are made, and no others; each is as it is declared
-abbrev IsMade : List Global → World → Name → Bool → Option Place → Type 0
-IsMade all w name true (Some p) = (t : Template) → Declared all name t → IsGood w t.description p
+abbrev IsMade : List Global → World → Name → Bool → Option Standing → Type 0
+IsMade all w name true (Some p) = (t : Template) → Declared all name t → StandsGood w t.description p
 IsMade all w name true None = ⊥
 IsMade all w name false (Some p) = ⊥
 IsMade all w name false None = Unit {0}
@@ -128,29 +128,30 @@ IsMade all w name false None = Unit {0}
 abbrev AreExternals : List Global → (before : List Name) → World → Type 0
 AreExternals all before w = (name : Name) → IsMade all w name (is_among name before) (external_in w.statics name)
 
-made_later : (all : List Global) (w v : World) (name : Name) (b : Bool) (o : Option Place) → IsLater w v → IsMade all w name b o → IsMade all v name b o
-made_later all w v name true (Some p) later h = λ t d. good_later w v t.description p later (h t d)
-made_later all w v name true None later h = absurd h
-made_later all w v name false (Some p) later h = absurd h
-made_later all w v name false None later h = tt
+made_later : (all : List Global) (w v : World) (name : Name) (b : Bool) (o : Option Standing) → IsLater w v → v.lists ≡ w.lists → IsMade all w name b o → IsMade all v name b o
+made_later all w v name true (Some p) later lists h = λ t d. stands_later w v t.description p later lists (h t d)
+made_later all w v name true None later lists h = absurd h
+made_later all w v name false (Some p) later lists h = absurd h
+made_later all w v name false None later lists h = tt
 
 -- what making the variables of a unit, from a number on, leaves and adds
 record Grown (name : Name) (number : ℕ) (gs : List Global) (w v : World) : Type 0 where
   later : IsLater w v
-  kept : (unit : Name) (k : ℕ) (p : Place) → static_in w.statics unit k ≡ Some p → static_in v.statics unit k ≡ Some p
+  lists : v.lists ≡ w.lists
+  kept : (unit : Name) (k : ℕ) (p : Standing) → static_in w.statics unit k ≡ Some p → static_in v.statics unit k ≡ Some p
   apart : (unit : Name) (k : ℕ) → same_name name unit ≡ false → static_in w.statics unit k ≡ None → static_in v.statics unit k ≡ None
   found :
       ((k : ℕ) → number ≤ k → static_in w.statics name k ≡ None) → (i : ℕ) (d : Description) → description_of (slice_get gs i) ≡ Some d
-      → (p : Place) × (static_in v.statics name (number + i) ≡ Some p) × IsGood v d p
+      → (p : Standing) × (static_in v.statics name (number + i) ≡ Some p) × StandsGood v d p
 
--- a static more, at a place that is good
-module _ (name : Name) (number : ℕ) (external : Option Name) (d : Description) (p : Place) (w x : World) (same : x.statics ≡ w.statics) (later : IsLater w x)
-    (good : IsGood x d p) where
+-- a static more, which stands as it should
+module _ (name : Name) (number : ℕ) (external : Option Name) (d : Description) (p : Standing) (w x : World) (same : x.statics ≡ w.statics) (lists : x.lists ≡ w.lists) (later : IsLater w x)
+    (good : StandsGood x d p) where
   abbrev with_one : World
   with_one = with_static name number external p x
 
   abbrev new_one : Static
-  new_one = record { unit = name; number = number; external = external; place = p }
+  new_one = record { unit = name; number = number; external = external; standing = p }
 
   statics_are : with_one.statics ≡ w.statics ++ new_one ∷ []
   statics_are = ap (λ ss. ss ++ new_one ∷ []) same
@@ -164,6 +165,7 @@ module _ (name : Name) (number : ℕ) (external : Option Name) (d : Description)
   grown_more : (g : Global) (gs : List Global) (v : World) → description_of (Some g) ≡ Some d → Grown name (suc number) gs with_one v → Grown name number (g ∷ gs) w v
   grown_more g gs v is m = record {
     later = later_then w with_one v one_later m.later;
+    lists = m.lists ∙ lists;
     kept = λ unit k q h. m.kept unit k q (subst (λ ss. static_in ss unit k ≡ Some q) (sym statics_are) (more_kept w.statics new_one unit k q h));
     apart = λ unit k e h. m.apart unit k e (subst (λ ss. static_in ss unit k ≡ None) (sym statics_are)
         (more_behind w.statics new_one unit k h ∙ ap (λ b. if b && nat_eq number k then Some p else None) e));
@@ -178,7 +180,7 @@ module _ (name : Name) (number : ℕ) (external : Option Name) (d : Description)
           by false e = refl
 
       found : ((k : ℕ) → number ≤ k → static_in w.statics name k ≡ None) → (i : ℕ) (c : Description) → description_of (slice_get (g ∷ gs) i) ≡ Some c
-          → (q : Place) × (static_in v.statics name (number + i) ≡ Some q) × IsGood v c q
+          → (q : Standing) × (static_in v.statics name (number + i) ≡ Some q) × StandsGood v c q
       found fresh zero c e =
           let z : number ≡ number + 0 = omega arith in
           let here : static_in with_one.statics name number ≡ Some p =
@@ -188,7 +190,7 @@ module _ (name : Name) (number : ℕ) (external : Option Name) (d : Description)
           ∙ ap (λ b. if b then Some p else None) (eq-eqb number number refl) in (
             p,
             subst (λ n. static_in v.statics name n ≡ Some p) z (m.kept name number p here),
-            subst (λ c. IsGood v c p) (some_same (sym is ∙ e)) (good_later x v d p (later_then x with_one v one_after m.later) good),
+            subst (λ c. StandsGood v c p) (some_same (sym is ∙ e)) (stands_later x v d p (later_then x with_one v one_after m.later) m.lists good),
           )
       found fresh (suc i) c e =
           let z : suc number + i ≡ number + suc i = omega arith in
@@ -202,18 +204,18 @@ module _ (name : Name) (number : ℕ) (external : Option Name) (d : Description)
   external_at other = ap (λ ss. external_in ss other) statics_are ∙ external_more w.statics new_one other
 
 -- the external variables stay, or one of a name is added
-own_externals : (all : List Global) (before : List Name) (name : Name) (number : ℕ) (d : Description) (p : Place) (w x : World) (same : x.statics ≡ w.statics) (later : IsLater w x)
-    (good : IsGood x d p) → AreExternals all before w → AreExternals all before (with_static name number None p x)
-own_externals all before name number d p w x same later good h other =
+own_externals : (all : List Global) (before : List Name) (name : Name) (number : ℕ) (d : Description) (p : Standing) (w x : World) (same : x.statics ≡ w.statics) (lists : x.lists ≡ w.lists)
+    (later : IsLater w x) (good : StandsGood x d p) → AreExternals all before w → AreExternals all before (with_static name number None p x)
+own_externals all before name number d p w x same lists later good h other =
     subst (λ o. IsMade all (with_static name number None p x) other (is_among other before) o)
-    (sym (external_at name number None d p w x same later good other ∙ first_alone (external_in w.statics other)))
-    (made_later all w (with_static name number None p x) other (is_among other before) (external_in w.statics other) (one_later name number None d p w x same later good) (h other))
+    (sym (external_at name number None d p w x same lists later good other ∙ first_alone (external_in w.statics other)))
+    (made_later all w (with_static name number None p x) other (is_among other before) (external_in w.statics other) (one_later name number None d p w x same lists later good) lists (h other))
 
 named_externals : (all : List Global) → ((i j : ℕ) (name : Name) (one other : Template) → slice_get all i ≡ Some (ExternalVariable name one) → slice_get all j ≡ Some (ExternalVariable name other) → one ≡ other)
-    → (before : List Name) (unit : Name) (number : ℕ) (name : Name) (t : Template) (p : Place) (w x : World) (same : x.statics ≡ w.statics) (later : IsLater w x)
-    (good : IsGood x t.description p) → Declared all name t → first_of (external_in w.statics name) (Some p) ≡ Some p
+    → (before : List Name) (unit : Name) (number : ℕ) (name : Name) (t : Template) (p : Standing) (w x : World) (same : x.statics ≡ w.statics) (lists : x.lists ≡ w.lists)
+    (later : IsLater w x) (good : StandsGood x t.description p) → Declared all name t → first_of (external_in w.statics name) (Some p) ≡ Some p
     → AreExternals all before w → AreExternals all (name ∷ before) (with_static unit number (Some name) p x)
-named_externals all alike before unit number name t p w x same later good declared now h other = by (same_name other name) refl
+named_externals all alike before unit number name t p w x same lists later good declared now h other = by (same_name other name) refl
   where
     v : World
     v = with_static unit number (Some name) p x
@@ -222,20 +224,20 @@ named_externals all alike before unit number name t p w x same later good declar
     after = record { more = omega arith; lived = λ n g lt h. (g, h, refl) }
 
     this : IsMade all v name true (Some p)
-    this = λ one d. subst (λ t. IsGood v t.description p) (alike declared.0 d.0 name t one declared.1 d.1) (good_later x v t.description p after good)
+    this = λ one d. subst (λ t. StandsGood v t.description p) (alike declared.0 d.0 name t one declared.1 d.1) (stands_later x v t.description p after refl good)
 
     by : (b : Bool) → same_name other name ≡ b → IsMade all v other (b || is_among other before) (external_in v.statics other)
     by true e =
         subst (λ o. IsMade all v other true o)
-        (sym (external_at unit number (Some name) t.description p w x same later good other
+        (sym (external_at unit number (Some name) t.description p w x same lists later good other
         ∙ ap (λ b. first_of (external_in w.statics other) (if b then Some p else None)) e
         ∙ ap (λ n. first_of (external_in w.statics n) (Some p)) (same_text other name (sym e)) ∙ now))
         (subst (λ n. IsMade all v n true (Some p)) (sym (same_text other name (sym e))) this)
     by false e =
         subst (λ o. IsMade all v other (is_among other before) o)
-        (sym (external_at unit number (Some name) t.description p w x same later good other
+        (sym (external_at unit number (Some name) t.description p w x same lists later good other
         ∙ ap (λ b. first_of (external_in w.statics other) (if b then Some p else None)) e ∙ first_alone (external_in w.statics other)))
-        (made_later all w v other (is_among other before) (external_in w.statics other) (one_later unit number (Some name) t.description p w x same later good) (h other))
+        (made_later all w v other (is_among other before) (external_in w.statics other) (one_later unit number (Some name) t.description p w x same lists later good) lists (h other))
 
 module _ (all : List Global)
     (alike : (i j : ℕ) (name : Name) (one other : Template) → slice_get all i ≡ Some (ExternalVariable name one) → slice_get all j ≡ Some (ExternalVariable name other) → one ≡ other) where
@@ -267,7 +269,7 @@ module _ (all : List Global)
       count = omega arith;
       stack = refl;
       externals = externals;
-      grown = record { later = later_same w; kept = λ unit k p h. h; apart = λ unit k e h. h; found = λ fresh i d e. absurd (none_some e) };
+      grown = record { later = later_same w; lists = refl; kept = λ unit k p h. h; apart = λ unit k e h. h; found = λ fresh i d e. absurd (none_some e) };
     },
   )
   makes_all (EntryPoint entry s ∷ gs) name number before w values externals made among few small =
@@ -281,12 +283,12 @@ module _ (all : List Global)
           count = m.count;
           stack = m.stack;
           externals = m.externals;
-          grown = record { later = m.grown.later; kept = m.grown.kept; apart = m.grown.apart; found = found r.0 m.grown };
+          grown = record { later = m.grown.later; lists = m.grown.lists; kept = m.grown.kept; apart = m.grown.apart; found = found r.0 m.grown };
         },
       )
     where
       found : (v : World) → Grown name (suc number) gs w v → ((k : ℕ) → number ≤ k → static_in w.statics name k ≡ None) → (i : ℕ) (d : Description)
-          → description_of (slice_get (EntryPoint entry s ∷ gs) i) ≡ Some d → (p : Place) × (static_in v.statics name (number + i) ≡ Some p) × IsGood v d p
+          → description_of (slice_get (EntryPoint entry s ∷ gs) i) ≡ Some d → (p : Standing) × (static_in v.statics name (number + i) ≡ Some p) × StandsGood v d p
       found v m fresh zero d e = absurd (none_some e)
       found v m fresh (suc i) d e =
           let z : suc number + i ≡ number + suc i = omega arith in
@@ -302,19 +304,19 @@ module _ (all : List Global)
       let few2 : suc w.made + length (made_for before gs) ≤ generation_limit = omega (arith, few) in
       let small2 : live_bytes (w.storage ++ new_generation d AsStatic vs w ∷ []) + bytes_of (made_for before gs) ≤ byte_limit =
       omega (arith, small, live_more w.storage (new_generation d AsStatic vs w)) in
-      let r = makes_all gs name (suc number) before (with_static name number None p x) (new_values d AsStatic vs w values made.0)
-      (own_externals all before name number d p w x refl later good externals) made.1 (λ i g e. among (suc i) g e) few2 small2 in
+      let r = makes_all gs name (suc number) before (with_static name number None (Lies p) x) (new_values d AsStatic vs w values made.0)
+      (own_externals all before name number d (Lies p) w x refl refl later good externals) made.1 (λ i g e. among (suc i) g e) few2 small2 in
       let m = r.2 in (
         r.0,
-        further_gives (made_of d AsStatic vs w) (λ p w. statics_made name (suc number) (map global_variable gs) (with_static name number None p w)) p x r.0
-            (room_gives d AsStatic vs w values made.0 (omega (arith, few)) (omega (arith, small))) r.1,
+        further_gives (made_once (variable_of t) None w) (λ s w. statics_made name (suc number) (map global_variable gs) (with_static name number None s w)) (Lies p) x r.0
+            (ap (λ a. further a (λ p w. Yields (Lies p) w)) (room_gives d AsStatic vs w values made.0 (omega (arith, few)) (omega (arith, small)))) r.1,
         record {
           values = m.values;
           bytes = omega (arith, m.bytes, live_more w.storage (new_generation d AsStatic vs w));
           count = omega (arith, m.count);
           stack = m.stack;
           externals = m.externals;
-          grown = grown_more name number None d p w x refl later good (OwnVariable t) gs r.0 refl m.grown;
+          grown = grown_more name number None d (Lies p) w x refl refl later good (OwnVariable t) gs r.0 refl m.grown;
         },
       )
   makes_all (ExternalVariable own t ∷ gs) name number before w values externals made among few small =
@@ -324,21 +326,21 @@ module _ (all : List Global)
       declared : Declared all own t
       declared = among 0 (ExternalVariable own t) refl
 
-      by : (b : Bool) (o : Option Place) → is_among own before ≡ b → external_in w.statics own ≡ o → IsMade all w own b o
+      by : (b : Bool) (o : Option Standing) → is_among own before ≡ b → external_in w.statics own ≡ o → IsMade all w own b o
           → w.made + length (unless b t ++ made_for (own ∷ before) gs) ≤ generation_limit
           → live_bytes w.storage + bytes_of (unless b t ++ made_for (own ∷ before) gs) ≤ byte_limit
           → ((x : World) → HoldsValues x → AreExternals all (own ∷ before) x
           → x.made + length (made_for (own ∷ before) gs) ≤ generation_limit → live_bytes x.storage + bytes_of (made_for (own ∷ before) gs) ≤ byte_limit
           → Makes name (suc number) (own ∷ before) gs x (statics_made name (suc number) (map global_variable gs) x))
           → Makes name number before (ExternalVariable own t ∷ gs) w
-          (further (made_once (variable_of t) o w) (λ p w. statics_made name (suc number) (map global_variable gs) (with_static name number (Some own) p w)))
+          (further (made_once (variable_of t) o w) (λ s w. statics_made name (suc number) (map global_variable gs) (with_static name number (Some own) s w)))
       by true None e f is few small rest = absurd is
       by false (Some p) e f is few small rest = absurd is
       by true (Some p) e f is few small rest =
           let later = later_same w in
-          let good : IsGood w t.description p = is t declared in
+          let good : StandsGood w t.description p = is t declared in
           let r = rest (with_static name number (Some own) p w) values
-          (named_externals all alike before name number own t p w w refl later good declared (ap (λ o. first_of o (Some p)) f) externals) few small in
+          (named_externals all alike before name number own t p w w refl refl later good declared (ap (λ o. first_of o (Some p)) f) externals) few small in
           let m = r.2 in (
             r.0,
             r.1,
@@ -348,7 +350,7 @@ module _ (all : List Global)
               count = m.count ∙ ap (λ b. w.made + length (unless b t ++ made_for (own ∷ before) gs)) (sym e);
               stack = m.stack;
               externals = m.externals;
-              grown = grown_more name number (Some own) t.description p w w refl later good (ExternalVariable own t) gs r.0 refl m.grown;
+              grown = grown_more name number (Some own) t.description p w w refl refl later good (ExternalVariable own t) gs r.0 refl m.grown;
             },
           )
       by false None e f is few small rest =
@@ -360,22 +362,22 @@ module _ (all : List Global)
           let few2 : suc w.made + length (made_for (own ∷ before) gs) ≤ generation_limit = omega (arith, few) in
           let small2 : live_bytes (w.storage ++ new_generation t.description AsStatic (variable_of t).initial w ∷ []) + bytes_of (made_for (own ∷ before) gs) ≤ byte_limit =
           omega (arith, small, bytes) in
-          let r = rest (with_static name number (Some own) p x) (new_values t.description AsStatic (variable_of t).initial w values made.0)
-          (named_externals all alike before name number own t p w x refl later good declared (ap (λ o. first_of o (Some p)) f) externals) few2 small2 in
+          let r = rest (with_static name number (Some own) (Lies p) x) (new_values t.description AsStatic (variable_of t).initial w values made.0)
+          (named_externals all alike before name number own t (Lies p) w x refl refl later good declared (ap (λ o. first_of o (Some (Lies p))) f) externals) few2 small2 in
           let m = r.2 in
           let m_bytes : live_bytes r.0.storage ≡ live_bytes w.storage + bytes_of (t ∷ made_for (own ∷ before) gs) = omega (arith, m.bytes, bytes) in
           let m_count : r.0.made ≡ w.made + length (t ∷ made_for (own ∷ before) gs) = omega (arith, m.count) in (
             r.0,
-            further_gives (made_of t.description AsStatic (variable_of t).initial w)
-                (λ p w. statics_made name (suc number) (map global_variable gs) (with_static name number (Some own) p w)) p x r.0
-                (room_gives t.description AsStatic (variable_of t).initial w values made.0 (omega (arith, few)) (omega (arith, small))) r.1,
+            further_gives (made_once (variable_of t) None w)
+                (λ s w. statics_made name (suc number) (map global_variable gs) (with_static name number (Some own) s w)) (Lies p) x r.0
+                (ap (λ a. further a (λ p w. Yields (Lies p) w)) (room_gives t.description AsStatic (variable_of t).initial w values made.0 (omega (arith, few)) (omega (arith, small)))) r.1,
             record {
               values = m.values;
               bytes = m_bytes ∙ ap (λ b. live_bytes w.storage + bytes_of (unless b t ++ made_for (own ∷ before) gs)) (sym e);
               count = m_count ∙ ap (λ b. w.made + length (unless b t ++ made_for (own ∷ before) gs)) (sym e);
               stack = m.stack;
               externals = m.externals;
-              grown = grown_more name number (Some own) t.description p w x refl later good (ExternalVariable own t) gs r.0 refl m.grown;
+              grown = grown_more name number (Some own) t.description (Lies p) w x refl refl later good (ExternalVariable own t) gs r.0 refl m.grown;
             },
           )
 
@@ -383,8 +385,9 @@ module _ (all : List Global)
   record Made (us : List TypedUnit) (w v : World) : Type 0 where
     values : HoldsValues v
     later : IsLater w v
+    lists : v.lists ≡ w.lists
     stack : v.activations ≡ w.activations
-    kept : (unit : Name) (k : ℕ) (p : Place) → static_in w.statics unit k ≡ Some p → static_in v.statics unit k ≡ Some p
+    kept : (unit : Name) (k : ℕ) (p : Standing) → static_in w.statics unit k ≡ Some p → static_in v.statics unit k ≡ Some p
     found :
         (n : ℕ) (u : TypedUnit) → slice_get us n ≡ Some u
         → ((other : TypedUnit) (i k : ℕ) → slice_get us i ≡ Some other → static_in w.statics other.name k ≡ None)
@@ -399,6 +402,7 @@ module _ (all : List Global)
   behind u us before w x y apart m r = record {
     values = r.values;
     later = later_then w x y m.grown.later r.later;
+    lists = r.lists ∙ m.grown.lists;
     stack = r.stack ∙ m.stack;
     kept = λ unit k p h. r.kept unit k p (m.grown.kept unit k p h);
     found = found;
@@ -411,7 +415,7 @@ module _ (all : List Global)
           subst (λ v. AreStatics v.name v.globals y) (some_same e)
           (λ k d h. let p = m.grown.found (λ k le. fresh u 0 k refl) k d h in
           let z : 0 + k ≡ k = omega arith in
-          (p.0, r.kept u.name k p.0 (subst (λ n. static_in x.statics u.name n ≡ Some p.0) z p.1), good_later x y d p.0 r.later p.2))
+          (p.0, r.kept u.name k p.0 (subst (λ n. static_in x.statics u.name n ≡ Some p.0) z p.1), stands_later x y d p.0 r.later r.lists p.2))
       found (suc i) v e fresh =
           r.found i v e (λ other j k f. m.grown.apart other.name k (named_apart u.name us j other apart f) (fresh other (suc j) k f))
 
@@ -420,7 +424,7 @@ module _ (all : List Global)
       → live_bytes w.storage + bytes_of (made_for before (all_globals us)) ≤ byte_limit
       → (v : World) × (all_made us w ≡ Yields tt v) × Made us w v
   all_are_made n [] before w typed names values externals among few small =
-      (w, refl, record { values = values; later = later_same w; stack = refl; kept = λ unit k p h. h; found = λ i u e fresh. absurd (none_some e) })
+      (w, refl, record { values = values; later = later_same w; lists = refl; stack = refl; kept = λ unit k p h. h; found = λ i u e fresh. absurd (none_some e) })
   all_are_made n (u ∷ us) before w typed names values externals among few small =
       let few2 = subst (λ k. w.made + k ≤ generation_limit)
       (ap (λ ts. length ts) (made_in_parts before u.globals (all_globals us)) ∙ length-append (made_for before u.globals) (made_for (named_after before u.globals) (all_globals us))) few in

@@ -16,7 +16,7 @@ use Rattle.pli_world.specs.Storage.{Generation, Made, Automatic, Dummy, Place, w
 use Rattle.pli_world.specs.Storage.{with_values, without, live_bytes, generation_limit}
 use Rattle.pli_map.specs.Variables.{byte_limit}
 use Rattle.pli_map.specs.Values.{holds}
-use Rattle.pli_world.specs.World.{World, Answer, Yields, Raises, Wrong, further, known, made_of, unless_dead, parts_held}
+use Rattle.pli_world.specs.World.{Standing, Lies, Stacked, World, Answer, Yields, Raises, Wrong, further, known, made_of, unless_dead, parts_held}
 use Rattle.pli_world.specs.World.{parts_stored, single, held, stored, copied, in_newest, with_slot, made_all}
 use Rattle.pli_map.specs.Variables.{Variable}
 use Rattle.pli_program.specs.Program.{Head}
@@ -26,7 +26,7 @@ use Rattle.pli_value.specs.Value.{Value}
 use Rattle.pli_type_tree.specs.TypedTree.{TypedUnit}
 use Rattle.pli_type_tree.specs.WellTyped.{AreHeld, AreMade}
 use Rattle.pli_map.specs.Scalars.{scalars_of}
-use Rattle.pli_meaning_typed.specs.SoundWorlds.{IsPartAt, IsGood, AreGood, HoldsValues, Shape, AreShaped, AreStatics}
+use Rattle.pli_meaning_typed.specs.SoundWorlds.{IsPartAt, IsGood, AreGood, HoldsValues, Shape, AreShaped, EachGood, StandsGood, AreStatics}
 use Rattle.pli_meaning_typed.specs.SoundWorlds.{IsSound, IsLater, Answers}
 use Rattle.pli_meaning_typed.proofs.Parts.{part_held, part_stored, first_itself}
 use Rattle.pli_meaning_typed.proofs.StorageLemmas.{appended, replaced, lived_before}
@@ -63,6 +63,16 @@ goods_later v w [] (p ∷ ps) later g = absurd g
 goods_later v w (d ∷ ds) [] later g = absurd g
 goods_later v w (d ∷ ds) (p ∷ ps) later g = (good_later v w d p later g.0, goods_later v w ds ps later g.1)
 
+-- so does what stands, where the lists are as they were
+eaches_later : (v w : World) (d : Description) (ps : List Place) → IsLater v w → EachGood v d ps → EachGood w d ps
+eaches_later v w d [] later h = tt
+eaches_later v w d (p ∷ ps) later h = (good_later v w d p later h.0, eaches_later v w d ps later h.1)
+
+pub stands_later : (v w : World) (d : Description) (s : Standing) → IsLater v w → w.lists ≡ v.lists → StandsGood v d s → StandsGood w d s
+stands_later v w d (Lies p) later lists h = good_later v w d p later h
+stands_later v w d (Stacked list) later lists h =
+    (h.0, subst (λ all. slice_get all list ≡ Some h.0) (sym lists) h.1, eaches_later v w d h.0 later h.2)
+
 module _ (units : List TypedUnit) where
   pub shaped_later : (v w : World) (ss : List Shape) (stack : List Activation) → IsLater v w → AreShaped v ss stack
       → AreShaped w ss stack
@@ -75,18 +85,18 @@ module _ (units : List TypedUnit) where
   abbrev AllStatics : World → Type 0
   AllStatics w = (i : ℕ) (u : TypedUnit) → slice_get units i ≡ Some u → AreStatics u.name u.globals w
 
-  statics_later : (v w : World) → IsLater v w → w.statics ≡ v.statics → AllStatics v → AllStatics w
-  statics_later v w later e h i u f n d g =
-      let p = h i u f n d g in
-      (p.0, subst (λ ss. static_in ss u.name n ≡ Some p.0) (sym e) p.1, good_later v w d p.0 later p.2)
+  statics_later : (v w : World) → IsLater v w → w.statics ≡ v.statics → w.lists ≡ v.lists → AllStatics v → AllStatics w
+  statics_later v w later e lists h i u f n d g =
+      let s = h i u f n d g in
+      (s.0, subst (λ ss. static_in ss u.name n ≡ Some s.0) (sym e) s.1, stands_later v w d s.0 later lists s.2)
 
   -- the stack as it was
   pub same_stack : (ss : List Shape) (v w : World) → IsSound units ss v → IsLater v w → HoldsValues w
-      → w.activations ≡ v.activations → w.statics ≡ v.statics → IsSound units ss w
-  same_stack ss v w s later values e f = record {
+      → w.activations ≡ v.activations → w.statics ≡ v.statics → w.lists ≡ v.lists → IsSound units ss w
+  same_stack ss v w s later values e f lists = record {
     values = values;
     stack = subst (λ stack. AreShaped w ss stack) (sym e) (shaped_later v w ss v.activations later s.stack);
-    made = statics_later v w later f s.made;
+    made = statics_later v w later f lists s.made;
   }
 
   -- the newest changed
@@ -98,7 +108,7 @@ module _ (units : List TypedUnit) where
   newest_sound change ss ts w sound h = record {
     values = sound.values;
     stack = shaped_later w (in_newest change w) ts (with_newest change w.activations) (newest_later change w) h;
-    made = statics_later w (in_newest change w) (newest_later change w) refl sound.made;
+    made = statics_later w (in_newest change w) (newest_later change w) refl refl sound.made;
   }
 
   -- an error names a statement
@@ -180,7 +190,7 @@ module _ (units : List TypedUnit) (s : Shape) (ss : List Shape) where
       by true =
           let later = new_later d how vs w sound.values h in (
             new_good d how vs w sound.values h,
-            same_stack units (s ∷ ss) w (with_new d how vs w) sound later (new_values d how vs w sound.values h) refl refl,
+            same_stack units (s ∷ ss) w (with_new d how vs w) sound later (new_values d how vs w sound.values h) refl refl refl,
             later,
           )
       by false = error_named units s ss w StorageLimit sound
@@ -243,7 +253,7 @@ module _ (units : List TypedUnit) (s : Shape) (ss : List Shape) where
             lived = λ n x lt e. let r = replaced w.storage p.generation xs n x e in (r.old, r.there, r.described);
           } in
           subst (λ o. Answers (Kept w) (further (known o w) (λ k w. Yields tt (record w { storage = with_values w.storage p.generation (with_values_at k vs g.values) })))) (sym f.1)
-          (same_stack units (s ∷ ss) w new sound later (values g e f.0 f.2) refl refl, later)
+          (same_stack units (s ∷ ss) w new sound later (values g e f.0 f.2) refl refl refl, later)
         where
           values : (g : Generation) → generation_in w.storage p.generation ≡ Some g → (k : ℕ) → first_scalar g.description p.offset d ≡ Some k
               → HoldsValues (record w { storage = with_values w.storage p.generation (with_values_at k vs g.values) })
@@ -415,7 +425,7 @@ module _ (units : List TypedUnit) where
           goods_later w u parameters given later good,
           shaped_later units w u ss _ later (handed_shaped ss w given w.activations sound.stack),
         );
-        made = statics_later units w u later refl sound.made;
+        made = statics_later units w u later refl refl sound.made;
       }) h)
 
   -- the newest ends
@@ -440,7 +450,7 @@ module _ (units : List TypedUnit) where
       let later = ended_later (ended_with w.activations) w (left_by w) refl refl in record {
         values = λ n g h. sound.values n g (lived_before (ended_with w.activations) w.storage n g h);
         stack = shaped_later units w (left_by w) ss (without_newest w.activations) later (older_shaped s ss w w.activations sound.stack);
-        made = statics_later units w (left_by w) later refl sound.made;
+        made = statics_later units w (left_by w) later refl refl sound.made;
       }
 
   -- the calls that it prepares are given up
@@ -461,7 +471,7 @@ module _ (units : List TypedUnit) where
       let later = ended_later (prepared_by w.activations) w (cleared w) refl refl in record {
         values = λ n g h. sound.values n g (lived_before (prepared_by w.activations) w.storage n g h);
         stack = shaped_later units w (cleared w) ss _ later (cleared_shaped ss w w.activations sound.stack);
-        made = statics_later units w (cleared w) later refl sound.made;
+        made = statics_later units w (cleared w) later refl refl sound.made;
       }
 
   -- a statement, a step, output
@@ -485,18 +495,18 @@ module _ (units : List TypedUnit) where
   unfolding stepped
   stepped_sound ss w sound =
       let later : IsLater w (stepped w) = record { more = omega arith; lived = λ n g lt h. (g, h, refl) } in
-      (same_stack units ss w (stepped w) sound later sound.values refl refl, later)
+      (same_stack units ss w (stepped w) sound later sound.values refl refl refl, later)
 
   pub printed_sound : (ss : List Shape) (text : List ℕ) (w : World) → IsSound units ss w
       → IsSound units ss (printed text w) × IsLater w (printed text w)
   unfolding printed
   printed_sound ss text w sound =
       let later : IsLater w (printed text w) = record { more = omega arith; lived = λ n g lt h. (g, h, refl) } in
-      (same_stack units ss w (printed text w) sound later sound.values refl refl, later)
+      (same_stack units ss w (printed text w) sound later sound.values refl refl refl, later)
 
   pub line_sound : (ss : List Shape) (w : World) → IsSound units ss w
       → IsSound units ss (line_ended w) × IsLater w (line_ended w)
   unfolding line_ended
   line_sound ss w sound =
       let later : IsLater w (line_ended w) = record { more = omega arith; lived = λ n g lt h. (g, h, refl) } in
-      (same_stack units ss w (line_ended w) sound later sound.values refl refl, later)
+      (same_stack units ss w (line_ended w) sound later sound.values refl refl refl, later)

@@ -6,7 +6,8 @@ use Rattle.pli_map.specs.Description.{Description}
 use Rattle.pli_map.specs.Scalars.{first_scalar}
 use Rattle.pli_world.specs.Activations.{Activation}
 use Rattle.pli_world.specs.Storage.{Generation, Place, generation_in}
-use Rattle.pli_world.specs.World.{World, Answer, Yields, Raises, Wrong, static_in, error_at}
+use Rattle.pli_world.specs.World.{Standing, Lies, Stacked, World, Answer, Yields, Raises, Wrong}
+use Rattle.pli_world.specs.World.{static_in, error_at}
 use Rattle.pli_type_tree.specs.Globals.{description_of}
 use Rattle.pli_type_tree.specs.TypedTree.{Global, TypedUnit}
 use Rattle.pli_type_tree.specs.WellTyped.{AreHeld}
@@ -54,11 +55,21 @@ AreShaped w (s ∷ ss) (a ∷ older) =
     × AreShaped w ss older
 AreShaped w ss stack = ⊥
 
--- the variables among a unit's globals, which were made before the program began
+-- places of one description
+abbrev pub EachGood : World → Description → List Place → Type 0
+EachGood w d [] = Unit {0}
+EachGood w d (p ∷ ps) = IsGood w d p × EachGood w d ps
+
+-- what stands so is of a description: its place, or each place of its list, which is there
+abbrev pub StandsGood : World → Description → Standing → Type 0
+StandsGood w d (Lies p) = IsGood w d p
+StandsGood w d (Stacked list) = (ps : List Place) × (slice_get w.lists list ≡ Some ps) × EachGood w d ps
+
+-- the variables among a unit's globals, which were there before the program began
 abbrev pub AreStatics : (unit : Name) → List Global → World → Type 0
 AreStatics unit globals w =
     (number : ℕ) (d : Description) → description_of (slice_get globals number) ≡ Some d
-    → (p : Place) × (static_in w.statics unit number ≡ Some p) × IsGood w d p
+    → (s : Standing) × (static_in w.statics unit number ≡ Some s) × StandsGood w d s
 
 -- a world of a program of these units
 pub record IsSound (units : List TypedUnit) (shapes : List Shape) (w : World) : Type 0 where

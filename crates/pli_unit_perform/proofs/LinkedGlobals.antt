@@ -9,15 +9,13 @@ use Rattle.pli_base.specs.Words.{same_name}
 use Rattle.pli_base.specs.laws.NameLaws.{equal_from_pointwise, pointwise-from_equal}
 use Rattle.pli_program.specs.Program as op
 use Rattle.pli_program.specs.Program.{GlobalCode, global_variable}
-use Rattle.pli_world.specs.Storage as plain
-use Rattle.pli_world.specs.World.{World, Answer, Raises, Wrong, Static, further, made_once, made_before, external_in, is_named, statics_made, with_static}
+use Rattle.pli_world.specs.World.{Standing, World, Answer, Raises, Wrong, Static, further, made_once, made_before, external_in, is_named, statics_made, with_static}
 use Rattle.pli_map.specs.Variables.{Variable}
 use Rattle.pli_store.specs.answers.Answered.{Answered}
 use Rattle.pli_store.specs.declared.fault.StoreFault.{StoreFault}
 use Rattle.pli_store.specs.declared.fault.StoreFault.TheVariants as fault
 use Rattle.pli_store.specs.declared.place.Place.{Place}
 use Rattle.pli_store.specs.declared.storage.Storage.{Storage}
-use Rattle.pli_store.specs.views.StorageView.{place_view}
 use Rattle.pli_unit_code.specs.CodeTables as coded
 use Rattle.pli_unit_code.specs.CodeTables.{Code, CodedGlobal, CodedSignature, globals_linked, global_before, variable_at, there}
 use Rattle.pli_machine_step.specs.Runs.{all_statics_made}
@@ -29,17 +27,17 @@ use Rattle.pli_unit_perform.specs.declared.linked.LinkedGlobal.{LinkedGlobal}
 use Rattle.pli_unit_perform.specs.declared.linked.LinkedGlobal.TheVariants as linked
 use Rattle.pli_unit_perform.specs.declared.shared.Shared.{Shared}
 use Rattle.pli_unit_perform.specs.answers.Making.{EndsAs, first_world, Placed, AreKnown, PlacedKnown, IsNoted, EntryTaken, number_behind, NextLinked, Links, UnitLinked, LinksUnit, AllLinked, EndsEarlier}
-use Rattle.pli_unit_perform.specs.views.TableView.{statics_from, all_statics, entry_in, entry_of}
+use Rattle.pli_unit_perform.specs.views.TableView.{standing_view, statics_from, all_statics, entry_in, entry_of}
 
 -- one table behind another
 pub statics_more : (unit : Name) (first : ℕ) (xs ys : List LinkedGlobal)
     → statics_from unit first (xs ++ ys) ≡ statics_from unit first xs ++ statics_from unit (first + length xs) ys
 statics_more unit first [] ys = ap (λ n. statics_from unit n ys) (omega arith)
 statics_more unit first (linked.OwnVariable p ∷ xs) ys =
-    ap (λ ss. record { unit = unit; number = first; external = None; place = place_view p } ∷ ss)
+    ap (λ ss. record { unit = unit; number = first; external = None; standing = standing_view p } ∷ ss)
     (statics_more unit (suc first) xs ys ∙ ap (λ n. statics_from unit (suc first) xs ++ statics_from unit n ys) (omega arith))
 statics_more unit first (linked.ExternalVariable name p ∷ xs) ys =
-    ap (λ ss. record { unit = unit; number = first; external = Some name.now; place = place_view p } ∷ ss)
+    ap (λ ss. record { unit = unit; number = first; external = Some name.now; standing = standing_view p } ∷ ss)
     (statics_more unit (suc first) xs ys ∙ ap (λ n. statics_from unit (suc first) xs ++ statics_from unit n ys) (omega arith))
 statics_more unit first (linked.EntryPoint other ∷ xs) ys =
     statics_more unit (suc first) xs ys ∙ ap (λ n. statics_from unit (suc first) xs ++ statics_from unit n ys) (omega arith)
@@ -50,13 +48,13 @@ or_else None other = other
 or_else (Some x) other = Some x
 
 pub external_more : (xs : List Static) (s : Static) (name : Name)
-    → external_in (xs ++ s ∷ []) name ≡ or_else (external_in xs name) (if is_named name s.external then Some s.place else None)
+    → external_in (xs ++ s ∷ []) name ≡ or_else (external_in xs name) (if is_named name s.external then Some s.standing else None)
 external_more [] s name = refl
 external_more (x ∷ xs) s name = by (is_named name x.external) (external_more xs s name)
   where
-    by : (b : Bool) → external_in (xs ++ s ∷ []) name ≡ or_else (external_in xs name) (if is_named name s.external then Some s.place else None)
-        → (if b then Some x.place else external_in (xs ++ s ∷ []) name)
-        ≡ or_else (if b then Some x.place else external_in xs name) (if is_named name s.external then Some s.place else None)
+    by : (b : Bool) → external_in (xs ++ s ∷ []) name ≡ or_else (external_in xs name) (if is_named name s.external then Some s.standing else None)
+        → (if b then Some x.standing else external_in (xs ++ s ∷ []) name)
+        ≡ or_else (if b then Some x.standing else external_in xs name) (if is_named name s.external then Some s.standing else None)
     by true more = refl
     by false more = more
 
@@ -65,51 +63,51 @@ or_none None = refl
 or_none (Some x) = refl
 
 -- an own variable more
-known_own : (old new : Shared) (statics : List Static) (unit : Name) (number : ℕ) (p : plain.Place) → AreKnown old statics → new.externals ≡ old.externals
-    → AreKnown new (statics ++ record { unit = unit; number = number; external = None; place = p } ∷ [])
+known_own : (old new : Shared) (statics : List Static) (unit : Name) (number : ℕ) (p : Standing) → AreKnown old statics → new.externals ≡ old.externals
+    → AreKnown new (statics ++ record { unit = unit; number = number; external = None; standing = p } ∷ [])
 known_own old new statics unit number p known same = λ name.
-    external_more statics (record { unit = unit; number = number; external = None; place = p }) name ∙ or_none (external_in statics name) ∙ known name
-    ∙ ap (λ m. option_map place_view (get same_name m name)) (sym same)
+    external_more statics (record { unit = unit; number = number; external = None; standing = p }) name ∙ or_none (external_in statics name) ∙ known name
+    ∙ ap (λ m. option_map standing_view (get same_name m name)) (sym same)
 
 pub known_same : (old new : Shared) (statics : List Static) → AreKnown old statics → new.externals ≡ old.externals → AreKnown new statics
-known_same old new statics known same = λ name. known name ∙ ap (λ m. option_map place_view (get same_name m name)) (sym same)
+known_same old new statics known same = λ name. known name ∙ ap (λ m. option_map standing_view (get same_name m name)) (sym same)
 
 -- an external one that is known already
 pub known_again : (old : Shared) (statics : List Static) (unit name : Name) (number : ℕ) (p : Place) → AreKnown old statics → get same_name old.externals name ≡ Some p
-    → AreKnown old (statics ++ record { unit = unit; number = number; external = Some name; place = place_view p } ∷ [])
+    → AreKnown old (statics ++ record { unit = unit; number = number; external = Some name; standing = standing_view p } ∷ [])
 known_again old statics unit name number p known found = λ other.
-    external_more statics (record { unit = unit; number = number; external = Some name; place = place_view p }) other
+    external_more statics (record { unit = unit; number = number; external = Some name; standing = standing_view p }) other
     ∙ by other (same_name other name) refl
   where
     by : (other : Name) (b : Bool) → same_name other name ≡ b
-        → or_else (external_in statics other) (if b then Some (place_view p) else None) ≡ option_map place_view (get same_name old.externals other)
+        → or_else (external_in statics other) (if b then Some (standing_view p) else None) ≡ option_map standing_view (get same_name old.externals other)
     by other false is = or_none (external_in statics other) ∙ known other
     by other true is =
-        let one : external_in statics other ≡ Some (place_view p) =
-        known other ∙ ap (λ n. option_map place_view (get same_name old.externals n)) (equal_from_pointwise other name is) ∙ ap (option_map place_view) found in
-        ap (λ o. or_else o (Some (place_view p))) one ∙ sym one ∙ known other
+        let one : external_in statics other ≡ Some (standing_view p) =
+        known other ∙ ap (λ n. option_map standing_view (get same_name old.externals n)) (equal_from_pointwise other name is) ∙ ap (option_map standing_view) found in
+        ap (λ o. or_else o (Some (standing_view p))) one ∙ sym one ∙ known other
 
 -- one that is new
 pub known_new : (old new : Shared) (statics : List Static) (unit name : Name) (number : ℕ) (p : Place) → AreKnown old statics → get same_name old.externals name ≡ None
-    → IsNoted name p old new → AreKnown new (statics ++ record { unit = unit; number = number; external = Some name; place = place_view p } ∷ [])
+    → IsNoted name p old new → AreKnown new (statics ++ record { unit = unit; number = number; external = Some name; standing = standing_view p } ∷ [])
 known_new old new statics unit name number p known none noted = λ other.
-    external_more statics (record { unit = unit; number = number; external = Some name; place = place_view p }) other
+    external_more statics (record { unit = unit; number = number; external = Some name; standing = standing_view p }) other
     ∙ by other (same_name other name) (same_name name other) refl refl
-    ∙ ap (option_map place_view) (sym (noted.noted other))
+    ∙ ap (option_map standing_view) (sym (noted.noted other))
   where
     turned : (x y : Name) → same_name x y ≡ true → same_name y x ≡ true
     turned x y is = pointwise-from_equal y x (sym (equal_from_pointwise x y is))
 
     by : (other : Name) (b d : Bool) → same_name other name ≡ b → same_name name other ≡ d
-        → or_else (external_in statics other) (if b then Some (place_view p) else None)
-        ≡ option_map place_view (if same_name name other then Some p else get same_name old.externals other)
+        → or_else (external_in statics other) (if b then Some (standing_view p) else None)
+        ≡ option_map standing_view (if same_name name other then Some p else get same_name old.externals other)
     by other false false is it =
         or_none (external_in statics other) ∙ known other
-        ∙ ap (λ d. option_map place_view (if d then Some p else get same_name old.externals other)) (sym it)
+        ∙ ap (λ d. option_map standing_view (if d then Some p else get same_name old.externals other)) (sym it)
     by other true true is it =
-        ap (λ o. or_else o (Some (place_view p)))
-        (known other ∙ ap (λ n. option_map place_view (get same_name old.externals n)) (equal_from_pointwise other name is) ∙ ap (option_map place_view) none)
-        ∙ ap (λ d. option_map place_view (if d then Some p else get same_name old.externals other)) (sym it)
+        ap (λ o. or_else o (Some (standing_view p)))
+        (known other ∙ ap (λ n. option_map standing_view (get same_name old.externals n)) (equal_from_pointwise other name is) ∙ ap (option_map standing_view) none)
+        ∙ ap (λ d. option_map standing_view (if d then Some p else get same_name old.externals other)) (sym it)
     by other true false is it = absurd (differ (sym it ∙ turned other name is))
       where
         differ : false ≡ true → ⊥
@@ -144,7 +142,7 @@ again_placed v name p r s statics known found is = subst (λ r. PlacedKnown v na
     by : (v : Option Variable) → PlacedKnown v name s s statics (Ok (option_map (λ _. p) v))
     by None = record { placed = refl; known = known }
     by (Some v) = record {
-      placed = ap (λ b. made_once v b (first_world s.storage statics)) (known name ∙ ap (option_map place_view) found);
+      placed = ap (λ b. made_once v b (first_world s.storage statics)) (known name ∙ ap (option_map standing_view) found);
       known = λ unit number. known_again s statics unit name number p known found;
     }
 
@@ -167,7 +165,7 @@ module _ (c : Code) (unit : Name) (number : ℕ) (statics : List Static) (more :
   abbrev rest : List GlobalCode
   rest = globals_linked c more entries
 
-  abbrev going : (external : Option Name) → plain.Place → World → Answer Unit
+  abbrev going : (external : Option Name) → Standing → World → Answer Unit
   going external p w = statics_made unit (suc number) (map global_variable rest) (with_static unit number external p w)
 
   abbrev linked_as : (Variable → GlobalCode) → Option Variable → Answer Unit
@@ -185,7 +183,7 @@ module _ (c : Code) (unit : Name) (number : ℕ) (statics : List Static) (more :
       by (Some v) is made = record {
         made = ap (linked_as op.OwnVariable) is ∙ ap (λ a. further a (going None)) made;
         same = ap (λ o. map entry_in (global_before c (option_map op.OwnVariable o) rest)) is;
-        known = known_own old new statics unit number (place_view p) known same;
+        known = known_own old new statics unit number (standing_view p) known same;
       }
 
   pub own_none : (t : ℕ) → AreKnown old statics → new.externals ≡ old.externals
@@ -217,7 +215,7 @@ module _ (c : Code) (unit : Name) (number : ℕ) (statics : List Static) (more :
 
   -- an external variable
   pub external_goes : (t : ℕ) (name : Name) (g : LinkedGlobal) (p : Place)
-      → statics_from unit number (g ∷ []) ≡ record { unit = unit; number = number; external = Some name; place = place_view p } ∷ [] → entry_of g ≡ None
+      → statics_from unit number (g ∷ []) ≡ record { unit = unit; number = number; external = Some name; standing = standing_view p } ∷ [] → entry_of g ≡ None
       → PlacedKnown (variable_at c t) name old new statics (Ok (Some p))
       → NextLinked c unit number statics (coded.ExternalVariable name t ∷ more) more entries entries old new (Some g)
   external_goes t name g p view entry placed = by (variable_at c t) refl placed.placed

@@ -2,11 +2,10 @@
 ghost use Rattle.std.specs.Prelude.{◌≡◌, None, option_map, map, slice_get, MatchOption};
 ghost use Rattle.pli_base.specs.Name.{Name};
 ghost use Rattle.pli_world.specs.World.{static_in};
-ghost use Rattle.pli_store.specs.views.StorageView.{place_view};
 ghost use Rattle.pli_unit_code.specs.Modules.{unit_of};
 ghost use Rattle.pli_unit_code.specs.views.CodeView.{unit_view};
 ghost use Rattle.pli_unit_perform.specs.views.ImageView.{image_of};
-ghost use Rattle.pli_unit_perform.specs.views.TableView.{place_of, place_in, entry_at, entry_found};
+ghost use Rattle.pli_unit_perform.specs.views.TableView.{standing_view, standing_of, standing_in, entry_at, entry_found};
 
 use crate::linked::LinkedGlobal;
 use crate::loaded::Loaded;
@@ -34,7 +33,7 @@ pub fn unit_at<'l, 'm>(loaded: &'l Loaded<'m>, number: usize) -> Option<ActiveUn
 /// The place of the variable of a number.
 #[inline]
 fn place_at<'m>(globals: &[LinkedGlobal<'m>], number: usize) -> Option<Place<'m>>
-    ensures { option_map place_view result ≡ place_of (slice_get globals.now number) }
+    ensures { option_map standing_view result ≡ standing_of (slice_get globals.now number) }
 {
     match globals.get(number) {
         Some(LinkedGlobal::OwnVariable(place)) => Some(*place),
@@ -46,8 +45,8 @@ fn place_at<'m>(globals: &[LinkedGlobal<'m>], number: usize) -> Option<Place<'m>
 
 /// The place of the variable of a number of a unit.
 fn place_in<'m>(loaded: &Loaded<'m>, unit: usize, number: usize) -> Option<Place<'m>>
-    ensures { option_map place_view result
-        ≡ place_in (slice_get (map (λ t. t.items) loaded.now.globals.items) unit) number }
+    ensures { option_map standing_view result
+        ≡ standing_in (slice_get (map (λ t. t.items) loaded.now.globals.items) unit) number }
 {
     match table_at(loaded, unit) {
         Some(globals) => place_at(globals, number),
@@ -57,7 +56,7 @@ fn place_in<'m>(loaded: &Loaded<'m>, unit: usize, number: usize) -> Option<Place
 
 /// The place of the variable of a number of the first unit of a name that has one.
 fn first_place<'m>(loaded: &Loaded<'m>, name: &Name, number: usize) -> Option<Place<'m>>
-    ensures { static_in (image_of loaded.now).statics name.now number ≡ option_map place_view result }
+    ensures { static_in (image_of loaded.now).statics name.now number ≡ option_map standing_view result }
 {
     for (unit, linked) in loaded.module.units.iter().enumerate() {
         if linked.unit == *name {
@@ -72,7 +71,7 @@ fn first_place<'m>(loaded: &Loaded<'m>, name: &Name, number: usize) -> Option<Pl
 /// The place of the variable of a number among the globals of a unit.
 #[inline]
 pub fn static_place<'m>(unit: &ActiveUnit<'_, 'm>, number: usize) -> Option<Place<'m>>
-    ensures { static_in (image_of unit.now.loaded.now).statics unit.now.linked.now.unit number ≡ option_map place_view result }
+    ensures { static_in (image_of unit.now.loaded.now).statics unit.now.linked.now.unit number ≡ option_map standing_view result }
 {
     if unit.loaded.distinct {
         return place_at(unit.globals, number);

@@ -13,6 +13,7 @@ use Rattle.pli_code.specs.declared.ending.Ending.{Ending}
 use Rattle.pli_code.specs.declared.ending.Ending.TheVariants.{Error, MachineFault}
 use Rattle.pli_code.specs.declared.ending.RunError.{RunError}
 use Rattle.pli_code.specs.declared.ending.RunError.TheVariants.{SubscriptRange, StringRange, DeadLocator}
+use Rattle.pli_code.specs.declared.ending.RunError.TheVariants.{NoGeneration}
 use Rattle.pli_code.specs.declared.ending.RunError.TheVariants.{FixedOverflow, ZeroDivide, StorageLimit}
 use Rattle.pli_map.specs.Description.{Description}
 use Rattle.pli_map.specs.Same.{same}
@@ -31,20 +32,28 @@ use Rattle.pli_map.specs.Values.{holds}
 use Rattle.pli_map.specs.Variables.{Variable, GlobalVariable}
 use Rattle.pli_program.specs.Program.{Head}
 
--- a variable that was made before the program began, as a unit has it: the unit and the number among its
--- globals; its name, if it is external; and its place, which is the same in all units that declare the name
+-- where a variable stands that is there before the program begins: it lies at a place; or its generations are
+-- stacked, as those of a CONTROLLED variable, in the list of places of a number
+pub data Standing : Type 0 where
+  Lies : (place : Place) → Standing
+  Stacked : (list : ℕ) → Standing
+
+-- a variable that is there before the program begins, as a unit has it: the unit and the number among its
+-- globals; its name, if it is external; and where it stands, the same in all units that declare the name
 pub record Static : Type 0 where
   pub unit : Name
   pub number : ℕ
   pub external : Option Name
-  pub place : Place
+  pub standing : Standing
 
--- storage with the number that the next generation gets; the variables made before the program began;
--- activations; what is printed, and the next column; how many steps were taken
+-- storage with the number that the next generation gets; the variables that were there before the program
+-- began, and the lists of those that are stacked, each the newest place first; activations; what is printed,
+-- and the next column; how many steps were taken
 pub record World : Type 0 where
   pub storage : List Generation
   pub made : ℕ
   pub statics : List Static
+  pub lists : List (List Place)
   pub activations : List Activation
   pub output : List ℕ
   pub column : ℕ
@@ -53,7 +62,16 @@ pub record World : Type 0 where
 -- before a run
 unfoldable pub nothing : World
 nothing =
-    record { storage = []; made = 0; statics = []; activations = []; output = []; column = 1; steps = 0 }
+    record {
+      storage = [];
+      made = 0;
+      statics = [];
+      lists = [];
+      activations = [];
+      output = [];
+      column = 1;
+      steps = 0;
+    }
 
 -- what an operation gives
 pub data Answer (A : Type 0) : Type 0 where
@@ -258,11 +276,21 @@ dummy_of d v w =
 
 -- variables that are made before the program begins
 
--- the place of the one of a number of a unit
-abbrev pub static_in : List Static → (unit : Name) (number : ℕ) → Option Place
+-- where the one of a number of a unit stands
+abbrev pub static_in : List Static → (unit : Name) (number : ℕ) → Option Standing
 static_in [] unit number = None
 static_in (s ∷ ss) unit number =
-    if same_name s.unit unit && nat_eq s.number number then Some s.place else static_in ss unit number
+    if same_name s.unit unit && nat_eq s.number number then Some s.standing else static_in ss unit number
+
+-- the newest place of a list; it is an error to ask for it where there is none
+abbrev pub newest_in : List Place → World → Answer Place
+newest_in [] w = Raises NoGeneration w
+newest_in (p ∷ older) w = Yields p w
+
+-- the place of what stands so
+abbrev pub place_standing : Standing → World → Answer Place
+place_standing (Lies p) w = Yields p w
+place_standing (Stacked list) w = further (known (slice_get w.lists list) w) newest_in
 
 -- the unit of the newest activation
 abbrev pub newest_unit : List Activation → Option Name
@@ -273,32 +301,32 @@ newest_unit (a ∷ older) = Some a.unit
 unfoldable pub static_place : (number : ℕ) → World → Answer Place
 static_place number w =
     further (known (newest_unit w.activations) w)
-    (λ unit w. known (static_in w.statics unit number) w)
+    (λ unit w. further (known (static_in w.statics unit number) w) place_standing)
 
 -- a variable is the external one of this name
 abbrev pub is_named : (name : Name) → Option Name → Bool
 is_named name None = false
 is_named name (Some other) = same_name name other
 
--- the place of the external variable of a name, if it was made already
-abbrev pub external_in : List Static → (name : Name) → Option Place
+-- where the external variable of a name stands, if it was made already
+abbrev pub external_in : List Static → (name : Name) → Option Standing
 external_in [] name = None
-external_in (s ∷ ss) name = if is_named name s.external then Some s.place else external_in ss name
+external_in (s ∷ ss) name = if is_named name s.external then Some s.standing else external_in ss name
 
--- the place of a variable that was made already: only an external one is made for several units
-abbrev pub made_before : (external : Option Name) → List Static → Option Place
+-- where a variable stands that was made already: only an external one is made for several units
+abbrev pub made_before : (external : Option Name) → List Static → Option Standing
 made_before None ss = None
 made_before (Some name) ss = external_in ss name
 
 -- what was made already is not made again
-abbrev pub made_once : Variable → (before : Option Place) → World → Answer Place
-made_once v (Some p) w = Yields p w
-made_once v None w = made_of v.description AsStatic v.initial w
+abbrev pub made_once : Variable → (before : Option Standing) → World → Answer Standing
+made_once v (Some s) w = Yields s w
+made_once v None w = further (made_of v.description AsStatic v.initial w) (λ p w. Yields (Lies p) w)
 
--- a unit has such a variable at this place
-abbrev pub with_static : (unit : Name) (number : ℕ) (external : Option Name) → Place → World → World
-with_static unit number external p w = record w {
-  statics = w.statics ++ record { unit = unit; number = number; external = external; place = p } ∷ [];
+-- a unit has such a variable, which stands so
+abbrev pub with_static : (unit : Name) (number : ℕ) (external : Option Name) → Standing → World → World
+with_static unit number external s w = record w {
+  statics = w.statics ++ record { unit = unit; number = number; external = external; standing = s } ∷ [];
 }
 
 -- those among the globals of a unit are made, one after another, from a number on
@@ -307,7 +335,7 @@ statics_made unit number [] w = Yields tt w
 statics_made unit number (None ∷ gs) w = statics_made unit (suc number) gs w
 statics_made unit number (Some g ∷ gs) w =
     further (made_once g.variable (made_before g.external w.statics) w)
-    (λ p w. statics_made unit (suc number) gs (with_static unit number g.external p w))
+    (λ s w. statics_made unit (suc number) gs (with_static unit number g.external s w))
 
 -- output
 

@@ -7,7 +7,7 @@ ghost use Rattle.pli_world.specs.laws.Operations.{CalculatingKeeps, StaticKeeps,
 ghost use Rattle.pli_world.specs.examples.StorageExamples.{OuterVariable, DummyNumber, DummyEnds, TooLong};
 ghost use Rattle.pli_world.specs.examples.StorageExamples.{DummyDead, PartStored, PartHeld, ElementCopied};
 ghost use Rattle.pli_world.specs.examples.StorageExamples.{AggregateHeld, NoElement, NoPart, StaticStays};
-ghost use Rattle.pli_world.specs.examples.StorageExamples.{StaticOfOther, ExternalIsShared};
+ghost use Rattle.pli_world.specs.examples.StorageExamples.{StaticOfOther, NewestOfList, ExternalIsShared};
 
 /// A law: no operation takes a step or prints over what was printed, and each leaves as many activations as it
 /// should.
@@ -35,7 +35,7 @@ pub fn operations_keep()
 {}
 
 /// Worked examples: static links, dummy arguments, what ends with an activation, parts of aggregates, variables that
-/// are made once, one that two units share.
+/// are made once, one whose generations are stacked, one that two units share.
 pub fn worked_examples()
     ensures outer_variable { OuterVariable }
     ensures dummy_number { DummyNumber }
@@ -50,5 +50,6 @@ pub fn worked_examples()
     ensures no_part { NoPart }
     ensures static_stays { StaticStays }
     ensures static_of_other { StaticOfOther }
+    ensures newest_of_list { NewestOfList }
     ensures external_is_shared { ExternalIsShared }
 {}

@@ -15,13 +15,14 @@ use Rattle.pli_store.specs.declared.fault.StoreFault.{StoreFault}
 use Rattle.pli_store.specs.declared.fault.StoreFault.TheVariants.{Raised, NoRule, OutOfMemory}
 use Rattle.pli_store.specs.declared.place.Place.{Place}
 use Rattle.pli_store.specs.declared.storage.Storage.{Storage}
-use Rattle.pli_store.specs.views.StorageView.{place_view, storage_view, made_count}
+use Rattle.pli_store.specs.views.StorageView.{storage_view, made_count}
 use Rattle.pli_unit_code.specs.CodeTables.{Code, CodedGlobal, globals_linked, there}
 use Rattle.pli_unit_code.specs.Modules.{LinkedUnit, unit_of}
 use Rattle.pli_unit_perform.specs.declared.linked.LinkedGlobal.{LinkedGlobal}
 use Rattle.pli_unit_perform.specs.declared.linked.LinkedGlobal.TheVariants as linked
 use Rattle.pli_unit_perform.specs.declared.shared.Shared.{Shared}
-use Rattle.pli_unit_perform.specs.views.TableView.{statics_from, all_statics, entry_in, entry_of, AreLinked}
+use Rattle.pli_unit_perform.specs.views.TableView.{standing_view, statics_from, all_statics, entry_in}
+use Rattle.pli_unit_perform.specs.views.TableView.{entry_of, AreLinked}
 
 -- an operation ends in this world; where memory is wanting there is no answer
 abbrev pub EndsAs : {A : Type 0} → StoreFault → (whole : Answer A) → World → Type 0
@@ -35,6 +36,7 @@ first_world storage statics = record {
   storage = storage_view storage;
   made = made_count storage;
   statics = statics;
+  lists = [];
   activations = [];
   output = [];
   column = 1;
@@ -64,7 +66,7 @@ abbrev pub Placed : Option Variable → (external : Option Name) → (old new : 
     → Result (Option Place) StoreFault → Type 0
 Placed (Some v) external old new statics (Ok (Some p)) =
     made_once v (made_before external statics) (first_world old statics)
-    ≡ Yields (place_view p) (first_world new statics)
+    ≡ Yields (standing_view p) (first_world new statics)
 Placed None external old new statics (Ok None) = first_world new statics ≡ first_world old statics
 Placed (Some v) external old new statics (Err fault) =
     EndsAs fault (made_once v (made_before external statics) (first_world old statics))
@@ -74,14 +76,15 @@ Placed v external old new statics result = ⊥
 -- external variables that were made already, by their names
 abbrev pub AreKnown : Shared → List Static → Type 0
 AreKnown s statics =
-    (name : Name) → external_in statics name ≡ option_map place_view (get same_name s.externals name)
+    (name : Name) → external_in statics name ≡ option_map standing_view (get same_name s.externals name)
 
 -- a variable of a name is there, and known
 abbrev pub KnownAt : Name → Shared → List Static → Result (Option Place) StoreFault → Type 0
 KnownAt name s statics (Ok (Some p)) =
     (unit : Name) (number : ℕ)
     → AreKnown s
-    (statics ++ record { unit = unit; number = number; external = Some name; place = place_view p } ∷ [])
+    (statics
+    ++ record { unit = unit; number = number; external = Some name; standing = standing_view p } ∷ [])
 KnownAt name s statics (Ok None) = AreKnown s statics
 KnownAt name s statics (Err fault) = Unit {0}
 

@@ -5,10 +5,10 @@ use Rattle.pli_map.specs.Description.{Description, FixedBinary, Character, Array
 use Rattle.pli_map.specs.Description.{MemberThen}
 use Rattle.pli_value.specs.Value.{Value, Number, Characters}
 use Rattle.pli_code.specs.declared.ending.RunError.{RunError}
-use Rattle.pli_code.specs.declared.ending.RunError.TheVariants.{DeadLocator, SubscriptRange}
+use Rattle.pli_code.specs.declared.ending.RunError.TheVariants.{DeadLocator, SubscriptRange, NoGeneration}
 use Rattle.pli_world.specs.Storage.{Automatic, Place, whole, field_of}
 use Rattle.pli_map.specs.Values.{first_values}
-use Rattle.pli_world.specs.World.{World, nothing, Answer, Yields, Raises, Wrong, further}
+use Rattle.pli_world.specs.World.{Stacked, World, nothing, Answer, Yields, Raises, Wrong, further}
 use Rattle.pli_map.specs.Variables.{Variable}
 use Rattle.pli_program.specs.Program.{Head}
 use Rattle.pli_map.specs.Variables.{GlobalVariable}
@@ -169,6 +169,23 @@ abbrev pub StaticOfOther : Type 0
 StaticOfOther =
     further (statics_made (codes "N") 0 own nothing)
     (λ _ w. further (entered inner 0 [] w) (λ _ w. static_place 0 w)) ≡ Wrong
+
+-- the place of a unit's one variable, which is stacked in this list
+abbrev pub newest_of : List Place → Answer Place
+newest_of places =
+    further (entered inner 0 [] (record nothing {
+      statics =
+          record { unit = codes "M"; number = 0; external = None; standing = Stacked 0 } ∷ [];
+      lists = places ∷ [];
+    }))
+    (λ _ w. static_place 0 w)
+
+-- it is the newest one; where there is none it is an error to ask for it
+abbrev pub NewestOfList : Type 0
+NewestOfList =
+    (result_of (newest_of (whole 2 (FixedBinary 15) ∷ whole 1 (FixedBinary 15) ∷ []))
+    ≡ Some (whole 2 (FixedBinary 15)))
+    × (error_of (newest_of []) ≡ Some NoGeneration)
 
 -- a variable that units declare under one name
 abbrev pub shared : GlobalVariable

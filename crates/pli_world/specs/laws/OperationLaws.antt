@@ -15,13 +15,15 @@ use Rattle.pli_world.specs.Storage.{Generation, Automatic, Static as AsStatic, D
 use Rattle.pli_world.specs.Storage.{generation_in, scalar_at, live_bytes, generation_limit}
 use Rattle.pli_map.specs.Variables.{byte_limit}
 use Rattle.pli_map.specs.Values.{holds}
-use Rattle.pli_world.specs.World.{World, Answer, Yields, Raises, Wrong, further, known, height}
+use Rattle.pli_world.specs.World.{Standing, Lies, Stacked, World, Answer, Yields, Raises, Wrong, further}
+use Rattle.pli_world.specs.World.{known, height}
 use Rattle.pli_map.specs.Variables.{Variable}
 use Rattle.pli_world.specs.World.{made_of, unless_dead, living, parts_held, parts_stored, single, held}
 use Rattle.pli_world.specs.World.{stored}
 use Rattle.pli_world.specs.World.{copied, made_all, in_newest, with_slot, begun_in}
 use Rattle.pli_world.specs.World.{without_handed, entered, left_by, cleared, at_statement, stepped, height_of}
-use Rattle.pli_world.specs.World.{slot_in, slot_place, newest_unit, static_in, static_place, made_before}
+use Rattle.pli_world.specs.World.{slot_in, slot_place, newest_unit, static_in, newest_in, place_standing}
+use Rattle.pli_world.specs.World.{static_place, made_before}
 use Rattle.pli_world.specs.World.{made_once, with_static, statics_made}
 use Rattle.pli_world.specs.World.{dummy_of, printed, line_ended}
 use Rattle.pli_world.specs.laws.Operations.{IsPrefix, Follows, AnswerFollows, MakingKeeps, LoadingKeeps}
@@ -259,12 +261,28 @@ unfolding static_place
 static_keeps number w =
     further_follows (height w) (height w) w (known (newest_unit w.activations) w) _
     (known_follows (newest_unit w.activations) w) refl
-    (λ unit v f. behind (height w) w v _ f (known_follows (static_in v.statics unit number) v))
+    (λ unit v f. behind (height w) w v _ f
+    (further_follows (height v) (height v) v (known (static_in v.statics unit number) v) _
+    (known_follows (static_in v.statics unit number) v) refl
+    (λ s u f. behind (height v) v u _ f (standing_keeps s u))))
+  where
+    newest_keeps : (ps : List Place) (w : World) → AnswerFollows (height w) w (newest_in ps w)
+    newest_keeps [] w = follows_same w
+    newest_keeps (p ∷ older) w = follows_same w
 
-once_keeps : (v : Variable) (before : Option Place) (w : World)
+    standing_keeps : (s : Standing) (w : World) → AnswerFollows (height w) w (place_standing s w)
+    standing_keeps (Lies p) w = follows_same w
+    standing_keeps (Stacked list) w =
+        further_follows (height w) (height w) w (known (slice_get w.lists list) w) newest_in
+        (known_follows (slice_get w.lists list) w) refl
+        (λ ps v f. behind (height w) w v (newest_in ps v) f (newest_keeps ps v))
+
+once_keeps : (v : Variable) (before : Option Standing) (w : World)
     → AnswerFollows (height w) w (made_once v before w)
-once_keeps v (Some p) w = follows_same w
-once_keeps v None w = making_keeps v.description AsStatic v.initial w
+once_keeps v (Some s) w = follows_same w
+once_keeps v None w =
+    further_follows (height w) (height w) w (made_of v.description AsStatic v.initial w) _
+    (making_keeps v.description AsStatic v.initial w) refl (λ p v f. f)
 
 pub statics_keep : StaticsKeep
 statics_keep unit number [] w = follows_same w
@@ -272,8 +290,8 @@ statics_keep unit number (None ∷ gs) w = statics_keep unit (suc number) gs w
 statics_keep unit number (Some g ∷ gs) w =
     further_follows (height w) (height w) w (made_once g.variable (made_before g.external w.statics) w) _
     (once_keeps g.variable (made_before g.external w.statics) w) refl
-    (λ p v f.
-    let new = with_static unit number g.external p v in
+    (λ s v f.
+    let new = with_static unit number g.external s v in
     behind (height w) w new (statics_made unit (suc number) gs new)
     (record { steps = f.steps; heights = f.heights; output = f.output })
     (statics_keep unit (suc number) gs new))

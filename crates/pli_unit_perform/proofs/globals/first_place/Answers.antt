@@ -2,10 +2,10 @@ use Rattle.std.proofs.Common.{List, map, add-one, sym, ap, ◌∙◌, arith}
 use Rattle.std.specs.Prelude.{option_map}
 use Rattle.pli_base.specs.Name.{Name}
 use Rattle.pli_base.specs.laws.NameLaws.{equal_from_pointwise}
-use Rattle.pli_store.specs.views.StorageView.{place_view}
 use Rattle.pli_unit_perform.specs.declared.linked.LinkedGlobal.{LinkedGlobal}
 use Rattle.pli_unit_perform.specs.declared.loaded.Loaded.{Loaded}
 use Rattle.pli_unit_perform.specs.views.ImageView.{image_of}
+use Rattle.pli_unit_perform.specs.views.TableView.{standing_view}
 use Rattle.pli_unit_perform.proofs.LinkedUnits.{name_here}
 use Rattle.pli_unit_perform.proofs.StaticPlaces.{from_unit, stands_here, stands_further, not_here}
 use Rattle.pli_unit_perform.proofs.globals.first_place.Goals as goal
@@ -24,10 +24,10 @@ returns-in-Some c =
     let i = c.loop-unit.unit in
     let x = c.linked-item.result in
     c.loop-unit.invariant
-    ∙ stands_here c.args.name.now c.args.number (names l) (tables l) i x.unit (place_view c.in-Some.place)
+    ∙ stands_here c.args.name.now c.args.number (names l) (tables l) i x.unit (standing_view c.in-Some.place)
     (name_here l.«module».now i c.deref-linked-items.result.now x c.deref-linked-items.ensures.value (omega arith) c.linked-item.is)
     (equal_from_pointwise x.unit c.args.name.now (sym c.eq.ensures ∙ c.if-eq.true))
-    (sym c.place_in.ensures ∙ ap (option_map place_view) c.in-Some.is)
+    (sym c.place_in.ensures ∙ ap (option_map standing_view) c.in-Some.is)
 
 pub loop-unit-preserved : goal.loop-unit-preserved
 loop-unit-preserved c =
@@ -40,7 +40,7 @@ loop-unit-preserved c =
       | then-eq+in_default w ↦
           stands_further c.args.name.now c.args.number (names l) (tables l) i x.unit here
           (equal_from_pointwise x.unit c.args.name.now (sym c.eq.ensures ∙ w.if-eq.true))
-          (sym w.place_in.ensures ∙ ap (option_map place_view) w.in_default.is)
+          (sym w.place_in.ensures ∙ ap (option_map standing_view) w.in_default.is)
       | else-eq w ↦ not_here c.args.name.now c.args.number (names l) (tables l) i x.unit here
           (sym c.eq.ensures ∙ w.if-eq.false)
     ]

@@ -8,11 +8,11 @@ use Rattle.pli_map.specs.Variables.{Variable}
 use Rattle.pli_store.specs.declared.fault.StoreFault.{StoreFault}
 use Rattle.pli_store.specs.declared.place.Place.{Place}
 use Rattle.pli_store.specs.declared.storage.Storage.{Storage}
-use Rattle.pli_store.specs.views.StorageView.{place_view}
 use Rattle.pli_unit_code.specs.CodeTables.{variable_at}
 use Rattle.pli_unit_code.specs.views.CodeView.{code_view}
 use Rattle.pli_unit_perform.specs.answers.Making.{Placed, AreKnown}
 use Rattle.pli_unit_perform.specs.declared.shared.Shared.{Shared}
+use Rattle.pli_unit_perform.specs.views.TableView.{standing_view}
 use Rattle.pli_unit_perform.proofs.LinkedGlobals.{known_same, known_new, placed_new, placed_wanting}
 use Rattle.pli_unit_perform.proofs.linking.make_external.Goals as goal
 
@@ -22,7 +22,7 @@ module _ (v : Option Variable) (name : Name) (old : Shared) (new : Storage) (sta
   as_new : (r : Result (Option Place) StoreFault) → Placed v None old.storage new statics r
       → Placed v (Some name) old.storage new statics r
   as_new r placed =
-      placed_new v name old.storage new statics r (known name ∙ ap (option_map place_view) none) placed
+      placed_new v name old.storage new statics r (known name ∙ ap (option_map standing_view) none) placed
 
   given_new : (o p : Option Place) → o ≡ p → Placed v None old.storage new statics (Ok o)
       → Placed v (Some name) old.storage new statics (Ok p)

@@ -20,5 +20,6 @@ returns c = record {
   no_part = refl;
   static_stays = refl;
   static_of_other = refl;
+  newest_of_list = (refl, refl);
   external_is_shared = refl;
 }
