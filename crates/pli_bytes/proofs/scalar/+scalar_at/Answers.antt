@@ -1,0 +1,133 @@
+use Rattle.std.proofs.Common.{◌+◌, ◌*◌, ◌/◌, option_map, sym, ap, ◌∙◌, arith}
+use Rattle.pli_map.specs.Description as tree
+use Rattle.pli_map.specs.Parts.{moved}
+use Rattle.pli_map.specs.views.DescriptionView.{description_view}
+use Rattle.pli_map.specs.views.PartView.{part_view}
+use Rattle.pli_bytes.proofs.LaidPlaces.{member_end, member_inside, nodes_of_member}
+use Rattle.pli_bytes.proofs.Numbered.{numbered_past, numbered_within}
+use Rattle.pli_bytes.proofs.NumberedPlaces.{in_element, in_later_member, in_this_member}
+use Rattle.pli_bytes.proofs.scalar.+scalar_at.Goals as goal
+
+-- ---- elements
+
+pub scalar_of_element-returns-then-number-scalars : goal.scalar_of_element-returns-then-number-scalars
+scalar_of_element-returns-then-number-scalars t c =
+    sym (numbered_past (tree.Array c.args.bounds.now (description_view c.args.element.now)) c.args.number (omega (arith, c.if-number-scalars.true, c.requires.scalars)))
+
+pub scalar_of_element-scalar_at-requires : goal.scalar_of_element-scalar_at-requires
+scalar_of_element-scalar_at-requires t c =
+    let here = in_element c.args.bounds.now (description_view c.args.element.now) c.args.number c.args.scalars c.scalars_in-each.result c.far_size.result c.from.result
+    c.next_multiple_of-stride.result c.requires.limit (omega arith) c.if-number-scalars.false c.requires.scalars c.scalars_in-each.ensures c.far_size.ensures
+    (c.from.ensures ∙ c.alignment.ensures.value) c.next_multiple_of-stride.ensures.value in
+    (omega (arith, c.decreases), omega (arith, here.inside, c.requires.limit))
+
+pub scalar_of_element-returns-in_err-inner : goal.scalar_of_element-returns-in_err-inner
+scalar_of_element-returns-in_err-inner t c =
+    let here = in_element c.args.bounds.now (description_view c.args.element.now) c.args.number c.args.scalars c.scalars_in-each.result c.far_size.result c.from.result
+    c.next_multiple_of-stride.result c.requires.limit (omega arith) c.if-number-scalars.false c.requires.scalars c.scalars_in-each.ensures c.far_size.ensures
+    (c.from.ensures ∙ c.alignment.ensures.value) c.next_multiple_of-stride.ensures.value in
+    rw c.from_residual.ensures (ap (option_map (moved (c.args.number / c.scalars_in-each.result * c.next_multiple_of-stride.result))) c.in_err-inner.ensures ∙ sym here.there)
+
+pub scalar_of_element-nonzero_div-before : goal.scalar_of_element-nonzero_div-before
+scalar_of_element-nonzero_div-before t c =
+    let here = in_element c.args.bounds.now (description_view c.args.element.now) c.args.number c.args.scalars c.scalars_in-each.result c.far_size.result c.from.result
+    c.next_multiple_of-stride.result c.requires.limit (omega arith) c.if-number-scalars.false c.requires.scalars c.scalars_in-each.ensures c.far_size.ensures
+    (c.from.ensures ∙ c.alignment.ensures.value) c.next_multiple_of-stride.ensures.value in
+    here.some
+
+pub scalar_of_element-overflow_mul-before : goal.scalar_of_element-overflow_mul-before
+scalar_of_element-overflow_mul-before t c =
+    let here = in_element c.args.bounds.now (description_view c.args.element.now) c.args.number c.args.scalars c.scalars_in-each.result c.far_size.result c.from.result
+    c.next_multiple_of-stride.result c.requires.limit (omega arith) c.if-number-scalars.false c.requires.scalars c.scalars_in-each.ensures c.far_size.ensures
+    (c.from.ensures ∙ c.alignment.ensures.value) c.next_multiple_of-stride.ensures.value in
+    omega (arith, here.inside, c.requires.limit)
+
+pub scalar_of_element-overflow_cast-result : goal.scalar_of_element-overflow_cast-result
+scalar_of_element-overflow_cast-result t c =
+    let here = in_element c.args.bounds.now (description_view c.args.element.now) c.args.number c.args.scalars c.scalars_in-each.result c.far_size.result c.from.result
+    c.next_multiple_of-stride.result c.requires.limit (omega arith) c.if-number-scalars.false c.requires.scalars c.scalars_in-each.ensures c.far_size.ensures
+    (c.from.ensures ∙ c.alignment.ensures.value) c.next_multiple_of-stride.ensures.value in
+    omega (arith, here.inside, c.requires.limit)
+
+pub scalar_of_element-overflow_add-result : goal.scalar_of_element-overflow_add-result
+scalar_of_element-overflow_add-result t c =
+    let here = in_element c.args.bounds.now (description_view c.args.element.now) c.args.number c.args.scalars c.scalars_in-each.result c.far_size.result c.from.result
+    c.next_multiple_of-stride.result c.requires.limit (omega arith) c.if-number-scalars.false c.requires.scalars c.scalars_in-each.ensures c.far_size.ensures
+    (c.from.ensures ∙ c.alignment.ensures.value) c.next_multiple_of-stride.ensures.value in
+    omega (arith, here.inside, c.requires.limit, numbered_within (description_view c.args.element.now) _ (part_view c.in_ok-inner.inner) (sym c.in_ok-inner.ensures))
+
+pub scalar_of_element-returns : goal.scalar_of_element-returns
+scalar_of_element-returns t c =
+    let here = in_element c.args.bounds.now (description_view c.args.element.now) c.args.number c.args.scalars c.scalars_in-each.result c.far_size.result c.from.result
+    c.next_multiple_of-stride.result c.requires.limit (omega arith) c.if-number-scalars.false c.requires.scalars c.scalars_in-each.ensures c.far_size.ensures
+    (c.from.ensures ∙ c.alignment.ensures.value) c.next_multiple_of-stride.ensures.value in
+    ap (option_map (moved (c.args.number / c.scalars_in-each.result * c.next_multiple_of-stride.result))) c.in_ok-inner.ensures ∙ sym here.there
+
+-- ---- members
+
+pub scalar_of_member-next_multiple_of-start-requires-clause-fits : goal.scalar_of_member-next_multiple_of-start-requires-clause-fits
+scalar_of_member-next_multiple_of-start-requires-clause-fits t c =
+    let l = c.loop-member in
+    let inside = member_inside c.args.members.now l.member-index c.member-item.result c.loop-member-test.true c.member-item.is l.end c.from.result l.invariant.end
+    (c.from.ensures ∙ c.alignment.ensures.value) in
+    omega (arith, inside, c.requires)
+
+pub scalar_of_member-scalar_at-requires : goal.scalar_of_member-scalar_at-requires
+scalar_of_member-scalar_at-requires t c =
+    let l = c.loop-member in
+    let inside = member_inside c.args.members.now l.member-index c.member-item.result c.loop-member-test.true c.member-item.is l.end c.from.result l.invariant.end
+    (c.from.ensures ∙ c.alignment.ensures.value) in
+    (omega (arith, c.decreases, nodes_of_member c.args.members.now l.member-index c.member-item.result c.loop-member-test.true c.member-item.is), omega (arith, inside, c.requires))
+
+pub scalar_of_member-returns-in_err-inner : goal.scalar_of_member-returns-in_err-inner
+scalar_of_member-returns-in_err-inner t c =
+    let l = c.loop-member in
+    let there = in_this_member c.args.members.now l.member-index c.member-item.result l.end c.from.result c.next_multiple_of-start.result l.left c.scalars_in-scalars.result
+    c.loop-member-test.true c.member-item.is (c.from.ensures ∙ c.alignment.ensures.value) c.next_multiple_of-start.ensures.value (omega (arith, l.invariant.left)) c.scalars_in-scalars.ensures
+    c.if-left-scalars.true in
+    rw c.from_residual.ensures (ap (option_map (moved c.next_multiple_of-start.result)) c.in_err-inner.ensures ∙ sym there ∙ l.invariant.there)
+
+pub scalar_of_member-overflow_cast-result : goal.scalar_of_member-overflow_cast-result
+scalar_of_member-overflow_cast-result t c =
+    let l = c.loop-member in
+    let inside = member_inside c.args.members.now l.member-index c.member-item.result c.loop-member-test.true c.member-item.is l.end c.from.result l.invariant.end
+    (c.from.ensures ∙ c.alignment.ensures.value) in
+    omega (arith, inside, c.requires, c.next_multiple_of-start.ensures.value)
+
+pub scalar_of_member-overflow_add-result : goal.scalar_of_member-overflow_add-result
+scalar_of_member-overflow_add-result t c =
+    let l = c.loop-member in
+    let inside = member_inside c.args.members.now l.member-index c.member-item.result c.loop-member-test.true c.member-item.is l.end c.from.result l.invariant.end
+    (c.from.ensures ∙ c.alignment.ensures.value) in
+    omega (arith, inside, c.requires, c.next_multiple_of-start.ensures.value, numbered_within (description_view c.member-item.result) _ (part_view c.in_ok-inner.inner) (sym c.in_ok-inner.ensures))
+
+pub scalar_of_member-returns-then-left-scalars : goal.scalar_of_member-returns-then-left-scalars
+scalar_of_member-returns-then-left-scalars t c =
+    let l = c.loop-member in
+    let there = in_this_member c.args.members.now l.member-index c.member-item.result l.end c.from.result c.next_multiple_of-start.result l.left c.scalars_in-scalars.result
+    c.loop-member-test.true c.member-item.is (c.from.ensures ∙ c.alignment.ensures.value) c.next_multiple_of-start.ensures.value (omega (arith, l.invariant.left)) c.scalars_in-scalars.ensures
+    c.if-left-scalars.true in
+    ap (option_map (moved c.next_multiple_of-start.result)) c.in_ok-inner.ensures ∙ sym there ∙ l.invariant.there
+
+pub scalar_of_member-overflow_add-end : goal.scalar_of_member-overflow_add-end
+scalar_of_member-overflow_add-end t c =
+    let l = c.loop-member in
+    let inside = member_inside c.args.members.now l.member-index c.member-item.result c.loop-member-test.true c.member-item.is l.end c.from.result l.invariant.end
+    (c.from.ensures ∙ c.alignment.ensures.value) in
+    omega (arith, inside, c.requires, c.next_multiple_of-start.ensures.value, c.far_size.ensures)
+
+pub scalar_of_member-loop-member-preserved : goal.scalar_of_member-loop-member-preserved
+scalar_of_member-loop-member-preserved t c =
+    let l = c.loop-member in
+    let inside = member_inside c.args.members.now l.member-index c.member-item.result c.loop-member-test.true c.member-item.is l.end c.from.result l.invariant.end
+    (c.from.ensures ∙ c.alignment.ensures.value) in
+    let end = member_end c.args.members.now l.member-index c.member-item.result c.loop-member-test.true c.member-item.is l.end c.from.result l.invariant.end
+    (c.from.ensures ∙ c.alignment.ensures.value) in
+    let there = in_later_member c.args.members.now l.member-index c.member-item.result l.end c.from.result c.next_multiple_of-start.result l.left c.scalars_in-scalars.result
+    c.loop-member-test.true c.member-item.is (c.from.ensures ∙ c.alignment.ensures.value) c.next_multiple_of-start.ensures.value (omega (arith, l.invariant.left)) c.scalars_in-scalars.ensures
+    (c.next_multiple_of-start.result + c.far_size.result) (omega (arith, inside, c.requires, c.far_size.ensures)) c.if-left-scalars.false in
+    record {
+      there = sym there ∙ l.invariant.there;
+      end = omega (arith, end, inside, c.requires, c.next_multiple_of-start.ensures.value, c.far_size.ensures);
+      left = omega (arith, l.invariant.left);
+    }

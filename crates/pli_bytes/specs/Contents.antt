@@ -1,0 +1,54 @@
+-- What bytes hold (own): each scalar of a description lies at an offset of its bytes, and what they hold is the
+-- list of what the bytes of each scalar hold. Bytes between scalars are in none.
+use Rattle.std.specs.Prelude.{ℕ, zero, suc, ◌+◌, pos, Option, Some, None, List, [], ◌∷◌, ◌++◌, map, length}
+use Rattle.std.specs.Prelude.{take, drop}
+use Rattle.std.specs.Int.{next_multiple_of}
+use Rattle.pli_map.specs.Description.{Description, Array, Structure, Members, NoMembers, MemberThen}
+use Rattle.pli_map.specs.Parts.{PlacedPart, moved}
+use Rattle.pli_map.specs.Sizes.{alignment_of, count_of, size_of, stride_of}
+use Rattle.pli_map.specs.StoredValues.{loaded_value}
+use Rattle.pli_value.specs.Value.{Value, Number}
+
+-- the same places again and again, so many times, each time a stride further
+abbrev pub spread : (at stride count : ℕ) → List PlacedPart → List PlacedPart
+spread at stride zero ss = []
+spread at stride (suc n) ss = map (moved at) ss ++ spread (at + stride) stride n ss
+
+-- where the scalars of a description lie, in their order
+abbrev mutual
+  pub scalars_at : Description → List PlacedPart
+  scalars_at (Array bounds element) = spread 0 (stride_of element) (count_of bounds) (scalars_at element)
+  scalars_at (Structure members) = scalars_behind 0 members
+  scalars_at scalar = record { offset = 0; description = scalar } ∷ []
+
+  -- where those of members lie, each at its next aligned place behind the one before, and the first behind
+  -- this byte
+  pub scalars_behind : (at : ℕ) → Members → List PlacedPart
+  scalars_behind at NoMembers = []
+  scalars_behind at (MemberThen d ds) =
+      map (moved (next_multiple_of at (alignment_of d))) (scalars_at d)
+      ++ scalars_behind (next_multiple_of at (alignment_of d) + size_of d) ds
+
+-- the value that bytes hold under a description; zero, where values of that description have no bytes yet
+abbrev pub value_of : Description → List ℕ → Value
+value_of d bytes = given (loaded_value d bytes)
+  where
+    given : Option Value → Value
+    given (Some v) = v
+    given None = Number (pos 0)
+
+-- so many bytes from one on
+abbrev pub bytes_from : (first count : ℕ) → List ℕ → List ℕ
+bytes_from first count bytes = take count (drop first bytes)
+
+-- what they hold where a scalar lies
+abbrev pub value_in : List ℕ → PlacedPart → Value
+value_in bytes s = value_of s.description (bytes_from s.offset (size_of s.description) bytes)
+
+-- what they hold under a description, scalar by scalar
+abbrev pub values_of : Description → List ℕ → List Value
+values_of d bytes = map (value_in bytes) (scalars_at d)
+
+-- these in the place of as many bytes from one on
+abbrev pub with_bytes_at : (first : ℕ) → (new : List ℕ) → List ℕ → List ℕ
+with_bytes_at first new bytes = take first bytes ++ (new ++ drop (first + length new) bytes)

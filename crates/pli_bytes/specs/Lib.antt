@@ -1,0 +1,4 @@
+pub mod answers
+pub mod Changes
+pub mod Contents
+pub mod laws

@@ -1,0 +1,41 @@
+-- What is kept where values are laid down one behind the other.
+use Rattle.std.specs.Prelude.{◌≡◌, ◌<◌, ℕ, ◌+◌, Bool, true, false, List, ◌++◌, map, length, take, drop}
+use Rattle.pli_map.specs.Description.{Description}
+use Rattle.pli_map.specs.Parts.{PlacedPart, moved}
+use Rattle.pli_map.specs.Scalars.{scalars_of}
+use Rattle.pli_map.specs.Sizes.{size_of}
+use Rattle.pli_map.specs.Values.{are_held, first_values}
+use Rattle.pli_value.specs.Value.{Value}
+use Rattle.pli_bytes.specs.Contents.{scalars_at, value_in}
+
+-- of values so many are held as there are scalars, and these are left
+pub record Taken (ds : List Description) (vs rest : List Value) : Type 0 where
+  pub used : List Value
+  pub is : vs ≡ used ++ rest
+  pub held : are_held ds used ≡ true
+
+-- whatever scalars stand behind these, the values are not theirs
+abbrev pub NoneTaken : (ds : List Description) (vs : List Value) → Type 0
+NoneTaken ds vs = (es : List Description) → are_held (ds ++ es) vs ≡ false
+
+-- these places, which lie between two bytes, hold these values now, and no byte before or behind them has
+-- changed
+pub record Laid (low : ℕ) (ss : List PlacedPart) (high : ℕ) (vs : List Value) (old new : List ℕ) : Type 0 where
+  pub values : map (value_in new) ss ≡ vs
+  pub front : take low new ≡ take low old
+  pub back : drop high new ≡ drop high old
+  pub size : length new ≡ length old
+
+-- the same of the scalars of a description that stands behind so many bytes
+abbrev pub LaidAt : (at : ℕ) (d : Description) (vs : List Value) (old new : List ℕ) → Type 0
+LaidAt at d vs old new = Laid at (map (moved at) (scalars_at d)) (at + size_of d) vs old new
+
+-- there its scalars hold the first values now, and these are left
+pub record LaidFront (at : ℕ) (d : Description) (vs rest : List Value) (old new : List ℕ) : Type 0 where
+  pub taken : Taken (scalars_of d) vs rest
+  pub laid : LaidAt at d taken.used old new
+
+-- there its scalars hold the values now with which they begin, or some have none
+abbrev pub FirstLaid : Bool → (at : ℕ) (d : Description) (old new : List ℕ) → Type 0
+FirstLaid true at d old new = (length (first_values d) ≡ length (scalars_of d)) × LaidAt at d (first_values d) old new
+FirstLaid false at d old new = length (first_values d) < length (scalars_of d)

@@ -1,0 +1,125 @@
+//! Values put into bytes, where a scalar lies.
+ghost use Rattle.std.specs.Prelude.{◌≡◌, ◌≤◌, ◌+◌, ◌++◌, length, drop, true, IsTrue};
+ghost use Rattle.pli_bytes.specs.Changes.{IsPut, PutOrSame, AppendedOrSame};
+ghost use Rattle.pli_map.specs.Description as tree;
+ghost use Rattle.pli_map.specs.Sizes.{number_bytes, size_of};
+ghost use Rattle.pli_map.specs.Values.{holds};
+ghost use Rattle.pli_map.specs.views.DescriptionView.{description_view};
+ghost use Rattle.pli_value.specs.Numbers.{has_digits};
+ghost use Rattle.pli_value.specs.Value.{value_view, Number, Characters};
+
+use byteorder::{BigEndian, ByteOrder};
+use pli_map::Description;
+use pli_value::Value;
+
+/// A value put where a scalar of this description lies, which holds it. Of CHARACTER VARYING only the length and the
+/// characters are written.
+pub fn put_value_at(bytes: &mut [u8], offset: usize, description: &Description, value: &Value)
+    requires held { holds (description_view description.now) (value_view value.now) ≡ true }
+    requires within { offset + size_of (description_view description.now) ≤ length bytes.old }
+    ensures { IsPut (description_view description.now) (value_view value.now) offset bytes.old bytes.new }
+{
+    put_first(&mut bytes[offset..], description, value);
+}
+
+/// The same of the scalar with which the bytes begin.
+fn put_first(bytes: &mut [u8], description: &Description, value: &Value)
+    requires held { holds (description_view description.now) (value_view value.now) ≡ true }
+    requires within { size_of (description_view description.now) ≤ length bytes.old }
+    ensures { IsPut (description_view description.now) (value_view value.now) 0 bytes.old bytes.new }
+{
+    match (description, value) {
+        (Description::FixedBinary(precision), Value::Number(number)) => {
+            put_first_number(bytes, *precision, *number);
+        }
+        (Description::Character(_), Value::Characters(text)) => write_front(bytes, text),
+        (Description::Varying(greatest), Value::Characters(text)) => {
+            write_text(bytes, *greatest, text)
+        }
+        (Description::Bit(_), Value::Bits(bits)) => write_front(bytes, bits.bytes()),
+        _ => unreachable!(),
+    }
+}
+
+/// A number put where a scalar of FIXED BINARY of this precision lies; where the bytes end before it does, or it has no
+/// room for the number, nothing changes. There is room for numbers of some more digits than the precision.
+#[inline(always)]
+pub fn put_number_at(bytes: &mut [u8], offset: usize, precision: u8, number: i64) -> bool
+    ensures { PutOrSame result (tree.FixedBinary precision) (Number number) offset bytes.old bytes.new }
+{
+    if offset > bytes.len() {
+        return false;
+    }
+    put_first_number(&mut bytes[offset..], precision, number)
+}
+
+/// The same of the scalar with which the bytes begin.
+#[inline(always)]
+fn put_first_number(bytes: &mut [u8], precision: u8, number: i64) -> bool
+    ensures put { PutOrSame result (tree.FixedBinary precision) (Number number) 0 bytes.old bytes.new }
+    ensures room { IsTrue (has_digits precision number) → number_bytes precision ≤ length bytes.old → result ≡ true }
+{
+    match precision {
+        0..=15 => match i16::try_from(number) {
+            Ok(number) if bytes.len() >= 2 => BigEndian::write_i16(bytes, number),
+            _ => return false,
+        },
+        16..=31 => match i32::try_from(number) {
+            Ok(number) if bytes.len() >= 4 => BigEndian::write_i32(bytes, number),
+            _ => return false,
+        },
+        32..=255 if bytes.len() >= 8 => BigEndian::write_i64(bytes, number),
+        _ => return false,
+    }
+    true
+}
+
+/// The characters of a scalar of CHARACTER VARYING put with which the bytes begin: the length in two bytes, and they.
+fn write_text(bytes: &mut [u8], greatest: u16, text: &[u8])
+    requires fits { length text.now ≤ greatest }
+    requires within { 2 + greatest ≤ length bytes.old }
+    ensures { IsPut (tree.Varying greatest) (Characters text.now) 0 bytes.old bytes.new }
+{
+    BigEndian::write_u16(bytes, text.len() as u16);
+    write_front(&mut bytes[2..], text);
+}
+
+/// These in the place of as many bytes.
+fn write_front(bytes: &mut [u8], front: &[u8])
+    requires { length front.now ≤ length bytes.old }
+    ensures { bytes.new ≡ front.now ++ drop (length front.now) bytes.old }
+{
+    bytes[..front.len()].copy_from_slice(front);
+}
+
+/// Characters put behind those that a scalar of CHARACTER VARYING holds, which lies at an offset of the bytes; where both
+/// are more than its greatest length or than so many, or the bytes end before it does, nothing changes. Only the length and
+/// the new characters are written.
+#[inline]
+pub fn append_at(bytes: &mut [u8], offset: usize, greatest: u16, more: &[u8], room: usize) -> bool
+    ensures { AppendedOrSame result greatest offset more.now room bytes.old bytes.new }
+{
+    if offset > bytes.len() {
+        return false;
+    }
+    append_first(&mut bytes[offset..], greatest, more, room)
+}
+
+/// The same of the scalar with which the bytes begin.
+#[inline]
+fn append_first(bytes: &mut [u8], greatest: u16, more: &[u8], room: usize) -> bool
+    ensures { AppendedOrSame result greatest 0 more.now room bytes.old bytes.new }
+{
+    let greatest = usize::from(greatest);
+    if bytes.len() < 2 + greatest {
+        return false;
+    }
+    let before = usize::from(BigEndian::read_u16(bytes)).min(greatest);
+    let both = before + more.len();
+    if both > room.min(greatest) {
+        return false;
+    }
+    BigEndian::write_u16(bytes, both as u16);
+    write_front(&mut bytes[2 + before..], more);
+    true
+}
