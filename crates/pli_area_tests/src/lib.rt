@@ -4,4 +4,12 @@
 #[cfg(test)]
 mod calls;
 #[cfg(test)]
+mod model;
+#[cfg(test)]
+mod pairs;
+#[cfg(test)]
+mod random;
+#[cfg(test)]
 mod sequences;
+#[cfg(test)]
+mod steps;
