@@ -13,13 +13,10 @@ from report import LONGEST_LINE, Report
 from streams import Stopped, Trouble, end_line, show, tell
 from workbench import Workbench, chosen
 
-FIRST_STEPS = 10_000
-DEFAULT_STEPS = 1_000_000
 SPREAD = 7  # so many times the steps lead a program with marks as far as one without them
 SHOWN = 20
 EVERY = 4096
 MOST_IN_BATCH = 350_000
-RUN = re.compile(rb"RUN(?: ([0-9]{1,18}))?", re.IGNORECASE)
 ERROR = re.compile(r"ERROR (E\d+ .*) (\S+) (\d+)")
 EDIT = re.compile(r"(ADD|DELETE|INSERT|REPLACE|REMOVE) ([A-Z][A-Z0-9_$]*)(?: (\S+))?(?: (.*))?", re.IGNORECASE)
 
@@ -47,29 +44,6 @@ def answered(bench, members, command):
         edit(members, command)
     show(b"".join(answer + b"\n" for answer in answers))
     return answers
-
-
-def run(bench, command):
-    """The end of a run, behind runs of fewer steps that show output early; the last byte may be the end's line feed."""
-    found, many, shown, seen, last = RUN.fullmatch(command), FIRST_STEPS, 0, 0, b""
-    if bench.batch or not found:
-        return bench.ask([command], show)
-
-    def emit(data):
-        nonlocal shown, seen, last
-        printed, last = (last + data)[:-1], (last + data)[-1:]
-        new = printed[max(0, shown - seen) :]
-        show(new)
-        shown, seen = shown + len(new), seen + len(printed)
-
-    steps = int(found[1] or DEFAULT_STEPS)
-    while True:
-        seen, last = 0, b""
-        ending = bench.ask([f"RUN {min(many, steps)}".encode()], emit)
-        if ending != b"OUT OF STEPS" or many >= steps:
-            show(last)
-            return ending
-        many *= 4
 
 
 class Session:
@@ -110,7 +84,7 @@ class Session:
 
     def run(self, command, steps=None):
         """The status of a run, whose output is shown as it comes, with a trace where its steps are given."""
-        ending = run(self.bench, command).decode()
+        ending = self.bench.ask([command], show).decode()
         if ending == "ENDED":
             return 0
         if error := ERROR.fullmatch(ending):
@@ -286,7 +260,7 @@ class Shell:
             own(Path(rest[0]), *rest[1:])
             show(b"OK\n")
         elif word.upper() == "RUN":
-            show(run(self.bench, line) + b"\n")
+            show(self.bench.ask([line], show) + b"\n")
         elif word and word.upper() != "QUIT":
             answered(self.bench, self.members, line)
 

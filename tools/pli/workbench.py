@@ -89,16 +89,22 @@ class Workbench:
             raise Trouble(f"{self.words[0]} ended with status {self.child.wait()} before it had answered")
         self.pending += chunk
 
+    def printed(self):
+        """How many bytes of what is pending a run printed for certain: all before a line that may be its end."""
+        begun = self.pending.rfind(b"\n") + 1
+        if not self.end.startswith(self.pending[begun:]):
+            return begun
+        return self.pending.rfind(b"\n", 0, max(begun - 1, 0)) + 1
+
     def hear(self, emit=None):
-        """The answers up to the next mark, as `ask` gives them; `emit` waits for a line that may be the run's end."""
+        """The answers up to the next mark, as `ask` gives them."""
         while len(self.pending) < len(self.leading) and self.leading.startswith(self.pending):
             self.read()
         if not self.pending.startswith(self.leading):
             raise Trouble(f"{self.words[0]} does not answer as a workbench")
         self.pending, self.leading, self.emit = self.pending[len(self.leading) :], b"OK\n", emit
         while (at := self.pending.find(self.end)) < 0:
-            cut = self.pending.rfind(b"\n", 0, max(self.pending.rfind(b"\n"), 0)) + 1
-            if emit and cut:
+            if emit and (cut := self.printed()):
                 emit(self.pending[:cut])
                 self.pending = self.pending[cut:]
             self.read()
@@ -122,7 +128,7 @@ class Workbench:
             os.set_blocking(self.child.stdout.fileno(), False)
             printed = (self.pending + (self.child.stdout.read() or b"")).partition(self.end)[0]
             with suppress(Trouble):
-                self.emit(printed and printed + b"\n")
+                self.emit(printed)
 
     @classmethod
     def stop_all(cls):

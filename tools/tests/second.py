@@ -46,8 +46,7 @@ class Flow(list):
 
     def append(self, text):
         sys.stdout.write(text)
-        if text == "\n":
-            sys.stdout.flush()
+        sys.stdout.flush()
 
 
 class Second(answers.Workbench):

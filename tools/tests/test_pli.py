@@ -416,6 +416,13 @@ class Signals(Room):
         status, output, told = self.stopped(running, signal.SIGINT)
         self.assertEqual((status, told, output[-1:]), (130, b"pli: stopped\n", b"\n"))
 
+    def test_a_run_is_asked_once(self):
+        self.write(m_pli=body("DCL I FIXED BIN(31);", "DO I = 1 TO 9999;", "END;", "PUT LIST('DONE');"))
+        (self.room / "bench").write_text(f"#!/bin/sh\ntee asked | exec {WORKBENCH}\n")
+        (self.room / "bench").chmod(0o755)
+        self.assertEqual(self.pli("m.pli", workbench="./bench"), (0, "DONE \n", ""))
+        self.assertEqual((self.room / "asked").read_bytes().count(b"\nRUN "), 1)
+
     def test_output_so_far(self):
         for number in (signal.SIGINT, signal.SIGTERM):
             running = self.started(SILENT)
