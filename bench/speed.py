@@ -6,7 +6,7 @@ left out, it is bin/pliwb --proved. Times are of the processor, medians of five,
 statement: for the workbench that is a session that only builds, for CPython a program of one word.
 """
 import math
-import os
+import resource
 import statistics
 import subprocess
 import sys
@@ -23,12 +23,17 @@ def session(text, run):
     return "\n".join(["ADD M SOURCE", *typed, "BUILD", *(["RUN 999999999"] if run else []), "QUIT", ""]).encode()
 
 
+def spent():
+    """The processor seconds of all processes that have ended."""
+    usage = resource.getrusage(resource.RUSAGE_CHILDREN)
+    return usage.ru_utime + usage.ru_stime
+
+
 def once(words, given):
     """The processor seconds of one run, and what it printed."""
-    before = os.times()
+    before = spent()
     printed = subprocess.run(words, input=given, stdout=subprocess.PIPE, check=True).stdout
-    after = os.times()
-    return after.children_user + after.children_system - before.children_user - before.children_system, printed.decode()
+    return spent() - before, printed.decode()
 
 
 def timed(words, given):

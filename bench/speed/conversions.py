@@ -1,6 +1,6 @@
 def main():
     n, b = 0, 0b10110100
-    for i in range(1, 20001):
+    for i in range(1, 100001):
         c = str(i).rjust(14)
         s = i % 30000
         if c[13] == '7':

@@ -1,6 +1,6 @@
 def main():
     a = b = c = d = e = 0
-    for i in range(1, 60001):
+    for i in range(1, 600001):
         x = i * 31 % 100
         if x < 10:
             a = a + 1

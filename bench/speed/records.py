@@ -6,7 +6,7 @@ def main():
         r[i].key = i * 37 % 101
         r[i].text = 'RECORD'
         r[i].count = 0
-    for j in range(1, 1001):
+    for j in range(1, 5001):
         k = j * 13 % 101
         for i in range(1, 101):
             if r[i].key == k:

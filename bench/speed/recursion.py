@@ -4,7 +4,7 @@ def gcd(a, b):
     return gcd(b, a % b)
 def main():
     n = 0
-    for i in range(1, 2001):
+    for i in range(1, 20001):
         n = n + gcd(i * 17, 1009 - i % 1000)
     print(n)
 main()

@@ -1,6 +1,6 @@
 def main():
     n = 0
-    for k in range(1, 6001):
+    for k in range(1, 60001):
         i = 1
         while i < 100000:
             n = (n + i + k) % 10007

@@ -1,5 +1,5 @@
 def main():
-    for _ in range(4):
+    for _ in range(10):
         n, marked = 0, [False] * 20001
         for i in range(2, 20001):
             marked[i] = False

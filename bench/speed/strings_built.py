@@ -1,6 +1,6 @@
 def main():
     n, i = 0, 1
-    while i <= 200:
+    while i <= 800:
         s, j = '', 1
         while j <= 500:
             s = s + 'AB'

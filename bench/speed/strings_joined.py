@@ -1,6 +1,6 @@
 def main():
     n = 0
-    for i in range(300):
+    for i in range(3000):
         s, t = '', 'X'
         for j in range(60):
             s = s + t[0:1] + 'YZ'

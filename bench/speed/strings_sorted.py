@@ -1,7 +1,7 @@
 def main():
     d = 'QWERTYUIOPASDFGHJKLZXCVBNM'
     w = [''] * 121
-    for r in range(1, 4):
+    for r in range(1, 26):
         for i in range(1, 121):
             w[i] = (d[i * 7 % 26] + d[(i * 11 + r) % 26] + 'TAIL').ljust(12)
         for i in range(1, 120):

@@ -1,6 +1,6 @@
 def main():
     a = [[[0] * 21 for j in range(21)] for i in range(21)]
-    for r in range(10):
+    for r in range(40):
         for i in range(1, 21):
             for j in range(1, 21):
                 for k in range(1, 21):

@@ -1,5 +1,5 @@
 def main():
-    n = 41
+    n = 91
     a = [[i + j for j in range(n)] for i in range(n)]
     b = [[i - j for j in range(n)] for i in range(n)]
     c = [[0] * n for i in range(n)]
@@ -11,6 +11,6 @@ def main():
             c[i][j] = s
     s = 0
     for i in range(1, n):
-        s = s + c[i][41 - i]
+        s = s + c[i][91 - i]
     print(s)
 main()

@@ -1,6 +1,6 @@
 def main():
     most = 0
-    for i in range(1, 1501):
+    for i in range(1, 8001):
         x, n = i, 0
         while (x != 1) & (n < 1000) & (x < 50000000):
             if x % 2 == 0:
