@@ -26,25 +26,6 @@ held_on (d ∷ ds) es (v ∷ vs) ws h =
     let p = and_parts (holds d v) (are_held ds vs) h in
     ap (λ b. b && are_held (ds ++ es) (vs ++ ws)) p.0 ∙ held_on ds es vs ws p.1
 
-pub taken_none : (vs : List Value) → Taken [] vs vs
-taken_none vs = record { used = []; is = refl; held = refl }
-
-pub taken_one : (d : Description) (v : Value) (vs : List Value) → holds d v ≡ true → Taken (d ∷ []) (v ∷ vs) vs
-taken_one d v vs h = record { used = v ∷ []; is = refl; held = ap (λ b. b && true) h }
-
-pub not_taken : (d : Description) (v : Value) (vs : List Value) → holds d v ≡ false → NoneTaken (d ∷ []) (v ∷ vs)
-not_taken d v vs h es = ap (λ b. b && are_held es vs) h
-
-pub none_left : (d : Description) → NoneTaken (d ∷ []) []
-none_left d es = refl
-
-pub taken_both : (ds es : List Description) (vs rest left : List Value) → Taken ds vs rest → Taken es rest left → Taken (ds ++ es) vs left
-taken_both ds es vs rest left first second = record {
-  used = first.used ++ second.used;
-  is = first.is ∙ ap (λ l. first.used ++ l) second.is ∙ sym (append_assoc first.used second.used left);
-  held = held_on ds es first.used second.used first.held ∙ second.held;
-}
-
 -- the others are not held
 pub not_behind : (ds es : List Description) (vs rest : List Value) → Taken ds vs rest → NoneTaken es rest → NoneTaken (ds ++ es) vs
 not_behind ds es vs rest first none fs =

@@ -1,5 +1,5 @@
 -- The first of values laid down, for a scalar, one member more and one element more, and those that are left.
-use Rattle.std.proofs.Common.{◌≡◌, ℕ, suc, ◌+◌, ◌-◌, ◌*◌, ◌<◌, ◌≤◌, Bool, true, false, ◌&&◌, ◌==◌, map, List, [], ◌∷◌, ◌++◌, length, take, drop, get_or, refl, sym, ap, ◌∙◌, subst, arith, append-nil, append_assoc, length-append}
+use Rattle.std.proofs.Common.{◌≡◌, ℕ, suc, ◌+◌, ◌-◌, ◌*◌, ◌<◌, ◌≤◌, Bool, true, ◌&&◌, ◌==◌, map, List, [], ◌∷◌, ◌++◌, length, take, drop, get_or, refl, sym, ap, ◌∙◌, subst, arith, append-nil, append_assoc, length-append}
 use Rattle.std.specs.Int.{next_multiple_of}
 use Rattle.std.proofs.lemmas.Bool.{eqb-true, false_from_ne_true}
 use Rattle.std.proofs.lemmas.List.{nil_from_length}
@@ -15,7 +15,7 @@ use Rattle.pli_value.specs.Value.{Value}
 use Rattle.pli_bytes.specs.answers.Laying.{Taken, NoneTaken, LaidAt, LaidFront}
 use Rattle.pli_bytes.specs.Changes.{IsPut}
 use Rattle.pli_bytes.specs.Contents.{scalars_at, value_in, values_of}
-use Rattle.pli_bytes.proofs.HeldValues.{all_taken, not_taken, none_left, held_length, held_on, not_behind, not_before, some_left}
+use Rattle.pli_bytes.proofs.HeldValues.{all_taken, held_length, held_on, not_behind, not_before, some_left}
 use Rattle.pli_bytes.proofs.Laid.{laid_scalar, laid_none, laid_whole, LaidElements, laid_element, laid_member}
 use Rattle.pli_bytes.proofs.PartLists.{repeated, one_repeated, repeated_split, scalars_more, scalars_split}
 use Rattle.pli_bytes.proofs.Scalars.{counted, described, descriptions, scalar_itself}
@@ -33,12 +33,6 @@ front_scalar at d v rest old new scalar held inside put = record {
   taken = record { used = v ∷ []; is = refl; held = ap (λ ds. are_held ds (v ∷ [])) (scalar_itself d scalar) ∙ ap (λ b. b && true) held };
   laid = laid_scalar at d v old new scalar inside put;
 }
-
-pub none_of_scalar : (d : tree.Description) (v : Value) (vs : List Value) → is_scalar d ≡ true → holds d v ≡ false → NoneTaken (scalars_of d) (v ∷ vs)
-none_of_scalar d v vs scalar refused es = ap (λ ds. are_held (ds ++ es) (v ∷ vs)) (scalar_itself d scalar) ∙ not_taken d v vs refused es
-
-pub none_for_scalar : (d : tree.Description) → is_scalar d ≡ true → NoneTaken (scalars_of d) []
-none_for_scalar d scalar es = ap (λ ds. are_held (ds ++ es) []) (scalar_itself d scalar) ∙ none_left d es
 
 -- ---- members
 

@@ -73,3 +73,14 @@ element_placed element count made scalars each size alignment stride limit some 
       stride_is = same;
       inside = omega (arith, ap (λ n. made * n) same, element_inside made count wide (size_of element) below (fits_stride element));
     }
+
+-- how often a distance goes into as many bytes as so many elements take
+pub divided_by_stride : (size count wide : ℕ) → 0 < wide → size ≡ count * wide → size / wide ≡ count
+divided_by_stride size count wide some is =
+    let turned : count * wide ≡ wide * count = omega arith in
+    ap (λ n. n / wide) (is ∙ turned) ∙ mul-div_right count some
+
+-- a product that is something has a first factor that is
+pub some_factor : (a b : ℕ) → 0 < a * b → 0 < a
+some_factor zero b h = absurd (omega (arith, h))
+some_factor (suc a) b h = omega arith

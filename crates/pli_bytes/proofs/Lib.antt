@@ -1,5 +1,7 @@
 pub mod DescriptionTrees
+pub mod FilledBytes
 pub mod FirstHeld
+pub mod FirstsLaid
 pub mod HeldValues
 pub mod Kept
 pub mod Laid

@@ -1,5 +1,5 @@
 -- The scalar of a number: where it lies is found by arithmetic, and where its value is put, that value of the list changes alone.
-use Rattle.std.proofs.Common.{◌≡◌, ℕ, zero, suc, ◌+◌, ◌-◌, ◌*◌, ◌/◌, ◌%◌, ◌<◌, ◌≤◌, true, Some, None, option_map, List, [], ◌∷◌, ◌++◌, map, length, slice_get, slice_set, refl, ap, sym, ◌∙◌, arith, inl, inr}
+use Rattle.std.proofs.Common.{◌≡◌, ℕ, zero, suc, ◌+◌, ◌-◌, ◌*◌, ◌/◌, ◌%◌, ◌<◌, ◌≤◌, Some, None, option_map, List, [], ◌∷◌, ◌++◌, map, length, slice_get, slice_set, refl, ap, sym, ◌∙◌, arith, inl, inr}
 use Rattle.std.specs.Int.{next_multiple_of}
 use Rattle.std.proofs.lemmas.Bool.{cases_lt}
 use Rattle.std.proofs.lemmas.List.{length-map, set_past}
@@ -9,7 +9,7 @@ use Rattle.std.proofs.Math.Nat.{mod-lt, mul-le-mul_right}
 use Rattle.pli_map.specs.Description.{Description, Array, Members, MemberThen}
 use Rattle.pli_map.specs.declared.description.Bounds.{Bounds}
 use Rattle.pli_map.specs.Parts.{PlacedPart, moved}
-use Rattle.pli_map.specs.Scalars.{is_scalar, scalars_in, scalars_of}
+use Rattle.pli_map.specs.Scalars.{scalars_in, scalars_of}
 use Rattle.pli_map.specs.Sizes.{count_of, alignment_of, size_of, stride_of}
 use Rattle.pli_value.specs.Value.{Value}
 use Rattle.pli_bytes.specs.Changes.{IsPut}
@@ -18,7 +18,7 @@ use Rattle.pli_bytes.proofs.Kept.{values_at, kept_behind}
 use Rattle.pli_bytes.proofs.PutBytes.{same_front}
 use Rattle.pli_bytes.proofs.PutValues.{put_value, put_before, put_behind, put_length}
 use Rattle.pli_bytes.proofs.Rising.{Rise, rise_ends, rises}
-use Rattle.pli_bytes.proofs.Scalars.{counted, described, scalar_alone, spread_length}
+use Rattle.pli_bytes.proofs.Scalars.{counted, described, spread_length}
 use Rattle.pli_bytes.proofs.Split.{spread_split}
 
 -- ---- lists
@@ -37,9 +37,6 @@ get_back (x ∷ xs) ys n k long =
     ap (slice_get (x ∷ (xs ++ ys))) e ∙ get_back xs ys (length xs) k refl
 
 -- ---- where the scalar of a number lies
-
-pub numbered_scalar : (d : Description) → is_scalar d ≡ true → slice_get (scalars_at d) 0 ≡ Some (record { offset = 0; description = d })
-numbered_scalar d scalar = ap (λ ss. slice_get ss 0) (scalar_alone d scalar)
 
 pub numbered_past : (d : Description) (k : ℕ) → scalars_in d ≤ k → slice_get (scalars_at d) k ≡ None
 numbered_past d k past = slice_get_past (scalars_at d) k (omega (arith, past, counted d))

@@ -1,5 +1,5 @@
--- The places of a description's scalars: as many as it has, of their descriptions, and within its bytes.
-use Rattle.std.proofs.Common.{◌≡◌, ℕ, zero, suc, ◌+◌, ◌*◌, ◌≤◌, true, true≢false, List, [], ◌∷◌, ◌++◌, map, length, replicate, refl, ap, sym, ◌∙◌, arith, length-append}
+-- The places of a description's scalars: as many as it has, and of their descriptions.
+use Rattle.std.proofs.Common.{◌≡◌, ℕ, zero, suc, ◌+◌, ◌*◌, true, true≢false, List, [], ◌∷◌, ◌++◌, map, length, replicate, refl, ap, sym, ◌∙◌, arith, length-append}
 use Rattle.std.specs.Int.{next_multiple_of}
 use Rattle.std.specs.List.{flat_map}
 use Rattle.std.proofs.lemmas.List.{length-map, map-append}
@@ -8,7 +8,6 @@ use Rattle.pli_map.specs.Parts.{PlacedPart, moved}
 use Rattle.pli_map.specs.Scalars.{is_scalar, scalars_in, scalars_among, scalars_of, scalars_of_members}
 use Rattle.pli_map.specs.Sizes.{count_of, alignment_of, size_of, stride_of}
 use Rattle.pli_bytes.specs.Contents.{spread, scalars_at, scalars_behind}
-use Rattle.pli_bytes.proofs.Rising.{Rise, rise_ends, rises}
 
 pub spread_length : (at stride count : ℕ) (ss : List PlacedPart) → length (spread at stride count ss) ≡ count * length ss
 spread_length at stride zero ss = omega arith
@@ -98,21 +97,7 @@ mutual
       ∙ ap (λ ds. ds ++ descriptions rest) (descriptions_moved start (scalars_at d) ∙ described d)
       ∙ ap (λ ds. scalars_of d ++ ds) (described_behind (start + size_of d) ds)
 
--- ---- their bytes
-
--- each lies between two bytes
-abbrev pub Lie : (low high : ℕ) → List PlacedPart → Type 0
-Lie low high [] = Unit {0}
-Lie low high (s ∷ ss) = (low ≤ s.offset) × (s.offset + size_of s.description ≤ high) × Lie low high ss
-
-rise_lies : (low first : ℕ) (ss : List PlacedPart) (high : ℕ) → low ≤ first → Rise first ss high → Lie low high ss
-rise_lies low first [] high before h = tt
-rise_lies low first (s ∷ ss) high before h =
-    let end = s.offset + size_of s.description in
-    (omega (arith, h.0), rise_ends end ss high h.1, rise_lies low end ss high (omega (arith, h.0)) h.1)
-
-pub all_lie : (d : Description) → Lie 0 (size_of d) (scalars_at d)
-all_lie d = rise_lies 0 0 (scalars_at d) (size_of d) (omega arith) (rises d)
+-- ---- a scalar alone
 
 pub scalar_itself : (d : Description) → is_scalar d ≡ true → scalars_of d ≡ d ∷ []
 scalar_itself d scalar = sym (described d) ∙ ap descriptions (scalar_alone d scalar)

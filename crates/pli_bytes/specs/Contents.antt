@@ -1,5 +1,5 @@
--- What bytes hold (own): each scalar of a description lies at an offset of its bytes, and what they hold is the
--- list of what the bytes of each scalar hold. Bytes between scalars are in none.
+-- What bytes hold (own): each scalar of a description lies at an offset of its bytes, and what they hold is
+-- the list of what the bytes of each scalar hold. Bytes between scalars are in none.
 use Rattle.std.specs.Prelude.{ℕ, zero, suc, ◌+◌, pos, Option, Some, None, List, [], ◌∷◌, ◌++◌, map, length}
 use Rattle.std.specs.Prelude.{take, drop}
 use Rattle.std.specs.Int.{next_multiple_of}

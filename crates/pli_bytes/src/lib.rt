@@ -1,12 +1,14 @@
 //! Values of scalars in bytes: each scalar of a description lies at an offset of its bytes, and is read, put and laid there.
 #![tactic(auto)]
 
+mod beginning;
 mod laws;
 mod laying;
 mod putting;
 mod reading;
 mod scalar;
 
+pub use beginning::lay_first;
 pub use laws::parts_are_their_bytes;
 pub use laying::lay;
 pub use putting::{append_at, put_number_at, put_value_at};

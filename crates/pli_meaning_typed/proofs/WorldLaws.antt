@@ -9,13 +9,13 @@ use Rattle.pli_code.specs.declared.ending.RunError.TheVariants.{DeadLocator, Sto
 use Rattle.pli_map.specs.Description.{Description}
 use Rattle.pli_map.specs.Same.{same}
 use Rattle.pli_map.specs.laws.SameLaws.{same_decides}
-use Rattle.pli_map.specs.Scalars.{first_scalar, is_scalar, scalars_in}
+use Rattle.pli_map.specs.Scalars.{first_scalar, is_scalar, scalars_in, scalars_of}
 use Rattle.pli_map.specs.Sizes.{size_of}
 use Rattle.pli_world.specs.Activations.{Activation, with_newest, without_newest}
 use Rattle.pli_world.specs.Storage.{Generation, Made, Automatic, Dummy, Place, whole, generation_in, scalar_at, values_from, with_values_at}
 use Rattle.pli_world.specs.Storage.{with_values, without, live_bytes, generation_limit}
 use Rattle.pli_map.specs.Variables.{byte_limit}
-use Rattle.pli_map.specs.Values.{holds}
+use Rattle.pli_map.specs.Values.{holds, are_held}
 use Rattle.pli_world.specs.World.{Standing, Lies, Stacked, World, Answer, Yields, Raises, Wrong, further, known, made_of, unless_dead, parts_held}
 use Rattle.pli_world.specs.World.{parts_stored, single, held, stored, copied, in_newest, with_slot, made_all}
 use Rattle.pli_map.specs.Variables.{Variable}
@@ -129,7 +129,13 @@ further_answers P Q (Yields x w) go h f = f x w h
 further_answers P Q (Raises e w) go h f = h
 further_answers P Q Wrong go h f = absurd h
 
--- a new generation
+-- a new generation: a value for each scalar is what the test asks for
+pub values_held : (ds : List Description) (vs : List Value) → AreHeld ds vs → are_held ds vs ≡ true
+values_held [] [] h = refl
+values_held (d ∷ ds) (v ∷ vs) h = ap (λ b. b && are_held ds vs) h.0 ∙ values_held ds vs h.1
+values_held [] (v ∷ vs) h = absurd h
+values_held (d ∷ ds) [] h = absurd h
+
 new_part : (d : Description) → IsPartAt d 0 d
 new_part d more e k h = let z : more ≡ 0 + more = omega arith in (k, subst (λ n. first_scalar d n e ≡ Some k) z h)
 
@@ -169,9 +175,10 @@ module _ (d : Description) (how : Made) (vs : List Value) (w : World) (old : Hol
       → made_of d how vs w ≡ Yields (whole w.made d) (with_new d how vs w)
   unfolding made_of
   room_gives few small =
-      ap (λ b. if b && nat_le (live_bytes w.storage + size_of d) byte_limit then Yields (whole w.made d) (with_new d how vs w) else Raises StorageLimit w)
+      ap (λ b. if b && nat_le (live_bytes w.storage + size_of d) byte_limit then (if are_held (scalars_of d) vs then Yields (whole w.made d) (with_new d how vs w) else Wrong) else Raises StorageLimit w)
       (lt-ltb w.made generation_limit few)
-      ∙ ap (λ b. if b then Yields (whole w.made d) (with_new d how vs w) else Raises StorageLimit w) (le-leb (live_bytes w.storage + size_of d) byte_limit small)
+      ∙ ap (λ b. if b then (if are_held (scalars_of d) vs then Yields (whole w.made d) (with_new d how vs w) else Wrong) else Raises StorageLimit w) (le-leb (live_bytes w.storage + size_of d) byte_limit small)
+      ∙ ap (λ b. if b then Yields (whole w.made d) (with_new d how vs w) else Wrong) (values_held (scalars_of d) vs h)
 
 module _ (units : List TypedUnit) (s : Shape) (ss : List Shape) where
   abbrev Sound : World → Type 0
@@ -186,9 +193,10 @@ module _ (units : List TypedUnit) (s : Shape) (ss : List Shape) where
   made_answers d how vs w sound h =
       by (nat_lt w.made generation_limit && nat_le (live_bytes w.storage + size_of d) byte_limit)
     where
-      by : (b : Bool) → Answers (MadeAt w d) (if b then Yields (whole w.made d) (with_new d how vs w) else Raises StorageLimit w)
+      by : (b : Bool) → Answers (MadeAt w d) (if b then (if are_held (scalars_of d) vs then Yields (whole w.made d) (with_new d how vs w) else Wrong) else Raises StorageLimit w)
       by true =
-          let later = new_later d how vs w sound.values h in (
+          let later = new_later d how vs w sound.values h in
+          subst (λ b. Answers (MadeAt w d) (if b then Yields (whole w.made d) (with_new d how vs w) else Wrong)) (sym (values_held (scalars_of d) vs h)) (
             new_good d how vs w sound.values h,
             same_stack units (s ∷ ss) w (with_new d how vs w) sound later (new_values d how vs w sound.values h) refl refl refl,
             later,

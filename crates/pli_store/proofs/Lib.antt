@@ -1,10 +1,13 @@
+pub mod CopiedBytes
 pub mod CopyLemmas
 pub mod EndingLemmas
-pub mod PlaceLemmas
-pub mod AppendLemmas
+pub mod HeldScalars
 pub mod MakingLemmas
 pub mod PartAnswers
+pub mod PlaceLemmas
+pub mod PutAnswers
 pub mod PutsSaid
+pub mod ReadParts
 pub mod RisingNumbers
 pub mod Searches
-pub mod ValueLists
+pub mod StandingParts

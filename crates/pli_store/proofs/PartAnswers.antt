@@ -1,98 +1,23 @@
--- What operations on a place answer where it leads to a scalar, where it leads nowhere, and where it is dead.
-use Rattle.std.proofs.Common.{◌≡◌, ℕ, ◌+◌, ◌≤◌, Bool, true, false, nat_eq, List, [], ◌∷◌, length, map, take, drop, set, get_or, min, leb, Some, None, Result, Ok, Err, OnOk, OnErr, slice_get, if◌then◌else◌, refl, sym, ap, ◌∙◌, subst, arith}
-use Rattle.std.specs.Option.{option_map}
-use Rattle.std.proofs.lemmas.Bool.{leb-true, leb-false, eqb-true}
-use Rattle.std.proofs.lemmas.List.{take_all, drop_all, length-map, drop_more}
-use Rattle.std.proofs.lemmas.Option.{same_Some, none-some, slice_get_within, slice_get-map, slice_get_read, get_or_from_slice_get}
+-- What operations on a place answer where it leads to a part, where it leads nowhere, and where it is dead.
+use Rattle.std.proofs.Common.{◌≡◌, ℕ, Bool, true, false, nat_eq, List, [], ◌∷◌, ◌++◌, set, Some, None, Err, if◌then◌else◌, refl, sym, ap, ◌∙◌, subst}
+use Rattle.std.proofs.lemmas.Bool.{eqb-true}
+use Rattle.std.proofs.lemmas.Option.{same_Some, none-some}
 use Rattle.pli_code.specs.declared.ending.RunError.TheVariants.{DeadLocator}
-use Rattle.pli_map.specs.Description.{Description, FixedBinary, Character, Varying, Bit, Pointer, Offset, Area, Array, Structure}
-use Rattle.pli_map.specs.Scalars.{is_scalar, scalars_in}
+use Rattle.pli_map.specs.Description.{Description, Varying}
+use Rattle.pli_map.specs.Scalars.{first_scalar, is_scalar, scalars_in}
 use Rattle.pli_map.specs.Values.{holds}
-use Rattle.pli_value.specs.Value.{Value, value_view}
-use Rattle.pli_value.specs.declared.value.Value as code
+use Rattle.pli_value.specs.Value.{Value, Characters}
 use Rattle.pli_world.specs.Storage.{Generation, Place, generation_in, values_from, with_values, with_values_at, live_bytes}
 use Rattle.pli_world.specs.World.{World, Answer, Yields, Raises, Wrong, held, stored, parts_held, parts_stored}
 use Rattle.pli_store.specs.answers.Answered.{Answered}
-use Rattle.pli_store.specs.answers.Found.{LeadsTo, LeadsNowhere, Leads}
+use Rattle.pli_store.specs.answers.Found.{PartStands, LeadsTo, LeadsNowhere, Leads}
 use Rattle.pli_store.specs.answers.Kept.{rise}
-use Rattle.pli_store.specs.answers.Puts.{ValuesPut}
+use Rattle.pli_store.specs.answers.Puts.{ValuesPut, ValuesPutOrSame, LengthenedOrSame}
 use Rattle.pli_store.specs.declared.fault.StoreFault.{StoreFault}
 use Rattle.pli_store.specs.declared.fault.StoreFault.TheVariants.{Raised, NoRule, OutOfMemory}
-use Rattle.pli_store.specs.declared.generation.Generation as code_generation
 use Rattle.pli_store.specs.declared.part.GenerationPart.{GenerationPart}
-use Rattle.pli_store.specs.views.GenerationView.{generation_view}
+use Rattle.pli_store.proofs.HeldScalars.{one_scalar}
 use Rattle.pli_store.proofs.RisingNumbers.{changed_at, rise_changed, live_changed}
-use Rattle.pli_store.proofs.Searches.{slice_get_within_view, stands_in_view, stands_in_store}
-
--- ---- numbers of scalars that are too great to be counted
-
--- a number that stands for a greater one is behind the last value too
-greatest : ℕ
-greatest = 18446744073709551615
-
-data Counts (scalar first count : ℕ) : Type 0 where
-  Exact : first ≡ scalar → Counts scalar first count
-  Beyond : count ≤ first → count ≤ scalar → Counts scalar first count
-
-counts : (scalar first count : ℕ) → count ≤ 18446744073709551615 → first ≡ min scalar 18446744073709551615 → Counts scalar first count
-counts scalar first count small e = by (leb scalar 18446744073709551615) refl
-  where
-    by : (b : Bool) → leb scalar 18446744073709551615 ≡ b → Counts scalar first count
-    by true h = let le = leb-true scalar 18446744073709551615 h in Exact (omega (arith, e, le))
-    by false h = let more = leb-false scalar 18446744073709551615 h in Beyond (omega (arith, e, more, small)) (omega (arith, more, small))
-
--- what is the same for all numbers behind the last value is the same for both
-same_counted : {X : Type 0} (f : ℕ → X) (scalar first size : ℕ) → size ≤ 18446744073709551615
-    → first ≡ min scalar 18446744073709551615 → (size ≤ first → size ≤ scalar → f first ≡ f scalar)
-    → f first ≡ f scalar
-same_counted f scalar first size small e behind = by (counts scalar first size small e)
-  where
-    by : Counts scalar first size → f first ≡ f scalar
-    by (Exact h) = ap f h
-    by (Beyond h k) = behind h k
-
-pub counted_drop : {X : Type 0} (xs : List X) (scalar first : ℕ) → length xs ≤ 18446744073709551615 → first ≡ min scalar 18446744073709551615 → drop first xs ≡ drop scalar xs
-counted_drop xs scalar first small e =
-    same_counted (λ n. drop n xs) scalar first (length xs) small e (λ h k. drop_all first xs h
-    ∙ sym (drop_all scalar xs k))
-
-counted_put : (xs new : List Value) (scalar first : ℕ) → length xs ≤ 18446744073709551615 → first ≡ min scalar 18446744073709551615 → with_values_at first new xs ≡ with_values_at scalar new xs
-counted_put xs new scalar first small e =
-    same_counted (λ n. with_values_at n new xs) scalar first (length xs) small e behind
-  where
-    behind : length xs ≤ first → length xs ≤ scalar
-        → with_values_at first new xs ≡ with_values_at scalar new xs
-    behind h k =
-        let t : take first xs ≡ take scalar xs = take_all first xs h ∙ sym (take_all scalar xs k) in
-        let d : drop (first + length new) xs ≡ drop (scalar + length new) xs = drop_all (first + length new) xs (omega (arith, h)) ∙ sym (drop_all (scalar + length new) xs (omega (arith, k))) in
-        rw (t, d) refl
-
--- as many as are counted
-pub counted_take : {X : Type 0} (xs : List X) (count n : ℕ) → length xs ≤ 18446744073709551615 → n ≡ min count 18446744073709551615 → take n xs ≡ take count xs
-counted_take xs count n small e =
-    same_counted (λ m. take m xs) count n (length xs) small e (λ h k. take_all n xs h
-    ∙ sym (take_all count xs k))
-
--- ---- one scalar
-
-one_scalar : (d : Description) → is_scalar d ≡ true → scalars_in d ≡ 1
-one_scalar (FixedBinary n) e = refl
-one_scalar (Character n) e = refl
-one_scalar (Varying n) e = refl
-one_scalar (Bit n) e = refl
-one_scalar Pointer e = refl
-one_scalar Offset e = refl
-one_scalar (Area n) e = refl
-one_scalar (Array bs d) e = cc
-one_scalar (Structure ds) e = cc
-
-one_there : (xs : List Value) (scalar first : ℕ) (v : Value) → length xs ≤ 18446744073709551615 → first ≡ min scalar 18446744073709551615 → slice_get xs first ≡ Some v → values_from scalar 1 xs ≡ v ∷ []
-one_there xs scalar first v small e h =
-    let inside = slice_get_within xs first v h in
-    ap (take 1) (sym (counted_drop xs scalar first small e) ∙ drop_more xs first v inside ∙ ap (λ x. x ∷ drop (first + 1) xs) (get_or_from_slice_get xs first v v h))
-
-none_there : (xs : List Value) (scalar first : ℕ) → length xs ≤ 18446744073709551615 → first ≡ min scalar 18446744073709551615 → length xs ≤ first → values_from scalar 1 xs ≡ []
-none_there xs scalar first small e past = ap (take 1) (sym (counted_drop xs scalar first small e) ∙ drop_all first xs past)
 
 -- ---- a dead place
 
@@ -118,42 +43,7 @@ pub stored_nowhere : (p : Place) (v : Value) (w : World) → LeadsNowhere w.stor
 unfolding stored parts_stored
 stored_nowhere p v w l = rw l.found (wrong_both (holds p.description v) _ (rw l.found (rw l.nowhere refl)))
 
--- ---- a place that leads to a scalar
-
-module _ (p : Place) (w : World) (part : GenerationPart) (l : LeadsTo w.storage p part) where
-  pub parts_held_there : parts_held p w ≡ Yields (values_from l.scalar (scalars_in p.description) l.generation.values) w
-  unfolding parts_held
-  parts_held_there = rw l.found (rw l.first refl)
-
-  pub parts_stored_there : (vs : List Value) → parts_stored p vs w ≡ Yields tt (record w { storage = with_values w.storage p.generation (with_values_at l.scalar vs l.generation.values) })
-  unfolding parts_stored
-  parts_stored_there vs = rw l.found (rw l.first refl)
-
-  pub held_aggregate : is_scalar p.description ≡ false → held p w ≡ Wrong
-  unfolding held
-  held_aggregate not = rw parts_held_there (rw not refl)
-
-  pub held_value : (v : Value) → is_scalar p.description ≡ true → length l.generation.values ≤ 18446744073709551615 → slice_get l.generation.values part.first ≡ Some v → held p w ≡ Yields v w
-  unfolding held
-  held_value v yes_scalar small here =
-      let one = one_there l.generation.values l.scalar part.first v small l.counted here in
-      rw parts_held_there (rw yes_scalar (rw (one_scalar p.description yes_scalar) (rw one refl)))
-
-  pub held_missing : is_scalar p.description ≡ true → length l.generation.values ≤ 18446744073709551615 → length l.generation.values ≤ part.first → held p w ≡ Wrong
-  unfolding held
-  held_missing yes_scalar small past =
-      let none = none_there l.generation.values l.scalar part.first small l.counted past in
-      rw parts_held_there (rw yes_scalar (rw (one_scalar p.description yes_scalar) (rw none refl)))
-
-  pub stored_misfit : (v : Value) → holds p.description v ≡ false → stored p v w ≡ Wrong
-  unfolding stored
-  stored_misfit v misfit = rw l.found (rw misfit refl)
-
-  pub stored_there : (v : Value) → holds p.description v ≡ true → stored p v w ≡ Yields tt (record w { storage = with_values w.storage p.generation (with_values_at l.scalar (v ∷ []) l.generation.values) })
-  unfolding stored
-  stored_there v fits = rw l.found (rw fits (parts_stored_there (v ∷ [])))
-
--- ---- where no scalar is found
+-- ---- where no part is found
 
 pub held_failed : {T : Type 0} (view : T → Value) (p : Place) (w after : World) (fault : StoreFault) → Leads w.storage p (Err fault) → Answered view (Err fault) w after (held p w)
 held_failed view p w after (Raised e) l = held_dead p w l.1 ∙ ap (λ x. Raises x w) (sym l.0)
@@ -165,41 +55,32 @@ stored_failed view p v w after (Raised e) l = stored_dead p v w l.1 ∙ ap (λ x
 stored_failed view p v w after NoRule l = stored_nowhere p v w l
 stored_failed view p v w after OutOfMemory l = tt
 
--- ---- what the store holds there
+-- ---- a place that leads to a part
 
-pub few : (g : code_generation.Generation) → length (map value_view g.values.items) ≤ 18446744073709551615
-few g =
-    let whole = g.values.ok in
-    let small = g.values.small in
-    let same_length = length-map g.values.items value_view in
-    omega (arith, whole, small, same_length)
+module _ (p : Place) (w : World) (part : GenerationPart) (l : LeadsTo w.storage p part) where
+  pub parts_held_there : parts_held p w ≡ Yields (values_from l.there.scalar (scalars_in p.description) l.there.generation.values) w
+  unfolding parts_held
+  parts_held_there = rw l.found (rw l.first refl)
 
-module _ (items : List code_generation.Generation) (p : Place) (w : World) (e : w.storage ≡ map generation_view items) (part : GenerationPart) (l : LeadsTo w.storage p part) where
-  pub read_there : (g : code_generation.Generation) → g ≡ get_or items part.at g
-      → slice_get items part.at ≡ Some g
-  read_there g read =
-      slice_get_read items (length items) part.at g refl
-      (slice_get_within_view items part.at l.generation (ap (λ s. slice_get s part.at) (sym e) ∙ l.stands))
-      read
+  pub parts_stored_there : (vs : List Value) → parts_stored p vs w ≡ Yields tt (record w { storage = with_values w.storage p.generation (with_values_at l.there.scalar vs l.there.generation.values) })
+  unfolding parts_stored
+  parts_stored_there vs = rw l.found (rw l.first refl)
 
-  module _ (g : code_generation.Generation) (here : slice_get items part.at ≡ Some g) where
-    generation_is : l.generation ≡ generation_view g
-    generation_is = same_Some l.generation (generation_view g) (sym l.stands ∙ ap (λ s. slice_get s part.at) e ∙ stands_in_view items part.at g here)
+  pub held_aggregate : is_scalar p.description ≡ false → held p w ≡ Wrong
+  unfolding held
+  held_aggregate not = rw parts_held_there (rw not refl)
 
-    pub values_are : l.generation.values ≡ map value_view g.values.items
-    values_are = ap (λ (x : Generation). x.values) generation_is
+  pub held_scalar : (v : Value) → is_scalar p.description ≡ true → values_from l.there.scalar 1 l.there.generation.values ≡ v ∷ [] → held p w ≡ Yields v w
+  unfolding held
+  held_scalar v scalar one = rw parts_held_there (rw scalar (rw (one_scalar p.description scalar) (rw one refl)))
 
-    pub few_values : length l.generation.values ≤ 18446744073709551615
-    few_values = rw values_are (few g)
+  pub stored_misfit : (v : Value) → holds p.description v ≡ false → stored p v w ≡ Wrong
+  unfolding stored
+  stored_misfit v misfit = rw l.found (rw misfit refl)
 
-    pub held_one : (v : code.Value) → is_scalar p.description ≡ true → slice_get g.values.items part.first ≡ Some v → held p w ≡ Yields (value_view v) w
-    held_one v scalar there =
-        held_value p w part l (value_view v) scalar few_values (rw values_are (slice_get-map value_view g.values.items part.first ∙ ap (option_map value_view) there))
-
-    pub held_none : is_scalar p.description ≡ true → length g.values.items ≤ part.first → held p w ≡ Wrong
-    held_none scalar past =
-        let count = ap length values_are ∙ length-map g.values.items value_view in
-        held_missing p w part l scalar few_values (omega (arith, past, count))
+  pub stored_there : (v : Value) → holds p.description v ≡ true → stored p v w ≡ Yields tt (record w { storage = with_values w.storage p.generation (with_values_at l.there.scalar (v ∷ []) l.there.generation.values) })
+  unfolding stored
+  stored_there v fits = rw l.found (rw fits (parts_stored_there (v ∷ [])))
 
 -- ---- what is put there
 
@@ -211,41 +92,50 @@ number_found (x ∷ gs) number g h = by (nat_eq x.number number) refl h (number_
     by true e found rest = ap (λ (y : Generation). y.number) (sym (same_Some x g found)) ∙ eqb-true x.number number e
     by false e found rest = rest found
 
-module _ (p : Place) (w : World) (part : GenerationPart) (l : LeadsTo w.storage p part) where
-  pub put_there : (vs : List Value) (new : List Generation) (to : ℕ) → rise 0 w.storage to ≡ true → length l.generation.values ≤ 18446744073709551615 → ValuesPut w.storage new part vs → with_values w.storage p.generation (with_values_at l.scalar vs l.generation.values) ≡ new
-  put_there vs new to r small put =
-      let same_one : put.generation ≡ l.generation = same_Some put.generation l.generation (sym put.stands ∙ l.stands) in
-      ap (λ n. with_values w.storage n (with_values_at l.scalar vs l.generation.values)) (sym (number_found w.storage p.generation l.generation l.found))
-      ∙ changed_at 0 w.storage to part.at l.generation (with_values_at l.scalar vs l.generation.values) r l.stands
-      ∙ ap (λ xs. set w.storage part.at (record l.generation { values = xs })) (sym (counted_put l.generation.values vs l.scalar part.first small l.counted))
-      ∙ ap (λ (g : Generation). set w.storage part.at (record g { values = with_values_at part.first vs g.values })) (sym same_one)
+-- one part that stands there is the other
+same_part : (gs : List Generation) (part : GenerationPart) (d : Description) (s t : PartStands gs part d) (vs : List Value)
+    → record s.generation { values = with_values_at s.scalar vs s.generation.values } ≡ record t.generation { values = with_values_at t.scalar vs t.generation.values }
+same_part gs part d s t vs =
+    let same : s.generation ≡ t.generation = same_Some s.generation t.generation (sym s.stands ∙ t.stands) in
+    let first : s.scalar ≡ t.scalar = same_Some s.scalar t.scalar (sym s.first ∙ ap (λ (g : Generation). first_scalar g.description part.offset d) same ∙ t.first) in
+    ap (λ n. record s.generation { values = with_values_at n vs s.generation.values }) first
+    ∙ ap (λ (g : Generation). record g { values = with_values_at t.scalar vs g.values }) same
+
+module _ (p : Place) (w : World) (part : GenerationPart) (l : LeadsTo w.storage p part) (new : List Generation) (to : ℕ) (r : rise 0 w.storage to ≡ true) where
+  pub put_there : (vs : List Value) → ValuesPut w.storage new part p.description vs → with_values w.storage p.generation (with_values_at l.there.scalar vs l.there.generation.values) ≡ new
+  put_there vs put =
+      let g = l.there.generation in
+      ap (λ n. with_values w.storage n (with_values_at l.there.scalar vs g.values)) (sym (number_found w.storage p.generation g l.found))
+      ∙ changed_at 0 w.storage to part.at g (with_values_at l.there.scalar vs g.values) r l.there.stands
+      ∙ ap (set w.storage part.at) (same_part w.storage part p.description l.there put.there vs)
       ∙ sym put.changed
 
+  pub stored_done : (v : Value) → holds p.description v ≡ true → ValuesPut w.storage new part p.description (v ∷ []) → stored p v w ≡ Yields tt (record w { storage = new })
+  stored_done v fits put = stored_there p w part l v fits ∙ ap (λ s. Yields tt (record w { storage = s })) (put_there (v ∷ []) put)
+
 -- ---- what is kept
-
-pub rise_put : (old new : List Generation) (part : GenerationPart) (vs : List Value) (to : ℕ) → rise 0 old to ≡ true → ValuesPut old new part vs → rise 0 new to ≡ true
-rise_put old new part vs to r put =
-    subst (λ l. rise 0 l to ≡ true) (sym put.changed) (rise_changed 0 old to part.at put.generation (with_values_at part.first vs put.generation.values) put.stands r)
-
-pub live_put : (old new : List Generation) (part : GenerationPart) (vs : List Value) → ValuesPut old new part vs → live_bytes new ≡ live_bytes old
-live_put old new part vs put =
-    ap live_bytes put.changed ∙ live_changed old part.at put.generation (with_values_at part.first vs put.generation.values) put.stands
 
 pub record Kept (old new : List Generation) (to : ℕ) : Type 0 where
   pub rising : rise 0 new to ≡ true
   pub counted : live_bytes new ≡ live_bytes old
 
-pub kept_after : {T E : Type 0} (r : Result T E) (old new : List Generation) (part : GenerationPart) (vs : List Value) (to : ℕ) → rise 0 old to ≡ true → OnOk r (ValuesPut old new part vs) → OnErr r (new ≡ old) → Kept old new to
-kept_after (Ok x) old new part vs to r put same_lists = record { rising = rise_put old new part vs to r put; counted = live_put old new part vs put }
-kept_after (Err x) old new part vs to r put same_lists = record { rising = subst (λ l. rise 0 l to ≡ true) (sym same_lists) r; counted = ap live_bytes same_lists }
+module _ (old new : List Generation) (part : GenerationPart) (to : ℕ) (r : rise 0 old to ≡ true) where
+  pub kept_put : (d : Description) (vs : List Value) → ValuesPut old new part d vs → Kept old new to
+  kept_put d vs put =
+      let g = put.there.generation in
+      let now = with_values_at put.there.scalar vs g.values in
+      record {
+        rising = subst (λ l. rise 0 l to ≡ true) (sym put.changed) (rise_changed 0 old to part.at g now put.there.stands r);
+        counted = ap live_bytes put.changed ∙ live_changed old part.at g now put.there.stands;
+      }
 
-module _ (items : List code_generation.Generation) (p : Place) (w : World) (e : w.storage ≡ map generation_view items) (part : GenerationPart) (l : LeadsTo w.storage p part) where
-  pub few_there : length l.generation.values ≤ 18446744073709551615
-  few_there =
-      let found = stands_in_store items part.at l.generation (ap (λ s. slice_get s part.at) (sym e) ∙ l.stands) in
-      few_values items p w e part l found.0 found.1
+  kept_same : new ≡ old → Kept old new to
+  kept_same same = record { rising = subst (λ l. rise 0 l to ≡ true) (sym same) r; counted = ap live_bytes same }
 
-  module _ (new : List Generation) (to : ℕ) (r : rise 0 w.storage to ≡ true) where
-    pub stored_done : (v : Value) → holds p.description v ≡ true → ValuesPut w.storage new part (v ∷ []) → stored p v w ≡ Yields tt (record w { storage = new })
-    stored_done v fits put =
-        stored_there p w part l v fits ∙ ap (λ s. Yields tt (record w { storage = s })) (put_there p w part l (v ∷ []) new to r few_there put)
+  pub kept_or_same : (b : Bool) (d : Description) (vs : List Value) → ValuesPutOrSame b old new part d vs → Kept old new to
+  kept_or_same true d vs put = kept_put d vs put
+  kept_or_same false d vs same = kept_same same
+
+  pub kept_lengthened : (b : Bool) (greatest : ℕ) (more : List ℕ) (room : ℕ) → LengthenedOrSame b old new part greatest more room → Kept old new to
+  kept_lengthened true greatest more room a = kept_put (Varying greatest) (Characters (a.text ++ more) ∷ []) a.puts
+  kept_lengthened false greatest more room same = kept_same same

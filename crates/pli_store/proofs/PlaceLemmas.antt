@@ -1,7 +1,7 @@
 -- Where places lead.
-use Rattle.std.proofs.Common.{◌≡◌, ℕ, ◌<◌, ◌≤◌, List, length, map, min, Option, Some, None, slice_get, refl, sym, ◌∙◌, arith}
-use Rattle.std.specs.Option.{option_map}
-use Rattle.std.proofs.lemmas.Option.{slice_get_within, same_Some, none-some}
+use Rattle.std.proofs.Common.{◌≡◌, ℕ, ◌<◌, ◌≤◌, true, false, List, length, map, Option, Some, None, slice_get, refl, sym, ◌∙◌, arith}
+use Rattle.std.specs.Option.{is_some}
+use Rattle.std.proofs.lemmas.Option.{slice_get_within}
 use Rattle.std.proofs.lemmas.List.{length-map}
 use Rattle.pli_map.specs.Description.{Description}
 use Rattle.pli_map.specs.Scalars.{first_scalar}
@@ -42,33 +42,30 @@ leads_too_far items p at s small whole far =
       nowhere = rw whole (too_far s.generation.description p.offset p.description (omega (arith, inside, small, far)));
     }
 
-nothing_found : (o : Option ℕ) → None ≡ option_map (λ k. min k 18446744073709551615) o → o ≡ None
+nothing_found : (o : Option ℕ) → is_some o ≡ false → o ≡ None
 nothing_found None e = refl
-nothing_found (Some k) e = absurd (none-some (min k 18446744073709551615) e)
+nothing_found (Some k) e = cc
 
-record Counted (o : Option ℕ) (first : ℕ) : Type 0 where
-  scalar : ℕ
-  is : o ≡ Some scalar
-  counted : first ≡ min scalar 18446744073709551615
-
-something_found : (o : Option ℕ) (first : ℕ) → Some first ≡ option_map (λ k. min k 18446744073709551615) o → Counted o first
-something_found None first e = absurd (none-some first (sym e))
-something_found (Some k) first e = record { scalar = k; is = refl; counted = same_Some first (min k 18446744073709551615) e }
+something_found : (o : Option ℕ) → is_some o ≡ true → (k : ℕ) × (o ≡ Some k)
+something_found None e = cc
+something_found (Some k) e = (k, refl)
 
 module _ (items : List Generation) (p : Place) (at : ℕ) (s : StandsAt (map generation_view items) p.generation at) (whole : p.position ≡ 0) (g : Generation) (here : slice_get items at ≡ Some g) where
-  pub leads_to : (first : ℕ) → Some first ≡ option_map (λ k. min k 18446744073709551615) (first_scalar (generation_view g).description p.offset p.description) → LeadsTo (map generation_view items) p (record { at = at; first = first })
-  leads_to first e =
-      let c = something_found (first_scalar (generation_view g).description p.offset p.description) first e in
+  pub leads_to : is_some (first_scalar (generation_view g).description p.offset p.description) ≡ true → LeadsTo (map generation_view items) p (record { at = at; offset = p.offset })
+  leads_to e =
+      let found = something_found (first_scalar (generation_view g).description p.offset p.description) e in
       record {
-        generation = generation_view g;
-        scalar = c.scalar;
-        stands = stands_in_view items at g here;
+        there = record {
+          generation = generation_view g;
+          scalar = found.0;
+          stands = stands_in_view items at g here;
+          first = found.1;
+        };
         found = stored_one items p.generation at g s here;
-        first = rw whole c.is;
-        counted = c.counted;
+        first = rw whole found.1;
       }
 
-  pub leads_nowhere : None ≡ option_map (λ k. min k 18446744073709551615) (first_scalar (generation_view g).description p.offset p.description) → LeadsNowhere (map generation_view items) p
+  pub leads_nowhere : is_some (first_scalar (generation_view g).description p.offset p.description) ≡ false → LeadsNowhere (map generation_view items) p
   leads_nowhere e = record {
     generation = generation_view g;
     found = stored_one items p.generation at g s here;

@@ -1,68 +1,121 @@
--- Values put into a generation of the store are put into what the store says.
-use Rattle.std.proofs.Common.{◌≡◌, ℕ, ◌+◌, ◌<◌, Vec, Global, List, ◌++◌, length, map, take, drop, set, get_or, Some, Result, OnOk, OnErr, slice_get, refl, sym, ap, ◌∙◌}
-use Rattle.std.proofs.lemmas.List.{map-set, map-append, take-map, drop-map, length-map, set-get_or}
-use Rattle.std.proofs.lemmas.Option.{get_or_from_slice_get, slice_get_read}
-use Rattle.std.proofs.lemmas.Result.{on_ok_weaker, on_err_weaker}
-use Rattle.pli_value.specs.Value.{Value, value_view}
-use Rattle.pli_value.specs.declared.value.Value as code
-use Rattle.pli_world.specs.Storage.{with_values_at}
-use Rattle.pli_store.specs.answers.Puts.{ValuesPut}
+-- What is put into the bytes of a generation of the store is put into what the store says.
+use Rattle.std.proofs.Common.{◌≡◌, ℕ, ◌≤◌, Bool, true, false, List, [], ◌∷◌, ◌++◌, length, map, take, drop, set, get_or, Some, slice_get, refl, sym, ap, ◌∙◌, subst, arith, length-drop}
+use Rattle.std.specs.Vec.{with_items}
+use Rattle.std.proofs.lemmas.List.{map-set, with_items_is, length-take}
+use Rattle.pli_bytes.specs.Changes.{IsPut, PutOrSame, AppendedOrSame}
+use Rattle.pli_bytes.specs.Contents.{value_of, value_in, values_of, bytes_from, with_bytes_at}
+use Rattle.pli_bytes.proofs.PartsOfBytes.{scalar_put, part_copied}
+use Rattle.pli_map.specs.Description.{Description, Varying}
+use Rattle.pli_map.specs.Scalars.{is_scalar, scalars_in}
+use Rattle.pli_map.specs.Sizes.{size_of}
+use Rattle.pli_map.specs.views.DescriptionView.{description_view}
+use Rattle.pli_value.specs.Value.{Value, Characters}
+use Rattle.pli_world.specs.Storage as plain
+use Rattle.pli_world.specs.Storage.{values_from, with_values_at}
+use Rattle.pli_store.specs.answers.Found.{PartStands}
+use Rattle.pli_store.specs.answers.Puts.{BytesCopied, ValuesPut, ValuesPutOrSame, LengthenedOrSame}
 use Rattle.pli_store.specs.declared.generation.Generation.{Generation}
 use Rattle.pli_store.specs.declared.part.GenerationPart.{GenerationPart}
 use Rattle.pli_store.specs.views.GenerationView.{generation_view}
-use Rattle.pli_store.proofs.Searches.{stands_in_view}
+use Rattle.pli_store.proofs.Searches.{set_same, stands_in_view}
+use Rattle.pli_store.proofs.StandingParts.{read_there, generation_is, first_is, held_there}
 
--- what is put says what its values say
-pub put_says : (old new : List code.Value) (first : ℕ) (now : List code.Value) → now ≡ take first old ++ new ++ drop (first + length new) old → map value_view now ≡ with_values_at first (map value_view new) (map value_view old)
-put_says old new first now e =
-    let size = length-map new value_view in
-    ap (map value_view) e
-    ∙ map-append value_view (take first old ++ new) (drop (first + length new) old)
-    ∙ ap (λ l. l ++ map value_view (drop (first + length new) old)) (map-append value_view (take first old) new)
-    ∙ ap (λ l. l ++ map value_view new ++ map value_view (drop (first + length new) old)) (sym (take-map value_view first old))
-    ∙ ap (λ l. take first (map value_view old) ++ map value_view new ++ l) (sym (drop-map value_view (first + length new) old))
-    ∙ ap (λ n. take first (map value_view old) ++ map value_view new ++ drop (first + n) (map value_view old)) (sym size)
+-- a generation of which others hold these values
+abbrev holding : plain.Generation → List Value → plain.Generation
+holding g vs = record g { values = vs }
 
-pub set_same : {X : Type 0} (xs : List X) (i : ℕ) (x : X) → slice_get xs i ≡ Some x → set xs i x ≡ xs
-set_same xs i x h = ap (set xs i) (sym (get_or_from_slice_get xs i x x h)) ∙ set-get_or xs i x
-
-module _ (items : List Generation) (part : GenerationPart) (g changed : Generation) (here : slice_get items part.at ≡ Some g) where
-  pub values_put : (vs : List Value) → generation_view changed ≡ record (generation_view g) { values = with_values_at part.first vs (generation_view g).values } → ValuesPut (map generation_view items) (map generation_view (set items part.at changed)) part vs
+module _ (items : List Generation) (part : GenerationPart) (d : Description) (s : PartStands (map generation_view items) part d)
+    (g changed : Generation) (here : slice_get items part.at ≡ Some g) where
+  values_put : (vs : List Value) → generation_view changed ≡ holding (generation_view g) (with_values_at s.scalar vs (generation_view g).values)
+      → ValuesPut (map generation_view items) (map generation_view (set items part.at changed)) part d vs
   values_put vs e = record {
-    generation = generation_view g;
-    stands = stands_in_view items part.at g here;
-    changed = map-set generation_view items part.at changed ∙ ap (set (map generation_view items) part.at) e;
+    there = s;
+    changed =
+        map-set generation_view items part.at changed
+        ∙ ap (set (map generation_view items) part.at)
+        (e ∙ ap (λ (x : plain.Generation). holding x (with_values_at s.scalar vs x.values)) (sym (generation_is items part d s g here)));
   }
 
-  pub nothing_put : generation_view changed ≡ generation_view g → map generation_view (set items part.at changed) ≡ map generation_view items
+  nothing_put : generation_view changed ≡ generation_view g → map generation_view (set items part.at changed) ≡ map generation_view items
   nothing_put e =
       map-set generation_view items part.at changed ∙ ap (set (map generation_view items) part.at) e
       ∙ set_same (map generation_view items) part.at (generation_view g) (stands_in_view items part.at g here)
 
--- values are put into the generation that was read there, or it stays as it was
-module _ (items : List Generation) (part : GenerationPart) (g : Generation) (now : Vec code.Value Global)
-    (inside : part.at < length items) (read : g ≡ get_or items part.at g) where
-  abbrev with_now : Generation
-  with_now = record g { values = now }
+-- a part copied to another of an equal description
+module _ (items new : List Generation) (from to : GenerationPart) (d : Description)
+    (source : PartStands (map generation_view items) from d) (target : PartStands (map generation_view items) to d)
+    (size : ℕ) (size_is : size ≡ size_of d) (copied : BytesCopied items new from to size) where
+  pub part_is_copied : ValuesPut (map generation_view items) (map generation_view new) to d (values_from source.scalar (scalars_in d) source.generation.values)
+  part_is_copied =
+      let whole = generation_view copied.target in
+      let read = first_is items from d source copied.source copied.read in
+      let written = first_is items to d target copied.target copied.written in
+      let says : generation_view copied.changed ≡ holding whole (with_values_at target.scalar (values_from source.scalar (scalars_in d) source.generation.values) whole.values) =
+      copied.put.others
+      ∙ ap (λ (b : List ℕ). holding whole (values_of whole.description b)) copied.put.put
+      ∙ ap (λ n. holding whole (values_of whole.description (with_bytes_at to.offset (bytes_from from.offset n copied.source.bytes.items) copied.target.bytes.items))) size_is
+      ∙ ap (holding whole)
+      (part_copied (generation_view copied.source).description from.offset whole.description to.offset d source.scalar target.scalar
+      copied.source.bytes.items copied.target.bytes.items read written copied.source.sized copied.target.sized
+      ∙ ap (λ (x : plain.Generation). with_values_at target.scalar (values_from source.scalar (scalars_in d) x.values) whole.values) (sym (generation_is items from d source copied.source copied.read))) in
+      subst (λ l. ValuesPut (map generation_view items) (map generation_view l) to d (values_from source.scalar (scalars_in d) source.generation.values))
+      (sym copied.new_is) (values_put items to d target copied.target copied.changed copied.written (values_from source.scalar (scalars_in d) source.generation.values) says)
 
-  read_here : slice_get items part.at ≡ Some g
-  read_here = slice_get_read items (length items) part.at g refl inside read
+some_taken : (count : ℕ) (bytes text : List ℕ) → Characters (take count bytes) ≡ Characters text → length text ≤ length bytes
+some_taken count bytes text e =
+    let is : take count bytes ≡ text = cc in
+    omega (arith, ap length is, length-take count bytes)
 
-  pub puts_values : {T E : Type 0} (r : Result T E) (new : List code.Value)
-      → OnOk r (now.items ≡ take part.first g.values.items ++ new ++ drop (part.first + length new) g.values.items)
-      → OnOk r (ValuesPut (map generation_view items) (map generation_view (set items part.at with_now)) part
-      (map value_view new))
-  puts_values r new put =
-      on_ok_weaker r
-      (λ e. values_put items part g with_now read_here (map value_view new)
-      (ap (λ (vs : List Value). record (generation_view g) { values = vs })
-      (put_says g.values.items new part.first now.items e)))
-      put
+-- a string of CHARACTER VARYING is no longer than its description says
+varying_short : (greatest : ℕ) (bytes text : List ℕ) → length bytes ≡ size_of (Varying greatest) → value_of (Varying greatest) bytes ≡ Characters text → length text ≤ greatest
+varying_short greatest bytes text size held = omega (arith, some_taken _ (drop 2 bytes) text held, length-drop 2 bytes, size)
 
-  pub puts_nothing : {T E : Type 0} (r : Result T E) → OnErr r (now.items ≡ g.values.items)
-      → OnErr r (map generation_view (set items part.at with_now) ≡ map generation_view items)
-  puts_nothing r same =
-      on_err_weaker r
-      (λ e. nothing_put items part g with_now read_here
-      (ap (λ (vs : List code.Value). record (generation_view g) { values = map value_view vs }) e))
-      same
+-- the generation that was read there, with these bytes
+module _ (items : List Generation) (part : GenerationPart) (d : Description) (s : PartStands (map generation_view items) part d)
+    (g : Generation) (read : g ≡ get_or items part.at g) (was new : List ℕ) (value : was ≡ g.bytes.items) (len : length new ≡ length was)
+    (sized : length (with_items g.bytes new).items ≡ size_of (description_view g.description.now)) where
+  abbrev changed : Generation
+  changed = record g { bytes = with_items g.bytes new; sized = sized }
+
+  here : slice_get items part.at ≡ Some g
+  here = read_there items part d s g read
+
+  bytes_are : changed.bytes.items ≡ new
+  bytes_are = with_items_is g.bytes new (omega (arith, len, ap length value, g.bytes.ok.0))
+
+  pub scalar_is_put : (v : Value) → is_scalar d ≡ true → IsPut d v part.offset was new
+      → ValuesPut (map generation_view items) (map generation_view (set items part.at changed)) part d (v ∷ [])
+  scalar_is_put v scalar put =
+      let first = first_is items part d s g here in
+      let now = subst (λ l. IsPut d v part.offset l new) value put in
+      values_put items part d s g changed here (v ∷ [])
+      (ap (λ b. holding (generation_view g) (values_of (generation_view g).description b)) bytes_are
+      ∙ ap (holding (generation_view g)) (scalar_put (generation_view g).description part.offset d s.scalar v g.bytes.items new scalar first now g.sized).0)
+
+  same_is_left : new ≡ was → map generation_view (set items part.at changed) ≡ map generation_view items
+  same_is_left same =
+      nothing_put items part d s g changed here
+      (ap (λ b. holding (generation_view g) (values_of (generation_view g).description b)) (bytes_are ∙ same ∙ value))
+
+  pub put_or_same : (b : Bool) (v : Value) → is_scalar d ≡ true → PutOrSame b d v part.offset was new
+      → ValuesPutOrSame b (map generation_view items) (map generation_view (set items part.at changed)) part d (v ∷ [])
+  put_or_same true v scalar put = scalar_is_put v scalar put
+  put_or_same false v scalar same = same_is_left same
+
+-- characters put behind those of the string that was read there
+module _ (items : List Generation) (part : GenerationPart) (greatest : ℕ) (s : PartStands (map generation_view items) part (Varying greatest))
+    (g : Generation) (read : g ≡ get_or items part.at g) (was new : List ℕ) (value : was ≡ g.bytes.items) (len : length new ≡ length was)
+    (sized : length (with_items g.bytes new).items ≡ size_of (description_view g.description.now)) where
+  pub lengthened_or_same : (b : Bool) (more : List ℕ) (room : ℕ) → AppendedOrSame b greatest part.offset more room was new
+      → LengthenedOrSame b (map generation_view items) (map generation_view (set items part.at (record g { bytes = with_items g.bytes new; sized = sized }))) part greatest more room
+  lengthened_or_same true more room a = record {
+    text = a.text;
+    puts = scalar_is_put items part (Varying greatest) s g read was new value len sized (Characters (a.text ++ more)) refl a.put;
+    was = λ there.
+        held_there items part (Varying greatest) there g (read_there items part (Varying greatest) s g read) refl
+        ∙ ap (λ l. value_in l (record { offset = part.offset; description = Varying greatest }) ∷ []) (sym value)
+        ∙ ap (λ (v : Value). v ∷ []) a.was;
+    short = varying_short greatest a.put.bytes (a.text ++ more) a.put.size a.put.hold;
+    fits = a.fits;
+  }
+  lengthened_or_same false more room a = same_is_left items part (Varying greatest) s g read was new value len sized a

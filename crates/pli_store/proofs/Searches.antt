@@ -1,5 +1,5 @@
 -- What a look-up finds among the generations that live.
-use Rattle.std.proofs.Common.{◌≡◌, ℕ, zero, suc, ◌<◌, ◌≤◌, ◌≢◌, true, List, [], ◌∷◌, length, map, get_or, Some, None, Result, Ok, Err, slice_get, MatchOption, refl, sym, ap, ◌∙◌, subst, arith, add-one, inl, inr}
+use Rattle.std.proofs.Common.{◌≡◌, ℕ, zero, suc, ◌<◌, ◌≤◌, ◌≢◌, true, List, [], ◌∷◌, length, map, set, get_or, Some, None, Result, Ok, Err, slice_get, MatchOption, refl, sym, ap, ◌∙◌, subst, arith, add-one, inl, inr}
 use Rattle.std.specs.Cmp.{nat_cmp_is}
 use Rattle.std.specs.List.Sorted.{IsSortedBy, IsSearchInRange, IsBinarySearchResult, IsPartitionPoint}
 use Rattle.std.specs.Option.{option_map}
@@ -8,10 +8,10 @@ use Rattle.std.specs.Result.{result_ok}
 use Rattle.std.specs.declared.cmp.Ordering.TheVariants.{Less, Equal, Greater}
 use Rattle.std.proofs.lemmas.Bool.{cases_lt}
 use Rattle.std.proofs.lemmas.Cmp.{nat_cmp_total}
-use Rattle.std.proofs.lemmas.List.{length-map}
+use Rattle.std.proofs.lemmas.List.{length-map, set-get_or}
 use Rattle.std.proofs.lemmas.List.Sorted.{searchable_from_sorted}
 use Rattle.std.proofs.lemmas.Map.Lookups.{exact_unsigned}
-use Rattle.std.proofs.lemmas.Option.{slice_get-map, slice_get_cases, slice_get_within, slice_get-get_or, same_Some, none-some}
+use Rattle.std.proofs.lemmas.Option.{slice_get-map, slice_get_cases, slice_get_within, slice_get-get_or, get_or_from_slice_get, same_Some, none-some}
 use Rattle.pli_world.specs.Storage as plain
 use Rattle.pli_world.specs.Storage.{generation_in}
 use Rattle.pli_store.specs.answers.Found.{StandsAt}
@@ -26,6 +26,10 @@ neighbours from [] to k a b r first second = absurd (none-some a first)
 neighbours from (x ∷ gs) to zero a b r first second =
     subst (λ y. y.number < b.number) (same_Some x a first) ((number_within (suc x.number) gs to 0 b (tail from x gs to r) second).low)
 neighbours from (x ∷ gs) to (suc k) a b r first second = neighbours (suc x.number) gs to k a b (tail from x gs to r) first second
+
+-- what stands somewhere, put there again
+pub set_same : {X : Type 0} (xs : List X) (i : ℕ) (x : X) → slice_get xs i ≡ Some x → set xs i x ≡ xs
+set_same xs i x h = ap (set xs i) (sym (get_or_from_slice_get xs i x x h)) ∙ set-get_or xs i x
 
 -- where a generation stands in the store it stands in what the store says
 pub stands_in_view : (items : List Generation) (at : ℕ) (g : Generation) → slice_get items at ≡ Some g → slice_get (map generation_view items) at ≡ Some (generation_view g)

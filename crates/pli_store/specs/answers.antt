@@ -1,4 +1,5 @@
 pub mod Answered
+pub mod Begins
 pub mod Found
 pub mod Kept
 pub mod Puts

@@ -1,24 +1,33 @@
 //! Generations of storage (X3.53).
+ghost use Rattle.std.specs.Prelude.{◌≡◌, length};
+ghost use Rattle.pli_map.specs.Sizes.{size_of};
+ghost use Rattle.pli_map.specs.views.DescriptionView.{description_view};
 
 use pli_map::Description;
-use pli_value::Value;
 
-/// How a generation was made.
+/// How a generation was made (X3.53).
 #[derive(Clone, Copy)]
 pub enum Made {
+    /// For a variable of an activation, with which it ends.
     Automatic,
+    /// Before the program begins; it never ends.
     Static,
+    /// By ALLOCATE of a CONTROLLED variable; none is yet.
     Controlled,
+    /// By ALLOCATE of a BASED variable; none is yet.
     Based,
+    /// For an argument that is not passed by reference.
     Dummy,
 }
 
-/// A generation that lives: its number, counted from 0 in the order in which generations are made, and a value for each
-/// scalar of its description, in their order.
+/// A generation that lives: its number, counted from 0 in the order in which generations are made, and its bytes, in
+/// which each scalar of its description lies at its offset. Bytes between scalars mean nothing.
 #[derive(Drop)]
 pub struct Generation<'m> {
     pub number: u32,
     pub description: &'m Description,
     pub made: Made,
-    pub values: Vec<Value>,
+    /// As many as the size of the description.
+    pub bytes: Vec<u8>,
+    ghost sized: { length bytes.items ≡ size_of (description_view description.now) },
 }

@@ -1,7 +1,11 @@
-//! Storage, as the machine keeps it.
+//! Storage, as the machine keeps it: the generations that live, each as its bytes, in which every scalar of its description
+//! lies at its offset.
+//!
+//! `place` says where references lead, `part` which bytes of a generation stand there; `storage` reads, puts, copies, makes
+//! and ends, by `putting` and `copying`, which change bytes; `spare` keeps memory for generations to come.
 #![tactic(auto)]
 
-mod appending;
+mod copying;
 mod fault;
 mod generation;
 mod part;
@@ -9,7 +13,6 @@ mod place;
 mod putting;
 mod spare;
 mod storage;
-mod values;
 
 pub use fault::StoreFault;
 pub use generation::Made;

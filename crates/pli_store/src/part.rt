@@ -1,25 +1,57 @@
 //! Where a place leads in storage.
-ghost use Rattle.std.specs.Prelude.{◌≡◌, ◌<◌, ◌/◌, ◌%◌, ◌∷◌, [], ◌&&◌, true, nat_eq, nat_lt, min, if◌then◌else◌, None, Some, option_map};
+ghost use Rattle.std.specs.Prelude.{◌≡◌, ◌<◌, ◌/◌, ◌%◌, ◌∷◌, [], ◌&&◌, true, nat_eq, nat_lt, IfSome};
+ghost use Rattle.std.specs.Option.{is_some};
 ghost use Rattle.pli_map.specs.Description as tree;
-ghost use Rattle.pli_map.specs.Scalars.{first_scalar, is_scalar};
+ghost use Rattle.pli_map.specs.Scalars.{first_scalar};
 ghost use Rattle.pli_map.specs.views.DescriptionView.{description_view};
 
 use pli_map::{Bounds, Description, first_scalar};
 
-/// The number of a generation among those that live, and the first of its scalars that a place means; `usize::MAX`
-/// stands for every greater number.
+/// Where a part stands: the index of its generation among those that live, and its offset there, in bytes.
 #[derive(Clone, Copy)]
 pub struct GenerationPart {
     pub at: usize,
-    pub first: usize,
+    pub offset: usize,
+}
+
+/// How many binary digits a number has, where a description is of FIXED BINARY.
+#[inline(always)]
+pub fn number_precision(description: &Description) -> Option<u8>
+    ensures { IfSome result (λ precision. description_view description.now ≡ tree.FixedBinary precision) }
+{
+    match description {
+        Description::FixedBinary(precision) => Some(*precision),
+        _ => None,
+    }
+}
+
+/// How many characters a string has at most, where a description is of CHARACTER VARYING.
+#[inline(always)]
+pub fn greatest_length(description: &Description) -> Option<u16>
+    ensures { IfSome result (λ greatest. description_view description.now ≡ tree.Varying greatest) }
+{
+    match description {
+        Description::Varying(greatest) => Some(*greatest),
+        _ => None,
+    }
+}
+
+/// Whether a description is of a number of so many binary digits.
+#[inline(always)]
+pub fn is_number_of(description: &Description, precision: u8) -> bool
+    ensures { result ≡ true → description_view description.now ≡ tree.FixedBinary precision }
+{
+    match description {
+        Description::FixedBinary(has) => *has == precision,
+        _ => false,
+    }
 }
 
 /// Whether both are numbers of one precision, or strings of characters of one length: the second then stands where the
 /// first begins.
 #[inline(always)]
-pub fn are_same_scalars(whole: &Description, part: &Description) -> bool
-    ensures stands { result ≡ true → first_scalar (description_view whole.now) 0 (description_view part.now) ≡ Some 0 }
-    ensures scalar { result ≡ true → is_scalar (description_view part.now) ≡ true }
+fn are_same_scalars(whole: &Description, part: &Description) -> bool
+    ensures { result ≡ true → is_some (first_scalar (description_view whole.now) 0 (description_view part.now)) ≡ true }
 {
     match (whole, part) {
         (Description::FixedBinary(has), Description::FixedBinary(wanted)) => *has == *wanted,
@@ -29,53 +61,46 @@ pub fn are_same_scalars(whole: &Description, part: &Description) -> bool
     }
 }
 
-/// Which element begins so many bytes behind the beginning of an array of so many, where one does and each takes so many
-/// bytes.
+/// Whether an element begins so many bytes behind the beginning of an array of so many that each take so many bytes.
 #[inline(always)]
-fn element_at(extent: u32, offset: u32, stride: u32) -> Option<usize>
+fn is_element(extent: u32, offset: u32, stride: u32) -> bool
     requires { 0 < stride }
-    ensures { result ≡ (if nat_lt (offset / stride) extent && nat_eq (offset % stride) 0 then Some (offset / stride) else None) }
+    ensures { result ≡ (nat_lt (offset / stride) extent && nat_eq (offset % stride) 0) }
 {
-    if offset / stride < extent && offset % stride == 0 {
-        Some((offset / stride) as usize)
-    } else {
-        None
-    }
+    offset / stride < extent && offset % stride == 0
 }
 
 /// The same of an array of one dimension of numbers of this precision.
 #[inline(always)]
-fn number_in(bounds: Bounds, precision: u8, offset: u32) -> Option<usize>
-    ensures { result ≡ option_map (λ k. min k 18446744073709551615)
-        (first_scalar (tree.Array (bounds ∷ []) (tree.FixedBinary precision)) offset (tree.FixedBinary precision)) }
+fn is_number_in(bounds: Bounds, precision: u8, offset: u32) -> bool
+    ensures { result ≡ is_some (first_scalar (tree.Array (bounds ∷ []) (tree.FixedBinary precision)) offset (tree.FixedBinary precision)) }
 {
     let extent = bounds.extent();
     match precision {
-        0..=15 => element_at(extent, offset, 2),
-        16..=31 => element_at(extent, offset, 4),
-        _ => element_at(extent, offset, 8),
+        0..=15 => is_element(extent, offset, 2),
+        16..=31 => is_element(extent, offset, 4),
+        _ => is_element(extent, offset, 8),
     }
 }
 
-/// Which scalar of a description is the first of the part that stands so many bytes behind its beginning; 2^64 - 1 stands
-/// for every greater number. A number and a string of characters that stand alone take the short way.
+/// Whether a part of this description stands so many bytes behind the beginning of a whole. A number and a string of
+/// characters that stand alone, and a number in an array of one dimension, take the short way.
 #[inline(always)]
-pub fn scalar_of(whole: &Description, offset: u32, part: &Description) -> Option<usize>
-    ensures { result ≡ option_map (λ k. min k 18446744073709551615)
-        (first_scalar (description_view whole.now) offset (description_view part.now)) }
+pub fn is_part(whole: &Description, offset: u32, part: &Description) -> bool
+    ensures { result ≡ is_some (first_scalar (description_view whole.now) offset (description_view part.now)) }
 {
     if offset == 0 && are_same_scalars(whole, part) {
-        return Some(0);
+        return true;
     }
     match (whole, part) {
         (Description::Array { bounds, element }, Description::FixedBinary(wanted)) => {
             match &**element {
                 Description::FixedBinary(has) if bounds.len() == 1 && *has == *wanted => {
-                    number_in(bounds[0], *has, offset)
+                    is_number_in(bounds[0], *has, offset)
                 }
-                _ => first_scalar(whole, offset, part),
+                _ => first_scalar(whole, offset, part).is_some(),
             }
         }
-        _ => first_scalar(whole, offset, part),
+        _ => first_scalar(whole, offset, part).is_some(),
     }
 }

@@ -1,42 +1,74 @@
 //! Values put into generations.
-ghost use Rattle.std.specs.Prelude.{◌≡◌, ◌<◌, ◌∷◌, [], length, map, OnOk, OnErr};
-ghost use Rattle.pli_store.specs.answers.Puts.{ValuesPut};
+ghost use Rattle.std.specs.Prelude.{◌≡◌, ◌∷◌, [], map, true};
+ghost use Rattle.pli_map.specs.Description.{FixedBinary, Varying};
+ghost use Rattle.pli_map.specs.Values.{holds};
+ghost use Rattle.pli_map.specs.views.DescriptionView.{description_view};
+ghost use Rattle.pli_store.specs.answers.Found.{PartStands};
+ghost use Rattle.pli_store.specs.answers.Puts.{ValuesPut, ValuesPutOrSame, LengthenedOrSame};
 ghost use Rattle.pli_store.specs.views.GenerationView.{generation_view};
-ghost use Rattle.pli_value.specs.Value.{value_view};
+ghost use Rattle.pli_value.specs.Value.{value_view, Number};
 
 use crate::generation::Generation;
 use crate::part::GenerationPart;
-use crate::values::{put_value, put_values};
-use pli_value::Value;
-use std::alloc::AllocError;
+use pli_bytes::{append_at, put_number_at, put_value_at};
+use pli_map::Description;
+use pli_value::{Value, number};
 
-/// Puts a value in the place of the one at this scalar of a generation.
+/// Whether a number of so many binary digits may be this.
 #[inline(always)]
-pub fn put_one(
-    generations: &mut Vec<Generation<'_>>,
-    part: GenerationPart,
-    value: Value,
-) -> Result<(), AllocError>
-    requires { part.at < length generations.old.items }
-    ensures ok { OnOk result (ValuesPut (map generation_view generations.old.items) (map generation_view generations.new.items)
-        part (value_view value ∷ [])) }
-    ensures err { OnErr result (map generation_view generations.new.items ≡ map generation_view generations.old.items) }
+pub fn holds_number(precision: u8, number: i64) -> bool
+    ensures { result ≡ true → holds (FixedBinary precision) (Number number) ≡ true }
 {
-    let generation = &mut generations[part.at];
-    put_value(&mut generation.values, part.first, value)
+    precision <= 63 && number::fit(number, precision).is_ok()
 }
 
-/// Puts values in the place of those from this scalar of a generation on.
-pub fn put_many(
+/// Puts a value in the place of the one of a scalar that may hold it.
+#[inline]
+pub fn put_value(
     generations: &mut Vec<Generation<'_>>,
     part: GenerationPart,
-    values: Vec<Value>,
-) -> Result<(), AllocError>
-    requires { part.at < length generations.old.items }
-    ensures ok { OnOk result (ValuesPut (map generation_view generations.old.items) (map generation_view generations.new.items)
-        part (map value_view values.items)) }
-    ensures err { OnErr result (map generation_view generations.new.items ≡ map generation_view generations.old.items) }
+    description: &Description,
+    value: &Value,
+)
+    requires stands { PartStands (map generation_view generations.old.items) part (description_view description.now) }
+    requires held { holds (description_view description.now) (value_view value.now) ≡ true }
+    ensures { ValuesPut (map generation_view generations.old.items) (map generation_view generations.new.items)
+        part (description_view description.now) (value_view value.now ∷ []) }
 {
     let generation = &mut generations[part.at];
-    put_values(&mut generation.values, part.first, values)
+    put_value_at(&mut generation.bytes, part.offset, description, value);
+}
+
+/// The same of a number of so many binary digits; `false` where they have no room for it.
+#[inline(always)]
+pub fn put_number(
+    generations: &mut Vec<Generation<'_>>,
+    part: GenerationPart,
+    precision: u8,
+    number: i64,
+) -> bool
+    requires { PartStands (map generation_view generations.old.items) part (FixedBinary precision) }
+    ensures { ValuesPutOrSame result (map generation_view generations.old.items) (map generation_view generations.new.items)
+        part (FixedBinary precision) (Number number ∷ []) }
+{
+    let generation = &mut generations[part.at];
+    put_number_at(&mut generation.bytes, part.offset, precision, number)
+}
+
+/// Puts characters behind those of a string of CHARACTER VARYING of so many at most, where both are no more than that and
+/// than the room.
+#[inline]
+pub fn lengthen(
+    generations: &mut Vec<Generation<'_>>,
+    part: GenerationPart,
+    greatest: u16,
+    more: &[u8],
+    room: usize,
+) -> bool
+    requires { PartStands (map generation_view generations.old.items) part (Varying greatest) }
+    ensures { LengthenedOrSame result (map generation_view generations.old.items) (map generation_view generations.new.items)
+        part greatest more.now room }
+{
+    let generation = &mut generations[part.at];
+    append_at(&mut generation.bytes, part.offset, greatest, more, room)
 }

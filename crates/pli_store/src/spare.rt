@@ -1,46 +1,46 @@
 //! The memory of generations that have ended, kept for those that are made.
-ghost use Rattle.std.specs.Prelude.{◌≡◌, []};
+ghost use Rattle.std.specs.Prelude.{◌≡◌, length, IfOk};
 
-use pli_value::Value;
-use std::alloc::Global;
+use std::alloc::{AllocError, Global};
 
-/// For how many values memory is kept at most (own).
+/// For how many generations memory is kept at most (own).
 const KEPT_LIMIT: usize = 1000;
 
-/// Memory for values that stand alone. Nothing that it holds is ever read.
+/// How many bytes a generation takes at most whose memory is kept (own).
+const KEPT_BYTES: usize = 64;
+
+/// Memory of small generations. What stood in it means nothing.
 #[derive(Drop)]
-pub struct SpareValues {
-    lists: Vec<Vec<Value>>,
+pub struct SpareBytes {
+    kept: Vec<Vec<u8>>,
 }
 
-impl SpareValues {
+impl SpareBytes {
     /// None yet.
-    pub fn new(alloc: Global) -> SpareValues {
-        SpareValues {
-            lists: Vec::new(alloc),
+    pub fn new(alloc: Global) -> SpareBytes {
+        SpareBytes {
+            kept: Vec::new(alloc),
         }
     }
 
-    /// No values, with memory for one if there is any.
+    /// So many bytes, whatever they are, in memory that was kept if there is any.
     #[inline]
-    pub fn take(&mut self, alloc: Global) -> Vec<Value>
-        ensures { result.items ≡ [] }
+    pub fn take(&mut self, alloc: Global, size: usize) -> Result<Vec<u8>, AllocError>
+        ensures { IfOk result (λ bytes. length bytes.items ≡ size) }
     {
-        match self.lists.pop() {
-            Some(mut values) => {
-                values.clear();
-                values
-            }
+        let mut bytes = match self.kept.pop() {
+            Some(bytes) => bytes,
             None => Vec::new(alloc),
-        }
+        };
+        bytes.resize(size, 0)?;
+        Ok(bytes)
     }
 
-    /// Keeps the memory of a value that stood alone; lets any other go, and where there is none to note it.
+    /// Keeps the memory of a small generation; lets any other go, and where there is none to note it.
     #[inline]
-    pub fn keep(&mut self, mut values: Vec<Value>) {
-        if values.len() == 1 && self.lists.len() < KEPT_LIMIT {
-            values.clear();
-            let _values = self.lists.push(values);
+    pub fn keep(&mut self, bytes: Vec<u8>) {
+        if bytes.len() <= KEPT_BYTES && self.kept.len() < KEPT_LIMIT {
+            let _bytes = self.kept.push(bytes);
         }
     }
 }

@@ -1,27 +1,33 @@
 //! Storage: the generations that live.
-ghost use Rattle.std.specs.Prelude.{◌≡◌, ◌≤◌, ◌++◌, ◌∷◌, [], map, true, None, IfSome, MatchOption, MatchResult, OnErr};
+ghost use Rattle.std.specs.Prelude.{◌≡◌, ◌≤◌, ◌++◌, List, ◌∷◌, [], length, map, true, false, None, IfSome, MatchOption, MatchResult, OnErr};
+ghost use Rattle.pli_bytes.specs.Contents.{values_of};
+ghost use Rattle.pli_map.specs.Description.{FixedBinary};
+ghost use Rattle.pli_map.specs.Scalars.{scalars_of};
+ghost use Rattle.pli_map.specs.Sizes.{size_of};
+ghost use Rattle.pli_map.specs.Values.{are_held};
 ghost use Rattle.pli_map.specs.views.DescriptionView.{description_view};
+ghost use Rattle.pli_value.specs.Value as plain;
+ghost use Rattle.pli_value.specs.Value.{value_view, Number, Characters};
 ghost use Rattle.pli_world.specs.Storage.{generation_in, live_bytes, without};
 ghost use Rattle.pli_world.specs.World.{World, Yields, held, stored, copied, made_of, dummy_of, in_newest};
 ghost use Rattle.pli_store.specs.answers.Answered.{Answered};
-ghost use Rattle.pli_map.specs.Scalars.{is_scalar};
+ghost use Rattle.pli_store.specs.answers.Begins.{Begins};
 ghost use Rattle.pli_store.specs.answers.Found.{StandsAt, Leads, LeadsTo};
 ghost use Rattle.pli_store.specs.answers.Kept.{rise};
 ghost use Rattle.pli_store.specs.views.GenerationView.{generation_view, made_view};
-ghost use Rattle.pli_value.specs.Value.{value_view, Number, Characters};
 
-use crate::appending::{lengthen_at, varying_size};
+use crate::copying::copy_part;
 use crate::fault::StoreFault;
 use crate::generation::{Generation, Made};
-use crate::part::{GenerationPart, are_same_scalars, scalar_of};
+use crate::part::{GenerationPart, greatest_length, is_number_of, is_part, number_precision};
 use crate::place::Place;
-use crate::putting::{put_many, put_one};
-use crate::spare::SpareValues;
-use crate::values::{copy_values, holds_number, one_value, values_from};
+use crate::putting::{holds_number, lengthen, put_number, put_value};
+use crate::spare::SpareBytes;
+use pli_bytes::{number_at, put_value_at, text_at, value_at};
 use pli_code::RunError;
-use pli_map::{Description, far_size, holds, is_scalar, scalars_in};
+use pli_map::{Description, far_size, holds, is_scalar};
 use pli_value::Value;
-use std::alloc::Global;
+use std::alloc::{AllocError, Global};
 
 /// How many bytes may live at once (own).
 const BYTE_LIMIT: u32 = 16_777_216;
@@ -38,14 +44,14 @@ pub struct Storage<'m> {
     /// How many bytes live.
     pub(crate) live: u32,
     /// What generations have left that have ended.
-    spare: SpareValues,
+    spare: SpareBytes,
     ghost counted: { live ≡ live_bytes (map generation_view generations.items) },
     ghost limited: { live ≤ 16777216 },
     ghost rising: { rise 0 (map generation_view generations.items) made ≡ true },
 }
 
 impl<'m> Storage<'m> {
-    ghost use Rattle.pli_store.specs.views.StorageView.{place_view, storage_view, made_count, with_storage, NumberPut, Appended, SameStorage};
+    ghost use Rattle.pli_store.specs.views.StorageView.{place_view, storage_view, made_count, with_storage, NumberPut, Appended, RoomFor, SameStorage};
 
     /// Storage in which nothing lives, before anything was made.
     pub fn new(alloc: Global) -> Storage<'m>
@@ -56,7 +62,7 @@ impl<'m> Storage<'m> {
             generations: Vec::new(alloc),
             made: 0,
             live: 0,
-            spare: SpareValues::new(alloc),
+            spare: SpareBytes::new(alloc),
         }
     }
 
@@ -74,7 +80,8 @@ impl<'m> Storage<'m> {
             .ok()
     }
 
-    /// The generation and the scalar to which a place leads.
+    /// The generation and the part of it to which a place leads. `DeadLocator` where the generation has ended, `NoRule` where
+    /// no such part stands there.
     #[inline(always)]
     fn part(&self, place: Place<'_>) -> Result<GenerationPart, StoreFault>
         ensures { Leads (storage_view self.now) (place_view place.entry) result }
@@ -85,113 +92,107 @@ impl<'m> Storage<'m> {
         let Ok(offset) = u32::try_from(place.offset) else {
             return Err(StoreFault::NoRule);
         };
-        match scalar_of(self.generations[at].description, offset, place.description) {
-            Some(first) => Ok(GenerationPart { at, first }),
-            None => Err(StoreFault::NoRule),
+        if !is_part(self.generations[at].description, offset, place.description) {
+            return Err(StoreFault::NoRule);
         }
+        Ok(GenerationPart {
+            at,
+            offset: offset as usize,
+        })
     }
 
-    /// Where the generation stands that begins with the scalar to which a place leads, if it stands where it was made: no search
-    /// is needed then.
+    /// Where the generation stands that is a number to which a place leads, if it stands where it was made: no search is
+    /// needed then.
     #[inline(always)]
-    fn lone(&self, place: Place<'_>) -> Option<usize>
-        ensures leads { IfSome result (λ at. LeadsTo (storage_view self.now) (place_view place.entry) (record { at = at; first = 0 })) }
-        ensures scalar { IfSome result (λ _. is_scalar (description_view place.entry.description.now) ≡ true) }
+    fn lone(&self, place: Place<'_>, precision: u8) -> Option<usize>
+        requires { description_view place.description.now ≡ FixedBinary precision }
+        ensures { IfSome result (λ at. LeadsTo (storage_view self.now) (place_view place.entry) (record { at = at; offset = 0 })) }
     {
         let generation = self.generations.get(place.hint)?;
         if generation.number != place.generation || place.offset != 0 {
             return None;
         }
-        if !are_same_scalars(generation.description, place.description) {
+        if !is_number_of(generation.description, precision) {
             return None;
         }
         Some(place.hint)
     }
 
-    /// The value at the place of a scalar.
-    #[inline]
-    fn value_at(&self, place: Place<'_>) -> Result<&Value, StoreFault>
-        ensures { (w : World) → Answered (λ v. value_view v.now) result (with_storage self.now w) (with_storage self.now w)
+    /// What the place of a scalar holds. Only a string takes memory. `DeadLocator` where the generation has ended, `NoRule`
+    /// where the place leads to no scalar of it.
+    pub fn held(&self, alloc: Global, place: Place<'_>) -> Result<Value, StoreFault>
+        ensures { (w : World) → Answered value_view result (with_storage self.now w) (with_storage self.now w)
             (held (place_view place.entry) (with_storage self.now w)) }
     {
         let part = self.part(place)?;
         if !is_scalar(place.description) {
             return Err(StoreFault::NoRule);
         }
-        match self.generations[part.at].values.get(part.first) {
-            Some(value) => Ok(value),
-            None => Err(StoreFault::NoRule),
-        }
+        let bytes = &self.generations[part.at].bytes;
+        Ok(value_at(alloc, bytes, part.offset, place.description)?)
     }
 
-    /// What the place of a scalar holds. Only a string takes memory.
-    pub fn held(&self, alloc: Global, place: Place<'_>) -> Result<Value, StoreFault>
-        ensures { (w : World) → Answered value_view result (with_storage self.now w) (with_storage self.now w)
-            (held (place_view place.entry) (with_storage self.now w)) }
-    {
-        match self.value_at(place) {
-            Ok(value) => Ok(value.copy(alloc)?),
-            Err(fault) => Err(fault),
-        }
-    }
-
-    /// The number that the place of a scalar holds, where it holds one, found by a walk over the description.
+    /// The number that the place of a number of so many binary digits holds, found by a walk over the description.
     #[inline(never)]
-    fn far_number(&self, place: Place<'_>) -> Option<i64>
+    fn far_number(&self, place: Place<'_>, precision: u8) -> Option<i64>
+        requires { description_view place.description.now ≡ FixedBinary precision }
         ensures { (w : World) → IfSome result (λ x. held (place_view place.entry) (with_storage self.now w)
             ≡ Yields (Number x) (with_storage self.now w)) }
     {
-        match self.value_at(place) {
-            Ok(Value::Number(number)) => Some(*number),
-            _ => None,
+        match self.part(place) {
+            Ok(part) => number_at(&self.generations[part.at].bytes, part.offset, precision),
+            Err(_fault) => None,
         }
     }
 
-    /// The number that the place of a scalar holds, where it holds one; `held` tells of any other. That of a number alone
-    /// is found at once.
+    /// The number that the place of a scalar holds; `None` where it holds none, or nothing, of which `held` tells. That of a
+    /// number alone is found at once.
     #[inline(always)]
     pub fn number_at(&self, place: Place<'_>) -> Option<i64>
         ensures { (w : World) → IfSome result (λ x. held (place_view place.entry) (with_storage self.now w)
             ≡ Yields (Number x) (with_storage self.now w)) }
     {
-        if let Some(at) = self.lone(place) {
-            return match self.generations[at].values.first() {
-                Some(Value::Number(number)) => Some(*number),
-                _ => None,
-            };
+        let precision = number_precision(place.description)?;
+        match self.lone(place, precision) {
+            Some(at) => number_at(&self.generations[at].bytes, 0, precision),
+            None => self.far_number(place, precision),
         }
-        self.far_number(place)
     }
 
-    /// The characters that the place of a scalar holds, where it holds characters; `held` tells of any other.
+    /// The characters that the place of a scalar holds, lent as they lie; `None` where it holds none, or nothing, of which
+    /// `held` tells.
     #[inline]
-    pub fn text_at(&self, place: Place<'_>) -> Option<&Vec<u8>>
+    pub fn text_at(&self, place: Place<'_>) -> Option<&[u8]>
         ensures { (w : World) → IfSome result (λ text. held (place_view place.entry) (with_storage self.now w)
-            ≡ Yields (Characters text.now.items) (with_storage self.now w)) }
+            ≡ Yields (Characters text.now) (with_storage self.now w)) }
     {
-        match self.value_at(place) {
-            Ok(Value::Characters(text)) => Some(text),
-            _ => None,
+        match self.part(place) {
+            Ok(part) => text_at(
+                &self.generations[part.at].bytes,
+                part.offset,
+                place.description,
+            ),
+            Err(_fault) => None,
         }
     }
 
     /// Characters put behind those that the place of a scalar of CHARACTER VARYING holds, where both are no more than it may
-    /// hold and than so many; where they are not put there, nothing has changed, and `held` and `stored` tell why.
+    /// hold and than the room; where they are not put there, nothing has changed, and `held` and `stored` tell why.
     #[inline]
     pub fn append(&mut self, place: Place<'_>, more: &[u8], room: usize) -> bool
         ensures { Appended result self.old self.new (place_view place.entry) more.now room }
     {
-        let Some(size) = varying_size(place.description) else {
+        let Some(greatest) = greatest_length(place.description) else {
             return false;
         };
-        let most = room.min(size);
         match self.part(place) {
-            Ok(part) => lengthen_at(&mut self.generations, part, more, most),
+            Ok(part) => lengthen(&mut self.generations, part, greatest, more, room),
             Err(_fault) => false,
         }
     }
 
-    /// A value put at the place of a scalar.
+    /// A value put at the place of a scalar. `DeadLocator` where the generation has ended, `NoRule` where the place leads to
+    /// no part of it, or to one that may not hold the value; then nothing has changed.
     #[inline]
     pub fn stored(&mut self, place: Place<'_>, value: Value) -> Result<(), StoreFault>
         ensures answer { (w : World) → Answered (λ _. tt) result (with_storage self.old w) (with_storage self.new w)
@@ -202,32 +203,37 @@ impl<'m> Storage<'m> {
         if !holds(place.description, &value) {
             return Err(StoreFault::NoRule);
         }
-        put_one(&mut self.generations, part, value)?;
+        put_value(&mut self.generations, part, place.description, &value);
         Ok(())
     }
 
-    /// A number put at the scalar to which a place leads.
+    /// A number put at the number of so many binary digits to which a place leads.
     #[inline(always)]
-    fn put_number_in(&mut self, place: Place<'_>, part: GenerationPart, number: i64) -> bool
-        requires { LeadsTo (storage_view self.old) (place_view place) part }
+    fn put_number_in(
+        &mut self,
+        place: Place<'_>,
+        part: GenerationPart,
+        precision: u8,
+        number: i64,
+    ) -> bool
+        requires precision { description_view place.description.now ≡ FixedBinary precision }
+        requires leads { LeadsTo (storage_view self.old) (place_view place) part }
         ensures { NumberPut result self.old self.new (place_view place.entry) number }
     {
-        if !holds_number(place.description, number) {
+        if !holds_number(precision, number) {
             return false;
         }
-        match put_one(&mut self.generations, part, Value::Number(number)) {
-            Ok(()) => true,
-            Err(_) => false,
-        }
+        put_number(&mut self.generations, part, precision, number)
     }
 
-    /// A number put at the place of a scalar that is found by a walk over the description.
+    /// A number put at the place of a number of so many binary digits that is found by a walk over the description.
     #[inline(never)]
-    fn put_far_number(&mut self, place: Place<'_>, number: i64) -> bool
+    fn put_far_number(&mut self, place: Place<'_>, precision: u8, number: i64) -> bool
+        requires { description_view place.description.now ≡ FixedBinary precision }
         ensures { NumberPut result self.old self.new (place_view place.entry) number }
     {
         match self.part(place) {
-            Ok(part) => self.put_number_in(place, part, number),
+            Ok(part) => self.put_number_in(place, part, precision, number),
             Err(_fault) => false,
         }
     }
@@ -238,19 +244,20 @@ impl<'m> Storage<'m> {
     pub fn put_number(&mut self, place: Place<'_>, number: i64) -> bool
         ensures { NumberPut result self.old self.new (place_view place.entry) number }
     {
-        match self.lone(place) {
-            Some(at) => self.put_number_in(place, GenerationPart { at, first: 0 }, number),
-            None => self.put_far_number(place, number),
+        let Some(precision) = number_precision(place.description) else {
+            return false;
+        };
+        match self.lone(place, precision) {
+            Some(at) => {
+                self.put_number_in(place, GenerationPart { at, offset: 0 }, precision, number)
+            }
+            None => self.put_far_number(place, precision, number),
         }
     }
 
-    /// What one place holds put at another of an equal description.
-    pub fn copied(
-        &mut self,
-        alloc: Global,
-        source: Place<'_>,
-        target: Place<'_>,
-    ) -> Result<(), StoreFault>
+    /// What one place holds put at another of an equal description. `NoRule` where the descriptions differ or a place leads to
+    /// no part, `DeadLocator` where a generation has ended; then nothing has changed.
+    pub fn copied(&mut self, source: Place<'_>, target: Place<'_>) -> Result<(), StoreFault>
         ensures answer { (w : World) → Answered (λ _. tt) result (with_storage self.old w) (with_storage self.new w)
             (copied (place_view source.entry) (place_view target.entry) (with_storage self.old w)) }
         ensures err { OnErr result (SameStorage self.old self.new) }
@@ -260,32 +267,60 @@ impl<'m> Storage<'m> {
         }
         let from = self.part(source)?;
         let to = self.part(target)?;
-        let count = scalars_in(source.description);
-        let held = values_from(&self.generations[from.at].values, from.first, count);
-        let values = copy_values(alloc, held)?;
-        put_many(&mut self.generations, to, values)?;
+        copy_part(&mut self.generations, from, to, target.description);
         Ok(())
     }
 
-    /// A new generation, which begins with copies of these values. `StorageLimit` where too many were made, or too much
-    /// would live (own).
-    pub fn make(
-        &mut self,
-        alloc: Global,
-        description: &'m Description,
-        made: Made,
-        initial: &[Value],
-    ) -> Result<Place<'m>, StoreFault>
-        ensures answer { (w : World) → Answered place_view result (with_storage self.old w) (with_storage self.new w)
-            (made_of (description_view description.now) (made_view made) (map value_view initial.now)
-            (with_storage self.old w)) }
-        ensures err { OnErr result (SameStorage self.old self.new) }
+    /// How many bytes a new generation of this description takes, if there is room for it.
+    #[inline(always)]
+    fn size_within(&self, description: &Description) -> Option<usize>
+        ensures { MatchOption result (RoomFor false self.now (description_view description.now))
+            (λ size. (size ≡ size_of (description_view description.now)) × RoomFor true self.now (description_view description.now)) }
     {
-        let values = copy_values(alloc, initial)?;
-        self.make_of(description, made, values)
+        let size = far_size(description);
+        let room = u64::from(BYTE_LIMIT - self.live);
+        if self.made >= GENERATION_LIMIT || size > room {
+            return None;
+        }
+        Some(size as usize)
     }
 
-    /// A new generation for a dummy argument, which the newest activation has to note among those that it prepares.
+    /// Whether there is room for a new generation of this description: no more than 4,294,967,294 are ever made, and no more
+    /// than 16,777,216 bytes live at once (own).
+    #[inline]
+    pub fn has_room(&self, description: &Description) -> bool
+        ensures { RoomFor result self.now (description_view description.now) }
+    {
+        self.size_within(description).is_some()
+    }
+
+    /// A new generation, which begins with these bytes; without any where its scalars may not hold what they should begin
+    /// with. `StorageLimit` where there is no room for it; else `NoRule` where there are no bytes, or `OutOfMemory`. After an
+    /// error nothing has changed.
+    pub fn make(
+        &mut self,
+        description: &'m Description,
+        made: Made,
+        initial: Option<Vec<u8>>,
+    ) -> Result<Place<'m>, StoreFault>
+        requires { IfSome initial (λ bytes. length bytes.items ≡ size_of (description_view description.now)) }
+        ensures answer { (w : World) (vs : List plain.Value) → Begins (description_view description.now) initial vs
+            → Answered place_view result (with_storage self.old w) (with_storage self.new w)
+            (made_of (description_view description.now) (made_view made) vs (with_storage self.old w)) }
+        ensures err { OnErr result (SameStorage self.old self.new) }
+    {
+        if !self.has_room(description) {
+            return Err(StoreFault::Raised(RunError::StorageLimit));
+        }
+        match initial {
+            Some(bytes) => self.add(description, made, bytes),
+            None => Err(StoreFault::NoRule),
+        }
+    }
+
+    /// A new generation for a dummy argument, which begins with a value, and which the newest activation has to note among
+    /// those that it prepares. `NoRule` where the description may not hold the value; else `StorageLimit` where there is no
+    /// room for it, or `OutOfMemory`. After an error nothing has changed.
     #[inline(always)]
     pub fn make_dummy(
         &mut self,
@@ -304,28 +339,31 @@ impl<'m> Storage<'m> {
         if !holds(description, &value) {
             return Err(StoreFault::NoRule);
         }
-        let values = one_value(self.spare.take(alloc), value)?;
-        self.make_of(description, Made::Dummy, values)
+        let Some(size) = self.size_within(description) else {
+            return Err(StoreFault::Raised(RunError::StorageLimit));
+        };
+        let mut bytes = self.spare.take(alloc, size)?;
+        put_value_at(&mut bytes, 0, description, &value);
+        self.add(description, Made::Dummy, bytes)
     }
 
-    /// A new generation with these values.
+    /// A new generation with these bytes, for which there is room. `OutOfMemory` where there is no memory to note it.
     #[inline(always)]
-    fn make_of(
+    fn add(
         &mut self,
         description: &'m Description,
         made: Made,
-        values: Vec<Value>,
+        bytes: Vec<u8>,
     ) -> Result<Place<'m>, StoreFault>
-        ensures answer { (w : World) → Answered place_view result (with_storage self.old w) (with_storage self.new w)
-            (made_of (description_view description.now) (made_view made) (map value_view values.items)
+        requires room { RoomFor true self.old (description_view description.now) }
+        requires size { length bytes.items ≡ size_of (description_view description.now) }
+        ensures answer { (w : World) → are_held (scalars_of (description_view description.now)) (values_of (description_view description.now) bytes.items) ≡ true
+            → Answered place_view result (with_storage self.old w) (with_storage self.new w)
+            (made_of (description_view description.now) (made_view made) (values_of (description_view description.now) bytes.items)
             (with_storage self.old w)) }
         ensures err { OnErr result (SameStorage self.old self.new) }
     {
-        let size = far_size(description);
-        let room = u64::from(BYTE_LIMIT - self.live);
-        if self.made >= GENERATION_LIMIT || size > room {
-            return Err(StoreFault::Raised(RunError::StorageLimit));
-        }
+        let size = bytes.len() as u32;
         let place = Place {
             generation: self.made,
             offset: 0,
@@ -336,17 +374,18 @@ impl<'m> Storage<'m> {
             number: self.made,
             description,
             made,
-            values,
+            bytes,
         };
         if self.generations.push(generation).is_err() {
             return Err(StoreFault::OutOfMemory);
         }
         self.made += 1;
-        self.live += size as u32;
+        self.live += size;
         Ok(place)
     }
 
-    /// The generations of these numbers end. Fast where the newest stand last among the numbers.
+    /// The generations of these numbers end; a number of which none lives changes nothing. Fast where the newest stand last
+    /// among the numbers.
     pub fn end(&mut self, numbers: &[u32])
         ensures storage { storage_view self.new ≡ without numbers.now (storage_view self.old) }
         ensures made { made_count self.new ≡ made_count self.old }
@@ -364,8 +403,8 @@ impl<'m> Storage<'m> {
         let last = self.generations.len().saturating_sub(1);
         if let Some(at) = self.find(number, last) {
             let ended = self.generations.remove(at);
-            self.live -= far_size(ended.description) as u32;
-            self.spare.keep(ended.values);
+            self.live -= ended.bytes.len() as u32;
+            self.spare.keep(ended.bytes);
         }
     }
 }

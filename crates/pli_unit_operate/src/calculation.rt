@@ -1,5 +1,5 @@
 //! Operations on values: operators, built-in functions and conversions.
-ghost use Rattle.std.specs.Prelude.{◌≡◌, ◌∷◌, [], ℤ, pos, Result, IfOk, MatchOption, None, Some};
+ghost use Rattle.std.specs.Prelude.{◌≡◌, ◌∷◌, [], pos, Result, IfOk, None, Some};
 ghost use Rattle.pli_map.specs.views.DescriptionView.{description_view};
 ghost use Rattle.pli_operation.specs.Operations as calculate;
 ghost use Rattle.pli_operation.specs.Operations.{calculated_from, calculated_with, calculated_by, as_number, stands, fitted_to};

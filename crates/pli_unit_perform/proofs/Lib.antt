@@ -5,11 +5,13 @@ pub mod EndLemmas
 pub mod EnteredBlocks
 pub mod FoundInTables
 pub mod GivenPlaces
+pub mod InitialValues
 pub mod LinkedGlobals
 pub mod LinkedUnits
 pub mod LinkLemmas
 pub mod MadeVariables
 pub mod OperationLemmas
+pub mod PutInitial
 pub mod InstructionsDo
 pub mod SlotPlaces
 pub mod StateLemmas

@@ -9,9 +9,8 @@ use Rattle.pli_base.specs.Words.{same_name}
 use Rattle.pli_base.specs.laws.NameLaws.{equal_from_pointwise, pointwise-from_equal}
 use Rattle.pli_program.specs.Program as op
 use Rattle.pli_program.specs.Program.{GlobalCode, global_variable}
-use Rattle.pli_world.specs.World.{Standing, World, Answer, Raises, Wrong, Static, further, made_once, made_before, external_in, is_named, statics_made, with_static}
+use Rattle.pli_world.specs.World.{Standing, World, Answer, Yields, Raises, Wrong, Static, further, made_once, made_before, external_in, is_named, statics_made, with_static}
 use Rattle.pli_map.specs.Variables.{Variable}
-use Rattle.pli_store.specs.answers.Answered.{Answered}
 use Rattle.pli_store.specs.declared.fault.StoreFault.{StoreFault}
 use Rattle.pli_store.specs.declared.fault.StoreFault.TheVariants as fault
 use Rattle.pli_store.specs.declared.place.Place.{Place}
@@ -28,6 +27,7 @@ use Rattle.pli_unit_perform.specs.declared.linked.LinkedGlobal.TheVariants as li
 use Rattle.pli_unit_perform.specs.declared.shared.Shared.{Shared}
 use Rattle.pli_unit_perform.specs.answers.Making.{EndsAs, first_world, Placed, AreKnown, PlacedKnown, IsNoted, EntryTaken, number_behind, NextLinked, Links, UnitLinked, LinksUnit, AllLinked, EndsEarlier}
 use Rattle.pli_unit_perform.specs.views.TableView.{standing_view, statics_from, all_statics, entry_in, entry_of}
+use Rattle.pli_unit_perform.proofs.MadeVariables.{further_ends}
 
 -- one table behind another
 pub statics_more : (unit : Name) (first : ℕ) (xs ys : List LinkedGlobal)
@@ -146,18 +146,7 @@ again_placed v name p r s statics known found is = subst (λ r. PlacedKnown v na
       known = λ unit number. known_again s statics unit name number p known found;
     }
 
--- what ends at once ends all
-pub further_ends : {A B : Type 0} (f : StoreFault) (a : Answer A) (go : A → World → Answer B) (w : World) → EndsAs f a w → EndsAs f (further a go) w
-further_ends (fault.Raised e) a go w ends = ap (λ x. further x go) ends
-further_ends fault.NoRule a go w ends = ends
-further_ends fault.OutOfMemory a go w ends = tt
-
--- an answer of storage that ends it
-pub made_fails : {T A : Type 0} (view : T → A) (f : StoreFault) (a : Answer A) (w b v : World) → Answered view (Err f) w b a → v ≡ w → (a ≡ Wrong → ⊥) → EndsAs f a v
-made_fails view (fault.Raised e) a w b v is same never = is ∙ ap (Raises e) (sym same)
-made_fails view fault.NoRule a w b v is same never = never is
-made_fails view fault.OutOfMemory a w b v is same never = tt
-
+-- what is equal ends as the other does
 pub ends_for : {A : Type 0} (f : StoreFault) (a b : Answer A) (w : World) → a ≡ b → EndsAs f b w → EndsAs f a w
 ends_for f a b w is ends = subst (λ x. EndsAs f x w) (sym is) ends
 
@@ -463,6 +452,16 @@ module _ (us : List LinkedUnit) (u : LinkedUnit) (i : ℕ) (old now new : Shared
   next_unit is =
       drop_more us i u (slice_get_within us i u is) ∙ ap (λ v. v ∷ drop (i + 1) us) (get_or_from_slice_get us i u u is)
 
+  -- what the globals of this unit come to
+  units_as : (a : Answer Unit) → slice_get us i ≡ Some u → UnitsSoFar us i old now tables
+      → statics_made u.unit 0 (map global_variable (unit_of u).globals) (first_world now.storage before) ≡ a
+      → all_statics_made (map unit_of us) (first_world old.storage [])
+      ≡ further a (λ _ w. all_statics_made (map unit_of (drop (i + 1) us)) w)
+  units_as a here so comes =
+      so.made
+      ∙ ap (λ vs. all_statics_made (map unit_of vs) (first_world now.storage before)) (next_unit here)
+      ∙ ap (λ a. further a (λ _ w. all_statics_made (map unit_of (drop (i + 1) us)) w)) comes
+
   pub units_more : (last : List (List LinkedGlobal)) → last ≡ tables ++ t ∷ [] → slice_get us i ≡ Some u → UnitsSoFar us i old now tables
       → UnitLinked u.unit (unit_of u).globals before now new t → UnitsSoFar us (i + 1) old new last
   units_more last is here so one =
@@ -473,9 +472,7 @@ module _ (us : List LinkedUnit) (u : LinkedUnit) (i : ℕ) (old now new : Shared
       (ap (slice_get names) so.count ∙ slice_get-map (λ (u : LinkedUnit). u.unit) us i ∙ ap (option_map (λ (u : LinkedUnit). u.unit)) here) in
       record {
         made =
-            so.made
-            ∙ ap (λ vs. all_statics_made (map unit_of vs) (first_world now.storage before)) (next_unit here)
-            ∙ ap (λ a. further a (λ _ w. all_statics_made (map unit_of (drop (i + 1) us)) w)) one.made
+            units_as (Yields tt (first_world new.storage (before ++ statics_from u.unit 0 t))) here so one.made
             ∙ ap (λ ss. all_statics_made (map unit_of (drop (i + 1) us)) (first_world new.storage ss)) (sym joined);
         known = subst (AreKnown new) (sym joined) one.known;
         same =
@@ -490,12 +487,9 @@ module _ (us : List LinkedUnit) (u : LinkedUnit) (i : ℕ) (old now new : Shared
   units_end (fault.Raised e) here so ends = record {
     storage = new.storage;
     statics = before ++ statics_from u.unit 0 t;
-    ends =
-        so.made
-        ∙ ap (λ vs. all_statics_made (map unit_of vs) (first_world now.storage before)) (next_unit here)
-        ∙ ap (λ a. further a (λ _ w. all_statics_made (map unit_of (drop (i + 1) us)) w)) ends;
+    ends = units_as (Raises e (first_world new.storage (before ++ statics_from u.unit 0 t))) here so ends;
   }
-  units_end fault.NoRule here so ends = absurd ends
+  units_end fault.NoRule here so ends = units_as Wrong here so ends
   units_end fault.OutOfMemory here so ends = tt
 
 pub units_all : (us : List LinkedUnit) (i : ℕ) (old now : Shared) (tables : List (List LinkedGlobal)) → length us ≤ i → UnitsSoFar us i old now tables → AllLinked us old now tables

@@ -103,10 +103,10 @@ pub fn store(alloc: Global, machine: &mut Machine) -> Result<Option<Stop>, Alloc
 }
 
 /// Copies what the newest place holds to the place below it.
-pub fn copy(alloc: Global, machine: &mut Machine) -> Result<Option<Stop>, AllocError>
+pub fn copy(machine: &mut Machine) -> Result<Option<Stop>, AllocError>
     ensures { IfOk result (Does Copy machine.old machine.new) }
 {
-    storing::copy(alloc, &mut machine.here.operands, &mut machine.storage)
+    storing::copy(&mut machine.here.operands, &mut machine.storage)
 }
 
 /// A dummy argument of a template of the tables.

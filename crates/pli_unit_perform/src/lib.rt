@@ -9,6 +9,7 @@ mod dummies;
 mod entering;
 mod external;
 mod globals;
+mod initial;
 mod instructions;
 mod jumping;
 mod keeping;

@@ -10,9 +10,10 @@ ghost use Rattle.pli_unit_code.specs.Modules.{unit_of};
 ghost use Rattle.pli_unit_code.specs.views.CodeView.{code_view, global_view, unit_view};
 ghost use Rattle.pli_unit_perform.specs.answers.Making.{Placed, PlacedKnown, IsNoted, EntryTaken, AreKnown, Links, LinksUnit, LinksAll};
 
+use crate::initial::make_initial;
 use crate::linked::LinkedGlobal;
 use crate::shared::Shared;
-use crate::variables::{initial_values, template_of};
+use crate::variables::template_of;
 use pli_base::Name;
 use pli_store::{Made, Place, StoreFault};
 use pli_unit_code::{Code, CodedGlobal, LinkedUnit, Module};
@@ -32,11 +33,13 @@ fn make_static<'m>(
 {
     match template_of(code, template) {
         Some((description, scalars)) => {
-            let values = initial_values(alloc, description, scalars)?;
-            match shared
-                .storage
-                .make(alloc, description, Made::Static, &values)
-            {
+            match make_initial(
+                alloc,
+                &mut shared.storage,
+                description,
+                Made::Static,
+                scalars,
+            ) {
                 Ok(place) => Ok(Some(place)),
                 Err(fault) => Err(fault),
             }

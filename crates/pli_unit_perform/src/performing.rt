@@ -67,7 +67,7 @@ pub fn perform<'m>(
         Instruction::Constant { value } => constant(code, machine, value),
         Instruction::Load => load(alloc, machine),
         Instruction::Store => store(alloc, machine),
-        Instruction::Copy => copy(alloc, machine),
+        Instruction::Copy => copy(machine),
         Instruction::MakeDummy { template } => make_dummy(alloc, code, machine, template),
         Instruction::Fit { description } => fit(alloc, code, machine, description),
         Instruction::ToCharacters { width } => from_one(

@@ -111,11 +111,7 @@ fn store_value(
 }
 
 /// Takes a source's place and a target's, and copies what the source holds.
-pub fn copy(
-    alloc: Global,
-    operands: &mut Vec<Operand>,
-    storage: &mut Storage,
-) -> Result<Option<Stop>, AllocError>
+pub fn copy(operands: &mut Vec<Operand>, storage: &mut Storage) -> Result<Option<Stop>, AllocError>
     ensures { IfOk result (Works copies operands.old.items operands.new.items storage.old storage.new) }
 {
     let Some(source) = pop_place(operands) else {
@@ -124,7 +120,7 @@ pub fn copy(
     let Some(target) = pop_place(operands) else {
         return Ok(Some(Stop::Fault));
     };
-    match storage.copied(alloc, source, target) {
+    match storage.copied(source, target) {
         Ok(()) => Ok(None),
         Err(fault) => Ok(Some(stop_at(fault)?)),
     }

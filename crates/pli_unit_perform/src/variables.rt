@@ -1,13 +1,11 @@
 //! Variables of activations.
-ghost use Rattle.std.specs.Prelude.{◌≡◌, ◌<◌, ℕ, List, ◌∷◌, length, map, None, Some, slice_set, IfOk, OnOk, MatchOption};
+ghost use Rattle.std.specs.Prelude.{◌≡◌, ℕ, List, ◌∷◌, map, None, Some, OnOk, MatchOption};
 ghost use Rattle.pli_unit_perform.specs.views.Image.{Image};
-ghost use Rattle.pli_map.specs.Values.{first_values};
 ghost use Rattle.pli_map.specs.views.DescriptionView.{description_view};
-ghost use Rattle.pli_value.specs.Value.{value_view};
 ghost use Rattle.pli_world.specs.World.{Yields, made_all, with_slot};
 ghost use Rattle.pli_map.specs.Variables.{Variable};
 ghost use Rattle.pli_store.specs.views.StorageView.{place_view};
-ghost use Rattle.pli_type_tree.specs.Templates.{with_initial};
+ghost use Rattle.pli_type_tree.specs.Templates.{variable_of};
 ghost use Rattle.pli_type_tree.specs.views.TemplateView.{initial_view};
 ghost use Rattle.pli_unit_code.specs.CodeTables.{template_at, variables_at};
 ghost use Rattle.pli_unit_code.specs.views.CodeView.{code_view};
@@ -15,12 +13,12 @@ ghost use Rattle.pli_unit_perform.specs.answers.Activated.{SameFrames};
 ghost use Rattle.pli_unit_perform.specs.answers.Making.{GoesOn};
 ghost use Rattle.pli_unit_perform.specs.views.MachineView.{activation_view, frame_view, world_of};
 
+use crate::initial::make_initial;
 use crate::machine::{Activation, Machine};
-use pli_map::{Description, first_values};
+use pli_map::Description;
 use pli_store::{Made, Place, StoreFault};
 use pli_type_tree::InitialScalar;
 use pli_unit_code::Code;
-use pli_value::Value;
 use std::alloc::{AllocError, Global};
 
 /// The description and the initial values of the template of a number, if the tables have them.
@@ -32,47 +30,6 @@ pub fn template_of(code: &Code, number: u16) -> Option<(&Description, &[InitialS
     let template = code.templates.get(number as usize)?;
     let description = code.descriptions.get(template.description as usize)?;
     Some((description, &template.initial))
-}
-
-/// Puts a value in the place of another.
-fn put_at(values: &mut Vec<Value>, place: usize, value: Value)
-    requires { place < length values.old.items }
-    ensures { values.new.items ≡ slice_set values.old.items place value }
-{
-    values[place] = value;
-}
-
-/// Puts an initial value in the place of that of its scalar.
-fn put_initial(
-    alloc: Global,
-    values: &mut Vec<Value>,
-    initial: &InitialScalar,
-) -> Result<(), AllocError>
-    ensures { OnOk result (map value_view values.new.items
-        ≡ slice_set (map value_view values.old.items) initial.now.scalar (value_view initial.now.value)) }
-{
-    let value = initial.value.copy(alloc)?;
-    let place = initial.scalar as usize;
-    if place < values.len() {
-        put_at(values, place, value);
-    }
-    Ok(())
-}
-
-/// The values with which a variable begins: each scalar with its initial value, or with the one of its type.
-pub fn initial_values(
-    alloc: Global,
-    description: &Description,
-    scalars: &[InitialScalar],
-) -> Result<Vec<Value>, AllocError>
-    ensures { IfOk result (λ values. map value_view values.items
-        ≡ with_initial (map initial_view scalars.now) (first_values (description_view description.now))) }
-{
-    let mut values = first_values(alloc, description)?;
-    for scalar in scalars {
-        put_initial(alloc, &mut values, scalar)?;
-    }
-    Ok(values)
 }
 
 /// Gives an activation the next slot, for a variable that ends with it.
@@ -87,23 +44,26 @@ fn add_slot<'m>(here: &mut Activation<'m>, place: Place<'m>) -> Result<(), Alloc
     Ok(())
 }
 
-/// Makes a variable that ends with the newest activation, and gives it the next slot.
+/// Makes a variable that ends with the newest activation, from a description and initial values, and gives it the next slot.
 fn make_variable<'m>(
     alloc: Global,
     machine: &mut Machine<'m>,
     description: &'m Description,
-    values: &[Value],
+    scalars: &[InitialScalar],
 ) -> Result<(), StoreFault>
     ensures made { (more : List Variable) (image : Image) (put : List ℕ) → GoesOn result
-        (made_all (record { description = description_view description.now; initial = map value_view values.now } ∷ more)
+        (made_all (variable_of (record { description = description_view description.now; initial = map initial_view scalars.now }) ∷ more)
         (world_of image machine.old put))
         (made_all more (world_of image machine.new put)) (world_of image machine.new put) }
     ensures same { SameFrames machine.old machine.new }
 {
-    match machine
-        .storage
-        .make(alloc, description, Made::Automatic, values)
-    {
+    match make_initial(
+        alloc,
+        &mut machine.storage,
+        description,
+        Made::Automatic,
+        scalars,
+    ) {
         Ok(place) => {
             add_slot(&mut machine.here, place)?;
             Ok(())
@@ -125,10 +85,7 @@ fn make_numbered<'m>(
     ensures same { SameFrames machine.old machine.new }
 {
     match template_of(code, number) {
-        Some((description, scalars)) => {
-            let values = initial_values(alloc, description, scalars)?;
-            make_variable(alloc, machine, description, &values)
-        }
+        Some((description, scalars)) => make_variable(alloc, machine, description, scalars),
         None => Ok(()),
     }
 }

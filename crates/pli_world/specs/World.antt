@@ -17,7 +17,7 @@ use Rattle.pli_code.specs.declared.ending.RunError.TheVariants.{NoGeneration}
 use Rattle.pli_code.specs.declared.ending.RunError.TheVariants.{FixedOverflow, ZeroDivide, StorageLimit}
 use Rattle.pli_map.specs.Description.{Description}
 use Rattle.pli_map.specs.Same.{same}
-use Rattle.pli_map.specs.Scalars.{is_scalar, scalars_in}
+use Rattle.pli_map.specs.Scalars.{is_scalar, scalars_in, scalars_of}
 use Rattle.pli_map.specs.Sizes.{size_of}
 use Rattle.pli_value.specs.Value.{Value}
 use Rattle.pli_value.specs.declared.number.Raised.TheVariants as raised
@@ -28,7 +28,7 @@ use Rattle.pli_world.specs.Storage.{Generation, Made, Automatic, Static as AsSta
 use Rattle.pli_world.specs.Storage.{field_of, generation_in, scalar_at, values_from, with_values_at}
 use Rattle.pli_world.specs.Storage.{with_values, without, live_bytes, generation_limit}
 use Rattle.pli_map.specs.Variables.{byte_limit}
-use Rattle.pli_map.specs.Values.{holds}
+use Rattle.pli_map.specs.Values.{holds, are_held}
 use Rattle.pli_map.specs.Variables.{Variable, GlobalVariable}
 use Rattle.pli_program.specs.Program.{Head}
 
@@ -100,11 +100,13 @@ height w = length w.activations
 unfoldable pub made_of : Description → Made → List Value → World → Answer Place
 made_of d how vs w =
     if nat_lt w.made generation_limit && nat_le (live_bytes w.storage + size_of d) byte_limit
+    then (if are_held (scalars_of d) vs
     then Yields (whole w.made d) (record w {
       storage = w.storage
           ++ record { number = w.made; description = d; made = how; values = vs } ∷ [];
       made = suc w.made;
     })
+    else Wrong)
     else Raises StorageLimit w
 
 -- the generation that is found; where none is, the place is dead

@@ -1,6 +1,8 @@
 -- What is kept where values are laid down one behind the other.
-use Rattle.std.specs.Prelude.{◌≡◌, ◌<◌, ℕ, ◌+◌, Bool, true, false, List, ◌++◌, map, length, take, drop}
-use Rattle.pli_map.specs.Description.{Description}
+use Rattle.std.specs.Prelude.{◌≡◌, ◌<◌, ℕ, ◌+◌, ◌==◌, Bool, true, false, ◌&&◌, List, ◌++◌, map, length}
+use Rattle.std.specs.Prelude.{take, drop}
+use Rattle.pli_map.specs.Description.{Description, FixedBinary, Character, Varying, Bit, Array, Structure}
+use Rattle.pli_map.specs.Description.{Members, NoMembers, MemberThen}
 use Rattle.pli_map.specs.Parts.{PlacedPart, moved}
 use Rattle.pli_map.specs.Scalars.{scalars_of}
 use Rattle.pli_map.specs.Sizes.{size_of}
@@ -20,7 +22,8 @@ NoneTaken ds vs = (es : List Description) → are_held (ds ++ es) vs ≡ false
 
 -- these places, which lie between two bytes, hold these values now, and no byte before or behind them has
 -- changed
-pub record Laid (low : ℕ) (ss : List PlacedPart) (high : ℕ) (vs : List Value) (old new : List ℕ) : Type 0 where
+pub record Laid (low : ℕ) (ss : List PlacedPart) (high : ℕ) (vs : List Value) (old new : List ℕ)
+    : Type 0 where
   pub values : map (value_in new) ss ≡ vs
   pub front : take low new ≡ take low old
   pub back : drop high new ≡ drop high old
@@ -37,5 +40,22 @@ pub record LaidFront (at : ℕ) (d : Description) (vs rest : List Value) (old ne
 
 -- there its scalars hold the values now with which they begin, or some have none
 abbrev pub FirstLaid : Bool → (at : ℕ) (d : Description) (old new : List ℕ) → Type 0
-FirstLaid true at d old new = (length (first_values d) ≡ length (scalars_of d)) × LaidAt at d (first_values d) old new
+FirstLaid true at d old new =
+    (length (first_values d) ≡ length (scalars_of d)) × LaidAt at d (first_values d) old new
 FirstLaid false at d old new = length (first_values d) < length (scalars_of d)
+
+-- each scalar begins with the value that it holds where all of its bytes are this one
+abbrev mutual
+  pub begins_with : (byte : ℕ) → Description → Bool
+  begins_with byte (FixedBinary p) = byte == 0
+  begins_with byte (Character n) = byte == 32
+  begins_with byte (Varying n) = byte == 0
+  begins_with byte (Bit n) = byte == 0
+  begins_with byte (Array bounds element) = begins_with byte element
+  begins_with byte (Structure members) = all_begin_with byte members
+  begins_with byte d = false
+
+  -- so do those of these members
+  pub all_begin_with : (byte : ℕ) → Members → Bool
+  all_begin_with byte NoMembers = true
+  all_begin_with byte (MemberThen d ds) = begins_with byte d && all_begin_with byte ds

@@ -1,6 +1,8 @@
 -- What look-ups of the program answer.
-use Rattle.std.specs.Prelude.{◌≡◌, ℕ, min, Some, None, Result, Ok, Err, List, slice_get}
+use Rattle.std.specs.Prelude.{◌≡◌, ℕ, Some, None, Result, Ok, Err, List, slice_get}
 use Rattle.pli_code.specs.declared.ending.RunError.TheVariants.{DeadLocator}
+use Rattle.pli_map.specs.Description.{Description}
+use Rattle.pli_map.specs.Scalars.{first_scalar}
 use Rattle.pli_world.specs.Storage.{Generation, Place, generation_in, scalar_at}
 use Rattle.pli_store.specs.declared.fault.StoreFault.{StoreFault}
 use Rattle.pli_store.specs.declared.fault.StoreFault.TheVariants.{Raised, NoRule, OutOfMemory}
@@ -12,14 +14,18 @@ pub record StandsAt (gs : List Generation) (number at : ℕ) : Type 0 where
   pub stands : slice_get gs at ≡ Some generation
   pub found : generation_in gs number ≡ Some generation
 
--- a place leads to this generation, there to this scalar; 2^64 - 1 stands for every greater number
-pub record LeadsTo (gs : List Generation) (p : Place) (part : GenerationPart) : Type 0 where
+-- a part of this description stands there: in this generation, and this scalar of it is its first
+pub record PartStands (gs : List Generation) (part : GenerationPart) (d : Description) : Type 0 where
   pub generation : Generation
   pub scalar : ℕ
   pub stands : slice_get gs part.at ≡ Some generation
-  pub found : generation_in gs p.generation ≡ Some generation
-  pub first : scalar_at generation p ≡ Some scalar
-  pub counted : part.first ≡ min scalar 18446744073709551615
+  pub first : first_scalar generation.description part.offset d ≡ Some scalar
+
+-- a place leads to this part
+pub record LeadsTo (gs : List Generation) (p : Place) (part : GenerationPart) : Type 0 where
+  pub there : PartStands gs part p.description
+  pub found : generation_in gs p.generation ≡ Some there.generation
+  pub first : scalar_at there.generation p ≡ Some there.scalar
 
 -- a place leads to no part of its generation
 pub record LeadsNowhere (gs : List Generation) (p : Place) : Type 0 where

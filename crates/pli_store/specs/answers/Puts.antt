@@ -1,55 +1,66 @@
 -- What changes where values are put into storage of the program.
-use Rattle.std.specs.Prelude.{◌≡◌, ◌≤◌, ℕ, Bool, true, false, Some, List, [], ◌∷◌, ◌++◌, length}
+use Rattle.std.specs.Prelude.{◌≡◌, ◌≤◌, ℕ, ◌+◌, Bool, true, false, Some, List, [], ◌∷◌, ◌++◌, length}
 use Rattle.std.specs.Prelude.{slice_get, slice_set}
-use Rattle.pli_world.specs.Storage.{Generation, with_values_at}
-use Rattle.pli_store.specs.declared.part.GenerationPart.{GenerationPart}
+use Rattle.pli_bytes.specs.Contents.{values_of, bytes_from, with_bytes_at}
+use Rattle.pli_map.specs.Description.{Description, Varying}
 use Rattle.pli_value.specs.Value.{Value, Characters}
+use Rattle.pli_world.specs.Storage as plain
+use Rattle.pli_world.specs.Storage.{values_from, with_values_at}
+use Rattle.pli_store.specs.answers.Found.{PartStands}
+use Rattle.pli_store.specs.declared.generation.Generation.{Generation}
+use Rattle.pli_store.specs.declared.part.GenerationPart.{GenerationPart}
+use Rattle.pli_store.specs.views.GenerationView.{generation_view}
 
--- the generation that stands there has these values from this scalar on; nothing else has changed
-pub record ValuesPut (old new : List Generation) (part : GenerationPart) (vs : List Value) : Type 0 where
+-- the bytes of a generation from one on are these; nothing else has changed
+pub record BytesPut (old new : Generation) (offset : ℕ) (bytes : List ℕ) : Type 0 where
+  pub put : new.bytes.items ≡ with_bytes_at offset bytes old.bytes.items
+  pub others : generation_view new ≡ record (generation_view old) {
+    values = values_of (generation_view old).description new.bytes.items;
+  }
+
+-- so many bytes stand there: in this generation, from one of its bytes on
+pub record BytesStand (gs : List Generation) (part : GenerationPart) (size : ℕ) : Type 0 where
   pub generation : Generation
-  pub stands : slice_get old part.at ≡ Some generation
-  pub changed : new ≡ slice_set old part.at (record generation {
-    values = with_values_at part.first vs generation.values;
+  pub stands : slice_get gs part.at ≡ Some generation
+  pub within : part.offset + size ≤ length generation.bytes.items
+
+-- so many bytes that stand somewhere are put elsewhere; nothing else has changed
+pub record BytesCopied (old new : List Generation) (from to : GenerationPart) (size : ℕ) : Type 0 where
+  pub source : Generation
+  pub target : Generation
+  pub changed : Generation
+  pub read : slice_get old from.at ≡ Some source
+  pub written : slice_get old to.at ≡ Some target
+  pub put : BytesPut target changed to.offset (bytes_from from.offset size source.bytes.items)
+  pub new_is : new ≡ slice_set old to.at changed
+
+-- the scalars of a part of the generation that stands there hold these values; nothing else has changed
+pub record ValuesPut (old new : List plain.Generation) (part : GenerationPart) (d : Description)
+    (vs : List Value) : Type 0 where
+  pub there : PartStands old part d
+  pub changed : new ≡ slice_set old part.at (record there.generation {
+    values = with_values_at there.scalar vs there.generation.values;
   })
 
--- characters are put behind those of a value, and both are no more than so many
-pub record IsLengthened (old new : Value) (more : List ℕ) (room : ℕ) : Type 0 where
+-- the same, or nothing has changed
+abbrev pub ValuesPutOrSame : Bool → (old new : List plain.Generation) → GenerationPart → Description
+    → List Value → Type 0
+ValuesPutOrSame true old new part d vs = ValuesPut old new part d vs
+ValuesPutOrSame false old new part d vs = new ≡ old
+
+-- characters are put behind those of a string of CHARACTER VARYING that stands there, and both are no more
+-- than it may hold and than so many
+pub record IsLengthened (old new : List plain.Generation) (part : GenerationPart) (greatest : ℕ)
+    (more : List ℕ) (room : ℕ) : Type 0 where
   pub text : List ℕ
-  pub was : old ≡ Characters text
-  pub is : new ≡ Characters (text ++ more)
+  pub puts : ValuesPut old new part (Varying greatest) (Characters (text ++ more) ∷ [])
+  pub was : (there : PartStands old part (Varying greatest)) →
+      values_from there.scalar 1 there.generation.values ≡ Characters text ∷ []
+  pub short : length (text ++ more) ≤ greatest
   pub fits : length (text ++ more) ≤ room
 
 -- the same, or nothing has changed
-abbrev pub Lengthened : Bool → (old new : Value) → (more : List ℕ) → (room : ℕ) → Type 0
-Lengthened true old new more room = IsLengthened old new more room
-Lengthened false old new more room = new ≡ old
-
--- the same of one of many values
-pub record IsLengthenedIn (old new : List Value) (first : ℕ) (more : List ℕ) (room : ℕ) : Type 0 where
-  pub text : List ℕ
-  pub was : slice_get old first ≡ Some (Characters text)
-  pub is : new ≡ with_values_at first (Characters (text ++ more) ∷ []) old
-  pub fits : length (text ++ more) ≤ room
-
--- one of many values is lengthened, or nothing has changed
-abbrev pub LengthenedIn : Bool → (old new : List Value) → (first : ℕ) → (more : List ℕ) → (room : ℕ)
-    → Type 0
-LengthenedIn true old new first more room = IsLengthenedIn old new first more room
-LengthenedIn false old new first more room = new ≡ old
-
--- and of one of the values of a generation
-pub record IsLengthenedAt (old new : List Generation) (part : GenerationPart) (more : List ℕ) (room : ℕ)
-    : Type 0 where
-  pub generation : Generation
-  pub stands : slice_get old part.at ≡ Some generation
-  pub text : List ℕ
-  pub was : slice_get generation.values part.first ≡ Some (Characters text)
-  pub puts : ValuesPut old new part (Characters (text ++ more) ∷ [])
-  pub fits : length (text ++ more) ≤ room
-
--- one of the values of a generation is lengthened, or nothing has changed
-abbrev pub LengthenedAt : Bool → (old new : List Generation) → GenerationPart → (more : List ℕ) → (room : ℕ)
-    → Type 0
-LengthenedAt true old new part more room = IsLengthenedAt old new part more room
-LengthenedAt false old new part more room = new ≡ old
+abbrev pub LengthenedOrSame : Bool → (old new : List plain.Generation) → GenerationPart → (greatest : ℕ)
+    → (more : List ℕ) → (room : ℕ) → Type 0
+LengthenedOrSame true old new part greatest more room = IsLengthened old new part greatest more room
+LengthenedOrSame false old new part greatest more room = new ≡ old

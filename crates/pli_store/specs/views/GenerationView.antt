@@ -1,7 +1,6 @@
 -- What generations of the program say.
-use Rattle.std.specs.Prelude.{map}
+use Rattle.pli_bytes.specs.Contents.{values_of}
 use Rattle.pli_map.specs.views.DescriptionView.{description_view}
-use Rattle.pli_value.specs.Value.{value_view}
 use Rattle.pli_world.specs.Storage as plain
 use Rattle.pli_store.specs.declared.generation.Generation.{Generation}
 use Rattle.pli_store.specs.declared.generation.Made.{Made}
@@ -15,12 +14,12 @@ made_view made.Controlled = plain.Controlled
 made_view made.Based = plain.Based
 made_view made.Dummy = plain.Dummy
 
--- a generation
+-- a generation, with what its bytes hold
 abbrev pub generation_view : Generation → plain.Generation
 generation_view g =
     record {
       number = g.number;
       description = description_view g.description.now;
       made = made_view g.made;
-      values = map value_view g.values.items;
+      values = values_of (description_view g.description.now) g.bytes.items;
     }

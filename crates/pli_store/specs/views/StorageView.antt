@@ -1,10 +1,15 @@
 -- What storage of the program says.
-use Rattle.std.specs.Prelude.{◌≡◌, ◌≤◌, ℕ, ℤ, Bool, true, false, List, ◌++◌, length, map}
+use Rattle.std.specs.Prelude.{◌≡◌, ◌≤◌, ◌<◌, ℕ, ℤ, ◌+◌, Bool, true, false, List, ◌++◌, length, map}
+use Rattle.pli_code.specs.declared.ending.RunError.TheVariants.{StorageLimit}
+use Rattle.pli_map.specs.Description.{Description}
+use Rattle.pli_map.specs.Sizes.{size_of}
+use Rattle.pli_map.specs.Variables.{byte_limit}
 use Rattle.pli_map.specs.views.DescriptionView.{description_view}
-use Rattle.pli_world.specs.World.{World, Yields, held, stored}
+use Rattle.pli_world.specs.World.{World, Yields, Raises, held, stored, made_of}
 use Rattle.pli_world.specs.Storage as plain
+use Rattle.pli_world.specs.Storage.{live_bytes, generation_limit}
 use Rattle.pli_store.specs.views.GenerationView.{generation_view}
-use Rattle.pli_value.specs.Value.{Number, Characters}
+use Rattle.pli_value.specs.Value.{Value, Number, Characters}
 use Rattle.pli_store.specs.declared.place.Place.{Place}
 use Rattle.pli_store.specs.declared.storage.Storage.{Storage}
 
@@ -53,3 +58,11 @@ pub record IsAppended (old new : Storage) (p : plain.Place) (more : List ℕ) (r
 abbrev pub Appended : Bool → (old new : Storage) → plain.Place → (more : List ℕ) → (room : ℕ) → Type 0
 Appended true old new p more room = IsAppended old new p more room
 Appended false old new p more room = SameStorage old new
+
+-- there is room for a new generation of a description, or a limit is passed, whatever it is to begin with
+abbrev pub RoomFor : Bool → Storage → Description → Type 0
+RoomFor true s d =
+    (made_count s < generation_limit) × (live_bytes (storage_view s) + size_of d ≤ byte_limit)
+RoomFor false s d =
+    (w : World) (how : plain.Made) (vs : List Value) →
+    made_of d how vs (with_storage s w) ≡ Raises StorageLimit (with_storage s w)

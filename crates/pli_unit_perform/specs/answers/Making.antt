@@ -8,7 +8,7 @@ use Rattle.pli_base.specs.Words.{same_name}
 use Rattle.pli_code.specs.declared.ending.RunError.{RunError}
 use Rattle.pli_program.specs.Program.{GlobalCode, global_variable}
 use Rattle.pli_machine_step.specs.Runs.{all_statics_made}
-use Rattle.pli_world.specs.World.{World, Answer, Yields, Raises, Static}
+use Rattle.pli_world.specs.World.{World, Answer, Yields, Raises, Wrong, Static}
 use Rattle.pli_map.specs.Variables.{Variable}
 use Rattle.pli_world.specs.World.{made_once, made_before, external_in, statics_made}
 use Rattle.pli_store.specs.declared.fault.StoreFault.{StoreFault}
@@ -24,10 +24,10 @@ use Rattle.pli_unit_perform.specs.declared.shared.Shared.{Shared}
 use Rattle.pli_unit_perform.specs.views.TableView.{standing_view, statics_from, all_statics, entry_in}
 use Rattle.pli_unit_perform.specs.views.TableView.{entry_of, AreLinked}
 
--- an operation ends in this world; where memory is wanting there is no answer
+-- an operation ends by an error in this world, or it is wrong; where memory is wanting there is no answer
 abbrev pub EndsAs : {A : Type 0} → StoreFault → (whole : Answer A) → World → Type 0
 EndsAs (Raised e) whole w = whole ≡ Raises e w
-EndsAs NoRule whole w = ⊥
+EndsAs NoRule whole w = whole ≡ Wrong
 EndsAs OutOfMemory whole w = Unit {0}
 
 -- the world before the main procedure is activated, with these variables
@@ -52,7 +52,7 @@ pub record EndsFirst (whole : Answer Unit) (e : RunError) : Type 0 where
 -- such an end by a fault of the storage; where memory is wanting there is no answer
 abbrev pub EndsEarlier : StoreFault → (whole : Answer Unit) → Type 0
 EndsEarlier (Raised e) whole = EndsFirst whole e
-EndsEarlier NoRule whole = ⊥
+EndsEarlier NoRule whole = whole ≡ Wrong
 EndsEarlier OutOfMemory whole = Unit {0}
 
 -- or it goes on with another one

@@ -5,7 +5,7 @@ use Rattle.std.proofs.Common.{◌≡◌, sym, ap, ◌∙◌, subst, arith, appen
 use Rattle.pli_code.specs.Print.{print}
 use Rattle.pli_code.specs.declared.ending.RunError.TheVariants.{StorageLimit, SubscriptRange}
 use Rattle.pli_map.specs.Same.{same}
-use Rattle.pli_map.specs.Scalars.{is_scalar}
+use Rattle.pli_map.specs.Scalars.{is_scalar, scalars_of}
 use Rattle.pli_map.specs.Sizes.{size_of}
 use Rattle.pli_value.specs.Value.{Value}
 use Rattle.pli_value.specs.declared.number.Raised.TheVariants as raised
@@ -14,7 +14,7 @@ use Rattle.pli_world.specs.Activations.{Activation, activation_at, outward_from,
 use Rattle.pli_world.specs.Storage.{Generation, Automatic, Static as AsStatic, Dummy, Place, whole}
 use Rattle.pli_world.specs.Storage.{generation_in, scalar_at, live_bytes, generation_limit}
 use Rattle.pli_map.specs.Variables.{byte_limit}
-use Rattle.pli_map.specs.Values.{holds}
+use Rattle.pli_map.specs.Values.{holds, are_held}
 use Rattle.pli_world.specs.World.{Standing, Lies, Stacked, World, Answer, Yields, Raises, Wrong, further}
 use Rattle.pli_world.specs.World.{known, height}
 use Rattle.pli_map.specs.Variables.{Variable}
@@ -75,6 +75,12 @@ pub known_follows : {A : Type 0} (o : Option A) (w : World) → AnswerFollows (h
 known_follows (Some x) w = follows_same w
 known_follows None w = tt
 
+-- what is done only where it may be
+guarded : {A : Type 0} (n : ℕ) (w : World) (b : Bool) (a : Answer A) → AnswerFollows n w a
+    → AnswerFollows n w (if b then a else Wrong)
+guarded n w true a f = f
+guarded n w false a f = tt
+
 -- storage
 
 pub making_keeps : MakingKeeps
@@ -84,15 +90,10 @@ making_keeps d how vs w =
     (record { steps = refl; heights = refl; output = prefix_same w.output })
   where
     by : (new : World) (room : Bool) → Follows (height w) w new
-        → AnswerFollows (height w) w (if room then Yields (whole w.made d) new else Raises StorageLimit w)
-    by new true f = f
+        → AnswerFollows (height w) w (if room then (if are_held (scalars_of d) vs
+        then Yields (whole w.made d) new else Wrong) else Raises StorageLimit w)
+    by new true f = guarded (height w) w (are_held (scalars_of d) vs) (Yields (whole w.made d) new) f
     by new false f = follows_same w
-
--- what is done only where it may be
-guarded : {A : Type 0} (n : ℕ) (w : World) (b : Bool) (a : Answer A) → AnswerFollows n w a
-    → AnswerFollows n w (if b then a else Wrong)
-guarded n w true a f = f
-guarded n w false a f = tt
 
 -- an operation in the world that another has left
 behind : {A : Type 0} (n : ℕ) (u v : World) (a : Answer A) → Follows n u v → AnswerFollows (height v) v a

@@ -1,4 +1,4 @@
-use Rattle.std.proofs.Common.{◌∷◌, map, sym, ap, subst, ◌∙◌}
+use Rattle.std.proofs.Common.{◌∷◌, ◌++◌, map, sym, ap, subst, ◌∙◌}
 use Rattle.pli_world.specs.World.{made_all}
 use Rattle.pli_store.specs.views.StorageView.{place_view}
 use Rattle.pli_program.specs.Program.{head_of}
@@ -36,4 +36,4 @@ returns-in_ok-stop_at-in-Err c = λ image entries put.
     c.args.unit b (frame_view m.here ∷ frames_of m.waiting.items) (left_of m)
     c.in-Err.fault c.in_ok-stop_at-in-Err.field-0 (frame_view c.make_variables.new.machine.here) (frames_of c.make_variables.new.machine.waiting.items) v (left_of c.make_variables.new.machine)
     (subst (λ ns. EndsAs c.in-Err.fault (made_all (variables_at code ns) mid) v) c.deref.ensures.value (c.in-Err.ensures.made image put))
-    c.in_ok-stop_at-in-Err.ensures
+    c.in_ok-stop_at-in-Err.ensures (ap (λ o. put ++ o) c.in-Err.ensures.same.output) c.in-Err.ensures.same.column

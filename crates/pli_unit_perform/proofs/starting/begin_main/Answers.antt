@@ -49,6 +49,6 @@ returns c = λ image entries named.
     ap shown (one_step c.args.number u b c.args.storage image.statics c.args.limit (c.args.limit - 1) c.requires (omega arith))
     ∙ ends_main c.in-Err.fault (made_all (variables_at code c.args.block.now.variables.items) mid) image last c.args.unit.now.unit c.args.block.now.statement c.in_ok-ending-in-Err.ending _ (frame_view last.here) []
     (λ s stops. enters_stops (head_of u 0 b) 0 [] (stepped (first_world c.args.storage image.statics)) mid is
-    c.args.number b [] (c.args.limit - 1) c.in-Err.fault s (frame_view last.here) [] v 0 ends stops)
+    c.args.number b [] (c.args.limit - 1) c.in-Err.fault s (frame_view last.here) [] v 0 ends stops same.output same.column)
     ends c.in_ok-ending-in-Err.ensures
     (ap (λ (f : Frame). name_at image.linked f.unit) (same.here ∙ c.in_ok-here.ensures.0) ∙ named) (same.statement ∙ ap (λ (a : pli.Activation). a.statement) (c.in_ok-here.ensures.1 image)) (same.output ∙ c.new-4.ensures.items) same.column

@@ -10,13 +10,13 @@ pub overflow_cast-self : goal.overflow_cast-self
 overflow_cast-self c =
     let size = ended_size c.args.self.now.generations.items c.args.self.now.made c.args.self.now.rising
     c.args.number c.in-Some.at c.in-Some.ensures c.remove-ended.result c.remove-ended.ensures.value in
-    omega (arith, size, c.args.self.now.counted, c.args.self.now.limited, c.far_size.ensures)
+    omega (arith, size, c.args.self.now.counted, c.args.self.now.limited, c.len.ensures)
 
 pub overflow_sub-self : goal.overflow_sub-self
 overflow_sub-self c =
     let size = ended_size c.args.self.now.generations.items c.args.self.now.made c.args.self.now.rising
     c.args.number c.in-Some.at c.in-Some.ensures c.remove-ended.result c.remove-ended.ensures.value in
-    omega (arith, size, c.args.self.now.counted, c.far_size.ensures)
+    omega (arith, size, c.args.self.now.counted, c.len.ensures)
 
 pub invariant_of-self : goal.invariant_of-self
 invariant_of-self c =
@@ -34,7 +34,7 @@ invariant_of-self c =
             size,
             c.args.self.now.counted,
             c.args.self.now.limited,
-            c.far_size.ensures,
+            c.len.ensures,
           );
       limited = omega (arith, c.args.self.now.limited);
       rising =

@@ -1,16 +1,19 @@
-use Rattle.std.proofs.Common.{◌≡◌, ℕ, length, min, Some, option_map, slice_get, refl, sym, ap, subst, ◌∙◌}
+use Rattle.std.proofs.Common.{◌≡◌, true, length, Some, slice_get, refl, sym, ap, subst, ◌∙◌}
+use Rattle.std.specs.Option.{is_some}
 use Rattle.std.proofs.lemmas.Bool.{ltb-true}
 use Rattle.std.proofs.lemmas.Option.{slice_get_read}
+use Rattle.pli_map.specs.Description.{FixedBinary}
 use Rattle.pli_map.specs.Scalars.{first_scalar}
 use Rattle.pli_map.specs.views.DescriptionView.{description_view}
-use Rattle.pli_store.specs.answers.Found.{StandsAt}
+use Rattle.pli_map.proofs.ScalarLawsHold.{whole_found}
+use Rattle.pli_store.specs.answers.Found.{StandsAt, LeadsTo}
 use Rattle.pli_store.specs.views.StorageView.{place_view, storage_view}
 use Rattle.pli_store.proofs.PlaceLemmas.{leads_to}
 use Rattle.pli_store.proofs.Searches.{stands_at}
 use Rattle.pli_store.proofs.storage.Storage.lone.Goals as goal
 
-pub returns-clause-leads : goal.returns-clause-leads
-returns-clause-leads c =
+pub returns : goal.returns
+returns c =
     let items = c.args.self.now.generations.items in
     let place = c.args.place in
     let g = c.in_ok-generation.generation.now in
@@ -18,7 +21,9 @@ returns-clause-leads c =
     ap (λ xs. slice_get xs place.hint) (sym c.deref.ensures.value)
     ∙ slice_get_read c.deref.result.now (length c.deref.result.now) place.hint g refl (ltb-true place.hint (length c.deref.result.now) (sym c.in_ok-generation.ensures.lookup.0)) c.in_ok-generation.ensures.lookup.1 in
     let stands = subst (λ n. StandsAt (storage_view c.args.self.now) n place.hint) c.if-generation-place.false (stands_at items c.args.self.now.made c.args.self.now.rising place.hint g here) in
-    let first : Some 0 ≡ option_map (λ k. min k 18446744073709551615) (first_scalar (description_view g.description.now) 0 (description_view place.description.now)) =
-    ap (option_map (λ k. min k 18446744073709551615)) (sym (c.if-not-are_same_scalars.ensures.stands refl)) in
-    leads_to items (place_view place) place.hint stands refl g here 0
-    (subst (λ (o : ℕ). Some 0 ≡ option_map (λ k. min k 18446744073709551615) (first_scalar (description_view g.description.now) o (description_view place.description.now))) (sym c.if-place-ne0.false) first)
+    let whole : description_view g.description.now ≡ FixedBinary c.args.precision = c.if-not-is_number_of.ensures refl in
+    let found : is_some (first_scalar (description_view g.description.now) 0 (description_view place.description.now)) ≡ true =
+    rw (whole, c.requires) (ap is_some (whole_found (FixedBinary c.args.precision))) in
+    let first : place.offset ≡ 0 = c.if-place-ne0.false in
+    subst (λ o. LeadsTo (storage_view c.args.self.now) (place_view place) (record { at = place.hint; offset = o })) first
+    (leads_to items (place_view place) place.hint stands refl g here (rw first found))

@@ -1,4 +1,4 @@
-use Rattle.std.proofs.Common.{◌≡◌, ◌≤◌, length, Some, slice_get, refl, arith}
+use Rattle.std.proofs.Common.{◌≡◌, ◌≤◌, length, Some, slice_get, refl, sym, arith}
 use Rattle.std.proofs.lemmas.Option.{slice_get_read}
 use Rattle.pli_store.specs.views.StorageView.{place_view}
 use Rattle.pli_store.proofs.PlaceLemmas.{within_store, leads_too_far, leads_to, leads_nowhere}
@@ -17,16 +17,17 @@ index-requires c =
     let inside = within_store c.args.self.now.generations.items c.args.place.generation c.in-Some.at c.in-Some.ensures in
     omega (arith, inside)
 
-pub returns-in-Some-scalar_of : goal.returns-in-Some-scalar_of
-returns-in-Some-scalar_of c =
+pub returns-then-not-is_part : goal.returns-then-not-is_part
+returns-then-not-is_part c =
     let items = c.args.self.now.generations.items in
     let inside = within_store items c.args.place.generation c.in-Some.at c.in-Some.ensures in
     let here : slice_get items c.in-Some.at ≡ Some c.index.result.now = slice_get_read items (length items) c.in-Some.at c.index.result.now refl inside c.index.ensures in
-    leads_to items (place_view c.args.place) c.in-Some.at c.in-Some.ensures refl c.index.result.now here c.in-Some-scalar_of.first (rw (← c.in-Ok.ensures.1) c.in-Some-scalar_of.ensures)
+    leads_nowhere items (place_view c.args.place) c.in-Some.at c.in-Some.ensures refl c.index.result.now here (rw (← c.in-Ok.ensures.1) (sym c.if-not-is_part.ensures))
 
-pub returns-in-None : goal.returns-in-None
-returns-in-None c =
+pub returns : goal.returns
+returns c =
     let items = c.args.self.now.generations.items in
     let inside = within_store items c.args.place.generation c.in-Some.at c.in-Some.ensures in
     let here : slice_get items c.in-Some.at ≡ Some c.index.result.now = slice_get_read items (length items) c.in-Some.at c.index.result.now refl inside c.index.ensures in
-    leads_nowhere items (place_view c.args.place) c.in-Some.at c.in-Some.ensures refl c.index.result.now here (rw (← c.in-Ok.ensures.1) c.in-None.ensures)
+    rw c.in-Ok.ensures.1
+    (leads_to items (place_view c.args.place) c.in-Some.at c.in-Some.ensures refl c.index.result.now here (rw (← c.in-Ok.ensures.1) (sym c.if-not-is_part.ensures)))

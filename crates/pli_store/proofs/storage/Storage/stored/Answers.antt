@@ -1,10 +1,10 @@
-use Rattle.std.proofs.Common.{[], ◌∷◌, map, refl, sym, ◌∙◌}
+use Rattle.std.proofs.Common.{[], ◌∷◌, map, sym, ◌∙◌}
 use Rattle.std.proofs.lemmas.Result.{err_from_is_err_and}
+use Rattle.pli_map.specs.views.DescriptionView.{description_view}
 use Rattle.pli_value.specs.Value.{value_view}
 use Rattle.pli_store.specs.views.GenerationView.{generation_view}
 use Rattle.pli_store.specs.views.StorageView.{place_view, storage_view, with_storage}
-use Rattle.pli_store.proofs.PartAnswers.{stored_failed, stored_misfit, stored_done, kept_after}
-use Rattle.pli_store.proofs.Searches.{slice_get_within_view}
+use Rattle.pli_store.proofs.PartAnswers.{stored_failed, stored_misfit, stored_done, kept_put}
 use Rattle.pli_store.proofs.storage.Storage.stored.Goals as goal
 
 pub returns-in_err-part-clause-answer : goal.returns-in_err-part-clause-answer
@@ -16,16 +16,13 @@ pub returns-then-not-holds-clause-answer : goal.returns-then-not-holds-clause-an
 returns-then-not-holds-clause-answer c = λ w.
     stored_misfit (place_view c.args.place) (with_storage c.args.self.now w) c.in_ok-part.part c.in_ok-part.ensures (value_view c.args.value) (sym c.if-not-holds.ensures)
 
-pub put_one-requires : goal.put_one-requires
-put_one-requires c = slice_get_within_view c.args.self.now.generations.items c.in_ok-part.part.at c.in_ok-part.ensures.generation c.in_ok-part.ensures.stands
-
 pub invariant_of-self : goal.invariant_of-self
 invariant_of-self c =
-    let kept = kept_after c.put_one.result (storage_view c.args.self.now)
-    (map generation_view c.put_one.new.generations.items) c.in_ok-part.part (value_view c.args.value ∷ [])
-    c.args.self.now.made c.args.self.now.rising c.put_one.ensures.ok c.put_one.ensures.err in
+    let kept = kept_put (storage_view c.args.self.now) (map generation_view c.put_value.new.generations.items) c.in_ok-part.part
+    c.args.self.now.made c.args.self.now.rising (description_view c.args.place.description.now) (value_view c.args.value ∷ []) c.put_value.ensures in
     record { counted = c.args.self.now.counted ∙ sym kept.counted; limited = c.args.self.now.limited; rising = kept.rising }
 
 pub returns-clause-answer : goal.returns-clause-answer
 returns-clause-answer c = λ w.
-    stored_done c.args.self.now.generations.items (place_view c.args.place) (with_storage c.args.self.now w) refl c.in_ok-part.part c.in_ok-part.ensures (map generation_view c.put_one.new.generations.items) c.args.self.now.made c.args.self.now.rising (value_view c.args.value) (sym c.if-not-holds.ensures) c.in_ok-put_one.ensures.ok
+    stored_done (place_view c.args.place) (with_storage c.args.self.now w) c.in_ok-part.part c.in_ok-part.ensures
+    (map generation_view c.put_value.new.generations.items) c.args.self.now.made c.args.self.now.rising (value_view c.args.value) (sym c.if-not-holds.ensures) c.put_value.ensures
