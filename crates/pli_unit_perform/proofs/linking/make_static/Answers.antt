@@ -1,4 +1,4 @@
-use Rattle.std.proofs.Common.{None, Some, Ok, Err, map, sym, ap, subst, ◌∙◌}
+use Rattle.std.proofs.Common.{None, Some, Ok, Err, map, sym, ap, subst}
 use Rattle.std.specs.Prelude.{option_map}
 use Rattle.pli_map.specs.views.DescriptionView.{description_view}
 use Rattle.pli_type_tree.specs.Templates.{variable_of}
