@@ -3,7 +3,7 @@ use Rattle.std.proofs.Common.{◌≡◌, ℕ, zero, suc, ◌+◌, ◌<◌, Some,
 use Rattle.std.proofs.Common.{refl, ap, sym, ◌∙◌, arith}
 use Rattle.std.specs.Option.{unwrap_or}
 use Rattle.std.proofs.lemmas.Option.{none-some, same_Some}
-use Rattle.std.proofs.lemmas.List.{append_assoc, at_drop_more, map-append}
+use Rattle.std.proofs.lemmas.List.{append_assoc, at_drop_more, length-append, map-append}
 use Rattle.pli_resolve.specs.Symbols.{Symbol}
 use Rattle.pli_resolve.specs.declared.symbol.Symbol as program
 use Rattle.pli_resolve.specs.views.SymbolView.{symbol_view}
@@ -50,10 +50,11 @@ pub made_more : {A B : Type 0} (view : B → A) (all : List A) (n : ℕ) (made :
 made_more view all n made x e found =
     map-append view made (x ∷ []) ∙ ap (λ xs. xs ++ view x ∷ []) e ∙ sym (take_one_more all n (view x) found)
 
--- one symbol more of the program
-pub symbols_more : (all : List Symbol) (n : ℕ) (made : List program.Symbol) (s : program.Symbol) → map symbol_view made ≡ take n all
-    → Some (symbol_view s) ≡ slice_get all n → map symbol_view (made ++ s ∷ []) ≡ take (n + 1) all
-symbols_more all n made s e found = made_more symbol_view all n made s e (sym found)
+-- the same where those that are made are counted
+pub one_made : {A B : Type 0} (view : B → A) (all : List A) (n : ℕ) (made : List B) (x : B) → n ≡ length made → map view made ≡ take (length made) all
+    → slice_get all n ≡ Some (view x) → map view (made ++ x ∷ []) ≡ take (length (made ++ x ∷ [])) all
+one_made view all n made x is e found =
+    made_more view all (length made) made x e (ap (slice_get all) (sym is) ∙ found) ∙ ap (λ k. take k all) (sym (length-append made (x ∷ [])))
 
 -- what one symbol more gives stands behind what those before it give
 pub numbered_more : {A B : Type 0} (view : B → A) (f : ℕ → Symbol → A) (ss : List program.Symbol) (n : ℕ) (d : program.Symbol) (made : List B)

@@ -1,6 +1,7 @@
 //! What is found once for each block of a unit, for the procedures among them.
 ghost use Rattle.std.specs.Prelude.{◌≡◌, IfOk, length, map, option_map, slice_get};
 ghost use Rattle.pli_base.specs.views.StatementView.{unit_view};
+ghost use Rattle.pli_map.specs.Description as described;
 ghost use Rattle.pli_map.specs.views.DescriptionView.{description_view};
 ghost use Rattle.pli_resolve.specs.ResolvedUnits.{resolved_unit_of};
 ghost use Rattle.pli_resolve.specs.views.UnitView.{resolved_block_view};
@@ -41,13 +42,15 @@ pub(crate) fn gives_stored(returned: Option<&Description>) -> bool
 fn block_entry<'r>(
     alloc: Global,
     resolved: &'r ResolvedUnit<'r>,
+    undescribed: &'r Description,
     number: usize,
     block: ResolvedBlock<'r>,
 ) -> Result<BlockEntry<'r>, AllocError>
+    requires { description_view undescribed.now ≡ described.Pointer }
     ensures { IfOk result (λ entry. entry_view entry
         ≡ entry_at (resolved_unit_of (unit_view resolved.now)) number (resolved_block_view block.entry)) }
 {
-    let parameters = parameters_of(alloc, resolved, number)?;
+    let parameters = parameters_of(alloc, resolved, undescribed, number)?;
     let returned = returned_of(resolved, number);
     let is_procedure = matches!(block.kind, ResolvedBlockKind::Procedure);
     Ok(BlockEntry {
@@ -62,17 +65,17 @@ fn block_entry<'r>(
 pub(crate) fn block_entries<'r>(
     alloc: Global,
     resolved: &'r ResolvedUnit<'r>,
+    undescribed: &'r Description,
 ) -> Result<Vec<BlockEntry<'r>>, AllocError>
+    requires { description_view undescribed.now ≡ described.Pointer }
     ensures { IfOk result (λ made. AreEntries made.items resolved.now) }
 {
     let mut made = Vec::new(alloc);
-    for number in 0..usize::MAX {
-        let Some(block) = resolved.block(number) else {
-            return Ok(made);
-        };
-        made.push(block_entry(alloc, resolved, number, block)?)?;
+    while let Some(block) = resolved.block(made.len()) {
+        let entry = block_entry(alloc, resolved, undescribed, made.len(), block)?;
+        made.push(entry)?;
     }
-    Err(AllocError)
+    Ok(made)
 }
 
 /// What the parameters of the block of this number are; none where there is no such block.

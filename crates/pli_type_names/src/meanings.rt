@@ -1,12 +1,14 @@
 //! What the symbols of blocks mean, wherever their names are used.
-ghost use Rattle.std.specs.Prelude.{◌≡◌, ◌+◌, IfOk, None, length, map, option_map, get_or};
+ghost use Rattle.std.specs.Prelude.{◌≡◌, ◌+◌, ◌++◌, ◌∷◌, [], IfOk, OnOk, None, length, map, option_map, get_or};
 ghost use Rattle.std.specs.List.{All};
+ghost use Rattle.pli_base.specs.views.StatementView.{unit_view};
 ghost use Rattle.pli_map.specs.views.DescriptionView.{description_view};
+ghost use Rattle.pli_resolve.specs.ResolvedUnits.{resolved_unit_of};
 ghost use Rattle.pli_resolve.specs.views.SymbolView.{symbol_view, symbol_kind_view};
-ghost use Rattle.pli_type.specs.NamedUnits.{globals_before};
+ghost use Rattle.pli_type.specs.NamedUnits.{block_symbols, globals_before, parameter_numbers};
 ghost use Rattle.pli_type_names.specs.OnWays.{IsLevel};
 ghost use Rattle.pli_type_names.specs.Seen.{entry_kept, kept_symbols, kind_kept, on_way};
-ghost use Rattle.pli_type_names.specs.views.MeaningView.{AreMeanings, meant_view};
+ghost use Rattle.pli_type_names.specs.views.MeaningView.{AreMeanings, meant_view, row_view};
 ghost use Rattle.pli_type_names.specs.views.VariableView.{own_view};
 
 use crate::entries::gives_stored;
@@ -152,6 +154,32 @@ fn symbol_meanings<'a>(
     Ok(meanings)
 }
 
+/// Puts what the symbols of the block of this number mean, where the blocks before have so many globals.
+fn put_meanings<'r>(
+    alloc: Global,
+    resolved: &'r ResolvedUnit<'r>,
+    places: &[u32],
+    block: usize,
+    globals: &mut u32,
+    made: &mut Vec<Vec<SymbolMeaning<'r>>>,
+) -> Result<(), AllocError>
+    ensures meanings { OnOk result (map row_view made.new.items ≡ map row_view made.old.items
+        ++ kept_symbols (record {
+          parameters = parameter_numbers (resolved_unit_of (unit_view resolved.now)) block;
+          places = places.now;
+          globals = globals.old;
+          symbols = block_symbols (resolved_unit_of (unit_view resolved.now)) block;
+        }) ∷ []) }
+    ensures counted { OnOk result (globals.new ≡ globals.old
+        + globals_before 31 (block_symbols (resolved_unit_of (unit_view resolved.now)) block) (length (block_symbols (resolved_unit_of (unit_view resolved.now)) block))) }
+{
+    let symbols = symbols(alloc, resolved, block)?;
+    let parameters = parameter_numbers(resolved, block);
+    let row = symbol_meanings(alloc, &symbols, parameters, places, globals)?;
+    made.push(row)?;
+    Ok(())
+}
+
 /// What the symbols of each block of a unit mean, and of the outermost one, under the block's number.
 pub(crate) fn unit_meanings<'r>(
     alloc: Global,
@@ -159,17 +187,13 @@ pub(crate) fn unit_meanings<'r>(
 ) -> Result<Vec<Vec<SymbolMeaning<'r>>>, AllocError>
     ensures { IfOk result (λ made. AreMeanings made.items resolved.now) }
 {
-    let Some(blocks) = resolved.block_count().checked_add(1) else {
-        return Err(AllocError);
-    };
+    let outermost = resolved.block_count();
     let places = global_places(alloc, resolved)?;
     let mut made = Vec::new(alloc);
     let mut globals = 0;
-    for block in 0..blocks {
-        let symbols = symbols(alloc, resolved, block)?;
-        let parameters = parameter_numbers(resolved, block);
-        let row = symbol_meanings(alloc, &symbols, parameters, &places, &mut globals)?;
-        made.push(row)?;
+    for block in 0..outermost {
+        put_meanings(alloc, resolved, &places, block, &mut globals, &mut made)?;
     }
+    put_meanings(alloc, resolved, &places, outermost, &mut globals, &mut made)?;
     Ok(made)
 }

@@ -2,6 +2,8 @@
 ghost use Rattle.std.specs.Prelude.{◌≡◌, [], IfOk, OnErr, OnOk};
 ghost use Rattle.pli_type.specs.NamedUnits.{declared_as};
 ghost use Rattle.pli_base.specs.views.StatementView.{unit_view};
+ghost use Rattle.pli_map.specs.Description as described;
+ghost use Rattle.pli_map.specs.views.DescriptionView.{description_view};
 ghost use Rattle.pli_resolve.specs.ResolvedUnits.{resolved_unit_of};
 ghost use Rattle.pli_type_names.specs.SymbolMeaning.{IsMeantAs, IsProcedure};
 ghost use Rattle.pli_type_names.specs.Seen.{seen};
@@ -90,15 +92,18 @@ impl<'a> Model for Naming<'a> {
         × (length n.no_parameters.items ≡ 0) × (length n.around.items ≤ 4294967295) };
 }
 
-/// What the names of a resolved unit mean, outside of all its blocks. Takes time for the unit's symbols.
+/// What the names of a resolved unit mean, outside of all its blocks. What is undescribed, a pointer, stands for a parameter
+/// that is no variable, of which a unit without faults has none. Takes time for the unit's symbols.
 pub fn name_unit<'a>(
     alloc: Global,
     resolved: &'a ResolvedUnit<'a>,
+    undescribed: &'a Description,
 ) -> Result<Naming<'a>, AllocError>
+    requires { description_view undescribed.now ≡ described.Pointer }
     ensures { IfOk result (λ naming. naming ≡ record { unit = resolved.now; blocks = [] }) }
 {
     let meanings = unit_meanings(alloc, resolved)?;
-    let entries = block_entries(alloc, resolved)?;
+    let entries = block_entries(alloc, resolved, undescribed)?;
     Ok(Naming {
         resolved,
         meanings,

@@ -6,7 +6,7 @@ ghost use Rattle.pli_map.specs.views.DescriptionView.{description_view};
 ghost use Rattle.pli_resolve.specs.ResolvedUnits.{all_symbols, resolved_unit_of};
 ghost use Rattle.pli_resolve.specs.views.SymbolView.{symbol_view, symbol_kind_view};
 ghost use Rattle.pli_type.specs.NamedUnits as units;
-ghost use Rattle.pli_type.specs.NamedUnits.{all_tokens, global_tokens, one_global};
+ghost use Rattle.pli_type.specs.NamedUnits.{all_tokens, block_symbols, global_tokens, one_global};
 ghost use Rattle.pli_type.specs.TextOrder.{numbers_from, place_from, text_order, text_places};
 
 use crate::descriptions::is_stored;
@@ -52,18 +52,30 @@ fn put_tokens(symbols: &[Symbol<'_>], tokens: &mut Vec<u32>) -> Result<(), Alloc
     Ok(())
 }
 
+/// Puts the tokens of the names of globals in the block of this number.
+#[tactic(auto, unfolding(crate::specs::UnitNaming::symbols_in))]
+fn put_block_tokens<'r>(
+    alloc: Global,
+    resolved: &'r ResolvedUnit<'r>,
+    block: usize,
+    tokens: &mut Vec<u32>,
+) -> Result<(), AllocError>
+    ensures { OnOk result (tokens.new.items ≡ tokens.old.items ++ global_tokens 31 (block_symbols (resolved_unit_of (unit_view resolved.now)) block)) }
+{
+    let symbols = symbols(alloc, resolved, block)?;
+    put_tokens(&symbols, tokens)
+}
+
 /// The tokens of the names of a unit's globals, block after block.
 fn unit_tokens<'r>(alloc: Global, resolved: &'r ResolvedUnit<'r>) -> Result<Vec<u32>, AllocError>
     ensures { IfOk result (λ tokens. tokens.items ≡ all_tokens 31 (all_symbols (resolved_unit_of (unit_view resolved.now)))) }
 {
-    let Some(blocks) = resolved.block_count().checked_add(1) else {
-        return Err(AllocError);
-    };
+    let outermost = resolved.block_count();
     let mut tokens = Vec::new(alloc);
-    for block in 0..blocks {
-        let symbols = symbols(alloc, resolved, block)?;
-        put_tokens(&symbols, &mut tokens)?;
+    for block in 0..outermost {
+        put_block_tokens(alloc, resolved, block, &mut tokens)?;
     }
+    put_block_tokens(alloc, resolved, outermost, &mut tokens)?;
     Ok(tokens)
 }
 

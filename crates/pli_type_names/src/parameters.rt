@@ -1,6 +1,8 @@
 //! The parameters of blocks, and what they give.
-ghost use Rattle.std.specs.Prelude.{◌≡◌, IfOk, IfSome, map, option_map};
+ghost use Rattle.std.specs.Prelude.{◌≡◌, IfOk, map, option_map};
+ghost use Rattle.std.specs.Option.{unwrap_or};
 ghost use Rattle.pli_base.specs.views.StatementView.{unit_view};
+ghost use Rattle.pli_map.specs.Description as described;
 ghost use Rattle.pli_map.specs.views.DescriptionView.{description_view};
 ghost use Rattle.pli_resolve.specs.ResolvedUnits.{resolved_unit_of, symbol_at};
 ghost use Rattle.pli_resolve.specs.views.SymbolView.{symbol_kind_view};
@@ -32,9 +34,10 @@ pub(crate) fn parameter_numbers<'r>(resolved: &'r ResolvedUnit<'r>, number: usiz
     block.parameters
 }
 
-/// What a variable of its own is.
+/// What a variable of its own is; none of anything else.
 fn variable_description<'r>(kind: SymbolKind<'r>) -> Option<&'r Description>
-    ensures { IfSome result (λ d. description_view d.now ≡ spec.description_of (symbol_kind_view kind.entry)) }
+    ensures { unwrap_or (option_map (λ d. description_view d.now) result) described.Pointer
+        ≡ spec.description_of (symbol_kind_view kind.entry) }
 {
     let SymbolKind::Variable { description, .. } = kind else {
         return None;
@@ -44,8 +47,8 @@ fn variable_description<'r>(kind: SymbolKind<'r>) -> Option<&'r Description>
 
 /// What the parameter is that is the symbol under a key; none where the symbol is no variable.
 fn parameter_at<'r>(resolved: &'r ResolvedUnit<'r>, key: SymbolKey) -> Option<&'r Description>
-    ensures { IfSome result (λ d. description_view d.now
-        ≡ description_in (symbol_at (resolved_unit_of (unit_view resolved.now)) key)) }
+    ensures { unwrap_or (option_map (λ d. description_view d.now) result) described.Pointer
+        ≡ description_in (symbol_at (resolved_unit_of (unit_view resolved.now)) key) }
 {
     let Some(symbol) = resolved.symbol(key) else {
         return None;
@@ -53,12 +56,15 @@ fn parameter_at<'r>(resolved: &'r ResolvedUnit<'r>, key: SymbolKey) -> Option<&'
     variable_description(symbol.kind)
 }
 
-/// What the parameters of a block are. Want of memory where one is no variable; each of a unit without faults is one.
+/// What the parameters of a block are; what is undescribed stands for one that is no variable, of which a unit without
+/// faults has none.
 pub(crate) fn parameters_of<'r>(
     alloc: Global,
     resolved: &'r ResolvedUnit<'r>,
+    undescribed: &'r Description,
     block: usize,
 ) -> Result<Vec<&'r Description>, AllocError>
+    requires { description_view undescribed.now ≡ described.Pointer }
     ensures { IfOk result (λ made. map (λ d. description_view d.now) made.items
         ≡ parameters_of (resolved_unit_of (unit_view resolved.now)) block) }
 {
@@ -69,10 +75,7 @@ pub(crate) fn parameters_of<'r>(
             block,
             number: *number,
         };
-        let Some(description) = parameter_at(resolved, key) else {
-            return Err(AllocError);
-        };
-        made.push(description)?;
+        made.push(parameter_at(resolved, key).unwrap_or(undescribed))?;
     }
     Ok(made)
 }

@@ -1,14 +1,21 @@
 //! The symbols of a block.
-ghost use Rattle.std.specs.Prelude.{◌≡◌, IfOk, map};
+ghost use Rattle.std.specs.Prelude.{◌≡◌, IfOk, map, option_map, slice_get};
 ghost use Rattle.pli_resolve.specs.views.SymbolView.{symbol_view};
 ghost use Rattle.pli_type_names.specs.UnitNaming.{symbols_in};
 
 use pli_resolve::{ResolvedUnit, Symbol, SymbolKey};
 use std::alloc::{AllocError, Global};
 
+/// The symbol of this number in the block of this number.
+#[tactic(auto, unfolding(crate::specs::UnitNaming::symbols_in))]
+fn symbol_at<'r>(unit: &'r ResolvedUnit<'r>, block: usize, number: usize) -> Option<Symbol<'r>>
+    ensures { option_map symbol_view result ≡ slice_get (symbols_in unit.now block) number }
+{
+    unit.symbol(SymbolKey { block, number })
+}
+
 /// The symbols of the block of this number, in the order of the text. The number behind that of the last block is the
 /// outermost one's; behind it there are none.
-#[tactic(auto, unfolding(crate::specs::UnitNaming::symbols_in))]
 pub fn symbols<'r>(
     alloc: Global,
     unit: &'r ResolvedUnit<'r>,
@@ -17,13 +24,10 @@ pub fn symbols<'r>(
     ensures { IfOk result (λ made. map symbol_view made.items ≡ symbols_in unit.now block) }
 {
     let mut made = Vec::new(alloc);
-    for number in 0..usize::MAX {
-        let Some(symbol) = unit.symbol(SymbolKey { block, number }) else {
-            return Ok(made);
-        };
+    while let Some(symbol) = symbol_at(unit, block, made.len()) {
         if made.push(symbol).is_err() {
             return Err(AllocError);
         }
     }
-    Err(AllocError)
+    Ok(made)
 }

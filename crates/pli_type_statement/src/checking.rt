@@ -208,7 +208,8 @@ fn built<'a>(
 pub fn check(alloc: Global, unit: &ResolvedUnit<'_>) -> Result<TypedUnit, CheckError>
     ensures { Checks result (checked_unit (resolved_unit_of (unit_view unit.now))) }
 {
-    let naming = name_unit(alloc, unit)?;
+    let undescribed = Description::Pointer;
+    let naming = name_unit(alloc, unit, &undescribed)?;
     match first_unbuilt(&naming) {
         Some(at) => not_yet_built(alloc, at),
         None => built(alloc, unit, naming),

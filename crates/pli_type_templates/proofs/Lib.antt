@@ -1,7 +1,11 @@
 pub mod GroupsMade
+pub mod ItemsShared
 pub mod MembersFound
+pub mod NamesNoted
 pub mod NumbersMade
 pub mod PlansMade
+pub mod RunsMade
 pub mod ScalarsPlanned
+pub mod SymbolsOfItems
 pub mod UnitsMade
 pub mod ValuesWritten

@@ -1,42 +1,29 @@
 -- The templates of blocks, one block after another.
-use Rattle.std.proofs.Common.{◌≡◌, ℕ, zero, suc, ◌+◌, ◌<◌, ◌≤◌, Some, List, [], ◌∷◌, take, length, map, option_map, slice_get, get_or}
-use Rattle.std.proofs.Common.{refl, ap, sym, ◌∙◌, arith}
-use Rattle.std.proofs.lemmas.List.{length-map, take_all}
-use Rattle.std.proofs.lemmas.Option.{slice_get-map}
+use Rattle.std.proofs.Common.{◌≡◌, ℕ, ◌<◌, List, [], ◌∷◌, length, map, get_or, refl, ap, subst, sym, ◌∙◌, arith}
+use Rattle.std.specs.List.{All}
+use Rattle.std.proofs.Math.ListN as lists
+use Rattle.std.proofs.lemmas.List.{get_or-map, length-map}
+use Rattle.std.proofs.lemmas.List.Elements.{All-get_or}
 use Rattle.pli_resolve.specs.ResolvedUnits.{ResolvedUnit, all_symbols}
 use Rattle.pli_type.specs.NamedUnits as units
 use Rattle.pli_type.specs.NamedUnits.{block_symbols, is_automatic, templates_of}
-use Rattle.pli_type_names.proofs.BlockLemmas.{all_counted, symbols_there}
 use Rattle.pli_type_templates.specs.declared.placed_globals.PlacedGlobal.{PlacedGlobal}
-use Rattle.pli_type_templates.specs.views.PlacedView.{placed_view, unit_global_view}
+use Rattle.pli_type_templates.specs.views.PlacedView.{global_view, placed_view}
 use Rattle.pli_type_tree.specs.Templates.{Template}
 
--- what the AUTOMATIC variables of all blocks are made from
-abbrev pub rows_of : ResolvedUnit → List (List Template)
-rows_of r = map (templates_of (is_automatic 31)) (all_symbols r)
-
-pub row_there : (r : ResolvedUnit) (n : ℕ) → n < length r.blocks + 1
-    → slice_get (rows_of r) n ≡ Some (templates_of (is_automatic 31) (block_symbols r n))
-row_there r n h =
-    slice_get-map (templates_of (is_automatic 31)) (all_symbols r) n
-    ∙ ap (option_map (templates_of (is_automatic 31))) (symbols_there r n h)
-
-mapped_get : {A B : Type 0} (f : List A → List B) (xs : List (List A)) (i : ℕ) → f [] ≡ []
-    → get_or (map f xs) i [] ≡ f (get_or xs i [])
-mapped_get f [] i e = sym e
-mapped_get f (x ∷ xs) zero e = refl
-mapped_get f (x ∷ xs) (suc i) e = mapped_get f xs i e
-
-pub all_rows : (r : ResolvedUnit) (n : ℕ) (rows : List (List Template)) → length r.blocks + 1 ≤ n → rows ≡ take n (rows_of r)
+-- what the AUTOMATIC variables of each block are made from
+pub automatic_rows : (r : ResolvedUnit) (rows : List (List Template)) → rows ≡ map (templates_of (is_automatic 31)) (all_symbols r)
     → (block : ℕ) → get_or rows block [] ≡ templates_of (is_automatic 31) (block_symbols r block)
-all_rows r n rows h is block =
-    let counted = length-map (all_symbols r) (templates_of (is_automatic 31)) in
-    let long : length (rows_of r) ≤ n = omega (arith, h, counted, all_counted r) in
-    ap (λ xs. get_or xs block []) (is ∙ take_all n (rows_of r) long)
-    ∙ mapped_get (templates_of (is_automatic 31)) (all_symbols r) block refl
+automatic_rows r rows is block =
+    ap (λ xs. get_or xs block []) is ∙ lists.get_or-map (templates_of (is_automatic 31)) (all_symbols r) block []
 
 -- globals without the tokens of their names
 pub globals_alone : (gs : List PlacedGlobal)
-    → map (λ (p : PlacedGlobal). unit_global_view p.global) gs ≡ map (λ (p : units.PlacedGlobal). p.global) (map placed_view gs)
+    → map global_view gs ≡ map (λ (p : units.PlacedGlobal). p.global) (map placed_view gs)
 globals_alone [] = refl
-globals_alone (g ∷ gs) = ap (λ others. unit_global_view g.global ∷ others) (globals_alone gs)
+globals_alone (g ∷ gs) = ap (λ others. global_view g ∷ others) (globals_alone gs)
+
+-- what holds of each of what is given holds of the one of a number
+pub all_mapped : {A B : Type 0} (P : B → Type 0) (f : A → B) (xs : List A) (i : ℕ) (x : A) → i < length xs → x ≡ get_or xs i x → All P (map f xs) → P (f x)
+all_mapped P f xs i x lt is h =
+    subst P (get_or-map f xs i x (f x) lt ∙ ap f (sym is)) (All-get_or P (map f xs) i (f x) (omega (arith, lt, length-map xs f)) h)

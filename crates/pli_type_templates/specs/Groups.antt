@@ -4,12 +4,14 @@ use Rattle.std.specs.Prelude.{None, List, [], ◌∷◌, ◌++◌, get_or, lengt
 use Rattle.std.specs.Prelude.{if◌then◌else◌}
 use Rattle.pli_base.specs.Name.{Name}
 use Rattle.pli_base.specs.declared.declaration.InitialValue.{InitialValue}
+use Rattle.pli_declare_outline.specs.Outlines.{PlacedMark}
 use Rattle.pli_map.specs.Description.{Description}
 use Rattle.pli_resolve.specs.Symbols.{Symbol, SymbolKind, Variable, Member, Entry}
 use Rattle.pli_resolve.specs.declared.symbol.StorageClass.{StorageClass}
 use Rattle.pli_resolve.specs.declared.symbol.StorageClass.TheVariants as classes
 use Rattle.pli_type.specs.InitialScalars.{InitialItem, template_of}
 use Rattle.pli_type.specs.NamedUnits.{global_of, is_automatic, is_static, member_items}
+use Rattle.pli_type_templates.specs.ItemNames.{HasValues}
 use Rattle.pli_type_tree.specs.Templates.{Template}
 use Rattle.pli_type_tree.specs.TypedTree.{Global, EntryPoint}
 
@@ -19,17 +21,33 @@ is_such classes.Automatic class d = is_automatic 31 class d
 is_such classes.Static class d = is_static 31 class d
 is_such other class d = false
 
--- a variable that is made, with the values in its INITIAL
+-- a variable that is made: the token of its name, the values in its INITIAL, and its members
 pub record MadeVariable : Type 0 where
+  pub at : ℕ
   pub description : Description
   pub values : List InitialValue
+  pub members : List InitialItem
 
--- the variable of this class that a symbol is, if it is made
-abbrev pub made_in : (wanted : StorageClass) → SymbolKind → Option MadeVariable
-made_in wanted (Variable description class scope initial area) =
-    if is_such wanted class description then Some (record { description = description; values = initial })
+-- what it is made from
+abbrev pub template_with : MadeVariable → Template
+template_with m = template_of m.description (record { path = []; values = m.values } ∷ m.members)
+
+-- its name is one of an item that has its values
+abbrev pub HasItem : List PlacedMark → MadeVariable → Type 0
+HasItem marks m = HasValues marks m.at m.values
+
+-- the variable of this class that is declared so, if it is made
+abbrev pub made_as : (wanted : StorageClass) → (at : ℕ) → (members : List InitialItem) → SymbolKind
+    → Option MadeVariable
+made_as wanted at members (Variable description class scope initial area) =
+    if is_such wanted class description
+    then Some (record { at = at; description = description; values = initial; members = members })
     else None
-made_in wanted other = None
+made_as wanted at members other = None
+
+-- the variable of this class that a symbol with these members is, if it is made
+abbrev pub made_in : (wanted : StorageClass) → Symbol → (members : List InitialItem) → Option MadeVariable
+made_in wanted s members = made_as wanted s.identifier.at members s.kind
 
 -- a member, and the variable that it is a member of
 pub record Owned : Type 0 where
@@ -47,20 +65,23 @@ abbrev pub with_member : (rows : List (List InitialItem)) → Option Owned → L
 with_member rows None = rows
 with_member rows (Some o) = slice_set rows o.root (get_or rows o.root [] ++ o.item ∷ [])
 
--- what a variable is made from that has these members, if it is made
-abbrev pub templates_with : Option MadeVariable → (members : List InitialItem) → List Template
-templates_with None members = []
-templates_with (Some m) members =
-    template_of m.description (record { path = []; values = m.values } ∷ members) ∷ []
+-- what a variable is made from, if it is made
+abbrev pub templates_with : Option MadeVariable → List Template
+templates_with None = []
+templates_with (Some m) = template_with m ∷ []
 
--- the globals that a symbol with these members is
-abbrev pub global_made : Name → SymbolKind → (members : List InitialItem) → List Global
-global_made name (Variable description class scope initial area) members =
+-- the globals that a symbol is with these members
+abbrev pub global_as : (at : ℕ) → Name → (members : List InitialItem) → SymbolKind → List Global
+global_as at name members (Variable description class scope initial area) =
     map (global_of scope name)
-    (templates_with (made_in classes.Static (Variable description class scope initial area)) members)
-global_made name (Entry parameters returned) members =
+    (templates_with (made_as classes.Static at members (Variable description class scope initial area)))
+global_as at name members (Entry parameters returned) =
     EntryPoint name (record { parameters = parameters; result = returned }) ∷ []
-global_made name kind members = []
+global_as at name members kind = []
+
+-- the same of the symbol
+abbrev pub global_made : Symbol → (members : List InitialItem) → List Global
+global_made s members = global_as s.identifier.at s.identifier.name members s.kind
 
 -- under the number of each symbol its members
 pub record AreMembers (rows : List (List InitialItem)) (symbols : List Symbol) : Type 0 where

@@ -1,150 +1,91 @@
-//! The globals of a unit: what is there for the whole program.
-ghost use Rattle.std.specs.Prelude.{◌≡◌, ◌∷◌, ◌++◌, [], IfOk, OnOk, map, option_map};
-ghost use Rattle.pli_map.specs.views.DescriptionView.{description_view};
-ghost use Rattle.pli_resolve.specs.views.SymbolView.{symbol_view, symbol_kind_view};
+//! The globals among the symbols of a block.
+ghost use Rattle.std.specs.Prelude.{◌≡◌, ◌++◌, List, IfSome, OnOk, map};
+ghost use Rattle.std.specs.List.{All};
+ghost use Rattle.pli_declare_outline.specs.Outlines.{PlacedMark};
+ghost use Rattle.pli_resolve.specs.views.SymbolView.{symbol_view};
 ghost use Rattle.pli_type.specs.NamedUnits.{global_of, globals_of, placed};
-ghost use Rattle.pli_type_templates.specs.Groups.{AreMembers, global_made, made_in, templates_with};
-ghost use Rattle.pli_type_templates.specs.views.ItemView.{items_view, rows_view};
-ghost use Rattle.pli_type_templates.specs.views.PlacedView.{placed_view, unit_global_view};
-ghost use Rattle.pli_type_tree.specs.TypedTree as tree;
-ghost use Rattle.pli_type_tree.specs.views.GlobalView.{signature_view};
-ghost use Rattle.pli_type_tree.specs.views.TemplateView.{template_view};
+ghost use Rattle.pli_type_templates.specs.Groups.{AreMembers, global_made};
+ghost use Rattle.pli_type_templates.specs.ItemNames.{AreOfItems};
+ghost use Rattle.pli_type_templates.specs.views.ItemView.{HasMadeItem, items_view, made_template, rows_view};
+ghost use Rattle.pli_type_templates.specs.views.PlacedView.{HasGlobal, HasGlobalItem, global_found, placed_view, unit_global_view};
 
-use crate::groups::{made_in, variable_template};
+use crate::groups::{MadeVariable, made_in};
 use crate::items::ValuedItem;
 use crate::placed_globals::{PlacedGlobal, UnitGlobal};
 use pli_base::Name;
-use pli_base::syntax::Identifier;
 use pli_declare_attributes::ScopeAttribute;
-use pli_map::Description;
 use pli_resolve::{StorageClass, Symbol, SymbolKind};
-use pli_type_tree::{Signature, Template};
-use std::alloc::{AllocError, Global};
+use std::alloc::AllocError;
 
 /// A variable of this name, by its scope.
-fn variable_global(scope: ScopeAttribute, name: Name, template: Template) -> UnitGlobal
-    ensures { unit_global_view result ≡ global_of scope name (template_view template) }
+fn variable_global<'a>(scope: ScopeAttribute, name: Name, made: MadeVariable<'a>) -> UnitGlobal<'a>
+    ensures view { unit_global_view result ≡ global_of scope name (made_template made.entry) }
+    ensures item { (marks : List PlacedMark) → HasMadeItem marks made.entry → HasGlobal marks made.entry.at result }
 {
     match scope {
-        ScopeAttribute::Internal => UnitGlobal::OwnVariable(template),
-        ScopeAttribute::External => UnitGlobal::ExternalVariable { name, template },
+        ScopeAttribute::Internal => UnitGlobal::OwnVariable(made),
+        ScopeAttribute::External => UnitGlobal::ExternalVariable { name, made },
     }
 }
 
-/// Copies of descriptions.
-fn copies(alloc: Global, descriptions: &[Description]) -> Result<Vec<Description>, AllocError>
-    ensures { IfOk result (λ made. map description_view made.items ≡ map description_view descriptions.now) }
-{
-    let mut made = Vec::new(alloc);
-    for description in descriptions {
-        made.push(description.copy(alloc)?)?;
-    }
-    Ok(made)
-}
-
-/// What an entry says that an external procedure takes and gives.
-fn entry_signature(
-    alloc: Global,
-    parameters: &[Description],
-    returned: Option<&Description>,
-) -> Result<Signature, AllocError>
-    ensures { IfOk result (λ made. signature_view made ≡ record {
-      parameters = map description_view parameters.now;
-      result = option_map (λ d. description_view d.now) returned.entry;
-    }) }
-{
-    let parameters = copies(alloc, parameters)?;
-    let result = match returned {
-        Some(description) => Some(description.copy(alloc)?),
-        None => None,
-    };
-    Ok(Signature { parameters, result })
-}
-
-/// Puts the variable that a symbol is, if it is STATIC and compiled.
-fn put_variable(
-    alloc: Global,
-    scope: ScopeAttribute,
-    symbol: &Symbol<'_>,
-    members: &[ValuedItem<'_>],
-    globals: &mut Vec<PlacedGlobal>,
-) -> Result<(), AllocError>
-    ensures { OnOk result (map placed_view globals.new.items ≡ map placed_view globals.old.items
-        ++ map (placed symbol.now.identifier.at) (map (global_of scope symbol.now.identifier.name)
-        (templates_with (made_in StorageClass.Static (symbol_kind_view symbol.now.kind)) (items_view members.now)))) }
-{
-    let Some(made) = made_in(StorageClass::Static, symbol) else {
-        return Ok(());
-    };
-    let template = variable_template(alloc, made, members)?;
-    let global = variable_global(scope, symbol.identifier.name, template);
-    globals.push(PlacedGlobal {
-        at: symbol.identifier.at,
-        global,
-    })?;
-    Ok(())
-}
-
-/// Puts an entry with this name.
-fn put_entry(
-    alloc: Global,
-    identifier: Identifier,
-    parameters: &[Description],
-    returned: Option<&Description>,
-    globals: &mut Vec<PlacedGlobal>,
-) -> Result<(), AllocError>
-    ensures { OnOk result (map placed_view globals.new.items ≡ map placed_view globals.old.items
-        ++ placed identifier.at (tree.EntryPoint identifier.name (record {
-          parameters = map description_view parameters.now;
-          result = option_map (λ d. description_view d.now) returned.entry;
-        })) ∷ []) }
-{
-    let signature = entry_signature(alloc, parameters, returned)?;
-    let global = UnitGlobal::EntryPoint {
-        name: identifier.name,
-        signature,
-    };
-    globals.push(PlacedGlobal {
-        at: identifier.at,
-        global,
-    })?;
-    Ok(())
-}
-
-/// Puts the global that a symbol is, if it is one: a STATIC variable that is compiled, or an entry.
-fn put_global(
-    alloc: Global,
-    symbol: &Symbol<'_>,
-    members: &[ValuedItem<'_>],
-    globals: &mut Vec<PlacedGlobal>,
-) -> Result<(), AllocError>
-    ensures { OnOk result (map placed_view globals.new.items ≡ map placed_view globals.old.items
-        ++ map (placed symbol.now.identifier.at)
-        (global_made symbol.now.identifier.name (symbol_kind_view symbol.now.kind) (items_view members.now))) }
+/// The global that a symbol with these members is, if it is one: a STATIC variable that is compiled, or an entry.
+fn global_in<'a>(symbol: &Symbol<'a>, members: &'a [ValuedItem<'a>]) -> Option<UnitGlobal<'a>>
+    ensures view { global_found result ≡ global_made (symbol_view symbol.now) (items_view members.now) }
+    ensures item { (marks : List PlacedMark) → AreOfItems marks (symbol_view symbol.now)
+        → IfSome result (HasGlobal marks symbol.now.identifier.at) }
 {
     match symbol.kind {
-        SymbolKind::Variable { scope, .. } => put_variable(alloc, scope, symbol, members, globals),
+        SymbolKind::Variable { scope, .. } => {
+            let made = made_in(StorageClass::Static, symbol, members)?;
+            Some(variable_global(scope, symbol.identifier.name, made))
+        }
         SymbolKind::Entry {
             parameters,
             returned,
-        } => put_entry(alloc, symbol.identifier, parameters, returned, globals),
-        _ => Ok(()),
+        } => Some(UnitGlobal::EntryPoint {
+            name: symbol.identifier.name,
+            parameters,
+            returned,
+        }),
+        _ => None,
     }
 }
 
+/// Puts the global that a symbol is, if it is one.
+fn put_global<'a>(
+    symbol: &Symbol<'a>,
+    members: &'a [ValuedItem<'a>],
+    globals: &mut Vec<PlacedGlobal<'a>>,
+) -> Result<(), AllocError>
+    ensures globals { OnOk result (map placed_view globals.new.items ≡ map placed_view globals.old.items
+        ++ map (placed symbol.now.identifier.at) (global_made (symbol_view symbol.now) (items_view members.now))) }
+    ensures items { OnOk result ((marks : List PlacedMark) → AreOfItems marks (symbol_view symbol.now)
+        → All (HasGlobalItem marks) globals.old.items → All (HasGlobalItem marks) globals.new.items) }
+{
+    let Some(global) = global_in(symbol, members) else {
+        return Ok(());
+    };
+    let at = symbol.identifier.at;
+    if globals.push(PlacedGlobal { at, global }).is_err() {
+        return Err(AllocError);
+    }
+    Ok(())
+}
+
 /// Puts the globals among the symbols of a block, in the order of the text.
-pub(crate) fn put_globals(
-    alloc: Global,
-    symbols: &[Symbol<'_>],
-    members: &[Vec<ValuedItem<'_>>],
-    globals: &mut Vec<PlacedGlobal>,
+pub(crate) fn put_globals<'a>(
+    symbols: &'a [Symbol<'a>],
+    members: &'a [Vec<ValuedItem<'a>>],
+    globals: &mut Vec<PlacedGlobal<'a>>,
 ) -> Result<(), AllocError>
     requires { AreMembers (rows_view members.now) (map symbol_view symbols.now) }
-    ensures { OnOk result (map placed_view globals.new.items
+    ensures globals { OnOk result (map placed_view globals.new.items
         ≡ map placed_view globals.old.items ++ globals_of 31 (map symbol_view symbols.now)) }
+    ensures items { OnOk result ((marks : List PlacedMark) → All (AreOfItems marks) (map symbol_view symbols.now)
+        → All (HasGlobalItem marks) globals.old.items → All (HasGlobalItem marks) globals.new.items) }
 {
     for number in 0..symbols.len() {
-        put_global(alloc, &symbols[number], &members[number], globals)?;
+        put_global(&symbols[number], &members[number], globals)?;
     }
     Ok(())
 }

@@ -1,13 +1,17 @@
 //! What variables are made from.
-ghost use Rattle.std.specs.Prelude.{◌≡◌, ◌∷◌, ◌++◌, [], IfOk, OnOk, map, option_map};
+ghost use Rattle.std.specs.Prelude.{◌≡◌, ◌<◌, ◌≤◌, ◌++◌, List, IfOk, OnOk, length, map, option_map, replicate, take, true};
+ghost use Rattle.std.specs.List.{All};
+ghost use Rattle.pli_declare_outline.specs.Outlines.{PlacedMark};
 ghost use Rattle.pli_map.specs.views.DescriptionView.{description_view};
 ghost use Rattle.pli_resolve.specs.views.SymbolView.{symbol_view, symbol_kind_view};
-ghost use Rattle.pli_type.specs.InitialScalars.{template_of};
 ghost use Rattle.pli_type.specs.NamedUnits.{templates_of};
 ghost use Rattle.pli_type_templates.specs.Groups.{AreMembers, is_such, made_in, templates_with};
-ghost use Rattle.pli_type_templates.specs.views.ItemView.{items_view, made_view, rows_view};
+ghost use Rattle.pli_type_templates.specs.ItemNames.{AreOfItems};
+ghost use Rattle.pli_type_templates.specs.views.ItemView.{HasMadeItem, items_view, made_template, made_view, rows_view};
+ghost use Rattle.pli_type_templates.specs.views.NumberView.{marks_of};
 ghost use Rattle.pli_type_tree.specs.views.TemplateView.{group_view, groups_view, template_view};
 
+use crate::item_numbers::ItemNumbers;
 use crate::items::{ValuedItem, put_item};
 use crate::plan::plan_from;
 use pli_base::declaration::InitialValue;
@@ -17,11 +21,19 @@ use pli_type_names::is_stored;
 use pli_type_tree::{Template, VariableGroup};
 use std::alloc::{AllocError, Global};
 
-/// A variable that is made, with the values in its INITIAL.
+/// How many variables a group may have.
+pub(crate) const MOST: usize = 4_294_967_295;
+
+/// A variable that is made.
 #[derive(Clone, Copy)]
 pub(crate) struct MadeVariable<'a> {
+    /// The token of its name, counted from 0.
+    pub at: u32,
     pub description: &'a Description,
+    /// The values in its INITIAL.
     pub values: &'a [InitialValue],
+    /// Its members with INITIAL.
+    pub members: &'a [ValuedItem<'a>],
 }
 
 /// Whether a variable is of the wanted class, AUTOMATIC or STATIC, and is compiled.
@@ -35,9 +47,13 @@ fn is_such(wanted: StorageClass, class: StorageClass, description: &Description)
     }
 }
 
-/// A variable of the wanted class that is compiled; none of anything else.
-pub(crate) fn made_in<'a>(wanted: StorageClass, symbol: &Symbol<'a>) -> Option<MadeVariable<'a>>
-    ensures { option_map made_view result ≡ made_in wanted (symbol_kind_view symbol.now.kind) }
+/// A variable of the wanted class that is compiled, with these members; none of anything else.
+pub(crate) fn made_in<'a>(
+    wanted: StorageClass,
+    symbol: &Symbol<'a>,
+    members: &'a [ValuedItem<'a>],
+) -> Option<MadeVariable<'a>>
+    ensures { option_map made_view result ≡ made_in wanted (symbol_view symbol.now) (items_view members.now) }
 {
     match symbol.kind {
         SymbolKind::Variable {
@@ -50,8 +66,10 @@ pub(crate) fn made_in<'a>(wanted: StorageClass, symbol: &Symbol<'a>) -> Option<M
                 return None;
             }
             Some(MadeVariable {
+                at: symbol.identifier.at,
                 description,
                 values: initial,
+                members,
             })
         }
         _ => None,
@@ -61,11 +79,9 @@ pub(crate) fn made_in<'a>(wanted: StorageClass, symbol: &Symbol<'a>) -> Option<M
 /// What one variable is made from, by its own INITIAL and by those of its members.
 pub(crate) fn variable_template(
     alloc: Global,
-    made: MadeVariable<'_>,
-    members: &[ValuedItem<'_>],
+    made: &MadeVariable<'_>,
 ) -> Result<Template, AllocError>
-    ensures { IfOk result (λ template. template_view template
-        ≡ template_of (made_view made.entry).description (record { path = []; values = (made_view made.entry).values } ∷ items_view members.now)) }
+    ensures { IfOk result (λ template. template_view template ≡ made_template made.now) }
 {
     let planned = plan_from(alloc, made.description, 0)?;
     let mut scalars = Vec::new(alloc);
@@ -74,6 +90,7 @@ pub(crate) fn variable_template(
         values: made.values,
     };
     put_item(alloc, &planned.plan, own, &mut scalars)?;
+    let members = made.members;
     for member in members {
         put_item(alloc, &planned.plan, *member, &mut scalars)?;
     }
@@ -85,46 +102,144 @@ pub(crate) fn variable_template(
     })
 }
 
-/// One variable that is made from this.
-pub(crate) fn one_variable(template: Template) -> VariableGroup
-    ensures { group_view result ≡ template_view template ∷ [] }
-{
-    VariableGroup { count: 1, template }
-}
-
-/// Puts what a symbol is made from, if it is a variable of the wanted class that is compiled.
-fn put_group(
-    alloc: Global,
+/// Puts the variable that a symbol is, if it is one of the wanted class that is compiled.
+fn put_made<'a>(
     wanted: StorageClass,
-    symbol: &Symbol<'_>,
-    members: &[ValuedItem<'_>],
-    groups: &mut Vec<VariableGroup>,
+    symbol: &Symbol<'a>,
+    members: &'a [ValuedItem<'a>],
+    made: &mut Vec<MadeVariable<'a>>,
 ) -> Result<(), AllocError>
-    ensures { OnOk result (groups_view groups.new.items
-        ≡ groups_view groups.old.items ++ templates_with (made_in wanted (symbol_kind_view symbol.now.kind)) (items_view members.now)) }
+    ensures templates { OnOk result (map made_template made.new.items ≡ map made_template made.old.items
+        ++ templates_with (made_in wanted (symbol_view symbol.now) (items_view members.now))) }
+    ensures items { OnOk result ((marks : List PlacedMark) → AreOfItems marks (symbol_view symbol.now)
+        → All (HasMadeItem marks) made.old.items → All (HasMadeItem marks) made.new.items) }
 {
-    let Some(made) = made_in(wanted, symbol) else {
+    let Some(variable) = made_in(wanted, symbol, members) else {
         return Ok(());
     };
-    let template = variable_template(alloc, made, members)?;
-    groups.push(one_variable(template))?;
+    made.push(variable)?;
     Ok(())
 }
 
-/// Puts what the variables of a class are made from, AUTOMATIC or STATIC, in the order of the text.
-pub(crate) fn put_groups(
+/// The variables of a class among the symbols of a block, AUTOMATIC or STATIC, in the order of the text.
+fn made_variables<'a>(
     alloc: Global,
     wanted: StorageClass,
-    symbols: &[Symbol<'_>],
-    members: &[Vec<ValuedItem<'_>>],
-    groups: &mut Vec<VariableGroup>,
-) -> Result<(), AllocError>
+    symbols: &'a [Symbol<'a>],
+    members: &'a [Vec<ValuedItem<'a>>],
+) -> Result<Vec<MadeVariable<'a>>, AllocError>
     requires { AreMembers (rows_view members.now) (map symbol_view symbols.now) }
-    ensures { OnOk result (groups_view groups.new.items
-        ≡ groups_view groups.old.items ++ templates_of (is_such wanted) (map symbol_view symbols.now)) }
+    ensures templates { IfOk result (λ made. map made_template made.items
+        ≡ templates_of (is_such wanted) (map symbol_view symbols.now)) }
+    ensures items { IfOk result (λ made. (marks : List PlacedMark) → All (AreOfItems marks) (map symbol_view symbols.now)
+        → All (HasMadeItem marks) made.items) }
 {
+    let mut made = Vec::new(alloc);
     for number in 0..symbols.len() {
-        put_group(alloc, wanted, &symbols[number], &members[number], groups)?;
+        put_made(wanted, &symbols[number], &members[number], &mut made)?;
     }
-    Ok(())
+    Ok(made)
+}
+
+/// Whether variables are of one item, or have no initial values.
+fn has_same_values(
+    items: &ItemNumbers<'_>,
+    left: &MadeVariable<'_>,
+    right: &MadeVariable<'_>,
+) -> bool
+    ensures { result ≡ true → HasMadeItem (marks_of items.now) left.now → HasMadeItem (marks_of items.now) right.now
+        → left.now.values.now ≡ right.now.values.now }
+{
+    if left.values.is_empty() && right.values.is_empty() {
+        return true;
+    }
+    items.are_of_one(left.at, right.at)
+}
+
+/// Whether variables are made from one template: they have one description, and are of one item, or have no initial
+/// values. Members may have initial values of their own.
+pub(crate) fn is_made_alike(
+    items: &ItemNumbers<'_>,
+    left: &MadeVariable<'_>,
+    right: &MadeVariable<'_>,
+) -> bool
+    ensures { result ≡ true → HasMadeItem (marks_of items.now) left.now → HasMadeItem (marks_of items.now) right.now
+        → made_template left.now ≡ made_template right.now }
+{
+    left.members.is_empty()
+        && right.members.is_empty()
+        && has_same_values(items, left, right)
+        && left.description.equals(right.description)
+}
+
+/// How many variables, from the first on, are made from what this one is made from.
+fn alike_behind(
+    items: &ItemNumbers<'_>,
+    first: &MadeVariable<'_>,
+    more: &[MadeVariable<'_>],
+) -> usize
+    ensures within { result ≤ length more.now }
+    ensures counted { result < 4294967295 }
+    ensures alike { HasMadeItem (marks_of items.now) first.now → All (HasMadeItem (marks_of items.now)) more.now
+        → All (λ m. made_template m ≡ made_template first.now) (take result more.now) }
+{
+    let most = more.len().min(MOST - 1);
+    for count in 0..most {
+        if !is_made_alike(items, first, &more[count]) {
+            return count;
+        }
+    }
+    most
+}
+
+/// A group of so many variables, which are made from what this one is made from.
+pub(crate) fn variable_group(
+    alloc: Global,
+    count: usize,
+    made: &MadeVariable<'_>,
+) -> Result<VariableGroup, AllocError>
+    requires { count ≤ 4294967295 }
+    ensures { IfOk result (λ group. group_view group ≡ replicate count (made_template made.now)) }
+{
+    let template = variable_template(alloc, made)?;
+    Ok(VariableGroup {
+        count: count as u32,
+        template,
+    })
+}
+
+/// Groups of variables that stand in a row and are made from one template.
+fn grouped(
+    alloc: Global,
+    items: &ItemNumbers<'_>,
+    made: &[MadeVariable<'_>],
+) -> Result<Vec<VariableGroup>, AllocError>
+    requires { All (HasMadeItem (marks_of items.now)) made.now }
+    ensures { IfOk result (λ groups. groups_view groups.items ≡ map made_template made.now) }
+{
+    let mut groups = Vec::new(alloc);
+    let mut at = 0;
+    while at < made.len() {
+        let first = &made[at];
+        let count = 1 + alike_behind(items, first, &made[at + 1..]);
+        groups.push(variable_group(alloc, count, first)?)?;
+        at += count;
+    }
+    Ok(groups)
+}
+
+/// What the variables of a class among the symbols of a block are made from, AUTOMATIC or STATIC, in the order of the text.
+pub(crate) fn class_groups<'a>(
+    alloc: Global,
+    items: &ItemNumbers<'_>,
+    wanted: StorageClass,
+    symbols: &'a [Symbol<'a>],
+    members: &'a [Vec<ValuedItem<'a>>],
+) -> Result<Vec<VariableGroup>, AllocError>
+    requires members { AreMembers (rows_view members.now) (map symbol_view symbols.now) }
+    requires items { All (AreOfItems (marks_of items.now)) (map symbol_view symbols.now) }
+    ensures { IfOk result (λ groups. groups_view groups.items ≡ templates_of (is_such wanted) (map symbol_view symbols.now)) }
+{
+    let made = made_variables(alloc, wanted, symbols, members)?;
+    grouped(alloc, items, &made)
 }

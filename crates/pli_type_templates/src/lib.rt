@@ -1,8 +1,12 @@
 //! What the variables of a resolved unit are made from: their descriptions, and their initial values.
 #![tactic(auto)]
 
+mod block_names;
+mod global_groups;
 mod globals;
 mod groups;
+mod item_number;
+mod item_numbers;
 mod items;
 mod members;
 mod numbers;

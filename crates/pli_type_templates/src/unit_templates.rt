@@ -1,20 +1,25 @@
 //! What the variables of a unit are made from.
-ghost use Rattle.std.specs.Prelude.{◌≡◌, ℕ, ◌++◌, IfOk, map};
+ghost use Rattle.std.specs.Prelude.{◌≡◌, ℕ, List, IfOk, map};
+ghost use Rattle.std.specs.List.{All};
 ghost use Rattle.pli_base.specs.views.StatementView.{unit_view};
+ghost use Rattle.pli_declare_outline.specs.Outlines.{PlacedMark};
 ghost use Rattle.pli_resolve.specs.ResolvedUnits.{resolved_unit_of};
-ghost use Rattle.pli_type.specs.NamedUnits.{globals_of, is_automatic, named_unit, templates_of};
-ghost use Rattle.pli_type_names.specs.UnitNaming.{symbols_in};
-ghost use Rattle.pli_type_templates.specs.views.PlacedView.{placed_view};
-ghost use Rattle.pli_type_templates.specs.views.UnitView.{automatic_at};
+ghost use Rattle.pli_type.specs.NamedUnits.{all_globals, block_globals, is_automatic, named_unit, templates_of};
+ghost use Rattle.pli_type_templates.specs.ItemNames.{AreOfItems};
+ghost use Rattle.pli_type_templates.specs.views.BlockView.{AreKnown, block_symbols};
+ghost use Rattle.pli_type_templates.specs.views.NumberView.{marks_of};
+ghost use Rattle.pli_type_templates.specs.views.PlacedView.{HasGlobalItem, placed_view};
+ghost use Rattle.pli_type_templates.specs.views.UnitView.{automatic_at, row_view};
 ghost use Rattle.pli_type_tree.specs.views.GlobalView.{globals_view};
 ghost use Rattle.pli_type_tree.specs.views.TemplateView.{groups_view};
 
+use crate::block_names::{BlockNames, block_names};
+use crate::global_groups::groups;
 use crate::globals::put_globals;
-use crate::groups::put_groups;
-use crate::members::members_by_root;
-use crate::placed_globals::{PlacedGlobal, groups, sort};
+use crate::groups::class_groups;
+use crate::item_numbers::ItemNumbers;
+use crate::placed_globals::{PlacedGlobal, sort};
 use pli_resolve::{ResolvedUnit, StorageClass};
-use pli_type_names::symbols;
 use pli_type_tree::{GlobalGroup, VariableGroup};
 use std::alloc::{AllocError, Global};
 use std::mem;
@@ -44,51 +49,69 @@ impl UnitTemplates {
     }
 }
 
-/// What the AUTOMATIC variables of a block are made from. Its globals go behind those of the blocks before.
-#[tactic(auto, unfolding(pli_type_names::specs::UnitNaming::symbols_in))]
-fn block_templates(
+/// What the AUTOMATIC variables of each block are made from.
+fn automatic_groups<'a>(
     alloc: Global,
-    resolved: &ResolvedUnit<'_>,
-    block: usize,
-    globals: &mut Vec<PlacedGlobal>,
-) -> Result<Vec<VariableGroup>, AllocError>
-    ensures automatic { IfOk result (λ made. groups_view made.items
-        ≡ templates_of (is_automatic 31) (symbols_in resolved.now block)) }
-    ensures globals { IfOk result (λ _. map placed_view globals.new.items
-        ≡ map placed_view globals.old.items ++ globals_of 31 (symbols_in resolved.now block)) }
+    items: &ItemNumbers<'_>,
+    blocks: &'a [BlockNames<'a>],
+) -> Result<Vec<Vec<VariableGroup>>, AllocError>
+    requires known { All AreKnown blocks.now }
+    requires items { All (All (AreOfItems (marks_of items.now))) (map block_symbols blocks.now) }
+    ensures { IfOk result (λ made. map row_view made.items ≡ map (templates_of (is_automatic 31)) (map block_symbols blocks.now)) }
 {
-    let symbols = symbols(alloc, resolved, block)?;
-    let members = members_by_root(alloc, &symbols)?;
-    put_globals(alloc, &symbols, &members, globals)?;
-    let mut automatic = Vec::new(alloc);
-    put_groups(
-        alloc,
-        StorageClass::Automatic,
-        &symbols,
-        &members,
-        &mut automatic,
-    )?;
-    Ok(automatic)
+    let mut made = Vec::new(alloc);
+    for block in blocks {
+        let class = StorageClass::Automatic;
+        made.push(class_groups(alloc, items, class, &block.symbols, &block.members)?)?;
+    }
+    Ok(made)
+}
+
+/// The globals of blocks, block after block.
+fn unit_globals<'a>(
+    alloc: Global,
+    blocks: &'a [BlockNames<'a>],
+) -> Result<Vec<PlacedGlobal<'a>>, AllocError>
+    requires { All AreKnown blocks.now }
+    ensures globals { IfOk result (λ made. map placed_view made.items ≡ block_globals 31 (map block_symbols blocks.now)) }
+    ensures items { IfOk result (λ made. (marks : List PlacedMark) → All (All (AreOfItems marks)) (map block_symbols blocks.now)
+        → All (HasGlobalItem marks) made.items) }
+{
+    let mut globals = Vec::new(alloc);
+    for block in blocks {
+        put_globals(&block.symbols, &block.members, &mut globals)?;
+    }
+    Ok(globals)
+}
+
+/// The globals of blocks, in the order of their names in the text.
+fn sorted_groups<'a>(
+    alloc: Global,
+    items: &ItemNumbers<'_>,
+    blocks: &'a [BlockNames<'a>],
+) -> Result<Vec<GlobalGroup>, AllocError>
+    requires known { All AreKnown blocks.now }
+    requires items { All (All (AreOfItems (marks_of items.now))) (map block_symbols blocks.now) }
+    ensures { IfOk result (λ made. globals_view made.items ≡ all_globals 31 (map block_symbols blocks.now)) }
+{
+    let mut globals = unit_globals(alloc, blocks)?;
+    sort(&mut globals)?;
+    groups(alloc, items, &globals)
 }
 
 /// What the AUTOMATIC variables of each block of a unit are made from, and its globals (X3.74; the limits own):
 /// variables of numbers and strings alone, of at most 1,000,000 bytes each. Initial values stand in the order of the
-/// text, fitted to their scalars. Takes time for the text, for the values that are kept, and for sorting the globals.
+/// text, fitted to their scalars. Those of an item of DECLARE are made once for its names that stand in a row. Takes time
+/// for the text, for the values that are kept, and for sorting the globals.
 pub fn templates(alloc: Global, resolved: &ResolvedUnit<'_>) -> Result<UnitTemplates, AllocError>
     ensures automatic { IfOk result (λ made. (block : ℕ) → automatic_at made block
         ≡ (named_unit 31 (resolved_unit_of (unit_view resolved.now))).automatic block) }
     ensures globals { IfOk result (λ made. globals_view made.globals.items
         ≡ (named_unit 31 (resolved_unit_of (unit_view resolved.now))).globals) }
 {
-    let Some(blocks) = resolved.block_count().checked_add(1) else {
-        return Err(AllocError);
-    };
-    let mut automatic = Vec::new(alloc);
-    let mut globals = Vec::new(alloc);
-    for block in 0..blocks {
-        automatic.push(block_templates(alloc, resolved, block, &mut globals)?)?;
-    }
-    sort(&mut globals)?;
-    let globals = groups(alloc, globals)?;
+    let blocks = block_names(alloc, resolved)?;
+    let items = ItemNumbers::of(alloc, resolved.unit())?;
+    let automatic = automatic_groups(alloc, &items, &blocks)?;
+    let globals = sorted_groups(alloc, &items, &blocks)?;
     Ok(UnitTemplates { automatic, globals })
 }

@@ -1,12 +1,15 @@
 -- What items with INITIAL say, apart from where they lie in memory.
 use Rattle.std.specs.Global.{Global}
 use Rattle.std.specs.Prelude.{List, Vec, map}
+use Rattle.pli_declare_outline.specs.Outlines.{PlacedMark}
 use Rattle.pli_map.specs.views.DescriptionView.{description_view}
 use Rattle.pli_type.specs.InitialScalars.{InitialItem}
 use Rattle.pli_type_templates.specs.Groups as plain
+use Rattle.pli_type_templates.specs.Groups.{HasItem, template_with}
 use Rattle.pli_type_templates.specs.declared.groups.MadeVariable.{MadeVariable}
 use Rattle.pli_type_templates.specs.declared.items.ValuedItem.{ValuedItem}
 use Rattle.pli_type_templates.specs.declared.members.Owned.{Owned}
+use Rattle.pli_type_tree.specs.Templates.{Template}
 
 -- an item with INITIAL
 abbrev pub item_view : ValuedItem → InitialItem
@@ -26,4 +29,17 @@ owned_view o = record { root = o.root; item = item_view o.item }
 
 -- a variable that is made
 abbrev pub made_view : MadeVariable → plain.MadeVariable
-made_view m = record { description = description_view m.description.now; values = m.values.now }
+made_view m = record {
+  at = m.at;
+  description = description_view m.description.now;
+  values = m.values.now;
+  members = items_view m.members.now;
+}
+
+-- what it is made from
+abbrev pub made_template : MadeVariable → Template
+made_template m = template_with (made_view m)
+
+-- its name is one of an item that has its values
+abbrev pub HasMadeItem : List PlacedMark → MadeVariable → Type 0
+HasMadeItem marks m = HasItem marks (made_view m)

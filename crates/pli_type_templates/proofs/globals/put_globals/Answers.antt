@@ -1,9 +1,10 @@
-use Rattle.std.proofs.Common.{◌≡◌, ◌+◌, ◌<◌, ◌++◌, ◌∷◌, [], List, Vec, drop, length, map, ap, sym, ◌∙◌, arith}
+use Rattle.std.proofs.Common.{◌≡◌, ◌+◌, ◌<◌, ◌++◌, ◌∷◌, [], List, Vec, drop, get_or, length, map, ap, sym, subst, ◌∙◌, arith}
 use Rattle.std.specs.Global.{Global}
 use Rattle.std.proofs.lemmas.List.{append_assoc, append-nil, drop_all, drop_more, get_or-map, length-map}
 use Rattle.pli_resolve.specs.views.SymbolView.{symbol_view}
 use Rattle.pli_type.specs.InitialScalars.{InitialItem}
 use Rattle.pli_type.specs.NamedUnits.{member_items, globals_from}
+use Rattle.pli_type_templates.specs.ItemNames.{AreOfItems}
 use Rattle.pli_type_templates.specs.declared.items.ValuedItem.{ValuedItem}
 use Rattle.pli_type_templates.specs.views.ItemView.{items_view}
 use Rattle.pli_type_templates.specs.views.PlacedView.{placed_view}
@@ -26,11 +27,16 @@ loop-number-preserved c =
     ∙ sym (get_or-map items c.args.members.now l.number v [] owned) ∙ c.requires.owned l.number within in
     let so_far = map placed_view l.globals.items in
     let rest = globals_from 31 all (l.number + 1) (map symbol_view others) in
-    ap (λ ts. ts ++ rest) c.in_ok-put_global.ensures
-    ∙ append_assoc so_far _ rest
-    ∙ ap (λ ts. so_far ++ ts) (sym (one_global all l.number (symbol_view s) (map symbol_view others) _ members))
-    ∙ ap (λ left. so_far ++ globals_from 31 all l.number (map symbol_view left)) (sym step)
-    ∙ l.invariant
+    let here : get_or all l.number (symbol_view s) ≡ symbol_view s =
+    get_or-map symbol_view c.args.symbols.now l.number s (symbol_view s) c.loop-number-test.true ∙ ap symbol_view (sym c.index-symbols-number.is) in
+    record {
+      globals = ap (λ ts. ts ++ rest) c.in_ok-put_global.ensures.globals
+          ∙ append_assoc so_far _ rest
+          ∙ ap (λ ts. so_far ++ ts) (sym (one_global all l.number (symbol_view s) (map symbol_view others) _ members))
+          ∙ ap (λ left. so_far ++ globals_from 31 all l.number (map symbol_view left)) (sym step)
+          ∙ l.invariant.globals;
+      items = λ marks h old. c.in_ok-put_global.ensures.items marks (subst (AreOfItems marks) here (h l.number (symbol_view s) within)) (l.invariant.items marks h old);
+    }
 
 pub returns : goal.returns
 returns c =
@@ -38,4 +44,7 @@ returns c =
     let all = map symbol_view c.args.symbols.now in
     let none = drop_all l.number c.args.symbols.now c.loop-number-test.false in
     let nothing = ap (λ left. globals_from 31 all l.number (map symbol_view left)) none in
-    sym (append-nil (map placed_view l.globals.items)) ∙ ap (λ ts. map placed_view l.globals.items ++ ts) (sym nothing) ∙ l.invariant
+    record {
+      globals = sym (append-nil (map placed_view l.globals.items)) ∙ ap (λ ts. map placed_view l.globals.items ++ ts) (sym nothing) ∙ l.invariant.globals;
+      items = l.invariant.items;
+    }

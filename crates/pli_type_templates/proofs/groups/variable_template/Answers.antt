@@ -16,13 +16,13 @@ use Rattle.pli_type_templates.proofs.groups.variable_template.Goals as goal
 pub returns : goal.returns
 returns c =
     let l = c.loop-member in
-    let d = description_view c.args.made.description.now in
-    let own : InitialItem = record { path = []; values = c.args.made.values.now } in
-    let items = own ∷ items_view c.args.members.now in
+    let d = description_view c.args.made.now.description.now in
+    let own : InitialItem = record { path = []; values = c.args.made.now.values.now } in
+    let items = own ∷ items_view c.args.made.now.members.now in
     let plan = plan_view c.in_ok-planned.planned.plan in
     let planned : plan ≡ plan_from 0 d = c.in_ok-planned.ensures.0 in
     let so_far = map initial_view l.scalars.items in
-    let none = drop_all l.member-index c.args.members.now c.loop-member-test.false in
+    let none = drop_all l.member-index c.args.made.now.members.now c.loop-member-test.false in
     let all = sym (append-nil so_far)
     ∙ ap (λ is. so_far ++ flat_map (item_scalars plan) (items_view is)) (sym none)
     ∙ l.invariant

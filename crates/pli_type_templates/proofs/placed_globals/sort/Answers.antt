@@ -9,8 +9,8 @@ use Rattle.pli_type_templates.specs.declared.placed_globals.PlacedGlobal.{Placed
 use Rattle.pli_type_templates.specs.views.PlacedView.{placed_view}
 use Rattle.pli_type_templates.proofs.placed_globals.sort.Goals as goal
 
-pub returns : goal.returns
-returns c =
+pub returns-clause-order : goal.returns-clause-order
+returns-clause-order c =
     let token : PlacedGlobal → ℕ = λ p. p.at in
     let old = c.args.globals.now.items in
     ap (map placed_view)

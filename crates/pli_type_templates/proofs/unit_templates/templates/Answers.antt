@@ -1,41 +1,43 @@
-use Rattle.std.proofs.Common.{◌+◌, ◌<◌, ◌≤◌, ◌++◌, Some, length, map, ap, sym, ◌∙◌, arith}
+use Rattle.std.proofs.Common.{◌≡◌, List, map, ap, sym, subst, ◌∙◌}
+use Rattle.std.specs.List.{All}
+use Rattle.std.proofs.lemmas.List.Elements.{All-same}
+use Rattle.pli_base.specs.declared.statement.Procedure.{Procedure}
 use Rattle.pli_base.specs.views.StatementView.{unit_view}
-use Rattle.pli_resolve.specs.ResolvedUnits.{resolved_unit_of}
-use Rattle.pli_type.specs.NamedUnits as units
-use Rattle.pli_type.specs.NamedUnits.{block_symbols, globals_of}
-use Rattle.pli_type.specs.TextOrder.{in_order}
-use Rattle.pli_type_names.specs.UnitNaming.{symbols_in}
-use Rattle.pli_type_names.proofs.ListLemmas.{made_more}
+use Rattle.pli_declare_outline.specs.Outlines.{outline_of}
+use Rattle.pli_resolve.specs.ResolvedUnits.{all_symbols, resolved_unit_of}
+use Rattle.pli_type.specs.NamedUnits.{all_globals, is_automatic, templates_of}
+use Rattle.pli_type_templates.specs.ItemNames.{AreOfItems}
+use Rattle.pli_type_templates.specs.declared.block_names.BlockNames.{BlockNames}
+use Rattle.pli_type_templates.specs.views.BlockView.{block_symbols}
 use Rattle.pli_type_templates.specs.views.UnitView.{row_view}
-use Rattle.pli_type_names.proofs.BlockLemmas.{gathered_more, all_gathered}
-use Rattle.pli_type_templates.proofs.UnitsMade.{rows_of, row_there, all_rows, globals_alone}
+use Rattle.pli_type_templates.proofs.SymbolsOfItems.{symbols_of_items}
+use Rattle.pli_type_templates.proofs.UnitsMade.{automatic_rows}
 use Rattle.pli_type_templates.proofs.unit_templates.templates.Goals as goal
 
-pub loop-block-preserved : goal.loop-block-preserved
-unfolding symbols_in
-loop-block-preserved c =
-    let l = c.loop-block in
-    let r = resolved_unit_of (unit_view c.args.resolved.now) in
-    let n = l.block in
-    let within : n < length r.blocks + 1 = omega (arith, c.in-Some.ensures, c.block_count.ensures, c.loop-block-test.true) in
-    record {
-      rows = ap (map row_view) c.in_ok-push.ensures.items
-          ∙ made_more row_view (rows_of r) n l.automatic.items c.in_ok-block_templates.field-0 l.invariant.rows
-          (row_there r n within ∙ ap Some (sym c.in_ok-block_templates.ensures.automatic));
-      globals = c.in_ok-block_templates.ensures.globals
-          ∙ ap (λ ts. ts ++ globals_of 31 (block_symbols r n)) l.invariant.globals
-          ∙ gathered_more (globals_of 31) r n within;
-    }
+-- an item says what each symbol of a unit is
+all_said : (u : Procedure) (unit : Procedure) (blocks : List BlockNames) → unit ≡ u → map block_symbols blocks ≡ all_symbols (resolved_unit_of (unit_view u))
+    → All (All (AreOfItems (outline_of (unit_view unit)).marks)) (map block_symbols blocks)
+all_said u unit blocks same symbols =
+    subst (λ (p : Procedure). All (All (AreOfItems (outline_of (unit_view p)).marks)) (map block_symbols blocks)) (sym same)
+    (All-same (All (AreOfItems (outline_of (unit_view u)).marks)) (map block_symbols blocks) (all_symbols (resolved_unit_of (unit_view u))) symbols (symbols_of_items (unit_view u)))
+
+pub automatic_groups-requires-clause-items : goal.automatic_groups-requires-clause-items
+automatic_groups-requires-clause-items c =
+    all_said c.args.resolved.now c.in_ok-items.items.unit.now c.deref.result.now (c.in_ok-items.ensures ∙ c.unit.ensures)
+    (ap (map block_symbols) c.deref.ensures.value ∙ c.in_ok-blocks.ensures.symbols)
+
+pub sorted_groups-requires-clause-items : goal.sorted_groups-requires-clause-items
+sorted_groups-requires-clause-items c =
+    all_said c.args.resolved.now c.in_ok-items.items.unit.now c.deref-2.result.now (c.in_ok-items.ensures ∙ c.unit.ensures)
+    (ap (map block_symbols) c.deref-2.ensures.value ∙ c.in_ok-blocks.ensures.symbols)
 
 pub returns : goal.returns
 returns c =
-    let l = c.loop-block in
-    let r = resolved_unit_of (unit_view c.args.resolved.now) in
-    let beyond : length r.blocks + 1 ≤ l.block = omega (arith, c.in-Some.ensures, c.block_count.ensures, c.loop-block-test.false) in
+    let u = unit_view c.args.resolved.now in
+    let first = ap (map block_symbols) c.deref.ensures.value ∙ c.in_ok-blocks.ensures.symbols in
+    let second = ap (map block_symbols) c.deref-2.ensures.value ∙ c.in_ok-blocks.ensures.symbols in
     record {
-      automatic = all_rows r l.block (map row_view l.automatic.items) beyond l.invariant.rows;
-      globals = c.in_ok-globals.ensures
-          ∙ globals_alone c.sort.new.globals.items
-          ∙ ap (map (λ (p : units.PlacedGlobal). p.global)) (c.in_ok-sort.ensures
-          ∙ ap (in_order (λ (p : units.PlacedGlobal). p.at)) (l.invariant.globals ∙ all_gathered (globals_of 31) r l.block beyond));
+      automatic = automatic_rows (resolved_unit_of u) (map row_view c.in_ok-automatic.automatic.items)
+          (c.in_ok-automatic.ensures ∙ ap (map (templates_of (is_automatic 31))) first);
+      globals = c.in_ok-globals.ensures ∙ ap (all_globals 31) second;
     }

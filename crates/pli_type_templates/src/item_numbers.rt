@@ -1,0 +1,133 @@
+//! Which item of DECLARE each declared name is of, by the token of the name.
+ghost use Rattle.std.specs.Prelude.{◌≡◌, ℕ, nat_eq, true, OnOk, IfOk, map};
+ghost use Rattle.indexmap.specs.IndexMap.{get};
+ghost use Rattle.pli_base.specs.Declarations as tree;
+ghost use Rattle.pli_base.specs.views.DeclarationView.{item_view};
+ghost use Rattle.pli_base.specs.views.StatementView.{unit_view};
+ghost use Rattle.pli_declare_outline.specs.Outlines.{outline_of};
+ghost use Rattle.pli_declare_outline.specs.views.OutlineView.{mark_view, marks_view};
+ghost use Rattle.pli_type_templates.specs.ItemNames.{IsNameOf, items_of};
+ghost use Rattle.pli_type_templates.specs.NotedNames.{AreOfOne, IsNoted, IsOnly, KeepNotes, NoteItems, NoteMarks, NoteNames, TellItems};
+ghost use Rattle.pli_type_templates.specs.declared.item_number.ItemNumber.{ItemNumber};
+
+use crate::item_number::{ItemNumber, is_same_item, noted_with};
+use indexmap::IndexMap;
+use pli_base::declaration::Item;
+use pli_base::statement::Procedure;
+use pli_base::syntax::Identifier;
+use pli_declare_outline::{Mark, PlacedMark, outline};
+use std::alloc::{AllocError, Global};
+
+/// The items of the names of a unit.
+#[derive(Drop)]
+pub(crate) struct ItemNumbers<'a> {
+    pub unit: &'a Procedure,
+    /// Under the token of each name in a DECLARE its item; none under one of names of several items, of which a text has
+    /// none.
+    numbers: IndexMap<u32, Option<ItemNumber>>,
+    ghost tell: { TellItems (get nat_eq numbers) (outline_of (unit_view unit.now)).marks },
+}
+
+/// Notes a name of an item.
+fn note_name(
+    numbers: &mut IndexMap<u32, Option<ItemNumber>>,
+    at: u32,
+    number: ItemNumber,
+) -> Result<(), AllocError>
+    ensures here { OnOk result (IsNoted (get nat_eq numbers.new at) number) }
+    ensures kept { OnOk result (KeepNotes (get nat_eq numbers.old) (get nat_eq numbers.new)) }
+{
+    let before = numbers.get(&at).copied();
+    let noted = noted_with(before, number);
+    numbers.insert(at, noted)?;
+    Ok(())
+}
+
+/// Notes the names of an item.
+fn note_names(
+    numbers: &mut IndexMap<u32, Option<ItemNumber>>,
+    names: &[Identifier],
+    number: ItemNumber,
+) -> Result<(), AllocError>
+    ensures here { OnOk result (NoteNames (get nat_eq numbers.new) names.now number) }
+    ensures kept { OnOk result (KeepNotes (get nat_eq numbers.old) (get nat_eq numbers.new)) }
+{
+    for name in names {
+        note_name(numbers, name.at, number)?;
+    }
+    Ok(())
+}
+
+/// Notes the names of items that the mark of this number declares.
+fn note_items(
+    numbers: &mut IndexMap<u32, Option<ItemNumber>>,
+    mark: usize,
+    items: &[Item],
+) -> Result<(), AllocError>
+    ensures here { OnOk result (NoteItems (get nat_eq numbers.new) mark (map item_view items.now)) }
+    ensures kept { OnOk result (KeepNotes (get nat_eq numbers.old) (get nat_eq numbers.new)) }
+{
+    for item in 0..items.len() {
+        let names = items[item].names.as_slice();
+        note_names(numbers, names, ItemNumber { mark, item })?;
+    }
+    Ok(())
+}
+
+/// Notes the names of the items that the mark of this number declares, if any.
+fn note_mark(
+    numbers: &mut IndexMap<u32, Option<ItemNumber>>,
+    number: usize,
+    mark: &Mark<'_>,
+) -> Result<(), AllocError>
+    ensures here { OnOk result (NoteItems (get nat_eq numbers.new) number (items_of (mark_view mark.now))) }
+    ensures kept { OnOk result (KeepNotes (get nat_eq numbers.old) (get nat_eq numbers.new)) }
+{
+    match mark {
+        Mark::Declared(items) => note_items(numbers, number, items),
+        Mark::Labelled(_) | Mark::Entered { .. } | Mark::Used(_) | Mark::Jumped(_) => Ok(()),
+    }
+}
+
+/// Notes the names of the items of marks.
+fn note_marks(
+    alloc: Global,
+    marks: &[PlacedMark<'_>],
+) -> Result<IndexMap<u32, Option<ItemNumber>>, AllocError>
+    ensures { IfOk result (λ numbers. NoteMarks (get nat_eq numbers) (marks_view marks.now)) }
+{
+    let mut numbers = IndexMap::new(alloc);
+    for number in 0..marks.len() {
+        note_mark(&mut numbers, number, &marks[number].mark)?;
+    }
+    Ok(numbers)
+}
+
+impl<'a> ItemNumbers<'a> {
+    /// The items of the names of a unit. Takes time for its text.
+    pub(crate) fn of(alloc: Global, unit: &'a Procedure) -> Result<ItemNumbers<'a>, AllocError>
+        ensures { IfOk result (λ made. made.unit.now ≡ unit.now) }
+    {
+        let outline = outline(alloc, unit)?;
+        let numbers = note_marks(alloc, &outline.marks)?;
+        Ok(ItemNumbers { unit, numbers })
+    }
+
+    /// The item of all names at a token; none where it is not known.
+    fn item_of(&self, at: u32) -> Option<ItemNumber>
+        ensures { (number : ItemNumber) (item : tree.Item) → IsNameOf (outline_of (unit_view self.now.unit.now)).marks at number item
+            → IsOnly result number }
+    {
+        self.numbers.get(&at).copied().flatten()
+    }
+
+    /// Whether the names at two tokens are of one item, and that is known.
+    pub(crate) fn are_of_one(&self, left: u32, right: u32) -> bool
+        ensures { result ≡ true → AreOfOne (outline_of (unit_view self.now.unit.now)).marks left right }
+    {
+        match (self.item_of(left), self.item_of(right)) {
+            (Some(left), Some(right)) => is_same_item(left, right),
+            _ => false,
+        }
+    }
+}
