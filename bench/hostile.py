@@ -141,6 +141,11 @@ def first_values(tokens):
     yield from ["DCL ("] + joined(names) + [") CHAR INIT("] + joined(["'A'"] * (tokens // 4)) + [");"]
 
 
+def first_values_of_arrays(tokens):
+    names = [f"N{number}" for number in range(tokens // 4)]
+    yield from ["DCL ("] + joined(names) + [")(300,300) FIXED BIN INIT("] + joined(["1"] * (tokens // 4)) + [");"]
+
+
 def repeated(tokens):
     names = [f"N{number}" for number in range(tokens // 4)]
     yield from ["DCL ("] + joined(names) + [") "] + ["FIXED "] * (tokens // 2) + [";"]
@@ -187,6 +192,7 @@ TEXTS = (
     ("structures of two names, mostly one within the other", member_turned),
     ("the same within many, qualified by each of these", member_turned_each),
     ("INITIAL with many values, of many names", first_values),
+    ("the same, of many arrays", first_values_of_arrays),
     ("an attribute that stands many times, of many names", repeated),
     ("ENTRY with many descriptions, of many names", descriptions),
     ("BASED with a reference of many names, of many names", locators),

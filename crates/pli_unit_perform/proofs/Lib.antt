@@ -6,6 +6,7 @@ pub mod EnteredBlocks
 pub mod FoundInTables
 pub mod GivenPlaces
 pub mod InitialValues
+pub mod LaidTables
 pub mod LinkedGlobals
 pub mod LinkedUnits
 pub mod LinkLemmas

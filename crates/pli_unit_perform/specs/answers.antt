@@ -1,4 +1,5 @@
 pub mod Activated
 pub mod Begun
 pub mod Initial
+pub mod LaidTemplates
 pub mod Making

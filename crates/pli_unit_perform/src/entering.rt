@@ -11,11 +11,12 @@ ghost use Rattle.pli_unit_perform.specs.views.MachineView.{Moves, activation_vie
 
 use crate::arguments::hand_over;
 use crate::machine::{Activation, Machine, Stop};
+use crate::ready::ReadyCode;
 use crate::spare::Room;
 use crate::storing::stop_at;
 use crate::variables::make_variables;
 use pli_store::Place;
-use pli_unit_code::{Block, Code};
+use pli_unit_code::Block;
 use pli_value::Value;
 use std::alloc::{AllocError, Global};
 use std::mem;
@@ -112,7 +113,7 @@ fn begin_block<'m>(
 #[inline(always)]
 pub fn enter<'m>(
     alloc: Global,
-    code: &'m Code,
+    ready: &ReadyCode<'_, 'm>,
     machine: &mut Machine<'m>,
     unit: usize,
     number: u16,
@@ -122,11 +123,11 @@ pub fn enter<'m>(
 ) -> Result<Option<Stop>, AllocError>
     requires { length machine.old.waiting.items < 1000 }
     ensures { IfOk result (λ stop. (image : Image) (entries : List ℕ) → Moves image
-        (λ here frames w. enters (head_of (unit_with image.linked unit (code_view code.now) entries) number (block_looked_up (code_view code.now) (block_view block.now)))
-        unit (block_looked_up (code_view code.now) (block_view block.now)) link (map place_view places.entry.items) (here ∷ frames) w) machine.old machine.new stop) }
+        (λ here frames w. enters (head_of (unit_with image.linked unit (code_view ready.now.code.now) entries) number (block_looked_up (code_view ready.now.code.now) (block_view block.now)))
+        unit (block_looked_up (code_view ready.now.code.now) (block_view block.now)) link (map place_view places.entry.items) (here ∷ frames) w) machine.old machine.new stop) }
 {
     begin_block(alloc, machine, unit, number, block, link, places)?;
-    match make_variables(alloc, code, machine, &block.variables) {
+    match make_variables(alloc, ready, machine, &block.variables) {
         Ok(()) => Ok(None),
         Err(fault) => Ok(Some(stop_at(fault)?)),
     }

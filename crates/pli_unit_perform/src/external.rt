@@ -10,26 +10,33 @@ ghost use Rattle.pli_unit_perform.specs.views.MachineView.{Moves};
 
 use crate::calling::call_external;
 use crate::globals::entry_at;
+use crate::loaded::Loaded;
 use crate::machine::{Machine, Stop};
-use crate::numbered::linked_at;
+use crate::numbered::{laid_at, linked_at};
+use crate::ready::ReadyCode;
 use crate::unit::ActiveUnit;
-use pli_unit_code::Module;
 use std::alloc::{AllocError, Global};
 
 /// Takes so many places and activates the external procedure of the unit of a number with them.
 fn call_unit<'m>(
     alloc: Global,
-    module: &'m Module,
+    loaded: &Loaded<'m>,
     machine: &mut Machine<'m>,
     number: u16,
     arguments: u8,
 ) -> Result<Option<Stop>, AllocError>
-    ensures { IfOk result (λ stop. (statics : List Static) → Moves (image_with (module_view «module».now) statics)
-        (λ here frames w. called_unit number (slice_get (program_of (module_view «module».now)).units number) arguments here frames w)
+    ensures { IfOk result (λ stop. (statics : List Static) → Moves (image_with (module_view loaded.now.«module».now) statics)
+        (λ here frames w. called_unit number (slice_get (program_of (module_view loaded.now.«module».now)).units number) arguments here frames w)
         machine.old machine.new stop) }
 {
-    match linked_at(module, number as usize) {
-        Some(linked) => call_external(alloc, &linked.code, machine, number as usize, arguments),
+    match linked_at(loaded.module, number as usize) {
+        Some(linked) => {
+            let ready = ReadyCode {
+                code: &linked.code,
+                laid: laid_at(loaded, number as usize),
+            };
+            call_external(alloc, &ready, machine, number as usize, arguments)
+        }
         None => Ok(Some(Stop::Fault)),
     }
 }
@@ -47,7 +54,7 @@ pub fn call_entry<'m>(
         (slice_get (unit_of (unit_view unit.now.linked.now)).globals global) here frames w) machine.old machine.new) }
 {
     match entry_at(unit, global) {
-        Some(number) => call_unit(alloc, unit.loaded.module, machine, number, arguments),
+        Some(number) => call_unit(alloc, unit.loaded, machine, number, arguments),
         None => Ok(Some(Stop::Fault)),
     }
 }

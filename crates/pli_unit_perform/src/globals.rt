@@ -9,7 +9,7 @@ ghost use Rattle.pli_unit_perform.specs.views.TableView.{standing_view, standing
 
 use crate::linked::LinkedGlobal;
 use crate::loaded::Loaded;
-use crate::numbered::{linked_at, table_at};
+use crate::numbered::{laid_at, linked_at, table_at};
 use crate::unit::ActiveUnit;
 use pli_base::Name;
 use pli_store::Place;
@@ -22,11 +22,13 @@ pub fn unit_at<'l, 'm>(loaded: &'l Loaded<'m>, number: usize) -> Option<ActiveUn
 {
     let linked = linked_at(loaded.module, number)?;
     let globals = table_at(loaded, number)?;
+    let laid = laid_at(loaded, number);
     Some(ActiveUnit {
         loaded,
         number,
         linked,
         globals,
+        laid,
     })
 }
 

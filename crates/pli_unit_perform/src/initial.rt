@@ -13,6 +13,7 @@ ghost use Rattle.pli_store.specs.views.StorageView.{SameStorage, place_view, wit
 ghost use Rattle.pli_type_tree.specs.Templates.{with_initial};
 ghost use Rattle.pli_type_tree.specs.views.TemplateView.{initial_view};
 ghost use Rattle.pli_unit_perform.specs.answers.Initial.{InitialPut};
+ghost use Rattle.pli_unit_perform.specs.answers.LaidTemplates.{IsLaid};
 ghost use Rattle.pli_world.specs.World.{World, made_of};
 
 use pli_bytes::{lay_first, put_scalar};
@@ -64,7 +65,7 @@ fn put_all(bytes: &mut [u8], description: &Description, scalars: &[InitialScalar
 
 /// The bytes with which a variable begins: each scalar with its initial value, or with the one of its type. `None` where a
 /// scalar may not hold the one with which it should begin. The description takes no more bytes than may live.
-fn initial_bytes(
+pub fn initial_bytes(
     alloc: Global,
     description: &Description,
     scalars: &[InitialScalar],
@@ -84,15 +85,39 @@ fn initial_bytes(
     Ok(Some(bytes))
 }
 
-/// A new generation, which begins as a template of this description and of these initial values has it. `StorageLimit` where
-/// there is no room for it.
+/// The same, copied where they are laid.
+fn first_bytes(
+    alloc: Global,
+    description: &Description,
+    scalars: &[InitialScalar],
+    laid: Option<&[u8]>,
+) -> Result<Option<Vec<u8>>, AllocError>
+    requires limit { size_of (description_view description.now) ≤ 16777216 }
+    requires laid { IfSome laid (λ bytes. IsLaid (record { description = description_view description.now; initial = map initial_view scalars.now }) bytes.now) }
+    ensures size { IfOk result (λ initial. IfSome initial (λ bytes. length bytes.items ≡ size_of (description_view description.now))) }
+    ensures begins { IfOk result (λ initial. Begins (description_view description.now) initial
+        (with_initial (map initial_view scalars.now) (first_values (description_view description.now)))) }
+{
+    match laid {
+        Some(bytes) => {
+            let copy = Vec::from_slice(alloc, bytes)?;
+            Ok(Some(copy))
+        }
+        None => initial_bytes(alloc, description, scalars),
+    }
+}
+
+/// A new generation, which begins as a template of this description and of these initial values has it; so do these bytes,
+/// where they are laid. `StorageLimit` where there is no room for it.
 pub fn make_initial<'m>(
     alloc: Global,
     storage: &mut Storage<'m>,
     description: &'m Description,
     made: Made,
     scalars: &[InitialScalar],
+    laid: Option<&[u8]>,
 ) -> Result<Place<'m>, StoreFault>
+    requires { IfSome laid (λ bytes. IsLaid (record { description = description_view description.now; initial = map initial_view scalars.now }) bytes.now) }
     ensures answer { (w : World) → Answered place_view result (with_storage storage.old w) (with_storage storage.new w)
         (made_of (description_view description.now) (made_view made)
         (with_initial (map initial_view scalars.now) (first_values (description_view description.now)))
@@ -102,6 +127,6 @@ pub fn make_initial<'m>(
     if !storage.has_room(description) {
         return Err(StoreFault::Raised(RunError::StorageLimit));
     }
-    let initial = initial_bytes(alloc, description, scalars)?;
+    let initial = first_bytes(alloc, description, scalars, laid)?;
     storage.make(description, made, initial)
 }

@@ -39,6 +39,7 @@ fn make_static<'m>(
                 description,
                 Made::Static,
                 scalars,
+                None,
             ) {
                 Ok(place) => Ok(Some(place)),
                 Err(fault) => Err(fault),

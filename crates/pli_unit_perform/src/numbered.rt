@@ -1,5 +1,8 @@
 //! Units of a module and their globals, by number.
 ghost use Rattle.std.specs.Prelude.{◌≡◌, None, Some, map, slice_get, MatchOption};
+ghost use Rattle.pli_unit_code.specs.declared.code.LinkedUnit.{LinkedUnit};
+ghost use Rattle.pli_unit_code.specs.views.CodeView.{code_view};
+ghost use Rattle.pli_unit_perform.specs.answers.LaidTemplates.{AreLaid};
 
 use crate::linked::LinkedGlobal;
 use crate::loaded::Loaded;
@@ -23,5 +26,16 @@ pub fn table_at<'l, 'm>(loaded: &'l Loaded<'m>, number: usize) -> Option<&'l [Li
     match loaded.globals.get(number) {
         Some(table) => Some(table),
         None => None,
+    }
+}
+
+/// What is laid for the templates of the unit of a number.
+#[inline]
+pub fn laid_at<'l>(loaded: &'l Loaded<'_>, number: usize) -> &'l [Option<Vec<u8>>]
+    ensures { (u : LinkedUnit) → slice_get loaded.now.«module».now.units.items number ≡ Some u → AreLaid (code_view u.code) result.now }
+{
+    match loaded.laid.get(number) {
+        Some(table) => table,
+        None => &[],
     }
 }

@@ -34,7 +34,6 @@ pub fn perform<'m>(
     requires { machine.old.here.unit ≡ unit.now.number }
     ensures { IfOk result (Performs (image_of unit.now.loaded.now) (unit_view unit.now.linked.now) instruction machine.old machine.new) }
 {
-    let module = unit.loaded.module;
     let code = &unit.linked.code;
     match instruction {
         Instruction::Step { statement } => Ok(step(machine, statement)),
@@ -42,13 +41,11 @@ pub fn perform<'m>(
         Instruction::Jump { target } => Ok(jump(machine, target)),
         Instruction::JumpUnless { target } => Ok(jump_unless(machine, target)),
         Instruction::Goto { outward, target } => Ok(go_to(machine, outward, target as usize)),
-        Instruction::Call { block, arguments } => {
-            call(alloc, module, code, machine, block, arguments)
-        }
+        Instruction::Call { block, arguments } => { call(alloc, unit, machine, block, arguments) }
         Instruction::CallExternal { global, arguments } => {
             call_entry(alloc, unit, machine, global as usize, arguments)
         }
-        Instruction::Begin { block } => begin(alloc, module, code, machine, block),
+        Instruction::Begin { block } => begin(alloc, unit, machine, block),
         Instruction::Return { outward } => Ok(return_from(machine, outward)),
         Instruction::ReturnValue { outward } => return_value(alloc, machine, outward),
         Instruction::Raise(error) => Ok(Some(Stop::Raised(error))),

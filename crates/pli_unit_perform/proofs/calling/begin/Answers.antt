@@ -8,18 +8,18 @@ use Rattle.pli_unit_perform.proofs.calling.begin.Goals as goal
 
 pub returns-in-Some : goal.returns-in-Some
 returns-in-Some c =
-    block_found (image_with (module_view c.args.«module».now))
+    block_found (image_with (module_view c.args.unit.now.loaded.now.«module».now))
     (λ statics entries. begins
-    (unit_with (module_view c.args.«module».now) c.args.machine.now.here.unit (code_view c.args.code.now)
+    (unit_with (module_view c.args.unit.now.loaded.now.«module».now) c.args.machine.now.here.unit (code_view c.args.unit.now.linked.now.code)
     entries) c.args.number)
-    (code_view c.args.code.now) c.args.number (block_view c.in-Some.block.now) c.args.machine.now
+    (code_view c.args.unit.now.linked.now.code) c.args.number (block_view c.in-Some.block.now) c.args.machine.now
     c.begin_with.new.machine c.begin_with.result
     (rw c.in-Some.is at c.block_at.ensures) c.begin_with.ensures
 
 pub returns-in-None : goal.returns-in-None
 returns-in-None c = λ statics entries.
-    block_moves (image_with (module_view c.args.«module».now) statics)
-    (begins (unit_with (module_view c.args.«module».now) c.args.machine.now.here.unit
-    (code_view c.args.code.now) entries) c.args.number)
-    (code_view c.args.code.now) c.args.number None c.args.machine.now c.args.machine.now (Some stop.Fault)
+    block_moves (image_with (module_view c.args.unit.now.loaded.now.«module».now) statics)
+    (begins (unit_with (module_view c.args.unit.now.loaded.now.«module».now) c.args.machine.now.here.unit
+    (code_view c.args.unit.now.linked.now.code) entries) c.args.number)
+    (code_view c.args.unit.now.linked.now.code) c.args.number None c.args.machine.now c.args.machine.now (Some stop.Fault)
     (rw c.in-None.is at c.block_at.ensures) (λ put. refl)

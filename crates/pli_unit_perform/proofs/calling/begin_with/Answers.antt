@@ -13,7 +13,7 @@ use Rattle.pli_unit_perform.proofs.calling.begin_with.Goals as goal
 pub returns-then-not-is_begin : goal.returns-then-not-is_begin
 returns-then-not-is_begin c = λ statics entries put.
     let m = c.args.machine.now in
-    let code = code_view c.args.code.now in
+    let code = code_view c.args.ready.now.code.now in
     let md = module_view c.args.«module».now in
     let b = block_looked_up code (block_view c.args.block.now) in
     begins_other (unit_with md m.here.unit code entries) c.args.number b (frame_view m.here) (frames_of m.waiting.items) (world_of (image_with md statics) m put) (left_of m) (Some b) refl
@@ -22,7 +22,7 @@ returns-then-not-is_begin c = λ statics entries put.
 pub returns-in_default : goal.returns-in_default
 returns-in_default c = λ statics entries put.
     let m = c.args.machine.now in
-    let code = code_view c.args.code.now in
+    let code = code_view c.args.ready.now.code.now in
     let md = module_view c.args.«module».now in
     let b = block_looked_up code (block_view c.args.block.now) in
     begins_fault (unit_with md m.here.unit code entries) c.args.number b (frame_view m.here) (frames_of m.waiting.items) (world_of (image_with md statics) m put) (left_of m) (Some b) refl
@@ -31,7 +31,7 @@ returns-in_default c = λ statics entries put.
 pub returns-then-len-ge-WAITING_LIMIT : goal.returns-then-len-ge-WAITING_LIMIT
 returns-then-len-ge-WAITING_LIMIT c = λ statics entries put.
     let m = c.args.machine.now in
-    let code = code_view c.args.code.now in
+    let code = code_view c.args.ready.now.code.now in
     let md = module_view c.args.«module».now in
     let b = block_looked_up code (block_view c.args.block.now) in
     begins_full (unit_with md m.here.unit code entries) c.args.number b (frame_view m.here) (frames_of m.waiting.items) (world_of (image_with md statics) m put) (left_of m) (Some b) c.in-Some.link refl
@@ -40,7 +40,7 @@ returns-then-len-ge-WAITING_LIMIT c = λ statics entries put.
 pub returns : goal.returns
 returns c =
     let m = c.args.machine.now in
-    let code = code_view c.args.code.now in
+    let code = code_view c.args.ready.now.code.now in
     let md = module_view c.args.«module».now in
     let b = block_looked_up code (block_view c.args.block.now) in
     IfOk-weaker c.enter.result _ _

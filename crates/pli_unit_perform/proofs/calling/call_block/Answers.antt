@@ -11,21 +11,21 @@ use Rattle.pli_unit_perform.proofs.calling.call_block.Goals as goal
 pub returns-then-len-ge-WAITING_LIMIT : goal.returns-then-len-ge-WAITING_LIMIT
 returns-then-len-ge-WAITING_LIMIT c = λ image entries put.
     let m = c.args.machine.now in
-    let code = code_view c.args.code.now in
+    let code = code_view c.args.ready.now.code.now in
     calls_full c.args.unit (unit_with image.linked c.args.unit code entries) c.args.number (block_looked_up code (block_view c.args.block.now)) (map place_view c.args.places.items)
     (frame_view m.here) (frames_of m.waiting.items) (world_of image m put) (left_of m) c.args.link (has_none image m put (omega arith))
 
 pub returns-then-machine : goal.returns-then-machine
 returns-then-machine c = λ image entries put.
     let m = c.args.machine.now in
-    let code = code_view c.args.code.now in
+    let code = code_view c.args.ready.now.code.now in
     calls_out c.args.unit (unit_with image.linked c.args.unit code entries) c.args.number (block_looked_up code (block_view c.args.block.now)) (map place_view c.args.places.items)
     (frame_view m.here) (frames_of m.waiting.items) (world_of image m put) (left_of m) c.args.link (has_room image m put (omega arith)) (omega arith)
 
 pub returns : goal.returns
 returns c =
     let m = c.args.machine.now in
-    let code = code_view c.args.code.now in
+    let code = code_view c.args.ready.now.code.now in
     IfOk-weaker c.enter.result _ _
     (λ stop moves image entries put.
     calls_enter c.args.unit (unit_with image.linked c.args.unit code entries) c.args.number (block_looked_up code (block_view c.args.block.now)) (map place_view c.args.places.items)

@@ -10,15 +10,15 @@ pub returns-in-Some : goal.returns-in-Some
 returns-in-Some c =
     block_found (λ (image : Image). image)
     (λ image entries. called_outside c.args.unit
-    (unit_with image.linked c.args.unit (code_view c.args.code.now) entries) c.args.arguments)
-    (code_view c.args.code.now) 0 (block_view c.in-Some.block.now) c.args.machine.now
+    (unit_with image.linked c.args.unit (code_view c.args.ready.now.code.now) entries) c.args.arguments)
+    (code_view c.args.ready.now.code.now) 0 (block_view c.in-Some.block.now) c.args.machine.now
     c.call_external_with.new.machine c.call_external_with.result
     (rw c.in-Some.is at c.block_at.ensures) c.call_external_with.ensures
 
 pub returns-in-None : goal.returns-in-None
 returns-in-None c = λ image entries.
     block_moves image
-    (called_outside c.args.unit (unit_with image.linked c.args.unit (code_view c.args.code.now) entries)
+    (called_outside c.args.unit (unit_with image.linked c.args.unit (code_view c.args.ready.now.code.now) entries)
     c.args.arguments)
-    (code_view c.args.code.now) 0 None c.args.machine.now c.args.machine.now (Some stop.Fault)
+    (code_view c.args.ready.now.code.now) 0 None c.args.machine.now c.args.machine.now (Some stop.Fault)
     (rw c.in-None.is at c.block_at.ensures) (λ put. refl)

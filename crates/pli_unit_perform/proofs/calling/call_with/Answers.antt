@@ -12,7 +12,7 @@ use Rattle.pli_unit_perform.proofs.calling.call_with.Goals as goal
 pub returns-then-not-is_callable : goal.returns-then-not-is_callable
 returns-then-not-is_callable c = λ statics entries put.
     let m = c.args.machine.now in
-    let code = code_view c.args.code.now in
+    let code = code_view c.args.ready.now.code.now in
     let md = module_view c.args.«module».now in
     let b = block_looked_up code (block_view c.args.block.now) in
     let off = rw c.in-Some.is at c.in_ok-places.ensures in
@@ -22,7 +22,7 @@ returns-then-not-is_callable c = λ statics entries put.
 pub returns-in_default-link_of : goal.returns-in_default-link_of
 returns-in_default-link_of c = λ statics entries put.
     let m = c.args.machine.now in
-    let code = code_view c.args.code.now in
+    let code = code_view c.args.ready.now.code.now in
     let md = module_view c.args.«module».now in
     let b = block_looked_up code (block_view c.args.block.now) in
     let off = rw c.in-Some.is at c.in_ok-places.ensures in
@@ -33,7 +33,7 @@ returns-in_default-link_of c = λ statics entries put.
 pub returns : goal.returns
 returns c =
     let m = c.args.machine.now in
-    let code = code_view c.args.code.now in
+    let code = code_view c.args.ready.now.code.now in
     let md = module_view c.args.«module».now in
     let b = block_looked_up code (block_view c.args.block.now) in
     let off = rw c.in-Some.is at c.in_ok-places.ensures in

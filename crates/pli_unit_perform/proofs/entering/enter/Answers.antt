@@ -12,7 +12,7 @@ use Rattle.pli_unit_perform.proofs.entering.enter.Goals as goal
 
 pub returns-in-Ok : goal.returns-in-Ok
 returns-in-Ok c = λ image entries put.
-    let code = code_view c.args.code.now in
+    let code = code_view c.args.ready.now.code.now in
     let b = block_looked_up code (block_view c.args.block.now) in
     let m = c.args.machine.now in
     let begun = c.in_ok-begin_block.ensures image put in
@@ -26,7 +26,7 @@ returns-in-Ok c = λ image entries put.
 
 pub returns-in_ok-stop_at-in-Err : goal.returns-in_ok-stop_at-in-Err
 returns-in_ok-stop_at-in-Err c = λ image entries put.
-    let code = code_view c.args.code.now in
+    let code = code_view c.args.ready.now.code.now in
     let b = block_looked_up code (block_view c.args.block.now) in
     let m = c.args.machine.now in
     let begun = c.in_ok-begin_block.ensures image put in

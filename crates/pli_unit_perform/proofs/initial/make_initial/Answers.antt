@@ -7,8 +7,8 @@ use Rattle.pli_type_tree.specs.views.TemplateView.{initial_view}
 use Rattle.pli_unit_perform.proofs.MadeVariables.{room_bounds, no_room}
 use Rattle.pli_unit_perform.proofs.initial.make_initial.Goals as goal
 
-pub initial_bytes-requires : goal.initial_bytes-requires
-initial_bytes-requires c =
+pub first_bytes-requires-clause-limit : goal.first_bytes-requires-clause-limit
+first_bytes-requires-clause-limit c =
     room_bounds c.has_room.result c.args.storage.now (description_view c.args.description.now)
     c.if-not-has_room.false c.has_room.ensures
 

@@ -14,7 +14,7 @@ loop-variable-preserved c =
     record {
       made = λ image put.
           l.invariant.made image put
-          ∙ ap (λ ns. made_all (variables_at (code_view c.args.code.now) ns) (world_of image l.machine put)) (drop_more variables l.variable-index 0 c.loop-variable-test.true)
+          ∙ ap (λ ns. made_all (variables_at (code_view c.args.ready.now.code.now) ns) (world_of image l.machine put)) (drop_more variables l.variable-index 0 c.loop-variable-test.true)
           ∙ c.in-Ok.ensures.made (drop (l.variable-index + 1) variables) image put;
       same = same_then c.args.machine.now l.machine c.make_numbered.new.machine l.invariant.same c.in-Ok.ensures.same;
     }

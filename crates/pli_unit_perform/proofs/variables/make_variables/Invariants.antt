@@ -10,7 +10,7 @@ use Rattle.pli_unit_perform.proofs.variables.make_variables.Given as goal
 -- the variables that are left are made in the world as it is now
 abbrev pub invariant-loop-variable : goal.invariant-loop-variable
 invariant-loop-variable l = record {
-  made : (image : Image) (put : List ℕ) → made_all (variables_at (code_view l.code) l.variables) (world_of image l.initial.machine put)
-      ≡ made_all (variables_at (code_view l.code) (drop l.variable-index l.variables)) (world_of image l.machine put);
+  made : (image : Image) (put : List ℕ) → made_all (variables_at (code_view l.ready.code.now) l.variables) (world_of image l.initial.machine put)
+      ≡ made_all (variables_at (code_view l.ready.code.now) (drop l.variable-index l.variables)) (world_of image l.machine put);
   same : SameFrames l.initial.machine l.machine;
 }
