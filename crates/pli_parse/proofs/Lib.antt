@@ -1,3 +1,4 @@
+mod StatementBeginnings
 mod StatementClauses
 mod StatementRows
 pub mod StatementFaults

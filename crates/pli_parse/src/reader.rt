@@ -7,7 +7,7 @@ ghost use Rattle.pli_parse_statement.specs.StatementReading.{is_label, stopped, 
 ghost use Rattle.pli_parse_statement.specs.StatementReading as reading;
 ghost use Rattle.pli_base.specs.Statements as tree;
 ghost use Rattle.pli_parse_statement.specs.StatementWords as grammar;
-ghost use Rattle.pli_parse_statement.specs.answers.StatementAnswers.{heading_view, tree_view, Counts, inside_at, listing_view, context_view, words};
+ghost use Rattle.pli_parse_statement.specs.answers.StatementAnswers.{heading_view, tree_view, Counts, inside_at, listing_view, context_view, kind_view, BehindKind, IsBeginning, words};
 ghost use Rattle.pli_base.specs.answers.FailureAnswers.{Gives};
 ghost use Rattle.pli_base.specs.answers.ReadingAnswers.{Advances, front_view};
 
@@ -16,10 +16,9 @@ use pli_base::syntax::Identifier;
 use pli_base::{Code, Front, Name, ParseError, TokenText, fault, semicolon_taken};
 use pli_parse_expression::Counted;
 use pli_parse_statement::{
-    Context, Heading, Keyword, Listing, Misplacement, NextStatement, StatementKind,
-    StatementStanding, assignment_at, bad_label, condition_at, control_at, else_first,
-    expression_in, has_semicolon, heading_at, kind_of, label_at, next_of, simple_at, why_misplaced,
-    word_taken,
+    Beginning, Context, Heading, Keyword, Listing, Misplacement, NextStatement, StatementKind,
+    StatementStanding, assignment_at, bad_label, beginning_of, condition_at, control_at,
+    else_first, expression_in, heading_at, label_at, next_of, simple_at, why_misplaced, word_taken,
 };
 use std::alloc::Global;
 
@@ -106,7 +105,8 @@ pub fn list_in<'a>(
     let mut next = at;
     let mut rest = texts;
     loop {
-        match next_of(alloc, rest)? {
+        let beginning = beginning_of(alloc, rest)?;
+        match next_of(&beginning, rest) {
             NextStatement::EndsHere(behind) => {
                 let ended = ending_at(label, next + 1, behind)?;
                 let listing = Listing {
@@ -116,7 +116,7 @@ pub fn list_in<'a>(
                 return Ok(Counted::front(listing, count + 1, ended.next, ended.rest));
             }
             NextStatement::Another => {
-                let read = statement_at(alloc, levels, context, next, count, rest)?;
+                let read = statement_begun(alloc, levels, context, next, count, beginning, rest)?;
                 count = read.value.count;
                 statements.push(read.value.tree)?;
                 next = read.next;
@@ -407,7 +407,7 @@ fn keyed_at<'a>(
     }
 }
 
-/// A statement behind its label.
+/// A statement of this kind behind its label.
 #[cycle(reader)]
 #[tactic(auto)]
 fn body_at<'a>(
@@ -415,17 +415,20 @@ fn body_at<'a>(
     levels: u32,
     context: Context,
     label: &Option<Identifier>,
+    kind: StatementKind<'a>,
     at: u32,
     number: u32,
     texts: &'a [TokenText],
 ) -> Result<Front<'a, Counted<Body>>, ParseError>
     requires place { at + length texts.now ≤ 200000 }
     requires number { number ≤ at }
+    requires kind { kind_view kind ≡ grammar.kind_of texts.now }
+    requires behind { BehindKind (length texts.now) kind }
     ensures value { Gives (front_view (tree_view body_view)) result (body_from levels (inside_of levels) (context_view context) label.now at number texts.now (grammar.kind_of texts.now)) }
     ensures numbers { IfOk result (λ x. x.value.count ≡ number + 1 + body_count (body_view x.value.tree)) }
     ensures place { IfOk result (λ x. (x.value.count + at ≤ x.next + number) × (x.next + length x.rest.now ≡ at + length texts.now)) }
 {
-    match kind_of(alloc, texts)? {
+    match kind {
         StatementKind::Assigns => Ok(alone(assignment_at(alloc, levels, at, texts)?, number)),
         StatementKind::Empty(rest) => Ok(Counted::front(Body::Null, number + 1, at + 1, rest)),
         StatementKind::Keyed(keyword, rest) => match why_misplaced(
@@ -446,7 +449,7 @@ fn body_at<'a>(
 
 /// A statement with its label, where so many levels may be opened. `number` is its number.
 #[cycle(reader)]
-#[tactic(auto, unfolding(pli_parse_statement::specs::StatementReading::statement_of))]
+#[tactic(auto)]
 pub fn statement_at<'a>(
     alloc: Global,
     levels: u32,
@@ -461,7 +464,30 @@ pub fn statement_at<'a>(
     ensures numbers { IfOk result (λ x. x.value.count ≡ number + count (statement_view x.value.tree)) }
     ensures place { IfOk result (Counts at number texts.now) }
 {
-    if !has_semicolon(texts) {
+    let beginning = beginning_of(alloc, texts)?;
+    statement_begun(alloc, levels, context, at, number, beginning, texts)
+}
+
+/// A statement that begins with this.
+#[cycle(reader)]
+#[tactic(auto, unfolding(pli_parse_statement::specs::StatementReading::statement_of), using(crate::proofs::StatementBeginnings::behind_label))]
+fn statement_begun<'a>(
+    alloc: Global,
+    levels: u32,
+    context: Context,
+    at: u32,
+    number: u32,
+    beginning: Beginning<'a>,
+    texts: &'a [TokenText],
+) -> Result<Front<'a, Counted<Statement>>, ParseError>
+    requires place { at + length texts.now ≤ 200000 }
+    requires number { number ≤ at }
+    requires begins { IsBeginning texts.now beginning }
+    ensures value { Gives (front_view (tree_view statement_view)) result (statement_at levels (context_view context) at number texts.now) }
+    ensures numbers { IfOk result (λ x. x.value.count ≡ number + count (statement_view x.value.tree)) }
+    ensures place { IfOk result (Counts at number texts.now) }
+{
+    if !beginning.has_semicolon {
         return Err(fault(Code::EndMissing, last_place(at, texts)));
     }
     if let Some(place) = bad_label(context.standing, at, texts) {
@@ -473,6 +499,7 @@ pub fn statement_at<'a>(
         levels,
         context,
         &label.value,
+        beginning.kind,
         label.next,
         number,
         label.rest,

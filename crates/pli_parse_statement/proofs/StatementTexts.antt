@@ -1,15 +1,18 @@
 -- The text of a statement: the tokens up to its first `;`.
-use Rattle.std.proofs.Common.{◌≡◌, ◌<◌, ◌≤◌, nat_lt, ℕ, suc, zero, Bool, true, false, ◌||◌, cond, is_some, Some, None, Option, option_map, [], ◌∷◌, take, length, get_or, refl, ap, ◌∙◌, sym, arith}
+use Rattle.std.proofs.Common.{true≢false, ◌≡◌, ◌<◌, ◌≤◌, nat_lt, ℕ, suc, zero, Bool, true, false, ◌||◌, cond, is_some, Some, None, Option, option_map, [], ◌∷◌, take, length, get_or, refl, ap, ◌∙◌, sym, arith}
 use Rattle.std.specs.List.{position, position_or_len}
 use Rattle.std.proofs.lemmas.Bool.{ltb-false}
 use Rattle.std.proofs.lemmas.List.Quantifiers.{position-Some}
 use Rattle.std.proofs.lemmas.List.Sums.{fails_before_first}
 use Rattle.pli_base.specs.Words.{Tokens, is_semicolon}
+use Rattle.pli_base.specs.declared.syntax.Identifier.{Identifier}
 use Rattle.pli_base.specs.declared.token.Sign.TheVariants as signs
 use Rattle.pli_base.specs.declared.token.TokenText.{TokenText}
 use Rattle.pli_base.specs.declared.token.TokenText.TheVariants as tokens
-use Rattle.pli_parse_statement.specs.StatementWords.{up_to_semicolon}
-use Rattle.pli_parse_statement.specs.StatementReading.{has_semicolon}
+use Rattle.pli_parse_statement.specs.StatementWords.{up_to_semicolon, kind_of}
+use Rattle.pli_parse_statement.specs.answers.StatementAnswers.{BehindKind}
+use Rattle.pli_parse_statement.specs.declared.first.StatementKind.{StatementKind}
+use Rattle.pli_parse_statement.specs.StatementReading.{has_semicolon, label_at, Another, next_by, next_of}
 
 -- one token more
 step : (t : TokenText) (ts : Tokens) → up_to_semicolon (t ∷ ts) ≡ cond (is_semicolon t) (Some []) (option_map (λ us. t ∷ us) (up_to_semicolon ts))
@@ -59,3 +62,35 @@ pub ahead : (ts : Tokens) → has_semicolon ts ≡ is_some (up_to_semicolon ts)
 unfolding has_semicolon up_to_semicolon
 ahead [] = refl
 ahead (t ∷ ts) = ap (λ b. is_semicolon t || b) (ahead ts) ∙ sym (one_more (is_semicolon t) t (up_to_semicolon ts)) ∙ ap is_some (sym (step t ts))
+
+-- neither a label nor its colon is a `;`
+pub ahead_of_label : (ts : Tokens) → has_semicolon ts ≡ has_semicolon (label_at 0 ts).rest
+unfolding has_semicolon label_at
+ahead_of_label (tokens.Word n ∷ tokens.Sign signs.Colon ∷ us) = refl
+ahead_of_label ts = refl
+
+-- what comes next where no `;` is ahead, where a label stands, and where none does
+pub next_endless : (ts : Tokens) → has_semicolon ts ≡ false → next_of ts ≡ Another
+unfolding next_of
+next_endless ts none = rw none refl
+
+pub next_labelled : (ts : Tokens) → is_some (label_at 0 ts).value ≡ true → next_of ts ≡ Another
+unfolding next_of
+next_labelled ts labelled = by (has_semicolon ts) (label_at 0 ts).value labelled
+  where
+    by : (s : Bool) (label : Option Identifier) → is_some label ≡ true → next_by s label (kind_of ts) ≡ Another
+    by s None h = absurd (true≢false (sym h))
+    by true (Some l) h = refl
+    by false (Some l) h = refl
+
+pub next_unlabelled : (ts : Tokens) → has_semicolon ts ≡ true → is_some (label_at 0 ts).value ≡ false
+    → next_of ts ≡ next_by true None (kind_of (label_at 0 ts).rest)
+unfolding next_of label_at
+next_unlabelled (tokens.Word n ∷ tokens.Sign signs.Colon ∷ us) ahead none = absurd (true≢false none)
+next_unlabelled ts ahead none = rw ahead refl
+
+-- where no label stands, tokens are passed over of the statement itself
+pub behind_unlabelled : (ts : Tokens) (k : StatementKind) → is_some (label_at 0 ts).value ≡ false → BehindKind (length (label_at 0 ts).rest) k → BehindKind (length ts) k
+unfolding label_at
+behind_unlabelled (tokens.Word n ∷ tokens.Sign signs.Colon ∷ us) k none passed = absurd (true≢false none)
+behind_unlabelled ts k none passed = passed

@@ -1,10 +1,10 @@
 //! What a statement begins with, and where it may stand.
 ghost use Rattle.std.specs.Option.{option_copied};
-ghost use Rattle.std.specs.Prelude.{◌≡◌, ◌≤◌, ◌+◌, length, position, option_map, is_some, IfOk, IfSome};
+ghost use Rattle.std.specs.Prelude.{◌≡◌, ℕ, ◌≤◌, ◌+◌, length, position, true, None, option_map, is_some, IfOk, IfSome};
 ghost use Rattle.pli_base.specs.Words.{is_semicolon};
 ghost use Rattle.pli_parse_statement.specs.StatementWords.{up_to_semicolon, begins_assignment, keyword_of, word_kind, first_kind, kind_of};
-ghost use Rattle.pli_parse_statement.specs.StatementReading.{has_semicolon, label_at, bad_label, unit_misplaced, standing_misplaced, misplacement, else_first, next_of};
-ghost use Rattle.pli_parse_statement.specs.answers.StatementAnswers.{context_view, kind_view, BehindKind, misplacement_view, next_view, BehindNext};
+ghost use Rattle.pli_parse_statement.specs.StatementReading.{has_semicolon, label_at, bad_label, unit_misplaced, standing_misplaced, misplacement, else_first, next_by, next_of};
+ghost use Rattle.pli_parse_statement.specs.answers.StatementAnswers.{context_view, kind_view, BehindKind, misplacement_view, next_view, BehindNext, IsBeginning};
 ghost use Rattle.pli_base.specs.answers.ReadingAnswers.{Continues, front_view};
 
 use crate::cursor::{behind_word, is_name};
@@ -35,6 +35,15 @@ pub enum StatementKind<'a> {
 pub enum Misplacement {
     AtLabel(Code),
     AtStatement(Code),
+}
+
+/// What a statement begins with.
+#[derive(Clone, Copy)]
+pub struct Beginning<'a> {
+    /// Whether a `;` is ahead.
+    pub has_semicolon: bool,
+    /// What the statement is, by its tokens behind the label.
+    pub kind: StatementKind<'a>,
 }
 
 /// What comes next in a list of statements: its END, with the tokens behind it, or another statement.
@@ -120,17 +129,38 @@ fn first_kind(texts: &[TokenText]) -> StatementKind<'_>
     }
 }
 
-/// What a statement is, by its tokens behind the label.
-#[tactic(auto, unfolding(crate::specs::StatementWords::kind_of))]
-pub fn kind_of(alloc: Global, texts: &[TokenText]) -> Result<StatementKind<'_>, AllocError>
+/// What a statement is of these tokens, of which this is the text up to the first `;`, if there is one.
+#[tactic(auto, unfolding(crate::specs::StatementWords::kind_of, crate::specs::StatementWords::begins_assignment))]
+fn kind_of<'a>(
+    alloc: Global,
+    text: Option<&[TokenText]>,
+    texts: &'a [TokenText],
+) -> Result<StatementKind<'a>, AllocError>
+    requires { up_to_semicolon texts.now ≡ option_copied text }
     ensures value { IfOk result (λ kind. kind_view kind ≡ kind_of texts.now) }
     ensures place { IfOk result (BehindKind (length texts.now)) }
 {
-    if begins_assignment(alloc, texts)? {
-        Ok(StatementKind::Assigns)
-    } else {
-        Ok(first_kind(texts))
+    if let Some(text) = text {
+        if is_assignment(alloc, text)? {
+            return Ok(StatementKind::Assigns);
+        }
     }
+    Ok(first_kind(texts))
+}
+
+/// What a statement begins with: its `;` is looked for once, and it is tested once whether it is an assignment.
+#[tactic(auto, using(crate::proofs::StatementTexts::ahead, crate::proofs::StatementTexts::ahead_of_label))]
+pub fn beginning_of(alloc: Global, texts: &[TokenText]) -> Result<Beginning<'_>, AllocError>
+    requires { length texts.now ≤ 200000 }
+    ensures { IfOk result (IsBeginning texts.now) }
+{
+    let behind = label_at(0, texts).rest;
+    let text = text_of(behind);
+    let kind = kind_of(alloc, text, behind)?;
+    Ok(Beginning {
+        has_semicolon: text.is_some(),
+        kind,
+    })
 }
 
 /// The label, if there is one.
@@ -247,21 +277,31 @@ pub fn else_first(alloc: Global, texts: &[TokenText]) -> Result<Option<&[TokenTe
     Ok(Some(behind))
 }
 
-/// What comes next in a list of statements.
-#[tactic(auto, unfolding(crate::specs::StatementReading::next_of))]
-pub fn next_of(alloc: Global, texts: &[TokenText]) -> Result<NextStatement<'_>, AllocError>
-    requires { length texts.now ≤ 200000 }
-    ensures value { IfOk result (λ next. next_view next ≡ next_of texts.now) }
-    ensures place { IfOk result (BehindNext (length texts.now)) }
+/// What comes next in a list of statements, by what the statement is that has no label.
+#[tactic(auto)]
+fn next_by(kind: StatementKind<'_>) -> NextStatement<'_>
+    ensures value { next_view result ≡ next_by true None (kind_view kind.entry) }
+    ensures place { (n : ℕ) → BehindKind n kind.entry → BehindNext n result }
 {
-    if !has_semicolon(texts) {
-        return Ok(NextStatement::Another);
+    match kind {
+        StatementKind::Keyed(Keyword::End, behind) => NextStatement::EndsHere(behind),
+        _ => NextStatement::Another,
+    }
+}
+
+/// What comes next in a list of statements, which begins with this.
+#[tactic(auto, using(crate::proofs::StatementTexts::next_unlabelled, crate::proofs::StatementTexts::next_labelled, crate::proofs::StatementTexts::next_endless, crate::proofs::StatementTexts::behind_unlabelled))]
+pub fn next_of<'a>(beginning: &Beginning<'a>, texts: &[TokenText]) -> NextStatement<'a>
+    requires place { length texts.now ≤ 200000 }
+    requires begins { IsBeginning texts.now beginning.now }
+    ensures value { next_view result ≡ next_of texts.now }
+    ensures place { BehindNext (length texts.now) result }
+{
+    if !beginning.has_semicolon {
+        return NextStatement::Another;
     }
     if label_at(0, texts).value.is_some() {
-        return Ok(NextStatement::Another);
+        return NextStatement::Another;
     }
-    match kind_of(alloc, texts)? {
-        StatementKind::Keyed(Keyword::End, behind) => Ok(NextStatement::EndsHere(behind)),
-        _ => Ok(NextStatement::Another),
-    }
+    next_by(beginning.kind)
 }

@@ -14,8 +14,8 @@ mod word;
 pub use control::control_at;
 pub use cursor::{expression_in, is_name};
 pub use first::{
-    Context, Misplacement, NextStatement, StatementKind, bad_label, else_first, has_semicolon,
-    kind_of, label_at, next_of, why_misplaced,
+    Beginning, Context, Misplacement, NextStatement, StatementKind, bad_label, beginning_of,
+    else_first, has_semicolon, label_at, next_of, why_misplaced,
 };
 pub use heading::{Heading, heading_at, word_taken};
 pub use keyword::{Keyword, StatementStanding, named_condition, statement_keyword};

@@ -10,6 +10,7 @@ use Rattle.pli_base.specs.Statements as tree
 use Rattle.pli_base.specs.views.StatementView as views
 use Rattle.pli_parse_statement.specs.StatementWords.{Context}
 use Rattle.pli_parse_statement.specs.StatementWords as grammar
+use Rattle.pli_parse_statement.specs.declared.first.Beginning.{Beginning}
 use Rattle.pli_parse_statement.specs.declared.first.Context as first
 use Rattle.pli_parse_statement.specs.declared.first.StatementKind.{StatementKind}
 use Rattle.pli_parse_statement.specs.declared.first.StatementKind.TheVariants as kinds
@@ -104,6 +105,12 @@ abbrev pub BehindKind : ℕ → StatementKind → Type 0
 BehindKind n (kinds.Empty rest) = length rest.now + 1 ≡ n
 BehindKind n (kinds.Keyed keyword rest) = length rest.now + words keyword ≡ n
 BehindKind n kind = Unit {0}
+
+-- what a statement begins with: whether a `;` is ahead, and what it is behind its label
+pub record IsBeginning (ts : Tokens) (b : Beginning) : Type 0 where
+  pub ahead : b.has_semicolon ≡ reading.has_semicolon ts
+  pub kind : kind_view b.kind ≡ grammar.kind_of (reading.label_at 0 ts).rest
+  pub place : BehindKind (length (reading.label_at 0 ts).rest) b.kind
 
 -- a statement that may not stand where it does
 abbrev pub misplacement_view : Misplacement → reading.Misplacement

@@ -35,7 +35,7 @@ pub list_in-returns-in_err-ended-in-EndsHere-clause-value : goal.list_in-returns
 list_in-returns-in_err-ended-in-EndsHere-clause-value t c =
     let l = c.loop-statements in
     let p = err_from_is_err_and c.from_residual-in_err-ended-in-EndsHere.result c.from_residual-in_err-ended-in-EndsHere.ensures.1 in
-    let next : next_of l.rest.now ≡ EndsHere c.in-EndsHere.behind.now = sym c.in_ok-behind.ensures.value ∙ ap next_view c.in-EndsHere.is in
+    let next : next_of l.rest.now ≡ EndsHere c.in-EndsHere.behind.now = sym c.next_of.ensures.value ∙ ap next_view c.in-EndsHere.is in
     rw (p.1, p.2)
     (end_fails (statement_at c.args.levels) (context_view c.args.context) c.args.label.now l.statements.items l.next l.count l.rest.now
     (list_in (inside_at c.args.levels) (context_view c.args.context) c.args.label.now c.args.at c.args.number c.args.texts.now)
@@ -44,7 +44,7 @@ list_in-returns-in_err-ended-in-EndsHere-clause-value t c =
 pub list_in-returns-in-EndsHere-clause-value : goal.list_in-returns-in-EndsHere-clause-value
 list_in-returns-in-EndsHere-clause-value t c =
     let l = c.loop-statements in
-    let next : next_of l.rest.now ≡ EndsHere c.in-EndsHere.behind.now = sym c.in_ok-behind.ensures.value ∙ ap next_view c.in-EndsHere.is in
+    let next : next_of l.rest.now ≡ EndsHere c.in-EndsHere.behind.now = sym c.next_of.ensures.value ∙ ap next_view c.in-EndsHere.is in
     rw c.front.ensures
     (ends (statement_at c.args.levels) (context_view c.args.context) c.args.label.now l.statements.items l.next l.count l.rest.now
     (list_in (inside_at c.args.levels) (context_view c.args.context) c.args.label.now c.args.at c.args.number c.args.texts.now)
@@ -54,7 +54,7 @@ pub list_in-returns-in_err-read-in-Another-clause-value : goal.list_in-returns-i
 list_in-returns-in_err-read-in-Another-clause-value t c =
     let l = c.loop-statements in
     let p = err_from_is_err_and c.from_residual-in_err-read-in-Another.result c.from_residual-in_err-read-in-Another.ensures.1 in
-    let next : next_of l.rest.now ≡ Another = sym c.in_ok-behind.ensures.value ∙ ap next_view c.in-Another.is in
+    let next : next_of l.rest.now ≡ Another = sym c.next_of.ensures.value ∙ ap next_view c.in-Another.is in
     rw (p.1, p.2)
     (statement_fails (statement_at c.args.levels) (context_view c.args.context) c.args.label.now l.statements.items l.next l.count l.rest.now
     (list_in (inside_at c.args.levels) (context_view c.args.context) c.args.label.now c.args.at c.args.number c.args.texts.now)
@@ -64,7 +64,7 @@ pub list_in-loop-statements-preserved : goal.list_in-loop-statements-preserved
 list_in-loop-statements-preserved t c =
     let l = c.loop-statements in
     let read = c.in_ok-read-in-Another.read in
-    let next : next_of l.rest.now ≡ Another = sym c.in_ok-behind.ensures.value ∙ ap next_view c.in-Another.is in
+    let next : next_of l.rest.now ≡ Another = sym c.next_of.ensures.value ∙ ap next_view c.in-Another.is in
     record {
       value = rw c.in_ok-push-in-Another.ensures.items
           (goes_on (statement_at c.args.levels) (context_view c.args.context) c.args.label.now l.statements.items l.next l.count l.rest.now
