@@ -14,7 +14,6 @@ mod marks;
 mod meanings;
 mod names_in_attributes;
 mod parameters;
-mod references;
 mod resolving;
 mod scopes;
 mod told;

@@ -1,23 +1,24 @@
-//! The faults of the marks of a unit, one after another.
+//! The faults of the marks of a unit, one after another, and what the names mean that they use.
 ghost use Rattle.std.specs.Prelude.{◌≡◌, ◌+◌, ◌≤◌, ◌++◌, [], map, length, IfOk, OnOk};
 ghost use Rattle.std.specs.List.{flat_map};
 ghost use Rattle.pli_base.specs.views.DeclarationView.{item_view};
-ghost use Rattle.pli_declare_outline.specs.Outlines.{Used};
+ghost use Rattle.pli_declare_outline.specs.Outlines.{Used, Jumped};
 ghost use Rattle.pli_declare_outline.specs.views.OutlineView.{mark_view, marks_view, regions_view, outline_view};
 ghost use Rattle.pli_declare_constructs.specs.Regions.{block_of};
 ghost use Rattle.pli_declare_tables.specs.Tables.{inner_marks};
 ghost use Rattle.pli_declare.specs.Resolution.{parameter_faults, used_faults, faults_after};
 ghost use Rattle.pli_declare.specs.DeclaredNames.{declared_names};
+ghost use Rattle.pli_declare.specs.Resolved.{of_marks, uses_at};
 ghost use Rattle.pli_declare_faults.specs.answers.Walks.{AreCodes, name_faults};
 
-use crate::jumps::jump_code;
 use crate::parameters::tell_parameters;
-use crate::references::reference_code;
 use crate::scopes::Scopes;
 use crate::told::tell;
+use crate::uses::{add_use, jump, reference};
 use pli_base::declaration::Item;
 use pli_base::syntax::Identifier;
 use pli_base::{Code, Fault};
+use pli_declare::Use;
 use pli_declare_constructs::Nesting;
 use pli_declare_outline::{Mark, Outline, PlacedMark};
 use std::alloc::{AllocError, Global};
@@ -78,32 +79,53 @@ fn tell_declared(
     }
 }
 
-/// The fault of a reference, at its first name.
+/// The fault of a reference and what it means, at its first name.
 fn tell_reference(
     alloc: Global,
     scopes: &Scopes,
     here: usize,
     names: &[Identifier],
     faults: &mut Vec<Fault>,
+    uses: &mut Vec<Use>,
 ) -> Result<(), AllocError>
-    ensures { OnOk result (faults.new.items ≡ faults.old.items ++ used_faults (outline_view scopes.now.outline.now) here (Used names.now)) }
+    ensures faults { OnOk result (faults.new.items ≡ faults.old.items ++ used_faults (outline_view scopes.now.outline.now) here (Used names.now)) }
+    ensures uses { OnOk result (uses.new.items ≡ uses.old.items ++ uses_at (outline_view scopes.now.outline.now) here (Used names.now)) }
 {
     let Some(first) = names.first() else {
         return Ok(());
     };
-    let code = reference_code(alloc, scopes, here, names)?;
-    tell(faults, first.at, code)
+    let used = reference(alloc, scopes, here, names)?;
+    tell(faults, first.at, used.code)?;
+    add_use(uses, first.at, used.target)
 }
 
-/// The faults of the parameters of a mark, and of what it uses.
+/// The fault of a GOTO and what its label means, at the label.
+fn tell_jump(
+    scopes: &Scopes,
+    here: usize,
+    label: Identifier,
+    faults: &mut Vec<Fault>,
+    uses: &mut Vec<Use>,
+) -> Result<(), AllocError>
+    ensures faults { OnOk result (faults.new.items ≡ faults.old.items ++ used_faults (outline_view scopes.now.outline.now) here (Jumped label)) }
+    ensures uses { OnOk result (uses.new.items ≡ uses.old.items ++ uses_at (outline_view scopes.now.outline.now) here (Jumped label)) }
+{
+    let used = jump(scopes, here, label.name);
+    tell(faults, label.at, used.code)?;
+    add_use(uses, label.at, used.target)
+}
+
+/// The faults of the parameters of a mark, and of what it uses, which is looked up once, with what that means.
 fn tell_used(
     alloc: Global,
     scopes: &Scopes,
     placed: &PlacedMark,
     faults: &mut Vec<Fault>,
+    uses: &mut Vec<Use>,
 ) -> Result<(), AllocError>
-    ensures { OnOk result (let o = outline_view scopes.now.outline.now in let mark = mark_view placed.now.mark in
+    ensures faults { OnOk result (let o = outline_view scopes.now.outline.now in let mark = mark_view placed.now.mark in
         faults.new.items ≡ faults.old.items ++ parameter_faults o mark ++ used_faults o placed.now.region mark) }
+    ensures uses { OnOk result (uses.new.items ≡ uses.old.items ++ uses_at (outline_view scopes.now.outline.now) placed.now.region (mark_view placed.now.mark)) }
 {
     let here = placed.region;
     match &placed.mark {
@@ -118,11 +140,8 @@ fn tell_used(
                 faults,
             )
         }
-        Mark::Used(names) => tell_reference(alloc, scopes, here, names, faults),
-        Mark::Jumped(label) => {
-            let code = jump_code(scopes, here, label.name);
-            tell(faults, label.at, code)
-        }
+        Mark::Used(names) => tell_reference(alloc, scopes, here, names, faults, uses),
+        Mark::Jumped(label) => tell_jump(scopes, here, *label, faults, uses),
     }
 }
 
@@ -137,23 +156,26 @@ pub(crate) fn block_of(outline: &Outline, nesting: &Nesting, region: usize) -> u
     }
 }
 
-/// The faults of the marks behind the first, in their order, where codes are those of each name of each block.
+/// The faults of the marks behind the first, in their order, where codes are those of each name of each block; and what the names
+/// mean that they use.
 pub(crate) fn tell_marks(
     alloc: Global,
     scopes: &Scopes,
     codes: &[Vec<Option<Code>>],
     marks: &[PlacedMark],
     faults: &mut Vec<Fault>,
+    uses: &mut Vec<Use>,
 ) -> Result<(), AllocError>
     requires codes { AreCodes (map (λ list. list.items) codes.now) (outline_view scopes.now.outline.now) }
     requires marks { marks_view marks.now ≡ inner_marks (outline_view scopes.now.outline.now).marks }
-    ensures { OnOk result (faults.new.items ≡ faults.old.items ++ faults_after (outline_view scopes.now.outline.now) [] (marks_view marks.now)) }
+    ensures faults { OnOk result (faults.new.items ≡ faults.old.items ++ faults_after (outline_view scopes.now.outline.now) [] (marks_view marks.now)) }
+    ensures uses { OnOk result (uses.new.items ≡ uses.old.items ++ of_marks (uses_at (outline_view scopes.now.outline.now)) (marks_view marks.now)) }
 {
     let mut next = Vec::from_elem(alloc, 0, codes.len())?;
     for placed in marks {
         let block = block_of(scopes.outline, scopes.nesting, placed.region);
         next[block] = tell_declared(&codes[block], next[block], &placed.mark, faults)?;
-        tell_used(alloc, scopes, placed, faults)?;
+        tell_used(alloc, scopes, placed, faults, uses)?;
     }
     Ok(())
 }

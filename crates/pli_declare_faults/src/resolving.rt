@@ -14,13 +14,13 @@ ghost use Rattle.pli_declare.specs.views.ResolvedView.{IsResolved};
 ghost use Rattle.pli_declare_faults.specs.answers.Walks.{AreParameters};
 
 use crate::attributes::named_meanings;
+use crate::meanings::meanings;
 use crate::parameters::parameters;
 use crate::scopes::Scopes;
-use crate::unit::faults_told;
-use crate::uses::use_meanings;
+use crate::unit::outline_told;
 use pli_base::statement::Procedure;
 use pli_base::{Failure, Fault, Name};
-use pli_declare::{BlockDeclarations, Resolved, UnitMeanings};
+use pli_declare::{BlockDeclarations, Resolved, UnitMeanings, Use};
 use pli_declare_constructs::Nesting;
 use pli_declare_found::searched_tables;
 use pli_declare_outline::{Outline, PlacedMark};
@@ -96,38 +96,41 @@ fn outermost<'a>(
     declare(alloc, &tables.unit.entries, &[])
 }
 
-/// What the names that marks use and declare mean.
+/// What the names mean that marks declare, beside what those mean that they use.
 fn unit_meanings(
     alloc: Global,
     scopes: &Scopes,
     marks: &[PlacedMark],
+    uses: &[Use],
 ) -> Result<UnitMeanings, AllocError>
-    ensures uses { IfOk result (λ meanings. AreMeanings meanings.uses (of_marks (uses_at (outline_view scopes.now.outline.now)) (marks_view marks.now))) }
+    ensures uses { IfOk result (λ meanings. AreMeanings meanings.uses uses.now) }
     ensures areas { IfOk result (λ meanings. AreMeanings meanings.named.areas (of_marks (areas_at (outline_view scopes.now.outline.now)) (marks_view marks.now))) }
     ensures locators { IfOk result (λ meanings. AreMeanings meanings.named.locators (of_marks (locators_at (outline_view scopes.now.outline.now)) (marks_view marks.now))) }
 {
     Ok(UnitMeanings {
-        uses: use_meanings(alloc, scopes, marks)?,
+        uses: meanings(alloc, uses)?,
         named: named_meanings(alloc, scopes, marks)?,
     })
 }
 
-/// The resolved unit of a tree without faults, by its outline.
+/// The resolved unit of a tree without faults, by its outline and what the names mean that it uses.
 #[tactic(auto, unfolding(pli_declare::specs::Resolved::resolved_of))]
 fn resolved<'a>(
     alloc: Global,
     unit: &'a Procedure,
     scopes: &Scopes<'_, 'a>,
+    uses: &[Use],
 ) -> Result<Resolved<'a>, AllocError>
     requires outlined { outline_view scopes.now.outline.now ≡ outline_of (unit_view unit.now) }
     requires faultless { outline_faults (outline_view scopes.now.outline.now) (outline_view scopes.now.outline.now).marks ≡ [] }
+    requires used { uses.now ≡ of_marks (uses_at (outline_view scopes.now.outline.now)) (inner_marks (outline_view scopes.now.outline.now).marks) }
     ensures { IfOk result (λ r. r ≡ unit.now) }
 {
     let marks = marks_behind(scopes.outline);
     let regions = Vec::from_slice(alloc, &scopes.outline.regions)?;
     let outermost = outermost(alloc, scopes.outline, scopes.tables)?;
     let blocks = blocks(alloc, scopes.outline, scopes.tables)?;
-    let meanings = unit_meanings(alloc, scopes, marks)?;
+    let meanings = unit_meanings(alloc, scopes, marks, uses)?;
     Ok(Resolved::new(unit, regions, outermost, blocks, meanings))
 }
 
@@ -150,12 +153,11 @@ fn resolve_told<'a>(
         nesting,
         tables,
     };
-    let faults = faults_told(alloc, &scopes)?;
-    if !faults.is_empty() {
-        return Err(ResolveError::Fault(faults));
+    let told = outline_told(alloc, &scopes)?;
+    if !told.faults.is_empty() {
+        return Err(ResolveError::Fault(told.faults));
     }
-    drop(faults);
-    Ok(resolved(alloc, unit, &scopes)?)
+    Ok(resolved(alloc, unit, &scopes, &told.uses)?)
 }
 
 /// The resolved unit of a tree whose outline is given, or all faults of its declarations and uses: for each declared name and

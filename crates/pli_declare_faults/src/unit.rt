@@ -1,8 +1,10 @@
-//! The faults of the declarations of a unit.
+//! The faults of the declarations of a unit, and what the names mean that it uses.
 ghost use Rattle.std.specs.Prelude.{◌≡◌, ◌++◌, map, IfOk, OnOk};
 ghost use Rattle.pli_declare_outline.specs.views.OutlineView.{outline_view, placed_view};
 ghost use Rattle.pli_declare_tables.specs.answers.Answers.{AreOf};
+ghost use Rattle.pli_declare_tables.specs.Tables.{inner_marks};
 ghost use Rattle.pli_declare.specs.Resolution.{unit_faults, outline_faults};
+ghost use Rattle.pli_declare.specs.Resolved.{of_marks, uses_at};
 ghost use Rattle.pli_declare_faults.specs.answers.Walks.{AreCodes};
 
 use crate::heading::{heading_code, returned_name_nothing};
@@ -12,6 +14,7 @@ use crate::parameters::{judged_blocks, parameters, tell_parameters};
 use crate::scopes::Scopes;
 use crate::told::tell;
 use pli_base::{Code, Fault};
+use pli_declare::Use;
 use pli_declare_outline::{Mark, Outline, PlacedMark};
 use pli_declare_tables::Tables;
 use std::alloc::{AllocError, Global};
@@ -67,23 +70,38 @@ fn tell_unit(
     )
 }
 
-/// The faults of the marks of an outline.
-fn tell_outline(alloc: Global, scopes: &Scopes, faults: &mut Vec<Fault>) -> Result<(), AllocError>
-    ensures { OnOk result (faults.new.items ≡ faults.old.items ++ outline_faults (outline_view scopes.now.outline.now) (outline_view scopes.now.outline.now).marks) }
+/// The faults of the marks of an outline, and what the names mean that they use.
+fn tell_outline(
+    alloc: Global,
+    scopes: &Scopes,
+    faults: &mut Vec<Fault>,
+    uses: &mut Vec<Use>,
+) -> Result<(), AllocError>
+    ensures faults { OnOk result (faults.new.items ≡ faults.old.items ++ outline_faults (outline_view scopes.now.outline.now) (outline_view scopes.now.outline.now).marks) }
+    ensures uses { OnOk result (uses.new.items ≡ uses.old.items ++ of_marks (uses_at (outline_view scopes.now.outline.now)) (inner_marks (outline_view scopes.now.outline.now).marks)) }
 {
     let Some((first, marks)) = scopes.outline.marks.split_first() else {
         return Ok(());
     };
     tell_unit(alloc, scopes.outline, scopes.tables, first, faults)?;
     let codes = codes_of(alloc, scopes)?;
-    tell_marks(alloc, scopes, &codes, marks, faults)
+    tell_marks(alloc, scopes, &codes, marks, faults, uses)
 }
 
-/// All faults of the marks of an outline.
-pub(crate) fn faults_told(alloc: Global, scopes: &Scopes) -> Result<Vec<Fault>, AllocError>
-    ensures { IfOk result (λ faults. faults.items ≡ outline_faults (outline_view scopes.now.outline.now) (outline_view scopes.now.outline.now).marks) }
+/// All faults of an outline, and what each reference and the label of each GOTO means.
+#[derive(Drop)]
+pub(crate) struct Told {
+    pub faults: Vec<Fault>,
+    pub uses: Vec<Use>,
+}
+
+/// What is told of the marks of an outline.
+pub(crate) fn outline_told(alloc: Global, scopes: &Scopes) -> Result<Told, AllocError>
+    ensures faults { IfOk result (λ told. told.faults.items ≡ outline_faults (outline_view scopes.now.outline.now) (outline_view scopes.now.outline.now).marks) }
+    ensures uses { IfOk result (λ told. told.uses.items ≡ of_marks (uses_at (outline_view scopes.now.outline.now)) (inner_marks (outline_view scopes.now.outline.now).marks)) }
 {
     let mut faults = Vec::new(alloc);
-    tell_outline(alloc, scopes, &mut faults)?;
-    Ok(faults)
+    let mut uses = Vec::new(alloc);
+    tell_outline(alloc, scopes, &mut faults, &mut uses)?;
+    Ok(Told { faults, uses })
 }

@@ -12,6 +12,8 @@ use Rattle.pli_declare_faults.specs.answers.Walks.{of_blocks, block_codes, name_
 use Rattle.pli_declare_faults.proofs.NumberLists.{replicate_numbers, length_of_numbers}
 use Rattle.pli_declare_faults.proofs.ParametersGathered.{marks_more}
 use Rattle.pli_declare_faults.proofs.MarksPassed.{room, marks_told, next_told, block_in, at_block, codes_within, codes_at, left_marks, all_marks}
+use Rattle.pli_declare.specs.Resolved.{uses_at}
+use Rattle.pli_declare_faults.proofs.NamedUses.{mark_passed}
 use Rattle.pli_declare_faults.proofs.marks.tell_marks.Goals as goal
 
 pub loop-placed-init : goal.loop-placed-init
@@ -23,6 +25,7 @@ loop-placed-init c =
           ∙ ap (λ n. replicate n 0) (sym (length-map c.args.codes.now (λ list. list.items)) ∙ ap length c.requires.codes ∙ length_of_numbers (block_codes o) 0 count)
           ∙ replicate_numbers 0 0 count;
       told = refl;
+      used = refl;
     }
 
 pub bounds-codes-block : goal.bounds-codes-block
@@ -90,6 +93,7 @@ loop-placed-preserved c =
           (c.in_ok-next-2.ensures.number ∙ ap (λ k. k + length names) number) (ap (λ k. set c.loop-placed.next.items k c.in_ok-next-2.field-0) c.block_of-block.ensures)
           ∙ ap (λ bs. of_blocks o (λ k. declared_by o k bs)) (sym front);
       told = ap (λ bs. c.tell_used.new.faults.items ++ faults_after o bs rest) front
-          ∙ marks_told o before p rest all faults c.tell_declared.new.faults.items c.tell_used.new.faults.items _ e c.in_ok-tell_used.ensures
+          ∙ marks_told o before p rest all faults c.tell_declared.new.faults.items c.tell_used.new.faults.items _ e c.in_ok-tell_used.ensures.faults
           (ap (λ qs. faults ++ faults_after o before qs) (sym (left_marks ms n x lt c.placed-item.is)) ∙ c.loop-placed.invariant.told);
+      used = mark_passed (uses_at o) ms n x c.loop-placed.uses.items c.tell_used.new.uses.items _ lt c.placed-item.is c.in_ok-tell_used.ensures.uses c.loop-placed.invariant.used;
     }

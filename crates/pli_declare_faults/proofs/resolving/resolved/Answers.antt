@@ -3,7 +3,7 @@ use Rattle.pli_base.specs.views.StatementView.{unit_view}
 use Rattle.pli_declare_outline.specs.views.OutlineView.{outline_view, regions_view, marks_view}
 use Rattle.pli_declare_tables.specs.Tables.{inner_marks}
 use Rattle.pli_declare.specs.Resolved as plain
-use Rattle.pli_declare.specs.Resolved.{resolution_of, resolved_of, of_marks, uses_at, areas_at, locators_at, meaning_at}
+use Rattle.pli_declare.specs.Resolved.{resolution_of, resolved_of, of_marks, areas_at, locators_at, meaning_at}
 use Rattle.pli_declare.specs.declared.block.Use.{Use}
 use Rattle.pli_declare_faults.proofs.resolving.resolved.Goals as goal
 
@@ -19,7 +19,7 @@ new-requires c =
       outermost_is = c.in_ok-outermost.ensures ∙ ap (λ (r : plain.Resolved). r.outermost) same;
       blocks_are = c.in_ok-blocks.ensures ∙ ap (λ (r : plain.Resolved). r.blocks) same;
       meanings_are = λ at. c.in_ok-meanings.ensures.uses at
-          ∙ ap (λ (us : List Use). meaning_at us at) (ap (of_marks (uses_at o)) marks ∙ ap (λ (r : plain.Resolved). r.uses) same);
+          ∙ ap (λ (us : List Use). meaning_at us at) (c.requires.used ∙ ap (λ (r : plain.Resolved). r.uses) same);
       areas_are = λ at. c.in_ok-meanings.ensures.areas at
           ∙ ap (λ (us : List Use). meaning_at us at) (ap (of_marks (areas_at o)) marks ∙ ap (λ (r : plain.Resolved). r.areas) same);
       locators_are = λ at. c.in_ok-meanings.ensures.locators at
