@@ -1,7 +1,7 @@
 -- What DUMP answers is a case of the session.
 use Rattle.std.specs.Prelude.{◌≡◌, ℕ, true, false, ◌++◌, List, refl}
-use Rattle.std.proofs.Common.{sym, subst, ap, ◌∙◌}
-use Rattle.pli_bench.specs.Dumps.{bytes_of, hex_from}
+use Rattle.std.proofs.Common.{sym, subst, ap}
+use Rattle.pli_bench.specs.Dumps.{hex_from}
 use Rattle.pli_bench.specs.Exchanges.{exchange}
 use Rattle.pli_bench.specs.Session.{State, Dumps, okay, not_built}
 use Rattle.pli_bench.specs.answers.Standing.{IsOfMembers}

@@ -6,12 +6,13 @@ use Rattle.pli_base.specs.Name.{Name}
 use Rattle.pli_base.specs.declared.token.Fault.{Fault}
 use Rattle.pli_base.specs.declared.token.Origin.{Origin}
 use Rattle.pli_compile.specs.Faults.{faults_of}
-use Rattle.pli_link.specs.Units.{CompiledUnit, Compiled, as_unit}
+use Rattle.pli_link.specs.Units.{Compiled, as_unit}
 use Rattle.pli_meaning.specs.Scratch.{all_located, diagnostic_line, located, with_unit}
+use Rattle.pli_unit_code.specs.CodeTables.{Deck}
 use Rattle.pli_bench.specs.answers.Compiling.{Tells}
 
-pub tells : (unit : Name) (origins : List Origin) (r : Result CompiledUnit (List Fault)) (answer : Option Compiled) (old new : List ℕ)
+pub tells : (unit : Name) (origins : List Origin) (r : Result Deck (List Fault)) (answer : Option Compiled) (old new : List ℕ)
     → answer ≡ option_map (as_unit unit) (result_ok r) → new ≡ old ++ flat_map (diagnostic_line unit) (map (located unit origins) (faults_of r))
     → Tells unit (all_located unit origins (with_unit unit r)) answer old new
-tells unit origins (Ok c) answer old new is told = record { value = is; appended = told }
+tells unit origins (Ok d) answer old new is told = record { value = is; appended = told }
 tells unit origins (Err faults) answer old new is told = record { value = is; appended = told }

@@ -96,7 +96,7 @@ fn lent_units<'a>(alloc: Global, units: &'a [KeptUnit]) -> Result<Vec<NamedUnit<
     for unit in units {
         let named = NamedUnit {
             unit: unit.unit,
-            compiled: &unit.compiled,
+            deck: &unit.deck,
         };
         if lent.push(named).is_err() {
             return Err(AllocError);

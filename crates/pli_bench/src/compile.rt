@@ -4,22 +4,22 @@ ghost use Rattle.std.specs.List.{flat_map};
 ghost use Rattle.pli_meaning.specs.Scratch.{all_located, compiled_of, compiled_texts, diagnostic_line, located, origin_of, with_unit};
 ghost use Rattle.pli_bench.specs.answers.Compiling.{Tells};
 ghost use Rattle.pli_link.specs.Units.{as_unit};
-ghost use Rattle.pli_link.specs.views.UnitView.{compiled_unit_view};
+ghost use Rattle.pli_unit_code.specs.views.CodeView.{deck_view};
 ghost use Rattle.pli_bench.specs.views.KeptView.{kept_view};
 
 use pli_base::{Code, Fault, Name, Origin};
 use pli_compile::Compiler;
 use pli_include::{Expander, Expansion};
-use pli_link::CompiledUnit;
 use pli_members::Members;
+use pli_unit_code::Deck;
 use std::alloc::AllocError;
 use std::fmt::Write;
 
-/// A compiled unit, with the name of its member.
+/// The deck of a compiled unit, with the name of its member.
 #[derive(Drop)]
 pub struct KeptUnit {
     pub unit: Name,
-    pub compiled: CompiledUnit,
+    pub deck: Deck,
 }
 
 /// Compiles a unit, or appends its diagnostics to `text`, in the order of their tokens. A pass with faults is the last.
@@ -55,15 +55,15 @@ fn compile_expansion(
 {
     let compiled = compiler.compile(expansion.texts())?;
     write_faults(text, unit, expansion.origins(), compiled.faults())?;
-    Ok(named(unit, compiled.into_unit()))
+    Ok(named(unit, compiled.into_deck()))
 }
 
-/// A compiled unit, if there is one, with the name of its member.
-fn named(unit: Name, compiled: Option<CompiledUnit>) -> Option<KeptUnit>
-    ensures { option_map kept_view result ≡ option_map (as_unit unit) (option_map compiled_unit_view compiled) }
+/// The deck of a compiled unit, if there is one, with the name of its member.
+fn named(unit: Name, deck: Option<Deck>) -> Option<KeptUnit>
+    ensures { option_map kept_view result ≡ option_map (as_unit unit) (option_map deck_view deck) }
 {
-    match compiled {
-        Some(compiled) => Some(KeptUnit { unit, compiled }),
+    match deck {
+        Some(deck) => Some(KeptUnit { unit, deck }),
         None => None,
     }
 }

@@ -1,9 +1,9 @@
 -- Bytes that are all the same: what scalars hold that begin with them.
-use Rattle.std.proofs.Common.{◌≡◌, ℕ, zero, suc, ◌+◌, ◌-◌, ◌*◌, ◌/◌, ◌%◌, ◌^◌, ◌≤◌, nat_le, nat_eq, pos, Bool, true, false, true≢false, if◌then◌else◌, List, [], ◌∷◌, ◌++◌, map, length, take, drop, replicate, slice_index, refl, sym, ap, ◌∙◌, arith}
+use Rattle.std.proofs.Common.{◌≡◌, ℕ, zero, suc, ◌+◌, ◌-◌, ◌*◌, ◌/◌, ◌%◌, ◌^◌, ◌≤◌, nat_le, nat_eq, pos, Bool, true, false, if◌then◌else◌, List, [], ◌∷◌, ◌++◌, map, take, drop, replicate, slice_index, refl, sym, ap, ◌∙◌, arith}
 use Rattle.std.specs.Int.{w16, w32, w64, cast_signed, bit_at, div_ceil}
 use Rattle.std.specs.List.{range_with_len}
 use Rattle.std.proofs.lemmas.Bool.{and_parts, eqb-true}
-use Rattle.std.proofs.lemmas.List.{drop-replicate, length-map, map-append, take-replicate}
+use Rattle.std.proofs.lemmas.List.{drop-replicate, map-append, take-replicate}
 use Rattle.std.proofs.lemmas.List.FromFn.{length-range_with_len}
 use Rattle.std.proofs.lemmas.Nat.Bits.{bit_at-zero}
 use Rattle.std.proofs.lemmas.Simd.{splat_is_map}
@@ -92,9 +92,9 @@ mutual
   filled_first byte (Array bounds element) e =
       repeated_map (filled byte) (count_of bounds) (scalars_of element) ∙ ap (repeated (count_of bounds)) (filled_first byte element e)
   filled_first byte (Structure members) e = filled_firsts byte members e
-  filled_first byte Pointer e = absurd (true≢false (sym e))
-  filled_first byte Offset e = absurd (true≢false (sym e))
-  filled_first byte (Area n) e = absurd (true≢false (sym e))
+  filled_first byte Pointer e = ap (λ b. filled b Pointer ∷ []) (eqb-true byte 0 e)
+  filled_first byte Offset e = ap (λ b. filled b Offset ∷ []) (eqb-true byte 0 e)
+  filled_first byte (Area n) e = refl
 
   filled_firsts : (byte : ℕ) (ds : Members) → all_begin_with byte ds ≡ true → map (filled byte) (scalars_of_members ds) ≡ first_values_of ds
   filled_firsts byte NoMembers e = refl
@@ -103,8 +103,5 @@ mutual
       map-append (filled byte) (scalars_of d) (scalars_of_members ds)
       ∙ ap (λ vs. vs ++ map (filled byte) (scalars_of_members ds)) (filled_first byte d p.0) ∙ ap (λ vs. first_values d ++ vs) (filled_firsts byte ds p.1)
 
-pub filled_begins : (byte : ℕ) (d : Description) → begins_with byte d ≡ true
-    → (values_of d (replicate (size_of d) byte) ≡ first_values d) × (length (first_values d) ≡ length (scalars_of d))
-filled_begins byte d e =
-    let first = filled_first byte d e in
-    (all_filled byte d ∙ first, ap length (sym first) ∙ length-map (scalars_of d) (filled byte))
+pub filled_begins : (byte : ℕ) (d : Description) → begins_with byte d ≡ true → values_of d (replicate (size_of d) byte) ≡ first_values d
+filled_begins byte d e = all_filled byte d ∙ filled_first byte d e

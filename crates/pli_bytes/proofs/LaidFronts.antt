@@ -11,11 +11,12 @@ use Rattle.pli_map.specs.Scalars.{is_scalar, scalars_in, scalars_of, scalars_of_
 use Rattle.pli_map.specs.Sizes.{alignment_of, size_of, end_behind, stride_of, count_of}
 use Rattle.pli_map.specs.Values.{holds, are_held}
 use Rattle.pli_map.specs.views.DescriptionView.{description_view, members_view}
+use Rattle.pli_map.proofs.FirstHeld.{held_on}
 use Rattle.pli_value.specs.Value.{Value}
 use Rattle.pli_bytes.specs.answers.Laying.{Taken, NoneTaken, LaidAt, LaidFront}
 use Rattle.pli_bytes.specs.Changes.{IsPut}
 use Rattle.pli_bytes.specs.Contents.{scalars_at, value_in, values_of}
-use Rattle.pli_bytes.proofs.HeldValues.{all_taken, held_length, held_on, not_behind, not_before, some_left}
+use Rattle.pli_bytes.proofs.HeldValues.{all_taken, held_length, not_behind, not_before, some_left}
 use Rattle.pli_bytes.proofs.Laid.{laid_scalar, laid_none, laid_whole, LaidElements, laid_element, laid_member}
 use Rattle.pli_bytes.proofs.PartLists.{repeated, one_repeated, repeated_split, scalars_more, scalars_split}
 use Rattle.pli_bytes.proofs.Scalars.{counted, described, descriptions, scalar_itself}

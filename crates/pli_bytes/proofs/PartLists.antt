@@ -90,13 +90,6 @@ scalars_more xs i x within is =
     ∙ members_more tree.Description scalars_of scalars_of_members refl (λ d ds. refl) xs i x within is
 
 -- the values with which they begin
-pub firsts_split : (xs : List Description) (i : ℕ) (x : Description) → i < length xs → x ≡ get_or xs i x
-    → first_values_of (members_view xs)
-    ≡ first_values_of (members_view (take i xs)) ++ (first_values (description_view x) ++ first_values_of (members_view (drop (i + 1) xs)))
-firsts_split xs i x within is =
-    members_split Value first_values first_values_of refl (λ d ds. refl) xs i x within is
-    ∙ ap (λ n. first_values_of (members_view (take i xs)) ++ (first_values (description_view x) ++ first_values_of (members_view (drop n xs)))) (sym (next i))
-
 pub firsts_more : (xs : List Description) (i : ℕ) (x : Description) → i < length xs → x ≡ get_or xs i x
     → first_values_of (members_view (take (i + 1) xs)) ≡ first_values_of (members_view (take i xs)) ++ first_values (description_view x)
 firsts_more xs i x within is =

@@ -53,7 +53,7 @@ mutual
   rises (Bit n) = alone_rises (Bit n)
   rises Pointer = alone_rises Pointer
   rises Offset = alone_rises Offset
-  rises (Area n) = alone_rises (Area n)
+  rises (Area n) = omega arith
   rises (Array bounds element) =
       let stride = stride_of element in
       let count = count_of bounds in

@@ -44,7 +44,7 @@ scalar_alone (Varying n) scalar = refl
 scalar_alone (Bit n) scalar = refl
 scalar_alone Pointer scalar = refl
 scalar_alone Offset scalar = refl
-scalar_alone (Area n) scalar = refl
+scalar_alone (Area n) scalar = absurd (true≢false (sym scalar))
 scalar_alone (Array _ _) scalar = absurd (true≢false (sym scalar))
 scalar_alone (Structure _) scalar = absurd (true≢false (sym scalar))
 

@@ -1,16 +1,19 @@
 -- What is written at the front of bytes is a value's: a number in its width, and characters behind their length.
-use Rattle.std.proofs.Common.{◌≡◌, ℕ, ◌+◌, ◌^◌, ◌<◌, ◌≤◌, min, ℤ, List, ◌++◌, length, take, drop, refl, ap, sym, ◌∙◌, arith, append_assoc, length-append, length-drop}
+use Rattle.std.proofs.Common.{◌≡◌, ℕ, ◌+◌, ◌^◌, ◌<◌, ◌≤◌, min, true, ℤ, pos, List, ◌++◌, length, take, drop, refl, ap, sym, ◌∙◌, arith, append_assoc, length-append, length-drop}
 use Rattle.std.specs.Int.{Width, cast_signed, cast_unsigned}
+use Rattle.std.specs.Option.{unwrap_or}
 use Rattle.std.proofs.lemmas.Int.{to_z-of_z}
 use Rattle.std.proofs.lemmas.List.{drop_at, drop-drop, drop-take, take_at, take-take, take_min, length-take-le}
 use Rattle.std.proofs.Math.Seq.{take-append-add, drop-append-add}
 use mir.Val.{SFits}
 use Rattle.byteorder.specs.Endian.{big_bytes, big_number}
 use Rattle.byteorder.specs.Numbers.{big_from-take, big_number-reads_back, length-bytes_high_first}
-use Rattle.pli_map.specs.Description.{FixedBinary, Varying}
-use Rattle.pli_map.specs.Sizes.{number_bytes}
-use Rattle.pli_map.specs.StoredValues.{width_of}
-use Rattle.pli_value.specs.Value.{Number, Characters}
+use Rattle.pli_map.specs.Description.{Description, FixedBinary, Varying}
+use Rattle.pli_map.specs.Sizes.{number_bytes, size_of}
+use Rattle.pli_map.specs.StoredValues.{is_storable, stored_bytes, width_of}
+use Rattle.pli_map.specs.Values.{holds}
+use Rattle.pli_map.proofs.StoredLawsHold.{stored_bytes_fill, stored_is_loaded}
+use Rattle.pli_value.specs.Value.{Value, Number, Characters}
 use Rattle.pli_bytes.specs.Changes.{IsPut, IsAppended}
 use Rattle.pli_bytes.specs.Contents.{value_of, bytes_from}
 use Rattle.pli_bytes.proofs.PutFront.{behind, with_behind, behind_is, with_behind_is, put_front}
@@ -121,4 +124,19 @@ text_appended greatest before more room old first back limit inside before_is fi
       was = refl;
       put = text_written greatest (text ++ more) old new (omega (arith, size, fits)) limit inside new_is;
       fits = omega (arith, size, fits);
+    }
+
+-- ---- a value stored in all of its bytes
+
+pub stored_put : (d : Description) (v : Value) (old new : List ℕ) → is_storable d ≡ true → holds d v ≡ true
+    → new ≡ stored_bytes d v ++ drop (size_of d) old → IsPut d v 0 old new
+stored_put d v old new storable held is =
+    let front = stored_bytes d v in
+    let size : length front ≡ size_of d = stored_bytes_fill d v held in
+    let end : 0 + length front ≡ size_of d = omega (arith, size) in
+    record {
+      bytes = front;
+      size = size;
+      hold = ap (λ o. unwrap_or o (Number (pos 0))) (stored_is_loaded d v storable held);
+      put = is ∙ ap (λ k. front ++ drop k old) (sym end);
     }

@@ -1,6 +1,6 @@
 //! The values laid down with which scalars begin.
 ghost use Rattle.std.specs.Prelude.{◌≡◌, ◌≤◌, ◌<◌, ◌+◌, length, replicate, true, false, MatchOption};
-ghost use Rattle.pli_bytes.specs.answers.Laying.{FirstLaid, begins_with, all_begin_with};
+ghost use Rattle.pli_bytes.specs.answers.Laying.{LaidAt, begins_with, all_begin_with};
 ghost use Rattle.pli_bytes.specs.Contents.{values_of, with_bytes_at};
 ghost use Rattle.pli_map.specs.Description as tree;
 ghost use Rattle.pli_map.specs.Scalars.{scalars_in, scalars_of};
@@ -11,42 +11,44 @@ ghost use Rattle.pli_map.specs.views.DescriptionView.{description_view, members_
 use pli_map::{Bounds, Description, alignment, far_size, scalars_in};
 
 /// Lays down the values with which the scalars of a description begin, in as many bytes as it takes: zeros, blanks, empty
-/// strings; false exactly where a scalar has none, a locator or an area. No more than 16,777,216 bytes. Takes no memory.
-pub fn lay_first(description: &Description, bytes: &mut [u8]) -> bool
+/// strings, null locators. What the bytes of an area are then is not said. No more than 16,777,216 bytes. Takes no memory.
+pub fn lay_first(description: &Description, bytes: &mut [u8])
     requires size { length bytes.old ≡ size_of (description_view description.now) }
     requires limit { size_of (description_view description.now) ≤ 16777216 }
-    ensures held { let d = description_view description.now in result ≡ are_held (scalars_of d) (first_values d) }
-    ensures laid { let d = description_view description.now in result ≡ true → values_of d bytes.new ≡ first_values d }
+    ensures laid { let d = description_view description.now in values_of d bytes.new ≡ first_values d }
+    ensures held { let d = description_view description.now in are_held (scalars_of d) (values_of d bytes.new) ≡ true }
     ensures size { length bytes.new ≡ length bytes.old }
 {
-    lay_first_at(bytes, 0, description)
+    lay_first_at(bytes, 0, description);
 }
 
 /// The same for a description that stands at a byte.
 #[cycle(lay_first)]
-fn lay_first_at(bytes: &mut [u8], at: usize, description: &Description) -> bool
+fn lay_first_at(bytes: &mut [u8], at: usize, description: &Description)
     requires within { at + size_of (description_view description.now) ≤ length bytes.old }
     requires limit { size_of (description_view description.now) ≤ 16777216 }
-    ensures { FirstLaid result at (description_view description.now) bytes.old bytes.new }
+    ensures { let d = description_view description.now in LaidAt at d (first_values d) bytes.old bytes.new }
 {
     let size = far_size(description) as usize;
     if let Some(byte) = first_byte(description) {
         fill(bytes, at, size, byte);
-        return true;
+        return;
     }
     match description {
         Description::Array { bounds, element } => {
             if scalars_in(description) == 0 {
-                return true;
+                return;
             }
-            lay_first_elements(bytes, at, bounds, element, size)
+            lay_first_elements(bytes, at, bounds, element, size);
         }
         Description::Structure(members) => lay_first_members(bytes, at, members),
-        Description::Pointer | Description::Offset | Description::Area(_) => false,
         Description::FixedBinary(_)
         | Description::Character(_)
         | Description::Varying(_)
-        | Description::Bit(_) => unreachable!(),
+        | Description::Bit(_)
+        | Description::Pointer
+        | Description::Offset
+        | Description::Area(_) => unreachable!(),
     }
 }
 
@@ -71,9 +73,13 @@ fn begins_with(byte: u8, description: &Description) -> bool
     ensures { result ≡ begins_with byte (description_view description.now) }
 {
     match description {
-        Description::FixedBinary(_) | Description::Varying(_) | Description::Bit(_) => byte == 0,
+        Description::FixedBinary(_)
+        | Description::Varying(_)
+        | Description::Bit(_)
+        | Description::Pointer
+        | Description::Offset => byte == 0,
         Description::Character(_) => byte == b' ',
-        Description::Pointer | Description::Offset | Description::Area(_) => false,
+        Description::Area(_) => true,
         Description::Array { bounds: _, element } => begins_with(byte, element),
         Description::Structure(members) => all_begin_with(byte, members),
     }
@@ -107,39 +113,35 @@ fn lay_first_elements(
     bounds: &[Bounds],
     element: &Description,
     size: usize,
-) -> bool
+)
     requires within { at + size ≤ length bytes.old }
     requires limit { size ≤ 16777216 }
     requires size { size ≡ size_of (tree.Array bounds.now (description_view element.now)) }
     requires some { 0 < scalars_in (tree.Array bounds.now (description_view element.now)) }
-    ensures { FirstLaid result at (tree.Array bounds.now (description_view element.now)) bytes.old bytes.new }
+    ensures { let d = tree.Array bounds.now (description_view element.now) in
+        LaidAt at d (first_values d) bytes.old bytes.new }
 {
     let stride = far_size(element).next_multiple_of(u64::from(alignment(element))) as usize;
     if stride == 0 {
-        return lay_first_at(bytes, at, element);
+        lay_first_at(bytes, at, element);
+        return;
     }
     for made in 0..size / stride {
-        if !lay_first_at(bytes, at + made * stride, element) {
-            return false;
-        }
+        lay_first_at(bytes, at + made * stride, element);
     }
-    true
 }
 
 /// The same of a structure's members.
 #[cycle(lay_first)]
-fn lay_first_members(bytes: &mut [u8], at: usize, members: &[Description]) -> bool
+fn lay_first_members(bytes: &mut [u8], at: usize, members: &[Description])
     requires within { at + size_of (tree.Structure (members_view members.now)) ≤ length bytes.old }
     requires limit { size_of (tree.Structure (members_view members.now)) ≤ 16777216 }
-    ensures { FirstLaid result at (tree.Structure (members_view members.now)) bytes.old bytes.new }
+    ensures { let d = tree.Structure (members_view members.now) in LaidAt at d (first_values d) bytes.old bytes.new }
 {
     let mut end: u64 = 0;
     for member in members {
         let start = end.next_multiple_of(u64::from(alignment(member)));
-        if !lay_first_at(bytes, at + start as usize, member) {
-            return false;
-        }
+        lay_first_at(bytes, at + start as usize, member);
         end = start + far_size(member);
     }
-    true
 }

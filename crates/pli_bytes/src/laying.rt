@@ -49,6 +49,7 @@ fn lay_at<'v>(
             lay_elements(bytes, at, bounds, element, scalars, values)
         }
         Description::Structure(members) => lay_members(bytes, at, members, values),
+        Description::Area(_) => Some(values),
         _ => lay_scalar(bytes, at, description, values),
     }
 }

@@ -9,8 +9,8 @@ mod reading;
 mod scalar;
 
 pub use beginning::lay_first;
-pub use laws::parts_are_their_bytes;
+pub use laws::{parts_are_their_bytes, scalars_are_places};
 pub use laying::lay;
 pub use putting::{append_at, put_number_at, put_value_at};
 pub use reading::{number_at, text_at, value_at};
-pub use scalar::put_scalar;
+pub use scalar::put_on;

@@ -3,13 +3,14 @@ ghost use Rattle.std.specs.Prelude.{◌≡◌, ◌≤◌, ◌+◌, ◌++◌, len
 ghost use Rattle.pli_bytes.specs.Changes.{IsPut, PutOrSame, AppendedOrSame};
 ghost use Rattle.pli_map.specs.Description as tree;
 ghost use Rattle.pli_map.specs.Sizes.{number_bytes, size_of};
+ghost use Rattle.pli_map.specs.StoredValues.{is_storable};
 ghost use Rattle.pli_map.specs.Values.{holds};
 ghost use Rattle.pli_map.specs.views.DescriptionView.{description_view};
 ghost use Rattle.pli_value.specs.Numbers.{has_digits};
 ghost use Rattle.pli_value.specs.Value.{value_view, Number, Characters};
 
 use byteorder::{BigEndian, ByteOrder};
-use pli_map::Description;
+use pli_map::{Description, store_value};
 use pli_value::Value;
 
 /// A value put where a scalar of this description lies, which holds it. Of CHARACTER VARYING only the length and the
@@ -37,8 +38,21 @@ fn put_first(bytes: &mut [u8], description: &Description, value: &Value)
             write_text(bytes, *greatest, text)
         }
         (Description::Bit(_), Value::Bits(bits)) => write_front(bytes, bits.bytes()),
+        (Description::Pointer, Value::Locator(_)) => store_first(bytes, 8, description, value),
+        (Description::Offset, Value::Locator(_)) => store_first(bytes, 4, description, value),
         _ => unreachable!(),
     }
+}
+
+/// The same where the value is stored in all bytes of the scalar, so many.
+fn store_first(bytes: &mut [u8], size: usize, description: &Description, value: &Value)
+    requires storable { is_storable (description_view description.now) ≡ true }
+    requires held { holds (description_view description.now) (value_view value.now) ≡ true }
+    requires size { size ≡ size_of (description_view description.now) }
+    requires within { size ≤ length bytes.old }
+    ensures { IsPut (description_view description.now) (value_view value.now) 0 bytes.old bytes.new }
+{
+    store_value(description, value, &mut bytes[..size]);
 }
 
 /// A number put where a scalar of FIXED BINARY of this precision lies; where the bytes end before it does, or it has no

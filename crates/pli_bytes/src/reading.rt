@@ -1,23 +1,24 @@
 //! What bytes hold where a scalar lies.
-ghost use Rattle.std.specs.Prelude.{◌≡◌, ◌≤◌, ◌<◌, ◌+◌, ◌*◌, length, take, drop, IfOk, IfSome, MatchOption};
+ghost use Rattle.std.specs.Prelude.{◌≡◌, ◌≤◌, ◌<◌, ◌+◌, ◌*◌, length, take, drop, true, IfOk, IfSome, MatchOption};
 ghost use Rattle.byteorder.specs.Endian.{big_number};
 ghost use Rattle.pli_bytes.specs.Contents.{value_in, value_of};
 ghost use Rattle.pli_map.specs.Description as tree;
 ghost use Rattle.pli_map.specs.Sizes.{number_bytes, size_of};
+ghost use Rattle.pli_map.specs.StoredValues.{is_storable};
 ghost use Rattle.pli_map.specs.views.DescriptionView.{description_view};
 ghost use Rattle.pli_value.specs.Packing.{unpacked};
 ghost use Rattle.pli_value.specs.Value as plain;
 ghost use Rattle.pli_value.specs.Value.{value_view, Number, Characters};
 
 use byteorder::{BigEndian, ByteOrder};
-use pli_map::Description;
+use pli_map::{Description, load_value};
 use pli_value::Value;
 use pli_value::bit::Bits;
 use pli_value::character::{STRING_LIMIT, fit_varying};
 use std::alloc::{AllocError, Global};
 
-/// The value that a scalar of this description holds, which lies at an offset of the bytes; zero, where values of it have no
-/// bytes yet. Only strings take memory. Bits of more than 32,767, which are not of the language, have no room.
+/// The value that a scalar of this description holds, which lies at an offset of the bytes; zero where the description is no
+/// scalar's. Only strings take memory. Bits of more than 32,767, which are not of the language, have no room.
 pub fn value_at(
     alloc: Global,
     bytes: &[u8],
@@ -36,8 +37,25 @@ pub fn value_at(
             characters(alloc, text_of(&rest[..2 + usize::from(*greatest)]))
         }
         Description::Bit(length) => bits(alloc, &rest[..usize::from(length.div_ceil(8))], *length),
+        Description::Pointer => load_first(alloc, rest, 8, description),
+        Description::Offset => load_first(alloc, rest, 4, description),
         _ => Ok(Value::Number(0)),
     }
+}
+
+/// The value of the scalar with which the bytes begin, which takes so many of them.
+fn load_first(
+    alloc: Global,
+    bytes: &[u8],
+    size: usize,
+    description: &Description,
+) -> Result<Value, AllocError>
+    requires storable { is_storable (description_view description.now) ≡ true }
+    requires size { size ≡ size_of (description_view description.now) }
+    requires within { size ≤ length bytes.now }
+    ensures { IfOk result (λ v. value_view v ≡ value_of (description_view description.now) (take size bytes.now)) }
+{
+    load_value(alloc, description, &bytes[..size])
 }
 
 /// Characters as a value.

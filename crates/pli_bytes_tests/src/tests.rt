@@ -1,5 +1,5 @@
 use pli_bytes::{
-    append_at, lay, number_at, put_number_at, put_scalar, put_value_at, text_at, value_at,
+    append_at, lay, number_at, put_number_at, put_on, put_value_at, text_at, value_at,
 };
 use pli_map::{Bounds, Description, size};
 use pli_value::Value;
@@ -16,7 +16,7 @@ fn is_number(value: Value, wanted: i64) -> bool {
 fn is_text(value: Value, wanted: &[u8]) -> bool {
     match value {
         Value::Characters(text) => text.as_slice() == wanted,
-        Value::Number(_) | Value::Bits(_) => false,
+        Value::Number(_) | Value::Bits(_) | Value::Locator(_) => false,
     }
 }
 
@@ -140,21 +140,19 @@ fn values_are_laid(rt: &impl Abort, alloc: Global) -> bool {
     more && less && bytes.as_slice() == [65, 0, 0, 65, 66, 0, 0, 66, 67, 0, 0, 67].as_slice()
 }
 
-/// Whether the value of a scalar is put by its number, is refused where that may not hold it, and changes nothing behind
-/// the last.
+/// Whether the value of a scalar is put where it begins, and changes nothing where that may not hold it, or where none
+/// begins.
 fn scalar_is_put(rt: &impl Abort, alloc: Global) -> bool {
     let description = records(rt, alloc);
     let Some(size) = size(&description) else {
         return false;
     };
     let mut bytes = vec![in alloc; 0; size as usize].expect(rt, "memory");
-    let third = put_scalar(&mut bytes, &description, 3, &Value::Number(7));
-    let misfit = put_scalar(&mut bytes, &description, 2, &Value::Number(7));
-    let behind = put_scalar(&mut bytes, &description, 6, &Value::Number(8));
-    third
-        && !misfit
-        && behind
-        && bytes.as_slice() == [0, 0, 0, 0, 0, 0, 0, 7, 0, 0, 0, 0].as_slice()
+    put_on(&mut bytes, &description, 6, &Value::Number(7));
+    put_on(&mut bytes, &description, 4, &Value::Number(8));
+    put_on(&mut bytes, &description, 1, &Value::Number(9));
+    put_on(&mut bytes, &description, 12, &Value::Number(10));
+    bytes.as_slice() == [0, 0, 0, 0, 0, 0, 0, 7, 0, 0, 0, 0].as_slice()
 }
 
 #[test]

@@ -1,6 +1,6 @@
 //! The compiler.
 ghost use Rattle.std.specs.Prelude.{◌≡◌, ◌≤◌, ◌+◌, ◌-◌, ◌^◌, min, length, OnOk, OnErr, IfOk};
-ghost use Rattle.pli_compile.specs.Faults.{IsUnitOrFaults};
+ghost use Rattle.pli_compile.specs.Faults.{IsDeckOrFaults};
 ghost use Rattle.pli_compile.specs.views.OutcomeView.{outcome_view};
 ghost use Rattle.pli_meaning.specs.Scratch.{compiled_texts};
 
@@ -31,7 +31,7 @@ fn outcome_of(alloc: Global, texts: &[TokenText]) -> Result<Compiled, AllocError
     ensures { IfOk result (λ compiled. outcome_view compiled ≡ compiled_texts texts.now) }
 {
     match compile_texts(alloc, texts) {
-        Ok(unit) => Ok(Compiled::whole(alloc, unit)),
+        Ok(deck) => Ok(Compiled::whole(alloc, deck)),
         Err(CompileError::Fault(fault)) => {
             Ok(Compiled::faulty(Vec::from_slice(alloc, &[fault])?))
         }
@@ -55,14 +55,14 @@ impl Compiler {
         self.count
     }
 
-    /// What the tokens of a unit, at most 200,000, are compiled to: its code, or all faults, one at least, of the first
+    /// What the tokens of a unit, at most 200,000, are compiled to: its deck, or all faults, one at least, of the first
     /// pass that has any: of reading, of declarations, of types, or of the length of code. Nothing else counts, neither
     /// what the unit's member is called nor where its tokens come from. Refused for want of memory alone, and then not
     /// counted.
     pub fn compile(&mut self, texts: &[TokenText]) -> Result<Compiled, AllocError>
         requires { length texts.now ≤ 200000 }
         ensures compiled { IfOk result (λ compiled. outcome_view compiled ≡ compiled_texts texts.now) }
-        ensures told { IfOk result (λ compiled. IsUnitOrFaults (outcome_view compiled)) }
+        ensures told { IfOk result (λ compiled. IsDeckOrFaults (outcome_view compiled)) }
         ensures counted { OnOk result (self.new ≡ min (self.old + 1) (2 ^ 64 - 1)) }
         ensures refused { OnErr result (self.new ≡ self.old) }
     {

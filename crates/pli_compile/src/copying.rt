@@ -1,19 +1,17 @@
 //! Copies of code.
 ghost use Rattle.std.specs.Prelude.{◌≡◌, map, IfOk};
-ghost use Rattle.pli_link.specs.views.UnitView.{compiled_unit_view};
 ghost use Rattle.pli_map.specs.Description as described;
 ghost use Rattle.pli_map.specs.views.DescriptionView.{description_view};
 ghost use Rattle.pli_type_tree.specs.Templates as templates;
 ghost use Rattle.pli_type_tree.specs.views.TemplateView.{initial_view};
 ghost use Rattle.pli_unit_code.specs.CodeTables as plain;
-ghost use Rattle.pli_unit_code.specs.views.CodeView.{block_view, code_view, coded_template_view, global_view, signature_view};
+ghost use Rattle.pli_unit_code.specs.views.CodeView.{block_view, code_view, coded_template_view, deck_view, global_view, signature_view};
 ghost use Rattle.pli_value.specs.Value as values;
 ghost use Rattle.pli_value.specs.Value.{value_view};
 
-use pli_link::CompiledUnit;
 use pli_map::Description;
 use pli_type_tree::InitialScalar;
-use pli_unit_code::{Block, Code, CodedGlobal, CodedSignature, CodedTemplate};
+use pli_unit_code::{Block, Code, CodedGlobal, CodedSignature, CodedTemplate, Deck};
 use pli_value::Value;
 use std::alloc::{AllocError, Global};
 
@@ -56,7 +54,7 @@ impl TableEntry for InitialScalar {
 
     fn copied(&self, alloc: Global) -> Result<InitialScalar, AllocError> {
         Ok(InitialScalar {
-            scalar: self.scalar,
+            offset: self.offset,
             value: self.value.copy(alloc)?,
         })
     }
@@ -82,11 +80,17 @@ impl TableEntry for CodedGlobal {
 
     fn copied(&self, alloc: Global) -> Result<CodedGlobal, AllocError> {
         match self {
-            CodedGlobal::OwnVariable { template } => Ok(CodedGlobal::OwnVariable {
+            CodedGlobal::OwnVariable { kind, template } => Ok(CodedGlobal::OwnVariable {
+                kind: *kind,
                 template: *template,
             }),
-            CodedGlobal::ExternalVariable { name, template } => Ok(CodedGlobal::ExternalVariable {
+            CodedGlobal::ExternalVariable {
+                name,
+                kind,
+                template,
+            } => Ok(CodedGlobal::ExternalVariable {
                 name: *name,
+                kind: *kind,
                 template: *template,
             }),
             CodedGlobal::EntryPoint { name, signature } => Ok(CodedGlobal::EntryPoint {
@@ -151,13 +155,13 @@ fn copied_code(alloc: Global, code: &Code) -> Result<Code, AllocError>
     })
 }
 
-/// Copies a compiled unit.
-pub(crate) fn copied_unit(alloc: Global, unit: &CompiledUnit) -> Result<CompiledUnit, AllocError>
-    ensures { IfOk result (λ copied. compiled_unit_view copied ≡ compiled_unit_view unit.now) }
+/// Copies a deck.
+pub(crate) fn copied_deck(alloc: Global, deck: &Deck) -> Result<Deck, AllocError>
+    ensures { IfOk result (λ copied. deck_view copied ≡ deck_view deck.now) }
 {
-    Ok(CompiledUnit {
-        procedure: unit.procedure,
-        is_main: unit.is_main,
-        code: copied_code(alloc, &unit.code)?,
+    Ok(Deck {
+        name: deck.name,
+        is_main: deck.is_main,
+        code: copied_code(alloc, &deck.code)?,
     })
 }

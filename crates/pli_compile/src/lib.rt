@@ -1,4 +1,4 @@
-//! The compiler: what the tokens of a unit are compiled to, its code or its faults.
+//! The compiler: what the tokens of a unit are compiled to, its deck or its faults.
 #![tactic(auto)]
 
 mod compiled;

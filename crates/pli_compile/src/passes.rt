@@ -9,11 +9,11 @@ ghost use Rattle.pli_compile.specs.answers.Outcomes.{Compiles, of_fault, of_faul
 
 use pli_base::{Code, Failure, Fault, TokenText, Unit};
 use pli_gen_tree::{GenerateError, generate};
-use pli_link::CompiledUnit;
 use pli_parse::parse;
 use pli_resolve::ResolvedUnit;
 use pli_resolve_unit::resolve_unit;
 use pli_type_statement::check;
+use pli_unit_code::Deck;
 use std::alloc::Global;
 
 /// Why the tokens of a unit are not compiled.
@@ -63,23 +63,20 @@ impl From<GenerateError> for CompileError {
 }
 
 /// A unit without faults of declarations, compiled, or its faults of types, or that its code is too long.
-fn compile_resolved(
-    alloc: Global,
-    resolved: &ResolvedUnit<'_>,
-) -> Result<CompiledUnit, CompileError>
+fn compile_resolved(alloc: Global, resolved: &ResolvedUnit<'_>) -> Result<Deck, CompileError>
     ensures { Compiles result (coded_from (checked_unit (resolved_unit_of (unit_view resolved.now)))) }
 {
     let typed = check(alloc, resolved)?;
     let code = generate(alloc, &typed)?;
-    Ok(CompiledUnit {
-        procedure: typed.procedure,
+    Ok(Deck {
+        name: typed.procedure,
         is_main: typed.is_main,
         code,
     })
 }
 
 /// A unit's tree, compiled, or the faults of the first pass behind reading that has any.
-fn compile_tree(alloc: Global, tree: &Unit) -> Result<CompiledUnit, CompileError>
+fn compile_tree(alloc: Global, tree: &Unit) -> Result<Deck, CompileError>
     ensures { let unit = unit_view tree.now in
         Compiles result (coded_from (typed_unless (resolution_faults unit) unit)) }
 {
@@ -90,10 +87,7 @@ fn compile_tree(alloc: Global, tree: &Unit) -> Result<CompiledUnit, CompileError
 }
 
 /// The tokens of a unit, compiled, or the faults of the first pass that has any.
-pub(crate) fn compile_texts(
-    alloc: Global,
-    texts: &[TokenText],
-) -> Result<CompiledUnit, CompileError>
+pub(crate) fn compile_texts(alloc: Global, texts: &[TokenText]) -> Result<Deck, CompileError>
     requires { length texts.now ≤ 200000 }
     ensures { Compiles result (compiled_texts texts.now) }
 {

@@ -14,15 +14,18 @@ use Rattle.pli_deck.specs.declared.fault.DeckFault.{DeckFault}
 use Rattle.pli_deck.specs.declared.fault.DeckFault.TheVariants.{Truncated, BadMagic, BadVersion}
 use Rattle.pli_base.specs.Results.{◌>>=◌}
 use Rattle.pli_deck.specs.Fields.{AreBytes, Reader, Field, nothing, byte, held, ◌⊗◌, list_of, unknown, u1, u2, u4, count_of_one, byte_at, from_to, list}
-use Rattle.pli_deck.specs.Decks.{Constant, Number, Characters, Bits, NullPointer, NullOffset, Global, Static, Controlled, ExternalStatic, ExternalControlled, ExternalEntry}
+use Rattle.pli_value.specs.Value.{Value, Number, Characters, Bits, Located}
+use Rattle.pli_value.specs.declared.locator.Locator.TheVariants as locators
 use Rattle.pli_deck.specs.Descriptions.{description}
 use Rattle.pli_deck.specs.Instructions.{instruction}
-use Rattle.pli_deck.specs.DeckFields.{is_name, name, flag, number_if, none_last, is_number_if, optional, byte_count, bits_in, bits_at, bit_string, integer, characters, constant_form, constant_readers, constant, initial, template, parameter_count, parameter_number, signature, global_form, global_readers, global, block_kind, block_of, block_parts, block, behind, past, after_magic, if_first, versioned, after_version, deck_of, deck_parts, contents, tables, deck}
+use Rattle.pli_deck.specs.DeckFields.{is_name, name, flag, number_if, none_last, is_number_if, optional, byte_count, bits_in, bits_at, bit_string, integer, characters, constant_form, constant_readers, constant, initial, template, parameter_count, parameter_number, signature, global_form, global_readers, global, block_kind, block_of, block_parts, block, behind, past, after_magic, if_first, versioned, after_version, code_of, code_parts, code, deck_of, deck_parts, contents, deck}
 use Rattle.pli_deck.proofs.FieldLaws.{AreBytes-drop, bind_ok, held_ok, guard_ok, both_true, Taken, IsField, nothing_law, byte_law, u2_law, u4_law, count_law, byte_again, as_shaped, answered, checked_law, signed_law, ◌⊠◌, shaped_law, list_law, from_to_law}
 use Rattle.pli_deck.proofs.FormLaws.{AllRead, unknown_reads, made_reads, made_again, tagged_law}
 use Rattle.pli_deck.proofs.DescriptionLaws.{description_law}
 use Rattle.pli_deck.proofs.InstructionLaws.{instruction_law}
 use Rattle.pli_deck.proofs.NumberedLaws.{block_kind_law}
+use Rattle.pli_unit_code.specs.CodeTables.{CodedGlobal, OwnVariable, ExternalVariable, EntryPoint}
+use Rattle.pli_unit_code.specs.declared.code.VariableKind.TheVariants.{Static, Controlled}
 
 -- ---- names, flags and numbers that may be absent
 
@@ -166,9 +169,9 @@ constants_read =
           (
             made_reads bit_string bit_string_law Bits f 3 (λ x. refl),
             (
-              made_reads nothing nothing_law (λ _. NullPointer) f 4 (λ x. refl),
+              made_reads nothing nothing_law (λ _. Located locators.Null) f 4 (λ x. refl),
               (
-                made_reads nothing nothing_law (λ _. NullOffset) f 5 (λ x. refl),
+                made_reads nothing nothing_law (λ _. Located (locators.Offset 0)) f 5 (λ x. refl),
                 tt,
               ),
             ),
@@ -177,12 +180,13 @@ constants_read =
       ),
     )
 
-constants_again : (c : Constant) (rest : List ℕ) → (constant_form c).fits ≡ true → get_or constant_readers (constant_form c).tag unknown ((constant_form c).bytes ++ rest) ≡ Ok (c, rest)
+constants_again : (c : Value) (rest : List ℕ) → (constant_form c).fits ≡ true → get_or constant_readers (constant_form c).tag unknown ((constant_form c).bytes ++ rest) ≡ Ok (c, rest)
 constants_again (Number x) rest h = made_again integer integer_law Number x rest h
 constants_again (Characters text) rest h = made_again characters characters_law Characters text rest h
 constants_again (Bits bits) rest h = made_again bit_string bit_string_law Bits bits rest h
-constants_again NullPointer rest h = refl
-constants_again NullOffset rest h = refl
+constants_again (Located locators.Null) rest h = refl
+constants_again (Located (locators.Offset k)) rest h = ap (λ n. Ok (Located (locators.Offset n), rest)) (sym (eqb-true k 0 h))
+constants_again (Located (locators.Pointer generation position)) rest h = absurd cc
 
 constant_law : IsField constant
 unfolding constant
@@ -215,15 +219,15 @@ signature_law =
 globals_read : AllRead global_form 0 global_readers
 globals_read =
     let f = global_form in (
-      made_reads u2 u2_law Static f 0 (λ x. refl),
+      made_reads u2 u2_law (OwnVariable Static) f 0 (λ x. refl),
       (
-        made_reads u2 u2_law Controlled f 1 (λ x. refl),
+        made_reads u2 u2_law (OwnVariable Controlled) f 1 (λ x. refl),
         (
-          made_reads (name ⊗ u2) (name_law ⊠ u2_law) (λ p. ExternalStatic p.0 p.1) f 2 (λ x. refl),
+          made_reads (name ⊗ u2) (name_law ⊠ u2_law) (λ p. ExternalVariable p.0 Static p.1) f 2 (λ x. refl),
           (
-            made_reads (name ⊗ u2) (name_law ⊠ u2_law) (λ p. ExternalControlled p.0 p.1) f 3 (λ x. refl),
+            made_reads (name ⊗ u2) (name_law ⊠ u2_law) (λ p. ExternalVariable p.0 Controlled p.1) f 3 (λ x. refl),
             (
-              made_reads (name ⊗ signature) (name_law ⊠ signature_law) (λ p. ExternalEntry p.0 p.1) f 4 (λ x. refl),
+              made_reads (name ⊗ signature) (name_law ⊠ signature_law) (λ p. EntryPoint p.0 p.1) f 4 (λ x. refl),
               tt,
             ),
           ),
@@ -231,12 +235,12 @@ globals_read =
       ),
     )
 
-globals_again : (g : Global) (rest : List ℕ) → (global_form g).fits ≡ true → get_or global_readers (global_form g).tag unknown ((global_form g).bytes ++ rest) ≡ Ok (g, rest)
-globals_again (Static t) rest h = made_again u2 u2_law Static t rest h
-globals_again (Controlled t) rest h = made_again u2 u2_law Controlled t rest h
-globals_again (ExternalStatic n t) rest h = made_again (name ⊗ u2) (name_law ⊠ u2_law) (λ p. ExternalStatic p.0 p.1) (n, t) rest h
-globals_again (ExternalControlled n t) rest h = made_again (name ⊗ u2) (name_law ⊠ u2_law) (λ p. ExternalControlled p.0 p.1) (n, t) rest h
-globals_again (ExternalEntry n s) rest h = made_again (name ⊗ signature) (name_law ⊠ signature_law) (λ p. ExternalEntry p.0 p.1) (n, s) rest h
+globals_again : (g : CodedGlobal) (rest : List ℕ) → (global_form g).fits ≡ true → get_or global_readers (global_form g).tag unknown ((global_form g).bytes ++ rest) ≡ Ok (g, rest)
+globals_again (OwnVariable Static t) rest h = made_again u2 u2_law (OwnVariable Static) t rest h
+globals_again (OwnVariable Controlled t) rest h = made_again u2 u2_law (OwnVariable Controlled) t rest h
+globals_again (ExternalVariable n Static t) rest h = made_again (name ⊗ u2) (name_law ⊠ u2_law) (λ p. ExternalVariable p.0 Static p.1) (n, t) rest h
+globals_again (ExternalVariable n Controlled t) rest h = made_again (name ⊗ u2) (name_law ⊠ u2_law) (λ p. ExternalVariable p.0 Controlled p.1) (n, t) rest h
+globals_again (EntryPoint n s) rest h = made_again (name ⊗ signature) (name_law ⊠ signature_law) (λ p. EntryPoint p.0 p.1) (n, s) rest h
 
 global_law : IsField global
 unfolding global
@@ -312,16 +316,16 @@ version_law f it = record { takes = version_takes f it; again = version_again f 
 
 -- ---- decks
 
-tables_law : IsField tables
-unfolding tables
-tables_law =
-    list_law u2 description u2_law description_law ⊠ list_law u2 template u2_law template_law ⊠ list_law u2 constant u2_law constant_law
-    ⊠ list_law u2 global u2_law global_law ⊠ list_law u2 block u2_law block_law ⊠ list_law u2 instruction u2_law instruction_law
+code_law : IsField code
+unfolding code
+code_law =
+    shaped_law code_of code_parts (signature ⊗ list description ⊗ list template ⊗ list constant ⊗ list global ⊗ list block ⊗ list instruction)
+    (signature_law ⊠ list_law u2 description u2_law description_law ⊠ list_law u2 template u2_law template_law ⊠ list_law u2 constant u2_law constant_law
+    ⊠ list_law u2 global u2_law global_law ⊠ list_law u2 block u2_law block_law ⊠ list_law u2 instruction u2_law instruction_law) (λ p h. refl) (λ c h. refl)
 
 contents_law : IsField contents
 unfolding contents
-contents_law =
-    shaped_law deck_of deck_parts (name ⊗ flag ⊗ signature ⊗ tables) (name_law ⊠ flag_law ⊠ signature_law ⊠ tables_law) (λ p h. refl) (λ d h. refl)
+contents_law = shaped_law deck_of deck_parts (name ⊗ flag ⊗ code) (name_law ⊠ flag_law ⊠ code_law) (λ p h. refl) (λ d h. refl)
 
 pub deck_law : IsField deck
 unfolding deck

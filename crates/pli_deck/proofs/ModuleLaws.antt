@@ -7,7 +7,7 @@ use Rattle.pli_deck.specs.declared.fault.DeckFault.{DeckFault}
 use Rattle.pli_deck.specs.declared.fault.DeckFault.TheVariants.{Truncated}
 use Rattle.pli_base.specs.Results.{◌>>=◌}
 use Rattle.pli_deck.specs.Fields.{AreBytes, Field, many, checked, followed, ◌⊗◌, shaped, u1, u2, u4, from_to}
-use Rattle.pli_deck.specs.Decks.{Deck}
+use Rattle.pli_unit_code.specs.CodeTables.{Deck}
 use Rattle.pli_deck.specs.DeckFields.{name, after_version, deck}
 use Rattle.pli_deck.specs.DeckFaults.{fault_of}
 use Rattle.pli_deck.specs.Spelling.{deck_bytes, deck_read, SpellsDeck}
@@ -150,7 +150,7 @@ sized_law : IsField sized_deck
 sized_law = record { takes = sized_takes; again = sized_again }
 
 links_law : (d : Deck) → IsField (links_of d)
-links_law d = let k = length (filter is_external d.globals) in list_law (from_to k k u2) u2 (from_to_law k k u2 u2_law) u2_law
+links_law d = let k = length (filter is_external d.code.globals) in list_law (from_to k k u2) u2 (from_to_law k k u2 u2_law) u2_law
 
 member_law : IsField member
 unfolding member

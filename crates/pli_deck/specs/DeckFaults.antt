@@ -1,21 +1,20 @@
 -- What is looked for in a deck once all its bytes are read (own): jumps, numbers of entries, and limits.
 use Rattle.std.specs.Prelude.{ℕ, ◌+◌, ◌-◌, ◌%◌, nat_eq, nat_le, nat_lt, Bool, true, false}
-use Rattle.std.specs.Prelude.{◌&&◌, not, ◌==◌, List, [], ◌∷◌, ◌++◌, length, map, slice_get, Option}
+use Rattle.std.specs.Prelude.{◌&&◌, not, List, [], ◌∷◌, ◌++◌, length, map, slice_get, Option}
 use Rattle.std.specs.Prelude.{Some, None, if◌then◌else◌}
 use Rattle.std.specs.List.{flat_map, list_all, sum_by}
 use Rattle.std.specs.Int.{next_multiple_of}
-use Rattle.pli_map.specs.Description.{Description, FixedBinary, Character, Varying, Bit, Pointer, Offset}
-use Rattle.pli_map.specs.Description.{Array, Structure, Members, NoMembers, MemberThen}
+use Rattle.pli_map.specs.Description.{Description, Array, Structure, Members, NoMembers, MemberThen}
 use Rattle.pli_map.specs.Sizes.{alignment_of, size_of, stride_of}
-use Rattle.pli_value.specs.Numbers.{has_digits}
+use Rattle.pli_map.specs.Values.{holds}
+use Rattle.pli_type_tree.specs.Templates.{InitialScalar}
+use Rattle.pli_value.specs.Value.{Value}
 use Rattle.pli_deck.specs.declared.fault.DeckFault.{DeckFault}
 use Rattle.pli_deck.specs.declared.fault.DeckFault.TheVariants.{BadJump, BadNumber, OverLimit}
-use Rattle.pli_unit_code.specs.CodeTables.{CodedBlock}
+use Rattle.pli_unit_code.specs.CodeTables.{CodedTemplate, CodedBlock, CodedSignature, Code, Deck}
+use Rattle.pli_unit_code.specs.CodeTables.{CodedGlobal, OwnVariable, ExternalVariable, EntryPoint}
 use Rattle.pli_unit_code.specs.declared.instruction.Instruction.{Instruction}
 use Rattle.pli_unit_code.specs.declared.instruction.Instruction.TheVariants as op
-use Rattle.pli_deck.specs.Decks.{Constant, Number, Characters, Bits, NullPointer, NullOffset, Initial}
-use Rattle.pli_deck.specs.Decks.{DeckTemplate, DeckSignature, Global, Static, Controlled, ExternalStatic}
-use Rattle.pli_deck.specs.Decks.{ExternalControlled, ExternalEntry, Deck}
 
 -- what an item of a deck names by a number: an entry of a table, or an instruction at which a block begins
 pub data Naming : Type 0 where
@@ -32,20 +31,18 @@ named_by_result None = []
 named_by_result (Some d) = OfDescription d ∷ []
 
 -- a signature names the descriptions of its parameters and of its result
-abbrev pub named_by_signature : DeckSignature → List Naming
+abbrev pub named_by_signature : CodedSignature → List Naming
 named_by_signature s = map OfDescription s.parameters ++ named_by_result s.result
 
 -- a template names its description
-abbrev pub named_by_template : DeckTemplate → List Naming
+abbrev pub named_by_template : CodedTemplate → List Naming
 named_by_template t = OfDescription t.description ∷ []
 
 -- a global names its template, and an entry what its signature does
-abbrev pub named_by_global : Global → List Naming
-named_by_global (Static t) = OfTemplate t ∷ []
-named_by_global (Controlled t) = OfTemplate t ∷ []
-named_by_global (ExternalStatic _ t) = OfTemplate t ∷ []
-named_by_global (ExternalControlled _ t) = OfTemplate t ∷ []
-named_by_global (ExternalEntry _ s) = named_by_signature s
+abbrev pub named_by_global : CodedGlobal → List Naming
+named_by_global (OwnVariable _ t) = OfTemplate t ∷ []
+named_by_global (ExternalVariable _ _ t) = OfTemplate t ∷ []
+named_by_global (EntryPoint _ s) = named_by_signature s
 
 -- a block names the one around it, if there is one
 abbrev pub named_by_parent : Option ℕ → List Naming
@@ -76,27 +73,27 @@ named_by_instruction (op.FreeBased d) = OfDescription d ∷ []
 named_by_instruction (op.On _ b) = OfBlock b ∷ []
 named_by_instruction other = []
 
--- what templates and globals name; a deck has a first block, so that one is always named
-abbrev pub named_by_variables : Deck → List Naming
-named_by_variables d =
-    flat_map named_by_template d.templates ++ flat_map named_by_global d.globals ++ OfBlock 0 ∷ []
+-- what templates and globals name; code has a first block, so that one is always named
+abbrev pub named_by_variables : Code → List Naming
+named_by_variables c =
+    flat_map named_by_template c.templates ++ flat_map named_by_global c.globals ++ OfBlock 0 ∷ []
 
 -- what blocks and instructions name
-abbrev pub named_by_code : Deck → List Naming
-named_by_code d = flat_map named_by_block d.blocks ++ flat_map named_by_instruction d.instructions
+abbrev pub named_by_blocks : Code → List Naming
+named_by_blocks c = flat_map named_by_block c.blocks ++ flat_map named_by_instruction c.instructions
 
--- all that a deck names, save by jumps
-abbrev pub named_by : Deck → List Naming
-named_by d = named_by_signature d.signature ++ named_by_variables d ++ named_by_code d
+-- all that code names, save by jumps
+abbrev pub named_by : Code → List Naming
+named_by c = named_by_signature c.signature ++ named_by_variables c ++ named_by_blocks c
 
 -- what is named is there
-abbrev pub is_there : Deck → Naming → Bool
-is_there d (OfDescription n) = nat_lt n (length d.descriptions)
-is_there d (OfTemplate n) = nat_lt n (length d.templates)
-is_there d (OfValue n) = nat_lt n (length d.values)
-is_there d (OfGlobal n) = nat_lt n (length d.globals)
-is_there d (OfBlock n) = nat_lt n (length d.blocks)
-is_there d (OfInstruction n) = nat_lt n (length d.instructions)
+abbrev pub is_there : Code → Naming → Bool
+is_there c (OfDescription n) = nat_lt n (length c.descriptions)
+is_there c (OfTemplate n) = nat_lt n (length c.templates)
+is_there c (OfValue n) = nat_lt n (length c.values)
+is_there c (OfGlobal n) = nat_lt n (length c.globals)
+is_there c (OfBlock n) = nat_lt n (length c.blocks)
+is_there c (OfInstruction n) = nat_lt n (length c.instructions)
 
 -- where an instruction may jump
 abbrev pub targets_of : Instruction → List ℕ
@@ -106,10 +103,10 @@ targets_of (op.Goto _ i) = i ∷ []
 targets_of (op.AllocateInArea _ i) = i ∷ []
 targets_of other = []
 
--- each jump leads to an instruction of the deck
-abbrev pub jumps_within : Deck → Bool
-jumps_within d =
-    list_all (λ i. nat_lt i (length d.instructions)) (flat_map targets_of d.instructions)
+-- each jump leads to an instruction of the code
+abbrev pub jumps_within : Code → Bool
+jumps_within c =
+    list_all (λ i. nat_lt i (length c.instructions)) (flat_map targets_of c.instructions)
 
 -- the scalar that stands so many bytes behind a description's beginning
 abbrev mutual
@@ -129,44 +126,34 @@ abbrev mutual
       else if nat_lt offset (start + size_of d) then scalar_at d (offset - start)
       else scalar_among (start + size_of d) ds offset
 
--- a constant is fitted to a scalar: in its range, or of its length
-abbrev pub is_fitted : Description → Constant → Bool
-is_fitted (FixedBinary p) (Number x) = has_digits p x
-is_fitted (Character n) (Characters text) = length text == n
-is_fitted (Varying n) (Characters text) = nat_le (length text) n
-is_fitted (Bit n) (Bits bits) = length bits == n
-is_fitted Pointer NullPointer = true
-is_fitted Offset NullOffset = true
-is_fitted d c = false
-
--- an initial value stands on a scalar to which it is fitted
-abbrev pub fits_scalar : Option Description → Constant → Bool
-fits_scalar None c = false
-fits_scalar (Some d) c = is_fitted d c
+-- an initial value stands on a scalar that may hold it
+abbrev pub fits_scalar : Option Description → Value → Bool
+fits_scalar None v = false
+fits_scalar (Some d) v = holds d v
 
 -- a template of a description: at most 1,000,000 bytes, and its initial values fit
-abbrev pub is_good_template : Option Description → List Initial → Bool
+abbrev pub is_good_template : Option Description → List InitialScalar → Bool
 is_good_template None initial = true
 is_good_template (Some d) initial =
     nat_le (size_of d) 1000000 && list_all (λ i. fits_scalar (scalar_at d i.offset) i.value) initial
 
 -- the bytes of a template with initial values
-abbrev pub initial_bytes : Option Description → List Initial → ℕ
+abbrev pub initial_bytes : Option Description → List InitialScalar → ℕ
 initial_bytes (Some d) (i ∷ is) = size_of d
 initial_bytes (Some d) [] = 0
 initial_bytes None initial = 0
 
 -- templates are good, and those with initial values have at most 16,777,216 bytes together
-abbrev pub within_limits : Deck → Bool
-within_limits d =
-    list_all (λ t. is_good_template (slice_get d.descriptions t.description) t.initial) d.templates
-    && nat_le (sum_by (λ t. initial_bytes (slice_get d.descriptions t.description) t.initial) d.templates)
+abbrev pub within_limits : Code → Bool
+within_limits c =
+    list_all (λ t. is_good_template (slice_get c.descriptions t.description) t.initial) c.templates
+    && nat_le (sum_by (λ t. initial_bytes (slice_get c.descriptions t.description) t.initial) c.templates)
     16777216
 
--- the first of these faults
+-- the first of these faults in the code of a deck
 abbrev pub fault_of : Deck → Option DeckFault
 fault_of d =
-    if not (jumps_within d) then Some BadJump
-    else if not (list_all (is_there d) (named_by d)) then Some BadNumber
-    else if not (within_limits d) then Some OverLimit
+    if not (jumps_within d.code) then Some BadJump
+    else if not (list_all (is_there d.code) (named_by d.code)) then Some BadNumber
+    else if not (within_limits d.code) then Some OverLimit
     else None

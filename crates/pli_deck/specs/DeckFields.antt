@@ -6,23 +6,27 @@ use Rattle.std.specs.Prelude.{if◌then◌else◌}
 use Rattle.std.specs.Str.{bytes_eq}
 use Rattle.pli_base.specs.Name.{Name, name_of}
 use Rattle.pli_map.specs.Description.{Description}
+use Rattle.pli_value.specs.Locators.{is_null}
 use Rattle.pli_value.specs.Packing.{packed, unpacked}
+use Rattle.pli_value.specs.Value.{Value, Number, Characters, Bits, Located}
+use Rattle.pli_value.specs.declared.locator.Locator.{Locator}
+use Rattle.pli_value.specs.declared.locator.Locator.TheVariants as locators
 use Rattle.pli_deck.specs.declared.fault.DeckFault.TheVariants.{Truncated, BadMagic, BadVersion}
 use Rattle.pli_deck.specs.declared.fault.DeckFault.{DeckFault}
 use Rattle.pli_program.specs.Program.{BlockKind}
-use Rattle.pli_unit_code.specs.CodeTables.{CodedBlock}
+use Rattle.pli_type_tree.specs.Templates.{InitialScalar}
+use Rattle.pli_unit_code.specs.CodeTables.{CodedTemplate, CodedBlock, CodedSignature, Code, Deck}
+use Rattle.pli_unit_code.specs.CodeTables.{CodedGlobal, OwnVariable, ExternalVariable, EntryPoint}
 use Rattle.pli_unit_code.specs.declared.instruction.Instruction.{Instruction}
 use Rattle.pli_base.specs.Results.{◌>>=◌}
 use Rattle.pli_deck.specs.Fields.{Field, Form, Reader, byte_at, nothing, checked, held, signed, ◌⊗◌}
 use Rattle.pli_deck.specs.Fields.{shaped, list_of, form, made, unknown, tagged, byte, u1, u2, u4, from_to}
 use Rattle.pli_deck.specs.Fields.{count_of_one}
 use Rattle.pli_deck.specs.Fields.{list}
-use Rattle.pli_deck.specs.Decks.{Constant, Number, Characters, Bits, NullPointer, NullOffset, Initial}
-use Rattle.pli_deck.specs.Decks.{DeckTemplate, DeckSignature, Global, Static, Controlled, ExternalStatic}
-use Rattle.pli_deck.specs.Decks.{ExternalControlled, ExternalEntry, Deck}
 use Rattle.pli_deck.specs.Descriptions.{description}
 use Rattle.pli_deck.specs.Instructions.{instruction}
 use Rattle.pli_deck.specs.Numbered.{kind_number, kind_of}
+use Rattle.pli_unit_code.specs.declared.code.VariableKind.TheVariants.{Static, Controlled}
 
 -- a text is this name, as it is written in upper case
 abbrev pub is_written : Option Name → List ℕ → Bool
@@ -94,35 +98,39 @@ integer = signed 2147483647
 unfoldable pub characters : Field (List ℕ)
 characters = list_of (from_to 0 32767 u2) byte
 
--- the form of a constant
-abbrev pub constant_form : Constant → Form
+-- the tag of a locator: 4 of a pointer, 5 of an offset
+abbrev pub locator_tag : Locator → ℕ
+locator_tag (locators.Offset position) = 5
+locator_tag pointer = 4
+
+-- the form of a constant; of locators null alone has a spelling, a tag behind which nothing stands
+abbrev pub constant_form : Value → Form
 constant_form (Number x) = form 1 integer x
 constant_form (Characters text) = form 2 characters text
 constant_form (Bits bits) = form 3 bit_string bits
-constant_form NullPointer = form 4 nothing tt
-constant_form NullOffset = form 5 nothing tt
+constant_form (Located l) = record { tag = locator_tag l; bytes = []; fits = is_null l }
 
 -- how each form of constants is read, by its tag
-abbrev pub constant_readers : List (Reader Constant)
+abbrev pub constant_readers : List (Reader Value)
 constant_readers =
     unknown
     ∷ made Number integer
     ∷ made Characters characters
     ∷ made Bits bit_string
-    ∷ made (λ _. NullPointer) nothing
-    ∷ made (λ _. NullOffset) nothing
+    ∷ made (λ _. Located locators.Null) nothing
+    ∷ made (λ _. Located (locators.Offset 0)) nothing
     ∷ []
 
 -- a constant
-unfoldable pub constant : Field Constant
+unfoldable pub constant : Field Value
 constant = tagged constant_form constant_readers
 
 -- an initial value, with the byte on which it stands
-unfoldable pub initial : Field Initial
+unfoldable pub initial : Field InitialScalar
 initial = shaped (λ p. record { offset = p.0; value = p.1 }) (λ i. (i.offset, i.value)) (u4 ⊗ constant)
 
 -- a template: the number of its description, and its initial values with a count of four bytes
-unfoldable pub template : Field DeckTemplate
+unfoldable pub template : Field CodedTemplate
 template = shaped (λ p. record { description = p.0; initial = p.1 }) (λ t. (t.description, t.initial))
     (u2 ⊗ list_of u4 initial)
 
@@ -135,30 +143,30 @@ abbrev pub parameter_number : Field ℕ
 parameter_number = from_to 0 64 u1
 
 -- the descriptions of parameters and of the result
-unfoldable pub signature : Field DeckSignature
+unfoldable pub signature : Field CodedSignature
 signature = shaped (λ p. record { parameters = p.0; result = p.1 }) (λ s. (s.parameters, s.result))
     (list_of parameter_count u2 ⊗ optional)
 
 -- the form of a global
-abbrev pub global_form : Global → Form
-global_form (Static t) = form 0 u2 t
-global_form (Controlled t) = form 1 u2 t
-global_form (ExternalStatic n t) = form 2 (name ⊗ u2) (n, t)
-global_form (ExternalControlled n t) = form 3 (name ⊗ u2) (n, t)
-global_form (ExternalEntry n s) = form 4 (name ⊗ signature) (n, s)
+abbrev pub global_form : CodedGlobal → Form
+global_form (OwnVariable Static t) = form 0 u2 t
+global_form (OwnVariable Controlled t) = form 1 u2 t
+global_form (ExternalVariable n Static t) = form 2 (name ⊗ u2) (n, t)
+global_form (ExternalVariable n Controlled t) = form 3 (name ⊗ u2) (n, t)
+global_form (EntryPoint n s) = form 4 (name ⊗ signature) (n, s)
 
 -- how each form of globals is read, by its tag
-abbrev pub global_readers : List (Reader Global)
+abbrev pub global_readers : List (Reader CodedGlobal)
 global_readers =
-    made Static u2
-    ∷ made Controlled u2
-    ∷ made (λ p. ExternalStatic p.0 p.1) (name ⊗ u2)
-    ∷ made (λ p. ExternalControlled p.0 p.1) (name ⊗ u2)
-    ∷ made (λ p. ExternalEntry p.0 p.1) (name ⊗ signature)
+    made (OwnVariable Static) u2
+    ∷ made (OwnVariable Controlled) u2
+    ∷ made (λ p. ExternalVariable p.0 Static p.1) (name ⊗ u2)
+    ∷ made (λ p. ExternalVariable p.0 Controlled p.1) (name ⊗ u2)
+    ∷ made (λ p. EntryPoint p.0 p.1) (name ⊗ signature)
     ∷ []
 
 -- a global
-unfoldable pub global : Field Global
+unfoldable pub global : Field CodedGlobal
 global = tagged global_form global_readers
 
 -- the kind of a block, by its number from 0 to 2
@@ -222,42 +230,46 @@ after_version f = record {
   read = versioned f.read;
 }
 
--- the tables of a deck and its instructions, in the order of their bytes
-abbrev pub Tables : Type 0
-Tables =
-    List Description × (List DeckTemplate × (List Constant × (List Global × (List CodedBlock
-    × List Instruction))))
+-- the parts of code in the order of their bytes: its signature, its tables and its instructions
+abbrev pub CodeParts : Type 0
+CodeParts =
+    CodedSignature × (List Description × (List CodedTemplate × (List Value × (List CodedGlobal
+    × (List CodedBlock × List Instruction)))))
 
--- a deck of its parts
-abbrev pub deck_of : Name × (Bool × (DeckSignature × Tables)) → Deck
-deck_of p = record {
-  name = p.0;
-  is_main = p.1.0;
-  signature = p.1.1.0;
-  descriptions = p.1.1.1.0;
-  templates = p.1.1.1.1.0;
-  values = p.1.1.1.1.1.0;
-  globals = p.1.1.1.1.1.1.0;
-  blocks = p.1.1.1.1.1.1.1.0;
-  instructions = p.1.1.1.1.1.1.1.1;
+-- code of its parts
+abbrev pub code_of : CodeParts → Code
+code_of p = record {
+  signature = p.0;
+  descriptions = p.1.0;
+  templates = p.1.1.0;
+  values = p.1.1.1.0;
+  globals = p.1.1.1.1.0;
+  blocks = p.1.1.1.1.1.0;
+  instructions = p.1.1.1.1.1.1;
 }
 
--- its tables and instructions
-abbrev pub tables_of : Deck → Tables
-tables_of d = (d.descriptions, (d.templates, (d.values, (d.globals, (d.blocks, d.instructions)))))
+-- its parts
+abbrev pub code_parts : Code → CodeParts
+code_parts c =
+    (c.signature, (c.descriptions, (c.templates, (c.values, (c.globals, (c.blocks, c.instructions))))))
+
+-- the code of a unit
+unfoldable pub code : Field Code
+code = shaped code_of code_parts
+    (signature ⊗ list description ⊗ list template ⊗ list constant ⊗ list global ⊗ list block
+    ⊗ list instruction)
+
+-- a deck of its parts
+abbrev pub deck_of : Name × (Bool × Code) → Deck
+deck_of p = record { name = p.0; is_main = p.1.0; code = p.1.1 }
 
 -- its parts, in the order of their bytes
-abbrev pub deck_parts : Deck → Name × (Bool × (DeckSignature × Tables))
-deck_parts d = (d.name, (d.is_main, (d.signature, tables_of d)))
+abbrev pub deck_parts : Deck → Name × (Bool × Code)
+deck_parts d = (d.name, (d.is_main, d.code))
 
--- the field of the tables and instructions
-unfoldable pub tables : Field Tables
-tables =
-    list description ⊗ list template ⊗ list constant ⊗ list global ⊗ list block ⊗ list instruction
-
--- the procedure's name, whether it is the main one, its signature, and the tables
+-- the procedure's name, whether it is the main one, and the code
 unfoldable pub contents : Field Deck
-contents = shaped deck_of deck_parts (name ⊗ flag ⊗ signature ⊗ tables)
+contents = shaped deck_of deck_parts (name ⊗ flag ⊗ code)
 
 -- PLID, the version, and the contents
 unfoldable pub deck : Field Deck

@@ -1,7 +1,5 @@
 pub mod DeckFaults
 pub mod DeckFields
-pub mod DeckView
-pub mod Decks
 pub mod Descriptions
 pub mod FaultNumbers
 pub mod Fields

@@ -13,11 +13,11 @@ use Rattle.pli_deck.specs.declared.fault.DeckFault.TheVariants.{Truncated}
 use Rattle.pli_base.specs.Results.{◌>>=◌}
 use Rattle.pli_deck.specs.Fields.{Field, Reader, many, checked, followed, ◌⊗◌, shaped, list_of}
 use Rattle.pli_deck.specs.Fields.{u1, u2, u4, from_to}
-use Rattle.pli_deck.specs.Decks.{Global, Static, Controlled, ExternalStatic, ExternalControlled}
-use Rattle.pli_deck.specs.Decks.{ExternalEntry, Deck}
 use Rattle.pli_deck.specs.DeckFields.{name, after_magic, after_version, deck}
 use Rattle.pli_deck.specs.DeckFaults.{fault_of}
 use Rattle.pli_deck.specs.Spelling.{deck_bytes, deck_read}
+use Rattle.pli_unit_code.specs.CodeTables.{Deck, CodedGlobal, OwnVariable, ExternalVariable, EntryPoint}
+use Rattle.pli_unit_code.specs.declared.code.VariableKind.TheVariants.{Static, Controlled}
 
 -- an external variable: its name, whether it is 2, static, or 3, controlled, and the unit and the global of
 -- its first declaration
@@ -115,20 +115,20 @@ sized_deck = record {
 }
 
 -- which of the five forms a global has
-abbrev pub global_tag : Global → ℕ
-global_tag (Static _) = 0
-global_tag (Controlled _) = 1
-global_tag (ExternalStatic _ _) = 2
-global_tag (ExternalControlled _ _) = 3
-global_tag (ExternalEntry _ _) = 4
+abbrev pub global_tag : CodedGlobal → ℕ
+global_tag (OwnVariable Static _) = 0
+global_tag (OwnVariable Controlled _) = 1
+global_tag (ExternalVariable _ Static _) = 2
+global_tag (ExternalVariable _ Controlled _) = 3
+global_tag (EntryPoint _ _) = 4
 
 -- a global that other units know by its name
-abbrev pub is_external : Global → Bool
+abbrev pub is_external : CodedGlobal → Bool
 is_external g = nat_lt 1 (global_tag g)
 
 -- just one entry for each external global
 abbrev pub links_of : Deck → Field (List ℕ)
-links_of d = let k = length (filter is_external d.globals) in list_of (from_to k k u2) u2
+links_of d = let k = length (filter is_external d.code.globals) in list_of (from_to k k u2) u2
 
 -- a unit of its parts
 abbrev pub member_of : (Name × Deck) × List ℕ → Member

@@ -8,24 +8,25 @@ use Rattle.pli_map.specs.Sizes.{size_of}
 use Rattle.pli_deck.specs.declared.fault.DeckFault.{DeckFault}
 use Rattle.pli_deck.specs.declared.fault.DeckFault.TheVariants.{BadNumber, OverLimit}
 use Rattle.pli_deck.specs.Fields.{AreBytes}
-use Rattle.pli_deck.specs.Decks.{DeckTemplate, Global, Static, ExternalStatic}
-use Rattle.pli_deck.specs.Decks.{ExternalEntry, Deck}
 use Rattle.pli_deck.specs.ModuleFields.{External, Member, DeckModule, global_tag, is_external, module_field}
 use Rattle.pli_deck.specs.Whole.{whole_read}
+use Rattle.pli_unit_code.specs.CodeTables.{Code, CodedTemplate}
+use Rattle.pli_unit_code.specs.CodeTables.{CodedGlobal, OwnVariable, ExternalVariable, EntryPoint}
+use Rattle.pli_unit_code.specs.declared.code.VariableKind.TheVariants.{Static}
 
 -- ---- what externals and entries stand for
 
 -- the global of a number in a unit that is there
-abbrev pub global_in : Option Member → (global : ℕ) → Option Global
+abbrev pub global_in : Option Member → (global : ℕ) → Option CodedGlobal
 global_in None global = None
-global_in (Some m) global = slice_get m.deck.globals global
+global_in (Some m) global = slice_get m.deck.code.globals global
 
 -- the global of a number in the unit of a number
-abbrev pub global_at : List Member → (unit global : ℕ) → Option Global
+abbrev pub global_at : List Member → (unit global : ℕ) → Option CodedGlobal
 global_at units unit global = global_in (slice_get units unit) global
 
 -- a global is there and has this kind
-abbrev pub has_kind : (kind : ℕ) → Option Global → Bool
+abbrev pub has_kind : (kind : ℕ) → Option CodedGlobal → Bool
 has_kind kind None = false
 has_kind kind (Some g) = nat_eq (global_tag g) kind
 
@@ -36,12 +37,12 @@ is_of_kind kind (Some e) = nat_eq kind e.kind
 
 -- what an external global stands for is there: a unit for an entry, and an external of the same kind for a
 -- variable
-abbrev pub is_good_link : DeckModule → Global → (link : ℕ) → Bool
-is_good_link m (ExternalEntry _ _) link = nat_lt link (length m.units)
+abbrev pub is_good_link : DeckModule → CodedGlobal → (link : ℕ) → Bool
+is_good_link m (EntryPoint _ _) link = nat_lt link (length m.units)
 is_good_link m variable link = is_of_kind (global_tag variable) (slice_get m.externals link)
 
 -- what each external global of a unit stands for is there
-abbrev pub are_good_links : DeckModule → List Global → List ℕ → Bool
+abbrev pub are_good_links : DeckModule → List CodedGlobal → List ℕ → Bool
 are_good_links m [] links = true
 are_good_links m (g ∷ gs) [] = true
 are_good_links m (g ∷ gs) (l ∷ ls) = is_good_link m g l && are_good_links m gs ls
@@ -52,7 +53,7 @@ abbrev pub links_stand : DeckModule → Bool
 links_stand m =
     nat_lt m.main (length m.units)
     && list_all (λ e. has_kind e.kind (global_at m.units e.unit e.global)) m.externals
-    && list_all (λ u. are_good_links m (filter is_external u.deck.globals) u.links) m.units
+    && list_all (λ u. are_good_links m (filter is_external u.deck.code.globals) u.links) m.units
 
 -- ---- limits
 
@@ -62,28 +63,28 @@ description_bytes None = 0
 description_bytes (Some d) = size_of d
 
 -- those of a template that is there
-abbrev pub bytes_by_template : Deck → Option DeckTemplate → ℕ
-bytes_by_template d None = 0
-bytes_by_template d (Some t) = description_bytes (slice_get d.descriptions t.description)
+abbrev pub bytes_by_template : Code → Option CodedTemplate → ℕ
+bytes_by_template c None = 0
+bytes_by_template c (Some t) = description_bytes (slice_get c.descriptions t.description)
 
 -- those of the template of a number
-abbrev pub template_bytes : Deck → (template : ℕ) → ℕ
-template_bytes d template = bytes_by_template d (slice_get d.templates template)
+abbrev pub template_bytes : Code → (template : ℕ) → ℕ
+template_bytes c template = bytes_by_template c (slice_get c.templates template)
 
 -- the bytes of a unit's own static variables
-abbrev pub static_bytes : Deck → Global → ℕ
-static_bytes d (Static t) = template_bytes d t
-static_bytes d other = 0
+abbrev pub static_bytes : Code → CodedGlobal → ℕ
+static_bytes c (OwnVariable Static t) = template_bytes c t
+static_bytes c other = 0
 
 -- those of an external static variable, by its first declaration
-abbrev pub declared_bytes : Deck → Option Global → ℕ
-declared_bytes d (Some (ExternalStatic _ t)) = template_bytes d t
-declared_bytes d other = 0
+abbrev pub declared_bytes : Code → Option CodedGlobal → ℕ
+declared_bytes c (Some (ExternalVariable _ Static t)) = template_bytes c t
+declared_bytes c other = 0
 
 -- those of the external static variable that a global of a unit declares
 abbrev pub bytes_in_unit : Option Member → (global : ℕ) → ℕ
 bytes_in_unit None global = 0
-bytes_in_unit (Some m) global = declared_bytes m.deck (slice_get m.deck.globals global)
+bytes_in_unit (Some m) global = declared_bytes m.deck.code (slice_get m.deck.code.globals global)
 
 -- those of an external, where it is static
 abbrev pub external_bytes : List Member → External → ℕ
@@ -92,8 +93,8 @@ external_bytes units e = bytes_in_unit (slice_get units e.unit) e.global
 -- at most 1,000,000 instructions, and at most 16,777,216 bytes of static variables
 abbrev pub module_within_limits : DeckModule → Bool
 module_within_limits m =
-    nat_le (sum_by (λ u. length u.deck.instructions) m.units) 1000000
-    && nat_le (sum_by (λ u. sum_by (static_bytes u.deck) u.deck.globals) m.units
+    nat_le (sum_by (λ u. length u.deck.code.instructions) m.units) 1000000
+    && nat_le (sum_by (λ u. sum_by (static_bytes u.deck.code) u.deck.code.globals) m.units
     + sum_by (external_bytes m.units) m.externals) 16777216
 
 -- the first of these faults

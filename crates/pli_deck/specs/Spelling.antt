@@ -2,7 +2,7 @@
 use Rattle.std.specs.Prelude.{◌≡◌, ℕ, List, None, Result, Ok, true}
 use Rattle.pli_deck.specs.declared.fault.DeckFault.{DeckFault}
 use Rattle.pli_deck.specs.Fields.{AreBytes}
-use Rattle.pli_deck.specs.Decks.{Deck}
+use Rattle.pli_unit_code.specs.CodeTables.{Deck}
 use Rattle.pli_deck.specs.DeckFields.{deck}
 use Rattle.pli_deck.specs.DeckFaults.{fault_of}
 use Rattle.pli_deck.specs.Whole.{whole_read}

@@ -2,7 +2,6 @@
 #![tactic(auto)]
 
 mod coding;
-mod deck;
 mod describing;
 mod fault;
 mod laws;
@@ -13,13 +12,12 @@ mod putting;
 mod write;
 mod writing;
 
-pub use deck::{Constant, Deck, DeckSignature, DeckTemplate, Global, Initial};
 pub use describing::LEVELS;
 pub use fault::DeckFault;
 pub use laws::{
     decks_both_ways, descriptions_both_ways, instructions_both_ways, modules_both_ways,
     worked_decks, worked_modules,
 };
-pub use module::{DeckModule, External, ExternalKind, Member};
+pub use module::{DeckModule, External, LentDeck, LentMember, LentModule, Member};
 pub use modules::write_module;
 pub use write::write_deck;

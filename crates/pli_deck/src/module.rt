@@ -1,19 +1,17 @@
 //! Modules: the decks of all units, and what their external names stand for.
-use crate::deck::Deck;
-use pli_base::Name;
+ghost use Rattle.std.specs.Prelude.{◌≡◌, map, IfOk};
+ghost use Rattle.pli_deck.specs.ModuleView.{external_view, lent_deck_view, lent_member_view, lent_module_view, member_view, module_view};
+ghost use Rattle.pli_unit_code.specs.views.CodeView.{deck_view};
 
-/// What an external variable is.
-#[derive(Clone, Copy, Debug, PartialEq, Eq)]
-pub enum ExternalKind {
-    Static,
-    Controlled,
-}
+use pli_base::Name;
+use pli_unit_code::{Code, Deck, VariableKind};
+use std::alloc::{AllocError, Global};
 
 /// An external variable, with the unit and the global of its first declaration.
-#[derive(Drop)]
+#[derive(Clone, Copy)]
 pub struct External {
     pub name: Name,
-    pub kind: ExternalKind,
+    pub kind: VariableKind,
     pub unit: u16,
     pub global: u16,
 }
@@ -33,4 +31,68 @@ pub struct DeckModule {
     pub main: u16,
     pub externals: Vec<External>,
     pub units: Vec<Member>,
+}
+
+/// A deck whose code is lent.
+#[derive(Drop)]
+pub struct LentDeck<'a> {
+    pub name: Name,
+    pub is_main: bool,
+    pub code: &'a Code,
+}
+
+/// A unit of a module, its code lent.
+#[derive(Drop)]
+pub struct LentMember<'a> {
+    pub name: Name,
+    pub deck: LentDeck<'a>,
+    pub links: Vec<u16>,
+}
+
+/// A module whose units' code is lent: what is written of a module.
+#[derive(Drop)]
+pub struct LentModule<'a> {
+    pub main: u16,
+    pub externals: Vec<External>,
+    pub units: Vec<LentMember<'a>>,
+}
+
+/// A deck, its code lent.
+pub(crate) fn lent_deck(deck: &Deck) -> LentDeck<'_>
+    ensures { lent_deck_view result ≡ deck_view deck.now }
+{
+    LentDeck {
+        name: deck.name,
+        is_main: deck.is_main,
+        code: &deck.code,
+    }
+}
+
+/// Units, their code lent.
+fn lent_members<'a>(alloc: Global, units: &'a [Member]) -> Result<Vec<LentMember<'a>>, AllocError>
+    ensures { IfOk result (λ lent. map lent_member_view lent.items ≡ map member_view units.now) }
+{
+    let mut lent = Vec::with_capacity(alloc, units.len())?;
+    for unit in units {
+        lent.push(LentMember {
+            name: unit.name,
+            deck: lent_deck(&unit.deck),
+            links: Vec::from_slice(alloc, &unit.links)?,
+        })?;
+    }
+    Ok(lent)
+}
+
+impl DeckModule {
+    /// The module, its units' code lent. Takes time in proportion to the externals, the units and their links. An error
+    /// comes where memory runs out.
+    pub fn lent(&self, alloc: Global) -> Result<LentModule<'_>, AllocError>
+        ensures { IfOk result (λ lent. lent_module_view lent ≡ module_view self.now) }
+    {
+        Ok(LentModule {
+            main: self.main,
+            externals: Vec::from_slice(alloc, &self.externals)?,
+            units: lent_members(alloc, &self.units)?,
+        })
+    }
 }

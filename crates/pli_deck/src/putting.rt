@@ -1,21 +1,25 @@
 //! The items of a deck at the end of bytes.
-ghost use Rattle.std.specs.Prelude.{◌≡◌, ◌++◌, ℕ, List, length, map, OnOk};
+ghost use Rattle.std.specs.Prelude.{◌≡◌, ◌∷◌, ◌++◌, ℕ, List, length, map, OnOk};
 ghost use Rattle.std.specs.List.{flat_map};
 ghost use Rattle.byteorder.specs.Endian.{big_bytes};
-ghost use Rattle.pli_deck.specs.Fields.{u2};
-ghost use Rattle.pli_deck.specs.Decks as plain;
+ghost use Rattle.pli_deck.specs.Fields.{u2, ◌⊗◌};
 ghost use Rattle.pli_deck.specs.DeckFields as deck_fields;
-ghost use Rattle.pli_deck.specs.DeckView.{constant_view, initial_view, template_view, signature_view, global_view};
-ghost use Rattle.pli_unit_code.specs.CodeTables.{CodedBlock};
-ghost use Rattle.pli_unit_code.specs.views.CodeView.{block_view};
+ghost use Rattle.pli_type_tree.specs.Templates as templates;
+ghost use Rattle.pli_type_tree.specs.views.TemplateView.{initial_view};
+ghost use Rattle.pli_unit_code.specs.CodeTables as tables;
+ghost use Rattle.pli_unit_code.specs.views.CodeView.{block_view, coded_template_view, global_view, signature_view};
+ghost use Rattle.pli_value.specs.Value as values;
+ghost use Rattle.pli_value.specs.Value.{value_view};
 
-use crate::deck::{Constant, DeckSignature, DeckTemplate, Global, Initial};
 use crate::numbered::kind_number;
 use crate::writing::{
-    PutsOne, put_all, put_bits, put_byte, put_characters, put_large_count, put_list, put_name,
-    put_optional, put_short, put_signed, put_small_count, put_with_short, put_word,
+    PutsOne, put_all, put_bits, put_byte, put_characters, put_integer, put_large_count, put_list,
+    put_name, put_optional, put_short, put_small_count, put_with_short, put_word,
 };
-use pli_unit_code::Block;
+use pli_base::Name;
+use pli_type_tree::InitialScalar;
+use pli_unit_code::{Block, CodedGlobal, CodedSignature, CodedTemplate, VariableKind};
+use pli_value::{Locator, Value};
 use std::alloc::AllocError;
 
 /// Puts a number of two bytes.
@@ -54,33 +58,43 @@ fn put_parameters(out: &mut Vec<u8>, parameters: &[u16]) -> Result<(), AllocErro
 
 /// Puts a signature.
 #[tactic(auto, unfolding(crate::specs::DeckFields::signature))]
-pub fn put_signature(out: &mut Vec<u8>, signature: &DeckSignature) -> Result<(), AllocError>
+pub fn put_signature(out: &mut Vec<u8>, signature: &CodedSignature) -> Result<(), AllocError>
     ensures { OnOk result (out.new.items ≡ out.old.items ++ deck_fields.signature.bytes_of (signature_view signature.now)) }
 {
     put_parameters(out, signature.parameters.as_slice())?;
     put_optional(out, signature.result)
 }
 
+/// The tag of a locator. Null alone has a spelling: nothing tells which other one it was.
+fn locator_tag(locator: Locator) -> u8
+    ensures { result ≡ deck_fields.locator_tag locator }
+{
+    match locator {
+        Locator::Null => 4,
+        Locator::Pointer { .. } => 4,
+        Locator::Offset(_) => 5,
+    }
+}
+
 /// Puts a constant.
 #[tactic(auto, unfolding(crate::specs::DeckFields::constant))]
-fn put_constant(out: &mut Vec<u8>, constant: &Constant) -> Result<(), AllocError>
-    ensures { OnOk result (out.new.items ≡ out.old.items ++ deck_fields.constant.bytes_of (constant_view constant.now)) }
+fn put_constant(out: &mut Vec<u8>, constant: &Value) -> Result<(), AllocError>
+    ensures { OnOk result (out.new.items ≡ out.old.items ++ deck_fields.constant.bytes_of (value_view constant.now)) }
 {
     match constant {
-        Constant::Number(number) => {
+        Value::Number(number) => {
             put_byte(out, 1)?;
-            put_signed(out, *number)
+            put_integer(out, *number)
         }
-        Constant::Characters(text) => {
+        Value::Characters(text) => {
             put_byte(out, 2)?;
             put_characters(out, text.as_slice())
         }
-        Constant::Bits(bits) => {
+        Value::Bits(bits) => {
             put_byte(out, 3)?;
             put_bits(out, bits)
         }
-        Constant::NullPointer => put_byte(out, 4),
-        Constant::NullOffset => put_byte(out, 5),
+        Value::Locator(locator) => put_byte(out, locator_tag(*locator)),
     }
 }
 
@@ -88,15 +102,15 @@ fn put_constant(out: &mut Vec<u8>, constant: &Constant) -> Result<(), AllocError
 pub struct Constants;
 
 impl PutsOne for Constants {
-    type Value = Constant;
+    type Value = Value;
 
-    ghost Said = { plain.Constant };
+    ghost Said = { values.Value };
 
-    ghost say = { constant_view };
+    ghost say = { value_view };
 
     ghost bytes_of = { deck_fields.constant.bytes_of };
 
-    fn put(&self, out: &mut Vec<u8>, value: &Constant) -> Result<(), AllocError> {
+    fn put(&self, out: &mut Vec<u8>, value: &Value) -> Result<(), AllocError> {
         put_constant(out, value)
     }
 }
@@ -105,16 +119,16 @@ impl PutsOne for Constants {
 struct Initials;
 
 impl PutsOne for Initials {
-    type Value = Initial;
+    type Value = InitialScalar;
 
-    ghost Said = { plain.Initial };
+    ghost Said = { templates.InitialScalar };
 
     ghost say = { initial_view };
 
     ghost bytes_of = { deck_fields.initial.bytes_of };
 
     #[tactic(auto, unfolding(crate::specs::DeckFields::initial))]
-    fn put(&self, out: &mut Vec<u8>, value: &Initial) -> Result<(), AllocError> {
+    fn put(&self, out: &mut Vec<u8>, value: &InitialScalar) -> Result<(), AllocError> {
         put_word(out, value.offset)?;
         put_constant(out, &value.value)
     }
@@ -124,50 +138,65 @@ impl PutsOne for Initials {
 pub struct Templates;
 
 impl PutsOne for Templates {
-    type Value = DeckTemplate;
+    type Value = CodedTemplate;
 
-    ghost Said = { plain.DeckTemplate };
+    ghost Said = { tables.CodedTemplate };
 
-    ghost say = { template_view };
+    ghost say = { coded_template_view };
 
     ghost bytes_of = { deck_fields.template.bytes_of };
 
     #[tactic(auto, unfolding(crate::specs::DeckFields::template))]
-    fn put(&self, out: &mut Vec<u8>, value: &DeckTemplate) -> Result<(), AllocError> {
+    fn put(&self, out: &mut Vec<u8>, value: &CodedTemplate) -> Result<(), AllocError> {
         put_short(out, value.description)?;
         put_large_count(out, value.initial.len())?;
         put_all(out, &Initials, value.initial.as_slice())
     }
 }
 
+/// Puts a tag, a name and a number of two bytes.
+fn put_shared(out: &mut Vec<u8>, tag: u8, name: &Name, template: u16) -> Result<(), AllocError>
+    ensures { OnOk result (out.new.items ≡ out.old.items ++ (tag ∷ (deck_fields.name ⊗ u2).bytes_of (name.now, template))) }
+{
+    put_byte(out, tag)?;
+    put_name(out, name)?;
+    put_short(out, template)
+}
+
 /// Puts a global.
 pub struct Globals;
 
 impl PutsOne for Globals {
-    type Value = Global;
+    type Value = CodedGlobal;
 
-    ghost Said = { plain.Global };
+    ghost Said = { tables.CodedGlobal };
 
     ghost say = { global_view };
 
     ghost bytes_of = { deck_fields.global.bytes_of };
 
     #[tactic(auto, unfolding(crate::specs::DeckFields::global))]
-    fn put(&self, out: &mut Vec<u8>, value: &Global) -> Result<(), AllocError> {
+    fn put(&self, out: &mut Vec<u8>, value: &CodedGlobal) -> Result<(), AllocError> {
         match value {
-            Global::Static(template) => put_with_short(out, 0, *template),
-            Global::Controlled(template) => put_with_short(out, 1, *template),
-            Global::ExternalStatic { name, template } => {
-                put_byte(out, 2)?;
-                put_name(out, name)?;
-                put_short(out, *template)
-            }
-            Global::ExternalControlled { name, template } => {
-                put_byte(out, 3)?;
-                put_name(out, name)?;
-                put_short(out, *template)
-            }
-            Global::ExternalEntry { name, signature } => {
+            CodedGlobal::OwnVariable {
+                kind: VariableKind::Static,
+                template,
+            } => put_with_short(out, 0, *template),
+            CodedGlobal::OwnVariable {
+                kind: VariableKind::Controlled,
+                template,
+            } => put_with_short(out, 1, *template),
+            CodedGlobal::ExternalVariable {
+                name,
+                kind: VariableKind::Static,
+                template,
+            } => put_shared(out, 2, name, *template),
+            CodedGlobal::ExternalVariable {
+                name,
+                kind: VariableKind::Controlled,
+                template,
+            } => put_shared(out, 3, name, *template),
+            CodedGlobal::EntryPoint { name, signature } => {
                 put_byte(out, 4)?;
                 put_name(out, name)?;
                 put_signature(out, signature)
@@ -182,7 +211,7 @@ pub struct Blocks;
 impl PutsOne for Blocks {
     type Value = Block;
 
-    ghost Said = { CodedBlock };
+    ghost Said = { tables.CodedBlock };
 
     ghost say = { block_view };
 

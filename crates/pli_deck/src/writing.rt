@@ -51,6 +51,26 @@ pub fn put_signed(out: &mut Vec<u8>, number: i32) -> Result<(), AllocError>
     put_word(out, number.cast_unsigned())
 }
 
+/// The number that stands for another in four bytes: itself, or in two's complement where it is negative. For those
+/// below -2^32, which no deck has, 0 stands.
+fn unsigned_word(number: i64) -> u64
+    ensures { result ≡ cast_unsigned w32 number }
+{
+    if number < 0 {
+        4_294_967_296u64.saturating_sub(number.unsigned_abs())
+    } else {
+        number.unsigned_abs()
+    }
+}
+
+/// Puts a number of at most 31 binary digits as a signed one of four bytes.
+#[tactic(auto, using(crate::proofs::LowBytes::low_four))]
+pub fn put_integer(out: &mut Vec<u8>, number: i64) -> Result<(), AllocError>
+    ensures { OnOk result (out.new.items ≡ out.old.items ++ big_bytes 4 (cast_unsigned w32 number)) }
+{
+    put_word(out, (unsigned_word(number) % 4_294_967_296) as u32)
+}
+
 /// Puts the byte that says which form stands there, and one more.
 pub fn put_with_byte(out: &mut Vec<u8>, tag: u8, number: u8) -> Result<(), AllocError>
     ensures { OnOk result (out.new.items ≡ out.old.items ++ (tag ∷ number ∷ [])) }

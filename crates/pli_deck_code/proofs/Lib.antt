@@ -1,5 +1,2 @@
 pub mod DeclarationTables
-pub mod LoopLemmas
-pub mod OffsetPaths
-pub mod ScalarPlaces
 pub mod TableLemmas

@@ -12,8 +12,7 @@ use Rattle.pli_unit_code.specs.declared.code.CodedGlobal.{CodedGlobal}
 use Rattle.pli_unit_code.specs.declared.code.CodedGlobal.TheVariants as globals
 use Rattle.pli_unit_code.specs.declared.code.CodedSignature.{CodedSignature}
 use Rattle.pli_unit_code.specs.views.CodeView.{global_view, signature_view}
-use Rattle.pli_deck_code.specs.CodeDecks.{short}
-use Rattle.pli_deck_code.specs.CodeModules.{external_of, number_of, links_of}
+use Rattle.pli_deck_code.specs.CodeModules.{short, external_of, number_of, links_of}
 use Rattle.pli_deck_code.specs.answers.Tables.{name_of}
 use Rattle.pli_deck_code.specs.declared.externals.ExternalDeclaration.{ExternalDeclaration}
 

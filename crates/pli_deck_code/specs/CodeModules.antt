@@ -1,6 +1,6 @@
 -- The module of linked units: their decks, and what their external names stand for (own).
-use Rattle.std.specs.Prelude.{ℕ, ◌+◌, nat_eq, Bool, Option, Some, None, is_some, unwrap_or, List, [], ◌∷◌}
-use Rattle.std.specs.Prelude.{◌++◌, map, if◌then◌else◌}
+use Rattle.std.specs.Prelude.{ℕ, ◌+◌, min, nat_eq, Bool, Option, Some, None, is_some, unwrap_or, List, []}
+use Rattle.std.specs.Prelude.{◌∷◌, ◌++◌, map, if◌then◌else◌}
 use Rattle.std.specs.BTreeMap.{insert_entry, is_at}
 use Rattle.std.specs.Cmp.Lexicographic.{slice_cmp}
 use Rattle.std.specs.Map.{keys_of, lookup}
@@ -8,20 +8,26 @@ use Rattle.std.specs.Ordering.{nat_cmp}
 use Rattle.pli_base.specs.Name.{Name}
 use Rattle.pli_base.specs.Words.{same_name}
 use Rattle.pli_deck.specs.ModuleFields.{External, Member, DeckModule}
-use Rattle.pli_unit_code.specs.CodeTables.{CodedGlobal, OwnVariable, ExternalVariable, EntryPoint}
+use Rattle.pli_unit_code.specs.CodeTables.{Deck, CodedGlobal, OwnVariable, ExternalVariable, EntryPoint}
+use Rattle.pli_unit_code.specs.declared.code.VariableKind.TheVariants.{Static}
 use Rattle.pli_unit_code.specs.Modules as linked
 use Rattle.pli_unit_code.specs.Modules.{LinkedUnit}
-use Rattle.pli_deck_code.specs.CodeDecks.{short, deck_of}
 use Rattle.pli_deck_code.specs.declared.externals.ExternalDeclaration.{ExternalDeclaration}
+
+-- a number in a field of two bytes: the greatest that it holds stands for every greater one, which no module
+-- within its limits has
+abbrev pub short : ℕ → ℕ
+short n = min n 65535
 
 -- where an external variable is declared
 abbrev pub declaration : (unit global : ℕ) → ExternalDeclaration
 declaration unit global = record { unit = short unit; global = short global }
 
--- the external variables that a unit declares, from this global on
+-- the external STATIC variables that a unit declares, from this global on; none is CONTROLLED in what is
+-- linked yet
 abbrev pub declared_in : (unit global : ℕ) → List CodedGlobal → List (Name × ExternalDeclaration)
 declared_in unit global [] = []
-declared_in unit global (ExternalVariable name t ∷ gs) =
+declared_in unit global (ExternalVariable name Static t ∷ gs) =
     (name, declaration unit global) ∷ declared_in unit (global + 1) gs
 declared_in unit global (other ∷ gs) = declared_in unit (global + 1) gs
 
@@ -60,17 +66,21 @@ number_of number (n ∷ ns) name =
 -- what external globals stand for: the number of an external variable or, for an entry, of its unit
 abbrev pub links_of : (names : List Name) → List CodedGlobal → (entries : List ℕ) → List ℕ
 links_of names [] entries = []
-links_of names (OwnVariable t ∷ gs) entries = links_of names gs entries
-links_of names (ExternalVariable name t ∷ gs) entries =
+links_of names (OwnVariable kind t ∷ gs) entries = links_of names gs entries
+links_of names (ExternalVariable name kind t ∷ gs) entries =
     unwrap_or (number_of 0 names name) 0 ∷ links_of names gs entries
 links_of names (EntryPoint name signature ∷ gs) [] = links_of names gs []
 links_of names (EntryPoint name signature ∷ gs) (unit ∷ units) = unit ∷ links_of names gs units
+
+-- the deck of a unit, which is the main one or not
+abbrev pub deck_of : (is_main : Bool) → LinkedUnit → Deck
+deck_of is_main u = record { name = u.procedure; is_main = is_main; code = u.code }
 
 -- a unit with its deck
 abbrev pub member : (names : List Name) → (is_main : Bool) → LinkedUnit → Member
 member names is_main u = record {
   name = u.unit;
-  deck = deck_of is_main u.procedure u.code;
+  deck = deck_of is_main u;
   links = links_of names u.code.globals u.entries;
 }
 

@@ -7,11 +7,10 @@ ghost use Rattle.pli_deck_code.specs.answers.Tables.{name_of, AreNumbered};
 ghost use Rattle.pli_deck_code.specs.views.LinkedView.{lent_view};
 
 use crate::linked::LentUnit;
-use crate::numbers::short;
 use indexmap::IndexMap;
 use pli_base::Name;
-use pli_deck::{External, ExternalKind};
-use pli_unit_code::CodedGlobal;
+use pli_deck::External;
+use pli_unit_code::{CodedGlobal, VariableKind};
 use std::alloc::{AllocError, Global};
 use std::collections::BTreeMap;
 
@@ -20,6 +19,14 @@ use std::collections::BTreeMap;
 pub struct ExternalDeclaration {
     pub unit: u16,
     pub global: u16,
+}
+
+/// A number in two bytes: the greatest that they hold stands for every greater one, which no module within its limits
+/// has.
+fn short(number: u64) -> u16
+    ensures { result ≡ spec.short number }
+{
+    number.min(65_535) as u16
 }
 
 /// Notes a declaration for its name, unless one before has the name.
@@ -37,7 +44,7 @@ fn note_declaration(
     Ok(())
 }
 
-/// Notes the external variables that a unit declares.
+/// Notes the external STATIC variables that a unit declares.
 fn note_unit(
     declarations: &mut BTreeMap<Name, ExternalDeclaration>,
     unit: usize,
@@ -47,7 +54,12 @@ fn note_unit(
         ≡ spec.firsts declarations.old.entries (spec.declared_in unit 0 (map global_view globals.now))) }
 {
     for (number, global) in globals.iter().enumerate() {
-        if let CodedGlobal::ExternalVariable { name, .. } = global {
+        if let CodedGlobal::ExternalVariable {
+            name,
+            kind: VariableKind::Static,
+            ..
+        } = global
+        {
             let declaration = ExternalDeclaration {
                 unit: short(unit as u64),
                 global: short(number as u64),
@@ -83,7 +95,7 @@ fn externals_in(
     for (name, declaration) in declarations {
         made.push(External {
             name: *name,
-            kind: ExternalKind::Static,
+            kind: VariableKind::Static,
             unit: declaration.unit,
             global: declaration.global,
         })?;

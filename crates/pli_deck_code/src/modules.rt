@@ -1,45 +1,48 @@
 //! The module of linked units.
 ghost use Rattle.std.specs.Prelude.{◌≡◌, List, map, IfOk};
-ghost use Rattle.pli_deck.specs.ModuleView.{member_view, module_view};
+ghost use Rattle.pli_deck.specs.ModuleView.{lent_member_view, lent_module_view};
 ghost use Rattle.pli_deck_code.specs.CodeModules.{member, members_of, module_of};
 ghost use Rattle.pli_deck_code.specs.answers.Tables.{AreNumbered};
 ghost use Rattle.pli_deck_code.specs.views.LinkedView.{lent_view, linked_view};
 
-use crate::blocks::deck_of;
 use crate::externals::{externals_of, numbers_of};
 use crate::linked::{LentUnit, Linked};
 use crate::links::links_of;
 use indexmap::IndexMap;
 use pli_base::Name;
-use pli_deck::{DeckModule, Member};
+use pli_deck::{LentDeck, LentMember, LentModule};
 use std::alloc::{AllocError, Global};
 
 /// A unit with its deck, and what its external globals stand for.
-fn member_of(
+fn member_of<'a>(
     alloc: Global,
     numbers: &IndexMap<Name, u16>,
     is_main: bool,
-    unit: &LentUnit<'_>,
-) -> Result<Member, AllocError>
+    unit: &LentUnit<'a>,
+) -> Result<LentMember<'a>, AllocError>
     ensures { IfOk result (λ made. (names : List Name) → AreNumbered numbers.now.entries names →
-        member_view made ≡ member names is_main (lent_view unit.now)) }
+        lent_member_view made ≡ member names is_main (lent_view unit.now)) }
 {
-    Ok(Member {
+    Ok(LentMember {
         name: unit.unit,
-        deck: deck_of(alloc, is_main, unit.procedure, unit.code)?,
+        deck: LentDeck {
+            name: unit.procedure,
+            is_main,
+            code: unit.code,
+        },
         links: links_of(alloc, numbers, &unit.code.globals, &unit.entries)?,
     })
 }
 
 /// Units with their decks.
-fn members_of(
+fn members_of<'a>(
     alloc: Global,
     numbers: &IndexMap<Name, u16>,
     main: u16,
-    units: &[LentUnit<'_>],
-) -> Result<Vec<Member>, AllocError>
+    units: &[LentUnit<'a>],
+) -> Result<Vec<LentMember<'a>>, AllocError>
     ensures { IfOk result (λ made. (names : List Name) → AreNumbered numbers.now.entries names →
-        map member_view made.items ≡ members_of main names 0 (map lent_view units.now)) }
+        map lent_member_view made.items ≡ members_of main names 0 (map lent_view units.now)) }
 {
     let mut made = Vec::with_capacity(alloc, units.len())?;
     for (number, unit) in units.iter().enumerate() {
@@ -49,15 +52,15 @@ fn members_of(
     Ok(made)
 }
 
-/// The module of linked units as its bytes have it. Takes time in proportion to the code and to the variables that
-/// have initial values. An error comes where memory runs out.
-pub fn module_of(alloc: Global, linked: &Linked<'_>) -> Result<DeckModule, AllocError>
-    ensures { IfOk result (λ made. module_view made ≡ module_of (linked_view linked.now)) }
+/// The module of linked units as its bytes have it, the code still lent. Takes time in proportion to the units, their
+/// globals and their entries. An error comes where memory runs out.
+pub fn module_of<'a>(alloc: Global, linked: &Linked<'a>) -> Result<LentModule<'a>, AllocError>
+    ensures { IfOk result (λ made. lent_module_view made ≡ module_of (linked_view linked.now)) }
 {
     let externals = externals_of(alloc, &linked.units)?;
     let numbers = numbers_of(alloc, &externals)?;
     let units = members_of(alloc, &numbers, linked.main, &linked.units)?;
-    Ok(DeckModule {
+    Ok(LentModule {
         main: linked.main,
         externals,
         units,

@@ -2,7 +2,7 @@
 use Rattle.std.proofs.Common.{◌≡◌, ℕ, zero, suc, min, List, [], ◌∷◌, map, get_or, slice_get, Option, Some, None, option_map, refl, sym, ap}
 use Rattle.pli_map.specs.declared.description.Description.{Description}
 use Rattle.pli_map.specs.views.DescriptionView.{description_view}
-use Rattle.pli_deck.specs.Decks.{DeckTemplate, Deck}
+use Rattle.pli_unit_code.specs.CodeTables.{CodedTemplate, Code}
 use Rattle.pli_deck.specs.ModuleSpelling.{description_bytes, bytes_by_template, template_bytes}
 use Rattle.pli_deck_faults.specs.CutSizes.{cut_sizes}
 
@@ -12,9 +12,9 @@ size_found [] k = refl
 size_found (d ∷ ds) zero = refl
 size_found (d ∷ ds) (suc k) = size_found ds k
 
-some_by : (d : Deck) (o : Option DeckTemplate) (k : ℕ) → Some k ≡ option_map (λ t. t.description) o → bytes_by_template d o ≡ description_bytes (slice_get d.descriptions k)
-some_by d None k e = absurd cc
-some_by d (Some t) k e = let same : k ≡ t.description = cc in ap (λ n. description_bytes (slice_get d.descriptions n)) (sym same)
+some_by : (c : Code) (o : Option CodedTemplate) (k : ℕ) → Some k ≡ option_map (λ t. t.description) o → bytes_by_template c o ≡ description_bytes (slice_get c.descriptions k)
+some_by c None k e = absurd cc
+some_by c (Some t) k e = let same : k ≡ t.description = cc in ap (λ n. description_bytes (slice_get c.descriptions n)) (sym same)
 
-pub template_found : (d : Deck) (n k : ℕ) → Some k ≡ option_map (λ t. t.description) (slice_get d.templates n) → template_bytes d n ≡ description_bytes (slice_get d.descriptions k)
-template_found d n k e = some_by d (slice_get d.templates n) k e
+pub template_found : (c : Code) (n k : ℕ) → Some k ≡ option_map (λ t. t.description) (slice_get c.templates n) → template_bytes c n ≡ description_bytes (slice_get c.descriptions k)
+template_found c n k e = some_by c (slice_get c.templates n) k e

@@ -15,4 +15,4 @@ cut_sizes ds = map cut_size ds
 
 -- those of a unit's descriptions
 abbrev pub unit_sizes : Member → List ℕ
-unit_sizes u = cut_sizes u.deck.descriptions.items
+unit_sizes u = cut_sizes u.deck.code.descriptions.items

@@ -1,14 +1,15 @@
 //! Whether a module keeps the limits.
 ghost use Rattle.std.specs.Prelude.{◌≡◌, ◌≤◌, min, nat_le, length, map, get_or, slice_get, option_map, IfOk};
 ghost use Rattle.std.specs.List.{sum_by};
-ghost use Rattle.pli_deck.specs.DeckView.{deck_view, template_view, global_view};
+ghost use Rattle.pli_unit_code.specs.views.CodeView.{code_view, coded_template_view, global_view};
 ghost use Rattle.pli_deck.specs.ModuleSpelling as spelling;
 ghost use Rattle.pli_deck.specs.ModuleView.{external_view, member_view, module_view};
 ghost use Rattle.pli_deck_faults.specs.CutSizes.{cut_sizes, unit_sizes};
 ghost use Rattle.pli_deck_faults.specs.Remains.{Remains};
 
-use pli_deck::{Deck, DeckModule, External, Global as DeckGlobal, Member};
+use pli_deck::{DeckModule, External, Member};
 use pli_map::{Description, far_size};
+use pli_unit_code::{Code, CodedGlobal, VariableKind};
 use std::alloc::{AllocError, Global};
 
 /// The greatest number of instructions of a module (own).
@@ -19,11 +20,11 @@ const STATIC_LIMIT: u64 = 16_777_216;
 
 /// Whether the instructions of units are no more than there may be.
 fn instructions_within(units: &[Member]) -> bool
-    ensures { result ≡ nat_le (sum_by (λ u. length u.deck.instructions) (map member_view units.now)) 1000000 }
+    ensures { result ≡ nat_le (sum_by (λ u. length u.deck.code.instructions) (map member_view units.now)) 1000000 }
 {
     let mut left = INSTRUCTION_LIMIT;
     for unit in units {
-        let count = unit.deck.instructions.len();
+        let count = unit.deck.code.instructions.len();
         if count > left {
             return false;
         }
@@ -32,11 +33,11 @@ fn instructions_within(units: &[Member]) -> bool
     true
 }
 
-/// The number of the description of a template of a deck, if the deck has the template.
-fn described(deck: &Deck, number: u16) -> Option<u16>
-    ensures { result ≡ option_map (λ t. t.description) (slice_get (map template_view deck.now.templates.items) number) }
+/// The number of the description of a template of code, if the code has the template.
+fn described(code: &Code, number: u16) -> Option<u16>
+    ensures { result ≡ option_map (λ t. t.description) (slice_get (map coded_template_view code.now.templates.items) number) }
 {
-    let template = deck.templates.get(usize::from(number))?;
+    let template = code.templates.get(usize::from(number))?;
     Some(template.description)
 }
 
@@ -50,36 +51,39 @@ fn size_at(sizes: &[u64], number: u16) -> u64
     }
 }
 
-/// The bytes of a template of a deck; FAR stands for every greater number.
-fn template_bytes(deck: &Deck, sizes: &[u64], number: u16) -> u64
-    requires { sizes.now ≡ cut_sizes deck.now.descriptions.items }
-    ensures { result ≡ min (spelling.template_bytes (deck_view deck.now) number) 4294967296 }
+/// The bytes of a template of code; FAR stands for every greater number.
+fn template_bytes(code: &Code, sizes: &[u64], number: u16) -> u64
+    requires { sizes.now ≡ cut_sizes code.now.descriptions.items }
+    ensures { result ≡ min (spelling.template_bytes (code_view code.now) number) 4294967296 }
 {
-    match described(deck, number) {
+    match described(code, number) {
         Some(description) => size_at(sizes, description),
         None => 0,
     }
 }
 
 /// The bytes of a variable that is a unit's own and static.
-fn static_bytes(deck: &Deck, sizes: &[u64], global: &DeckGlobal) -> u64
-    requires { sizes.now ≡ cut_sizes deck.now.descriptions.items }
-    ensures { result ≡ min (spelling.static_bytes (deck_view deck.now) (global_view global.now)) 4294967296 }
+fn static_bytes(code: &Code, sizes: &[u64], global: &CodedGlobal) -> u64
+    requires { sizes.now ≡ cut_sizes code.now.descriptions.items }
+    ensures { result ≡ min (spelling.static_bytes (code_view code.now) (global_view global.now)) 4294967296 }
 {
     match global {
-        DeckGlobal::Static(template) => template_bytes(deck, sizes, *template),
+        CodedGlobal::OwnVariable {
+            kind: VariableKind::Static,
+            template,
+        } => template_bytes(code, sizes, *template),
         _ => 0,
     }
 }
 
 /// Whether the static variables of a unit, its own ones, are within so many bytes, and what is then left.
-fn behind_unit(deck: &Deck, sizes: &[u64], bytes: u64) -> Option<u64>
-    requires { (bytes ≤ 16777216) × (sizes.now ≡ cut_sizes deck.now.descriptions.items) }
-    ensures { Remains result bytes (sum_by (spelling.static_bytes (deck_view deck.now)) (map global_view deck.now.globals.items)) }
+fn behind_unit(code: &Code, sizes: &[u64], bytes: u64) -> Option<u64>
+    requires { (bytes ≤ 16777216) × (sizes.now ≡ cut_sizes code.now.descriptions.items) }
+    ensures { Remains result bytes (sum_by (spelling.static_bytes (code_view code.now)) (map global_view code.now.globals.items)) }
 {
     let mut left = bytes;
-    for global in &deck.globals {
-        let taken = static_bytes(deck, sizes, global);
+    for global in &code.globals {
+        let taken = static_bytes(code, sizes, global);
         if taken > left {
             return None;
         }
@@ -105,7 +109,7 @@ fn all_sizes(alloc: Global, units: &[Member]) -> Result<Vec<Vec<u64>>, AllocErro
 {
     let mut all = Vec::new(alloc);
     for unit in units {
-        all.push(sizes_of(alloc, &unit.deck.descriptions)?)?;
+        all.push(sizes_of(alloc, &unit.deck.code.descriptions)?)?;
     }
     Ok(all)
 }
@@ -113,26 +117,30 @@ fn all_sizes(alloc: Global, units: &[Member]) -> Result<Vec<Vec<u64>>, AllocErro
 /// What is left of so many bytes behind the static variables that units have for themselves; none where these are more.
 fn behind_units(units: &[Member], all: &[Vec<u64>], bytes: u64) -> Option<u64>
     requires { (bytes ≤ 16777216) × (map (λ sizes. sizes.items) all.now ≡ map unit_sizes units.now) }
-    ensures { Remains result bytes (sum_by (λ u. sum_by (spelling.static_bytes u.deck) u.deck.globals) (map member_view units.now)) }
+    ensures { Remains result bytes (sum_by (λ u. sum_by (spelling.static_bytes u.deck.code) u.deck.code.globals) (map member_view units.now)) }
 {
     let mut left = bytes;
     let mut place: usize = 0;
     for unit in units {
-        left = behind_unit(&unit.deck, &all[place], left)?;
+        left = behind_unit(&unit.deck.code, &all[place], left)?;
         place += 1;
     }
     Some(left)
 }
 
 /// The bytes of a global that is an external static variable.
-fn declared_bytes(deck: &Deck, sizes: &[u64], number: u16) -> u64
-    requires { sizes.now ≡ cut_sizes deck.now.descriptions.items }
-    ensures { result ≡ min (spelling.declared_bytes (deck_view deck.now) (slice_get (map global_view deck.now.globals.items) number)) 4294967296 }
+fn declared_bytes(code: &Code, sizes: &[u64], number: u16) -> u64
+    requires { sizes.now ≡ cut_sizes code.now.descriptions.items }
+    ensures { result ≡ min (spelling.declared_bytes (code_view code.now) (slice_get (map global_view code.now.globals.items) number)) 4294967296 }
 {
-    match deck.globals.get(usize::from(number)) {
-        Some(DeckGlobal::ExternalStatic { template, .. }) => {
-            template_bytes(deck, sizes, *template)
-        }
+    match code.globals.get(usize::from(number)) {
+        Some(
+            CodedGlobal::ExternalVariable {
+                kind: VariableKind::Static,
+                template,
+                ..
+            },
+        ) => template_bytes(code, sizes, *template),
         _ => 0,
     }
 }
@@ -146,7 +154,7 @@ fn external_bytes(units: &[Member], all: &[Vec<u64>], external: &External) -> u6
     if place >= units.len() {
         return 0;
     }
-    declared_bytes(&units[place].deck, &all[place], external.global)
+    declared_bytes(&units[place].deck.code, &all[place], external.global)
 }
 
 /// What is left of so many bytes behind external static variables; none where these are more.

@@ -1,15 +1,16 @@
 //! The first fault of a deck or a module as a whole.
 ghost use Rattle.std.specs.Prelude.{◌≡◌, IfOk};
 ghost use Rattle.pli_deck.specs.DeckFaults as faults;
-ghost use Rattle.pli_deck.specs.DeckView.{deck_view};
 ghost use Rattle.pli_deck.specs.ModuleSpelling as spelling;
 ghost use Rattle.pli_deck.specs.ModuleView.{module_view};
+ghost use Rattle.pli_unit_code.specs.views.CodeView.{deck_view};
 
 use crate::extent::module_within;
 use crate::limits::within_limits;
 use crate::links::links_stand;
 use crate::standing::{all_stand, jumps_stand};
-use pli_deck::{Deck, DeckFault, DeckModule};
+use pli_deck::{DeckFault, DeckModule};
+use pli_unit_code::Deck;
 use std::alloc::{AllocError, Global};
 
 /// The first of the faults that are looked for once a deck is read: a jump to no instruction, a number of no entry, or
@@ -17,13 +18,13 @@ use std::alloc::{AllocError, Global};
 pub fn deck_fault(alloc: Global, deck: &Deck) -> Result<Option<DeckFault>, AllocError>
     ensures { IfOk result (λ fault. fault ≡ faults.fault_of (deck_view deck.now)) }
 {
-    if !jumps_stand(deck) {
+    if !jumps_stand(&deck.code) {
         return Ok(Some(DeckFault::BadJump));
     }
-    if !all_stand(deck) {
+    if !all_stand(&deck.code) {
         return Ok(Some(DeckFault::BadNumber));
     }
-    if !within_limits(alloc, deck)? {
+    if !within_limits(alloc, &deck.code)? {
         return Ok(Some(DeckFault::OverLimit));
     }
     Ok(None)

@@ -1,20 +1,33 @@
 //! Whether what the external names of a module stand for is there.
 ghost use Rattle.std.specs.Prelude.{◌≡◌, map, nat_eq, Some, slice_get};
 ghost use Rattle.std.specs.List.{filter, list_all};
-ghost use Rattle.pli_deck.specs.DeckView.{global_view};
+ghost use Rattle.pli_unit_code.specs.views.CodeView.{global_view};
 ghost use Rattle.pli_deck.specs.ModuleFields as module_fields;
 ghost use Rattle.pli_deck.specs.ModuleSpelling as spelling;
 ghost use Rattle.pli_deck.specs.ModuleView.{kind_number, external_view, member_view, module_view};
 
-use pli_deck::{DeckModule, External, ExternalKind, Global, Member};
+use pli_deck::{DeckModule, External, Member};
+use pli_unit_code::{CodedGlobal, VariableKind};
 
 /// Whether a global is of a kind of externals.
-fn has_kind(kind: ExternalKind, global: &Global) -> bool
+fn has_kind(kind: VariableKind, global: &CodedGlobal) -> bool
     ensures { result ≡ spelling.has_kind (kind_number kind) (Some (global_view global.now)) }
 {
     match (kind, global) {
-        (ExternalKind::Static, Global::ExternalStatic { .. }) => true,
-        (ExternalKind::Controlled, Global::ExternalControlled { .. }) => true,
+        (
+            VariableKind::Static,
+            CodedGlobal::ExternalVariable {
+                kind: VariableKind::Static,
+                ..
+            },
+        ) => true,
+        (
+            VariableKind::Controlled,
+            CodedGlobal::ExternalVariable {
+                kind: VariableKind::Controlled,
+                ..
+            },
+        ) => true,
         _ => false,
     }
 }
@@ -27,7 +40,7 @@ fn external_stands(units: &[Member], external: &External) -> bool
     let Some(unit) = units.get(usize::from(external.unit)) else {
         return false;
     };
-    match unit.deck.globals.get(usize::from(external.global)) {
+    match unit.deck.code.globals.get(usize::from(external.global)) {
         Some(global) => has_kind(external.kind, global),
         None => false,
     }
@@ -46,7 +59,7 @@ fn externals_stand(units: &[Member], externals: &[External]) -> bool
 }
 
 /// Whether an external is there, and of a global's kind.
-fn variable_stands(externals: &[External], global: &Global, link: u16) -> bool
+fn variable_stands(externals: &[External], global: &CodedGlobal, link: u16) -> bool
     ensures { result ≡ spelling.is_of_kind (module_fields.global_tag (global_view global.now)) (slice_get (map external_view externals.now) link) }
 {
     match externals.get(usize::from(link)) {
@@ -57,27 +70,27 @@ fn variable_stands(externals: &[External], global: &Global, link: u16) -> bool
 
 /// Whether what an external global stands for is there: a unit for an entry, and an external of its kind for a
 /// variable.
-fn link_stands(program: &DeckModule, global: &Global, link: u16) -> bool
+fn link_stands(program: &DeckModule, global: &CodedGlobal, link: u16) -> bool
     ensures { result ≡ spelling.is_good_link (module_view program.now) (global_view global.now) link }
 {
     match global {
-        Global::ExternalEntry { .. } => usize::from(link) < program.units.len(),
+        CodedGlobal::EntryPoint { .. } => usize::from(link) < program.units.len(),
         _ => variable_stands(&program.externals, global, link),
     }
 }
 
 /// Whether a global is known by an external name.
-pub fn is_external(global: &Global) -> bool
+pub fn is_external(global: &CodedGlobal) -> bool
     ensures { result ≡ module_fields.is_external (global_view global.now) }
 {
     match global {
-        Global::Static(_) | Global::Controlled(_) => false,
+        CodedGlobal::OwnVariable { .. } => false,
         _ => true,
     }
 }
 
 /// Whether what the external globals of a unit stand for is there.
-fn globals_linked(program: &DeckModule, globals: &[Global], links: &[u16]) -> bool
+fn globals_linked(program: &DeckModule, globals: &[CodedGlobal], links: &[u16]) -> bool
     ensures { result ≡ spelling.are_good_links (module_view program.now) (filter module_fields.is_external (map global_view globals.now)) links.now }
 {
     let mut at: usize = 0;
@@ -97,10 +110,10 @@ fn globals_linked(program: &DeckModule, globals: &[Global], links: &[u16]) -> bo
 
 /// Whether what the external globals of units stand for is there.
 fn units_linked(program: &DeckModule, units: &[Member]) -> bool
-    ensures { result ≡ list_all (λ u. spelling.are_good_links (module_view program.now) (filter module_fields.is_external u.deck.globals) u.links) (map member_view units.now) }
+    ensures { result ≡ list_all (λ u. spelling.are_good_links (module_view program.now) (filter module_fields.is_external u.deck.code.globals) u.links) (map member_view units.now) }
 {
     for unit in units {
-        if !globals_linked(program, &unit.deck.globals, &unit.links) {
+        if !globals_linked(program, &unit.deck.code.globals, &unit.links) {
             return false;
         }
     }

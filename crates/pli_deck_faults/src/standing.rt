@@ -1,78 +1,76 @@
-//! Whether what a deck names by numbers is there.
+//! Whether what code names by numbers is there.
 ghost use Rattle.std.specs.Prelude.{◌≡◌, ◌++◌, ◌∷◌, [], nat_lt, length, map};
 ghost use Rattle.std.specs.List.{flat_map, list_all};
 ghost use Rattle.pli_deck.specs.DeckFaults as faults;
 ghost use Rattle.pli_deck.specs.DeckFaults.{OfDescription, OfTemplate, OfValue, OfGlobal, OfBlock, OfInstruction};
-ghost use Rattle.pli_deck.specs.DeckView.{deck_view, signature_view, template_view, global_view};
-ghost use Rattle.pli_unit_code.specs.views.CodeView.{block_view};
+ghost use Rattle.pli_unit_code.specs.views.CodeView.{block_view, code_view, coded_template_view, global_view, signature_view};
 
-use pli_deck::{Deck, DeckSignature, DeckTemplate, Global};
-use pli_unit_code::{Block, Instruction};
+use pli_unit_code::{Block, Code, CodedGlobal, CodedSignature, CodedTemplate, Instruction};
 
 /// Whether a description of this number is there.
 #[tactic(auto, using(crate::proofs::CountLemmas::mapped_length))]
-fn has_description(deck: &Deck, number: u16) -> bool
-    ensures { result ≡ faults.is_there (deck_view deck.now) (OfDescription number) }
+fn has_description(code: &Code, number: u16) -> bool
+    ensures { result ≡ faults.is_there (code_view code.now) (OfDescription number) }
 {
-    usize::from(number) < deck.descriptions.len()
+    usize::from(number) < code.descriptions.len()
 }
 
 /// Whether a template of this number is there.
 #[tactic(auto, using(crate::proofs::CountLemmas::mapped_length))]
-fn has_template(deck: &Deck, number: u16) -> bool
-    ensures { result ≡ faults.is_there (deck_view deck.now) (OfTemplate number) }
+fn has_template(code: &Code, number: u16) -> bool
+    ensures { result ≡ faults.is_there (code_view code.now) (OfTemplate number) }
 {
-    usize::from(number) < deck.templates.len()
+    usize::from(number) < code.templates.len()
 }
 
 /// Whether a value of this number is there.
 #[tactic(auto, using(crate::proofs::CountLemmas::mapped_length))]
-fn has_value(deck: &Deck, number: u16) -> bool
-    ensures { result ≡ faults.is_there (deck_view deck.now) (OfValue number) }
+fn has_value(code: &Code, number: u16) -> bool
+    ensures { result ≡ faults.is_there (code_view code.now) (OfValue number) }
 {
-    usize::from(number) < deck.values.len()
+    usize::from(number) < code.values.len()
 }
 
 /// Whether a global of this number is there.
 #[tactic(auto, using(crate::proofs::CountLemmas::mapped_length))]
-fn has_global(deck: &Deck, number: u16) -> bool
-    ensures { result ≡ faults.is_there (deck_view deck.now) (OfGlobal number) }
+fn has_global(code: &Code, number: u16) -> bool
+    ensures { result ≡ faults.is_there (code_view code.now) (OfGlobal number) }
 {
-    usize::from(number) < deck.globals.len()
+    usize::from(number) < code.globals.len()
 }
 
 /// Whether a block of this number is there.
 #[tactic(auto, using(crate::proofs::CountLemmas::mapped_length))]
-fn has_block(deck: &Deck, number: u16) -> bool
-    ensures { result ≡ faults.is_there (deck_view deck.now) (OfBlock number) }
+fn has_block(code: &Code, number: u16) -> bool
+    ensures { result ≡ faults.is_there (code_view code.now) (OfBlock number) }
 {
-    usize::from(number) < deck.blocks.len()
+    usize::from(number) < code.blocks.len()
 }
 
 /// Whether an instruction of this number is there.
-fn has_instruction(deck: &Deck, number: u16) -> bool
-    ensures { result ≡ faults.is_there (deck_view deck.now) (OfInstruction number) }
+fn has_instruction(code: &Code, number: u16) -> bool
+    ensures { result ≡ faults.is_there (code_view code.now) (OfInstruction number) }
 {
-    usize::from(number) < deck.instructions.len()
+    usize::from(number) < code.instructions.len()
 }
 
 /// Whether a result's description is there, if there is a result.
 #[tactic(auto, using(crate::proofs::CountLemmas::alone))]
-fn result_stands(deck: &Deck, description: Option<u16>) -> bool
-    ensures { result ≡ list_all (faults.is_there (deck_view deck.now)) (faults.named_by_result description) }
+fn result_stands(code: &Code, description: Option<u16>) -> bool
+    ensures { result ≡ list_all (faults.is_there (code_view code.now)) (faults.named_by_result description) }
 {
     match description {
         None => true,
-        Some(number) => has_description(deck, number),
+        Some(number) => has_description(code, number),
     }
 }
 
 /// Whether descriptions of these numbers are there.
-fn descriptions_stand(deck: &Deck, numbers: &[u16]) -> bool
-    ensures { result ≡ list_all (λ n. faults.is_there (deck_view deck.now) (OfDescription n)) numbers.now }
+fn descriptions_stand(code: &Code, numbers: &[u16]) -> bool
+    ensures { result ≡ list_all (λ n. faults.is_there (code_view code.now) (OfDescription n)) numbers.now }
 {
     for number in numbers {
-        if !has_description(deck, *number) {
+        if !has_description(code, *number) {
             return false;
         }
     }
@@ -81,26 +79,26 @@ fn descriptions_stand(deck: &Deck, numbers: &[u16]) -> bool
 
 /// Whether the descriptions of a signature are there.
 #[tactic(auto, using(crate::proofs::CountLemmas::mapped_passes, crate::proofs::CountLemmas::both_pass))]
-fn signature_stands(deck: &Deck, signature: &DeckSignature) -> bool
-    ensures { result ≡ list_all (faults.is_there (deck_view deck.now)) (faults.named_by_signature (signature_view signature.now)) }
+fn signature_stands(code: &Code, signature: &CodedSignature) -> bool
+    ensures { result ≡ list_all (faults.is_there (code_view code.now)) (faults.named_by_signature (signature_view signature.now)) }
 {
-    descriptions_stand(deck, &signature.parameters) && result_stands(deck, signature.result)
+    descriptions_stand(code, &signature.parameters) && result_stands(code, signature.result)
 }
 
 /// Whether the description of a template is there.
 #[tactic(auto, using(crate::proofs::CountLemmas::alone))]
-fn template_stands(deck: &Deck, template: &DeckTemplate) -> bool
-    ensures { result ≡ list_all (faults.is_there (deck_view deck.now)) (faults.named_by_template (template_view template.now)) }
+fn template_stands(code: &Code, template: &CodedTemplate) -> bool
+    ensures { result ≡ list_all (faults.is_there (code_view code.now)) (faults.named_by_template (coded_template_view template.now)) }
 {
-    has_description(deck, template.description)
+    has_description(code, template.description)
 }
 
 /// Whether the descriptions of templates are there.
-fn templates_stand(deck: &Deck, templates: &[DeckTemplate]) -> bool
-    ensures { result ≡ list_all (λ t. list_all (faults.is_there (deck_view deck.now)) (faults.named_by_template t)) (map template_view templates.now) }
+fn templates_stand(code: &Code, templates: &[CodedTemplate]) -> bool
+    ensures { result ≡ list_all (λ t. list_all (faults.is_there (code_view code.now)) (faults.named_by_template t)) (map coded_template_view templates.now) }
 {
     for template in templates {
-        if !template_stands(deck, template) {
+        if !template_stands(code, template) {
             return false;
         }
     }
@@ -109,24 +107,22 @@ fn templates_stand(deck: &Deck, templates: &[DeckTemplate]) -> bool
 
 /// Whether what a global names is there.
 #[tactic(auto, using(crate::proofs::CountLemmas::alone))]
-fn global_stands(deck: &Deck, global: &Global) -> bool
-    ensures { result ≡ list_all (faults.is_there (deck_view deck.now)) (faults.named_by_global (global_view global.now)) }
+fn global_stands(code: &Code, global: &CodedGlobal) -> bool
+    ensures { result ≡ list_all (faults.is_there (code_view code.now)) (faults.named_by_global (global_view global.now)) }
 {
     match global {
-        Global::Static(template) => has_template(deck, *template),
-        Global::Controlled(template) => has_template(deck, *template),
-        Global::ExternalStatic { template, .. } => has_template(deck, *template),
-        Global::ExternalControlled { template, .. } => has_template(deck, *template),
-        Global::ExternalEntry { signature, .. } => signature_stands(deck, signature),
+        CodedGlobal::OwnVariable { template, .. } => has_template(code, *template),
+        CodedGlobal::ExternalVariable { template, .. } => has_template(code, *template),
+        CodedGlobal::EntryPoint { signature, .. } => signature_stands(code, signature),
     }
 }
 
 /// Whether what globals name is there.
-fn globals_stand(deck: &Deck, globals: &[Global]) -> bool
-    ensures { result ≡ list_all (λ g. list_all (faults.is_there (deck_view deck.now)) (faults.named_by_global g)) (map global_view globals.now) }
+fn globals_stand(code: &Code, globals: &[CodedGlobal]) -> bool
+    ensures { result ≡ list_all (λ g. list_all (faults.is_there (code_view code.now)) (faults.named_by_global g)) (map global_view globals.now) }
 {
     for global in globals {
-        if !global_stands(deck, global) {
+        if !global_stands(code, global) {
             return false;
         }
     }
@@ -135,21 +131,21 @@ fn globals_stand(deck: &Deck, globals: &[Global]) -> bool
 
 /// Whether a block's parent is there, if it has one.
 #[tactic(auto, using(crate::proofs::CountLemmas::alone))]
-fn parent_stands(deck: &Deck, parent: Option<u16>) -> bool
-    ensures { result ≡ list_all (faults.is_there (deck_view deck.now)) (faults.named_by_parent parent) }
+fn parent_stands(code: &Code, parent: Option<u16>) -> bool
+    ensures { result ≡ list_all (faults.is_there (code_view code.now)) (faults.named_by_parent parent) }
 {
     match parent {
         None => true,
-        Some(number) => has_block(deck, number),
+        Some(number) => has_block(code, number),
     }
 }
 
 /// Whether templates of these numbers are there.
-fn variables_stand(deck: &Deck, variables: &[u16]) -> bool
-    ensures { result ≡ list_all (λ n. faults.is_there (deck_view deck.now) (OfTemplate n)) variables.now }
+fn variables_stand(code: &Code, variables: &[u16]) -> bool
+    ensures { result ≡ list_all (λ n. faults.is_there (code_view code.now) (OfTemplate n)) variables.now }
 {
     for number in variables {
-        if !has_template(deck, *number) {
+        if !has_template(code, *number) {
             return false;
         }
     }
@@ -158,34 +154,34 @@ fn variables_stand(deck: &Deck, variables: &[u16]) -> bool
 
 /// Whether a first instruction of this number is there.
 #[tactic(auto, using(crate::proofs::CountLemmas::alone))]
-fn entry_stands(deck: &Deck, entry: u16) -> bool
-    ensures { result ≡ list_all (faults.is_there (deck_view deck.now)) (OfInstruction entry ∷ []) }
+fn entry_stands(code: &Code, entry: u16) -> bool
+    ensures { result ≡ list_all (faults.is_there (code_view code.now)) (OfInstruction entry ∷ []) }
 {
-    has_instruction(deck, entry)
+    has_instruction(code, entry)
 }
 
 /// Whether a block's templates and its first instruction are there.
 #[tactic(auto, using(crate::proofs::CountLemmas::mapped_passes, crate::proofs::CountLemmas::both_pass))]
-fn frame_stands(deck: &Deck, variables: &[u16], entry: u16) -> bool
-    ensures { result ≡ list_all (faults.is_there (deck_view deck.now)) (map OfTemplate variables.now ++ OfInstruction entry ∷ []) }
+fn frame_stands(code: &Code, variables: &[u16], entry: u16) -> bool
+    ensures { result ≡ list_all (faults.is_there (code_view code.now)) (map OfTemplate variables.now ++ OfInstruction entry ∷ []) }
 {
-    variables_stand(deck, variables) && entry_stands(deck, entry)
+    variables_stand(code, variables) && entry_stands(code, entry)
 }
 
 /// Whether what a block names is there.
 #[tactic(auto, using(crate::proofs::CountLemmas::both_pass))]
-fn block_stands(deck: &Deck, block: &Block) -> bool
-    ensures { result ≡ list_all (faults.is_there (deck_view deck.now)) (faults.named_by_block (block_view block.now)) }
+fn block_stands(code: &Code, block: &Block) -> bool
+    ensures { result ≡ list_all (faults.is_there (code_view code.now)) (faults.named_by_block (block_view block.now)) }
 {
-    parent_stands(deck, block.parent) && frame_stands(deck, &block.variables, block.entry)
+    parent_stands(code, block.parent) && frame_stands(code, &block.variables, block.entry)
 }
 
 /// Whether what blocks name is there.
-fn blocks_stand(deck: &Deck, blocks: &[Block]) -> bool
-    ensures { result ≡ list_all (λ b. list_all (faults.is_there (deck_view deck.now)) (faults.named_by_block b)) (map block_view blocks.now) }
+fn blocks_stand(code: &Code, blocks: &[Block]) -> bool
+    ensures { result ≡ list_all (λ b. list_all (faults.is_there (code_view code.now)) (faults.named_by_block b)) (map block_view blocks.now) }
 {
     for block in blocks {
-        if !block_stands(deck, block) {
+        if !block_stands(code, block) {
             return false;
         }
     }
@@ -194,36 +190,36 @@ fn blocks_stand(deck: &Deck, blocks: &[Block]) -> bool
 
 /// Whether what an instruction names is there.
 #[tactic(auto, using(crate::proofs::CountLemmas::alone))]
-fn instruction_stands(deck: &Deck, instruction: &Instruction) -> bool
-    ensures { result ≡ list_all (faults.is_there (deck_view deck.now)) (faults.named_by_instruction instruction.now) }
+fn instruction_stands(code: &Code, instruction: &Instruction) -> bool
+    ensures { result ≡ list_all (faults.is_there (code_view code.now)) (faults.named_by_instruction instruction.now) }
 {
     match *instruction {
-        Instruction::Call { block, .. } => has_block(deck, block),
-        Instruction::CallExternal { global, .. } => has_global(deck, global),
-        Instruction::Begin { block } => has_block(deck, block),
-        Instruction::Global { number } => has_global(deck, number),
-        Instruction::Based { description } => has_description(deck, description),
-        Instruction::Field { description, .. } => has_description(deck, description),
-        Instruction::Constant { value } => has_value(deck, value),
-        Instruction::MakeDummy { template } => has_template(deck, template),
-        Instruction::Fit { description } => has_description(deck, description),
-        Instruction::AllocateControlled { global } => has_global(deck, global),
-        Instruction::FreeControlled { global } => has_global(deck, global),
-        Instruction::CountGenerations { global } => has_global(deck, global),
-        Instruction::AllocateBased { template } => has_template(deck, template),
-        Instruction::AllocateInArea { template, .. } => has_template(deck, template),
-        Instruction::FreeBased { description } => has_description(deck, description),
-        Instruction::On { block, .. } => has_block(deck, block),
+        Instruction::Call { block, .. } => has_block(code, block),
+        Instruction::CallExternal { global, .. } => has_global(code, global),
+        Instruction::Begin { block } => has_block(code, block),
+        Instruction::Global { number } => has_global(code, number),
+        Instruction::Based { description } => has_description(code, description),
+        Instruction::Field { description, .. } => has_description(code, description),
+        Instruction::Constant { value } => has_value(code, value),
+        Instruction::MakeDummy { template } => has_template(code, template),
+        Instruction::Fit { description } => has_description(code, description),
+        Instruction::AllocateControlled { global } => has_global(code, global),
+        Instruction::FreeControlled { global } => has_global(code, global),
+        Instruction::CountGenerations { global } => has_global(code, global),
+        Instruction::AllocateBased { template } => has_template(code, template),
+        Instruction::AllocateInArea { template, .. } => has_template(code, template),
+        Instruction::FreeBased { description } => has_description(code, description),
+        Instruction::On { block, .. } => has_block(code, block),
         _ => true,
     }
 }
 
 /// Whether what instructions name is there.
-fn instructions_stand(deck: &Deck, instructions: &[Instruction]) -> bool
-    ensures { result ≡ list_all (λ i. list_all (faults.is_there (deck_view deck.now)) (faults.named_by_instruction i)) instructions.now }
+fn instructions_stand(code: &Code, instructions: &[Instruction]) -> bool
+    ensures { result ≡ list_all (λ i. list_all (faults.is_there (code_view code.now)) (faults.named_by_instruction i)) instructions.now }
 {
     for instruction in instructions {
-        if !instruction_stands(deck, instruction) {
+        if !instruction_stands(code, instruction) {
             return false;
         }
     }
@@ -232,35 +228,35 @@ fn instructions_stand(deck: &Deck, instructions: &[Instruction]) -> bool
 
 /// Whether what templates and globals name is there.
 #[tactic(auto, using(crate::proofs::CountLemmas::both_pass, crate::proofs::CountLemmas::each_passes))]
-fn variables_known(deck: &Deck) -> bool
-    ensures { let d = deck_view deck.now in
-        result ≡ list_all (faults.is_there d) (flat_map faults.named_by_template d.templates ++ flat_map faults.named_by_global d.globals) }
+fn variables_known(code: &Code) -> bool
+    ensures { let c = code_view code.now in
+        result ≡ list_all (faults.is_there c) (flat_map faults.named_by_template c.templates ++ flat_map faults.named_by_global c.globals) }
 {
-    templates_stand(deck, &deck.templates) && globals_stand(deck, &deck.globals)
+    templates_stand(code, &code.templates) && globals_stand(code, &code.globals)
 }
 
-/// Whether what the variables of a deck name is there, and a first block.
+/// Whether what the variables of code name is there, and a first block.
 #[tactic(auto, using(crate::proofs::CountLemmas::alone, crate::proofs::CountLemmas::both_pass))]
-fn tables_stand(deck: &Deck) -> bool
-    ensures { result ≡ list_all (faults.is_there (deck_view deck.now)) (faults.named_by_variables (deck_view deck.now)) }
+fn tables_stand(code: &Code) -> bool
+    ensures { result ≡ list_all (faults.is_there (code_view code.now)) (faults.named_by_variables (code_view code.now)) }
 {
-    variables_known(deck) && has_block(deck, 0)
+    variables_known(code) && has_block(code, 0)
 }
 
-/// Whether what the code of a deck names is there.
+/// Whether what blocks and instructions of code name is there.
 #[tactic(auto, using(crate::proofs::CountLemmas::both_pass, crate::proofs::CountLemmas::each_passes))]
-fn code_stands(deck: &Deck) -> bool
-    ensures { result ≡ list_all (faults.is_there (deck_view deck.now)) (faults.named_by_code (deck_view deck.now)) }
+fn blocks_known(code: &Code) -> bool
+    ensures { result ≡ list_all (faults.is_there (code_view code.now)) (faults.named_by_blocks (code_view code.now)) }
 {
-    blocks_stand(deck, &deck.blocks) && instructions_stand(deck, &deck.instructions)
+    blocks_stand(code, &code.blocks) && instructions_stand(code, &code.instructions)
 }
 
-/// Whether all that a deck names is there, save by jumps.
+/// Whether all that code names is there, save by jumps.
 #[tactic(auto, using(crate::proofs::CountLemmas::three_pass))]
-pub fn all_stand(deck: &Deck) -> bool
-    ensures { result ≡ list_all (faults.is_there (deck_view deck.now)) (faults.named_by (deck_view deck.now)) }
+pub fn all_stand(code: &Code) -> bool
+    ensures { result ≡ list_all (faults.is_there (code_view code.now)) (faults.named_by (code_view code.now)) }
 {
-    signature_stands(deck, &deck.signature) && tables_stand(deck) && code_stands(deck)
+    signature_stands(code, &code.signature) && tables_stand(code) && blocks_known(code)
 }
 
 /// Whether an instruction jumps to one of so many, if it jumps.
@@ -289,10 +285,10 @@ fn jumps_within(count: usize, instructions: &[Instruction]) -> bool
     true
 }
 
-/// Whether all jumps lead to an instruction of the deck.
+/// Whether all jumps lead to an instruction of the code.
 #[tactic(auto, using(crate::proofs::CountLemmas::each_passes))]
-pub fn jumps_stand(deck: &Deck) -> bool
-    ensures { result ≡ faults.jumps_within (deck_view deck.now) }
+pub fn jumps_stand(code: &Code) -> bool
+    ensures { result ≡ faults.jumps_within (code_view code.now) }
 {
-    jumps_within(deck.instructions.len(), &deck.instructions)
+    jumps_within(code.instructions.len(), &code.instructions)
 }

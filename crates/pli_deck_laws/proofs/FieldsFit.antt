@@ -1,5 +1,5 @@
 -- What is within the limits of the language fits the fields of a deck.
-use Rattle.std.proofs.Common.{◌≡◌, ℕ, zero, suc, ◌%◌, ◌<◌, ◌≤◌, ◌&&◌, ◌||◌, Bool, true, false, nat_eq, nat_le, nat_lt, int_le, if◌then◌else◌, ℤ, unsigned_abs, Option, Some, None, List, [], ◌∷◌, length, map, refl, ap, sym, subst, ◌∙◌, arith, true≢false}
+use Rattle.std.proofs.Common.{◌≡◌, ℕ, zero, suc, ◌%◌, ◌<◌, ◌≤◌, ◌&&◌, ◌||◌, Bool, true, false, nat_eq, nat_le, nat_lt, int_le, if◌then◌else◌, ℤ, unsigned_abs, Option, Some, None, List, [], ◌∷◌, length, map, refl, ap, sym, ◌∙◌, arith, true≢false}
 use Rattle.std.specs.List.{list_all, AllByRecursion}
 use Rattle.std.specs.Int.{is_in_range}
 use Rattle.std.specs.Str.{bytes_eq}
@@ -8,11 +8,10 @@ use Rattle.std.proofs.lemmas.Slice.Eq.{bytes_eq-Decides}
 use Rattle.pli_base.specs.Name.{Name, name_of, is_upper, is_lower, is_letter, is_digit, is_name_character, has_form, upper}
 use Rattle.pli_map.specs.declared.description.Bounds.{Bounds}
 use Rattle.pli_map.specs.Description.{Description, FixedBinary, Character, Varying, Bit, Pointer, Offset, Area, Array, Structure, Members, NoMembers, MemberThen}
-use Rattle.pli_value.specs.Value.{Value, Number, Characters, Bits}
+use Rattle.pli_value.specs.Value.{Value, Number, Characters, Bits, Located}
 use Rattle.pli_deck.specs.Fields.{Field, u1, u2, u4, byte, from_to, list_of, count_of_one, ◌⊗◌}
 use Rattle.pli_deck.specs.Descriptions.{precision, string_length, area_size, bound, bounds, dimensions, listed, members, description_within}
 use Rattle.pli_deck.specs.DeckFields.{is_written, is_name, name, optional, bit_string, integer, characters, constant, signature, parameter_count}
-use Rattle.pli_deck_code.specs.CodeDecks.{near_number, constant_of}
 use Rattle.pli_gen_tree.specs.Limits.{member_count, has_many_members, one_has_many}
 use Rattle.pli_deck_laws.specs.Limits.{IfThere, IsPrecision, IsLength, IsBound, AreBounds, IsDescribed, AreDescribed, IsConstant}
 use Rattle.pli_deck_laws.specs.UnitTypes.{IsName, IsByte, HasBytes}
@@ -198,9 +197,6 @@ mutual
 
 -- ---- constants
 
-pub near : (x : ℤ) → unsigned_abs x ≤ 2147483647 → near_number x ≡ x
-near x h = let e = le-leb (unsigned_abs x) 2147483647 h in rw e
-
 fits_integer : (x : ℤ) → unsigned_abs x ≤ 2147483647 → integer.fits x ≡ true
 fits_integer x h = le-leb (unsigned_abs x) 2147483647 h
 
@@ -214,11 +210,12 @@ fits_bits : (bits : List Bool) → length bits ≤ 32767 → bit_string.fits bit
 unfolding bit_string
 fits_bits bits few = le-leb (length bits) 32767 few
 
-pub fits_constant : (v : Value) → IsConstant v → HasBytes v → constant.fits (constant_of v) ≡ true
+pub fits_constant : (v : Value) → IsConstant v → HasBytes v → constant.fits v ≡ true
 unfolding constant
-fits_constant (Number x) h k = fits_integer (near_number x) (subst (λ y. unsigned_abs y ≤ 2147483647) (sym (near x h)) h)
+fits_constant (Number x) h k = fits_integer x h
 fits_constant (Characters text) h k = fits_characters text h k
 fits_constant (Bits bits) h k = fits_bits bits h
+fits_constant (Located l) h k = h
 
 -- ---- signatures, whose descriptions have numbers below 65,535
 

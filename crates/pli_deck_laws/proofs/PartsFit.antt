@@ -1,34 +1,30 @@
 -- Templates, globals, blocks and instructions of a well-formed unit fit the fields of a deck.
-use Rattle.std.proofs.Common.{◌≡◌, ℕ, suc, ◌<◌, ◌≤◌, true, nat_le, Option, Some, None, option_map, List, [], ◌∷◌, ◌++◌, length, map, get_or, slice_get, refl, ap, sym, ◌∙◌, arith, true≢false}
+use Rattle.std.proofs.Common.{◌≡◌, ℕ, suc, ◌<◌, ◌≤◌, true, nat_le, Option, Some, None, option_map, List, [], ◌∷◌, ◌++◌, length, map, slice_get, refl, ap, ◌∙◌, arith}
 use Rattle.std.specs.List.{flat_map, list_all, AllByRecursion}
 use Rattle.std.proofs.lemmas.Bool.{le-leb}
 use Rattle.std.proofs.lemmas.List.{length-map}
-use Rattle.pli_map.specs.Description.{Description, FixedBinary, Character, Varying, Bit}
+use Rattle.pli_map.specs.Description.{Description}
 use Rattle.pli_map.specs.Sizes.{size_of}
-use Rattle.pli_map.specs.Values.{holds}
 use Rattle.pli_program.specs.Program as op
 use Rattle.pli_type_tree.specs.Templates.{InitialScalar, Template}
 use Rattle.pli_type_tree.specs.TypedTree.{Signature, Global, OwnVariable, ExternalVariable, EntryPoint}
-use Rattle.pli_map.specs.Scalars.{scalars_of}
 use Rattle.pli_unit_code.specs.CodeTables as code
 use Rattle.pli_unit_code.specs.CodeTables.{there}
-use Rattle.pli_value.specs.Value.{Value, Number, Characters, Bits}
 use Rattle.pli_gen_emit.specs.TreeTranslation.{BlockTree, behind, block_code, blocks_code}
 use Rattle.pli_gen_tree.specs.Encoding.{NumberedTables, signature_descriptions, global_descriptions, global_templates, block_templates, description_number, template_number, template_code, signature_code, global_code, coded_block, coded_blocks}
 use Rattle.pli_gen_tree.specs.laws.ListLaws.{all_front, all_back}
 use Rattle.pli_gen_tree.proofs.SimpleCode.{all_both}
-use Rattle.pli_deck.specs.Decks as deck
 use Rattle.pli_deck.specs.Fields.{u1, u2, u4, list_of, ◌⊗◌}
 use Rattle.pli_deck.specs.DeckFields.{name, constant, initial, template, signature, global, block_kind, optional, block}
 use Rattle.pli_deck.specs.DeckFaults.{Naming, OfDescription, OfTemplate, OfInstruction, named_by_result, named_by_signature, named_by_template, named_by_global, named_by_parent, named_by_block}
-use Rattle.pli_deck.specs.DeckFaults.{scalar_at, is_fitted, fits_scalar, is_good_template}
-use Rattle.pli_deck_code.specs.CodeDecks.{constant_of, initial_of, offsets_in, template_of, signature_of, global_of}
-use Rattle.pli_deck_code.specs.ScalarOffsets.{offsets_of}
-use Rattle.pli_deck_laws.specs.KeptNumbers.{IsNear, KeepsInitial, KeepsTemplate}
-use Rattle.pli_deck_laws.specs.Limits.{level_limit, IfThere, IsConstant, IsMade, IsInitial, IsTemplate, IsSignature, IsGlobal}
-use Rattle.pli_deck_laws.proofs.FieldsFit.{both_hold, each_holds, all_mapped, fits_byte, fits_short, fits_word, fits_range, fits_pair, fits_list, fits_optional, fits_name, near, fits_constant, fits_signature}
+use Rattle.pli_deck.specs.DeckFaults.{scalar_at, fits_scalar, is_good_template}
+use Rattle.pli_bytes.specs.Contents.{scalars_at}
+use Rattle.pli_bytes.proofs.Rising.{rises}
+use Rattle.pli_bytes.proofs.ScalarsOn.{on_lies}
+use Rattle.pli_deck_laws.specs.Limits.{IfThere, IsMade, IsInitial, IsTemplate, IsSignature, IsGlobal}
+use Rattle.pli_deck_laws.proofs.FieldsFit.{both_hold, each_holds, all_mapped, fits_byte, fits_short, fits_word, fits_range, fits_pair, fits_list, fits_optional, fits_name, fits_constant, fits_signature}
 use Rattle.pli_deck_laws.proofs.InstructionsFit.{Named}
-use Rattle.pli_deck_laws.proofs.ScalarsStand.{scalar_found}
+use Rattle.pli_deck_laws.proofs.ScalarsStand.{stands}
 use Rattle.pli_deck_laws.proofs.TablesFit.{StandsDescription, StandsTemplate, description_within, template_within}
 use Rattle.pli_deck_laws.proofs.CodeGrows.{block_is_some}
 use Rattle.pli_gen_tree.proofs.CodeEnds.{both_within}
@@ -39,35 +35,19 @@ use Rattle.pli_deck_laws.specs.UnitTypes.{HasBytes, BeginsWithBytes, HasName}
 
 -- ---- initial values
 
--- a constant that a scalar may hold is fitted to it
-fitted : (d : Description) (v : Value) → IsConstant v → holds d v ≡ true → is_fitted d (constant_of v) ≡ true
-fitted (FixedBinary p) (Number x) h k = ap (λ y. is_fitted (FixedBinary p) (deck.Number y)) (near x h) ∙ k
-fitted (Character n) (Characters text) h k = k
-fitted (Varying n) (Characters text) h k = k
-fitted (Bit n) (Bits bits) h k = k
-fitted d v h k = absurd (true≢false (sym k))
-
-pub is_near : (v : Value) → IsConstant v → IsNear v
-is_near (Number x) h = near x h
-is_near (Characters text) h = tt
-is_near (Bits bits) h = tt
-
 -- an initial value of a description
 record GoodInitial (d : Description) (i : InitialScalar) : Type 0 where
-  fits : initial.fits (initial_of (offsets_of d) i) ≡ true
-  is : fits_scalar (scalar_at d (get_or (offsets_of d) i.scalar 0)) (constant_of i.value) ≡ true
-  keeps : KeepsInitial d i
+  fits : initial.fits i ≡ true
+  is : fits_scalar (scalar_at d i.offset) i.value ≡ true
 
-good_initial : (d : Description) → IsMade d → (i : InitialScalar) → IsInitial (scalars_of d) i → HasBytes i.value → GoodInitial d i
+good_initial : (d : Description) → IsMade d → (i : InitialScalar) → IsInitial d i → HasBytes i.value → GoodInitial d i
 unfolding initial
 good_initial d made i h bytes =
-    let f = scalar_found level_limit d made.0 made.1 i.scalar h.0.0 h.0.1 in
-    let small = f.small in
-    let said = f.said in
+    let s = h.0.0 in
+    let lies = on_lies i.offset 0 (scalars_at d) (size_of d) s (rises d) h.0.1 in
     record {
-      fits = fits_pair u4 constant (get_or (offsets_of d) i.scalar 0) (constant_of i.value) (fits_word (get_or (offsets_of d) i.scalar 0) (omega (arith, small, said))) (fits_constant i.value h.1 bytes);
-      is = ap (λ s. fits_scalar s (constant_of i.value)) f.is ∙ fitted h.0.0 i.value h.1 h.0.2;
-      keeps = (f.plain ∙ ap Some (sym f.said), is_near i.value h.1);
+      fits = fits_pair u4 constant i.offset i.value (fits_word i.offset (omega (arith, lies.is, lies.before, made.1))) (fits_constant i.value h.1 bytes);
+      is = ap (λ s. fits_scalar s i.value) (stands d i.offset s h.0.1) ∙ h.0.2;
     }
 
 module _ (tables : NumberedTables) (globals blocks last : ℕ) (few_descriptions : length tables.descriptions ≤ 65535) (few_templates : length tables.templates ≤ 65535) where
@@ -76,25 +56,10 @@ module _ (tables : NumberedTables) (globals blocks last : ℕ) (few_descriptions
 
   -- ---- templates
 
-  abbrev said : Template → deck.DeckTemplate
-  said t = template_of tables.descriptions (template_code tables t)
-
   pub record GoodTemplate (t : Template) : Type 0 where
-    pub fits : template.fits (said t) ≡ true
-    pub names : AllByRecursion IsNamed (named_by_template (said t))
-    pub is : is_good_template (slice_get tables.descriptions (said t).description) (said t).initial ≡ true
-    pub keeps : KeepsTemplate tables.descriptions (template_code tables t)
-
-  offsets_there : (o : Option Description) (d : Description) → o ≡ Some d → offsets_in o ≡ offsets_of d
-  offsets_there o d h = ap offsets_in h
-
-  -- its initial values, at these offsets
-  abbrev initials : (offsets : List ℕ) → Template → List deck.Initial
-  initials offsets t = map (initial_of offsets) t.initial
-
-  all_initials : (d : Description) → IsMade d → (is : List InitialScalar) → AllByRecursion (IsInitial (scalars_of d)) is → AllByRecursion (λ (i : InitialScalar). HasBytes i.value) is
-      → AllByRecursion (GoodInitial d) is
-  all_initials d made is h bytes = all_pairs (IsInitial (scalars_of d)) (λ (i : InitialScalar). HasBytes i.value) (GoodInitial d) (good_initial d made) is h bytes
+    pub fits : template.fits (template_code tables t) ≡ true
+    pub names : AllByRecursion IsNamed (named_by_template (template_code tables t))
+    pub is : is_good_template (slice_get tables.descriptions (description_number tables t.description)) t.initial ≡ true
 
   pub template_good : (t : Template) → IsTemplate t → BeginsWithBytes (template_code tables t) → StandsDescription tables t.description → GoodTemplate t
   unfolding template
@@ -102,23 +67,14 @@ module _ (tables : NumberedTables) (globals blocks last : ℕ) (few_descriptions
       let d = t.description in
       let number = description_number tables d in
       let below = description_within tables d stands in
-      let good = all_initials d h.0 t.initial h.1 bytes in
-      let offsets = offsets_in (slice_get tables.descriptions number) in
-      let same : offsets ≡ offsets_of d = offsets_there (slice_get tables.descriptions number) d stands in
-      let count : length (initials offsets t) ≡ length t.initial = length-map t.initial (initial_of offsets) in
-      let counted : length (initials offsets t) < 4294967296 = let k = h.2 in omega (arith, k, count) in
-      let fitting : AllByRecursion (λ i. initial.fits i ≡ true) (initials (offsets_of d) t) = all_mapped (initial_of (offsets_of d)) (GoodInitial d) (λ i. initial.fits i ≡ true) (λ i g. g.fits) t.initial good in
-      let there : AllByRecursion (λ (i : deck.Initial). fits_scalar (scalar_at d i.offset) i.value ≡ true) (initials (offsets_of d) t) =
-      all_mapped (initial_of (offsets_of d)) (GoodInitial d) (λ (i : deck.Initial). fits_scalar (scalar_at d i.offset) i.value ≡ true) (λ i g. g.is) t.initial good in
+      let good : AllByRecursion (GoodInitial d) t.initial = all_pairs (IsInitial d) (λ (i : InitialScalar). HasBytes i.value) (GoodInitial d) (good_initial d h.0) t.initial h.1 bytes in
       record {
-        fits = fits_pair u2 (list_of u4 initial) number (initials offsets t) (fits_short number (omega (arith, below, few_descriptions)))
-            (fits_list u4 initial (initials offsets t) (fits_word (length (initials offsets t)) counted)
-            (ap (λ o. list_all initial.fits (initials o t)) same ∙ each_holds initial.fits (λ i. initial.fits i ≡ true) (λ i e. e) (initials (offsets_of d) t) fitting));
+        fits = fits_pair u2 (list_of u4 initial) number t.initial (fits_short number (omega (arith, below, few_descriptions)))
+            (fits_list u4 initial t.initial (fits_word (length t.initial) h.2) (each_holds initial.fits (GoodInitial d) (λ i g. g.fits) t.initial good));
         names = (below, tt);
-        is = ap (λ o. is_good_template o (initials (offsets_in o) t)) stands
-            ∙ both_hold (nat_le (size_of d) 1000000) (list_all (λ i. fits_scalar (scalar_at d i.offset) i.value) (initials (offsets_of d) t)) (le-leb (size_of d) 1000000 h.0.1)
-            (each_holds (λ i. fits_scalar (scalar_at d i.offset) i.value) (λ i. fits_scalar (scalar_at d i.offset) i.value ≡ true) (λ i e. e) (initials (offsets_of d) t) there);
-        keeps = (d, stands, all_as (GoodInitial d) (KeepsInitial d) (λ i g. g.keeps) t.initial good);
+        is = ap (λ o. is_good_template o t.initial) stands
+            ∙ both_hold (nat_le (size_of d) 1000000) (list_all (λ i. fits_scalar (scalar_at d i.offset) i.value) t.initial) (le-leb (size_of d) 1000000 h.0.1)
+            (each_holds (λ i. fits_scalar (scalar_at d i.offset) i.value) (GoodInitial d) (λ i g. g.is) t.initial good);
       }
 
   -- ---- signatures and globals
@@ -139,8 +95,8 @@ module _ (tables : NumberedTables) (globals blocks last : ℕ) (few_descriptions
   result_named (Some n) h = (h, tt)
 
   pub record GoodSignature (s : Signature) : Type 0 where
-    pub fits : signature.fits (signature_of (signature_code tables s)) ≡ true
-    pub names : AllByRecursion IsNamed (named_by_signature (signature_of (signature_code tables s)))
+    pub fits : signature.fits (signature_code tables s) ≡ true
+    pub names : AllByRecursion IsNamed (named_by_signature (signature_code tables s))
 
   pub signature_good : (s : Signature) → IsSignature s → AllByRecursion (StandsDescription tables) (signature_descriptions s) → GoodSignature s
   signature_good s h stands =
@@ -157,8 +113,8 @@ module _ (tables : NumberedTables) (globals blocks last : ℕ) (few_descriptions
       }
 
   pub record GoodGlobal (g : Global) : Type 0 where
-    pub fits : global.fits (global_of (global_code tables g)) ≡ true
-    pub names : AllByRecursion IsNamed (named_by_global (global_of (global_code tables g)))
+    pub fits : global.fits (global_code tables g) ≡ true
+    pub names : AllByRecursion IsNamed (named_by_global (global_code tables g))
 
   number_fits : (t : Template) → StandsTemplate tables t → u2.fits (template_number tables t) ≡ true
   number_fits t h = let below = template_within tables t h in fits_short (template_number tables t) (omega (arith, below, few_templates))
@@ -170,7 +126,7 @@ module _ (tables : NumberedTables) (globals blocks last : ℕ) (few_descriptions
       record { fits = fits_pair name u2 n (template_number tables t) (fits_name n named) (number_fits t ts.0); names = (template_within tables t ts.0, tt) }
   global_good (EntryPoint n s) h named ds ts =
       let g = signature_good s h ds in
-      record { fits = fits_pair name signature n (signature_of (signature_code tables s)) (fits_name n named) g.fits; names = g.names }
+      record { fits = fits_pair name signature n (signature_code tables s) (fits_name n named) g.fits; names = g.names }
 
   pub globals_good : (gs : List Global) → AllByRecursion IsGlobal gs → AllByRecursion HasName (map (global_code tables) gs) → AllByRecursion (StandsDescription tables) (flat_map global_descriptions gs)
       → AllByRecursion (StandsTemplate tables) (flat_map global_templates gs) → AllByRecursion GoodGlobal gs

@@ -18,8 +18,8 @@ names_made : IsTemplate names
 names_made = (
   ((omega arith, omega arith, ((refl, omega arith, omega arith), tt), (omega arith, omega arith)), at_most (size_of names.description) 1000000 refl),
   (
-    ((Character 3, refl, refl), omega arith),
-    (((Character 3, refl, refl), omega arith), tt),
+    ((record { offset = 0; description = Character 3 }, refl, refl), omega arith),
+    (((record { offset = 3; description = Character 3 }, refl, refl), omega arith), tt),
   ),
   omega arith,
 )
@@ -35,7 +35,7 @@ counting_formed = (
 
 external_formed : IsProcedure worked external
 external_formed = (
-  (omega arith, ((small_made, (((small, refl, refl), omega arith), tt), omega arith), tt), omega arith),
+  (omega arith, ((small_made, (((record { offset = 0; description = small }, refl, refl), omega arith), tt), omega arith), tt), omega arith),
   tt,
   omega arith,
   tt,

@@ -1,5 +1,4 @@
 pub mod DeckLaws
-pub mod KeptNumbers
 pub mod Limits
 pub mod UnitTypes
 pub mod WellFormed

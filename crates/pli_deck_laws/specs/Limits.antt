@@ -1,7 +1,7 @@
 -- What is within the limits of the language: names, descriptions, values, what variables are made from,
 -- operations, and what procedures take and give.
-use Rattle.std.specs.Prelude.{◌≡◌, ℕ, zero, suc, ◌≤◌, ◌<◌, ◌%◌, ℤ, unsigned_abs, int_le, IsTrue}
-use Rattle.std.specs.Prelude.{Option, Some, None, List, length, slice_get}
+use Rattle.std.specs.Prelude.{◌≡◌, ℕ, zero, suc, ◌≤◌, ◌<◌, ◌%◌, ℤ, unsigned_abs, int_le, IsTrue, Option}
+use Rattle.std.specs.Prelude.{Some, None, length, true}
 use Rattle.std.specs.List.{AllByRecursion}
 use Rattle.pli_map.specs.declared.description.Bounds.{Bounds}
 use Rattle.pli_map.specs.Description.{Description, FixedBinary, Character, Varying, Bit, Pointer, Offset}
@@ -13,8 +13,10 @@ use Rattle.pli_operation.specs.Operations.{Operation}
 use Rattle.pli_type_tree.specs.Templates.{InitialScalar, Template}
 use Rattle.pli_type_tree.specs.TypedTree.{Stride, Signature, Global, OwnVariable, ExternalVariable}
 use Rattle.pli_type_tree.specs.TypedTree.{EntryPoint}
-use Rattle.pli_map.specs.Scalars.{scalars_of}
-use Rattle.pli_value.specs.Value.{Value, Number, Characters, Bits}
+use Rattle.pli_bytes.specs.Contents.{scalar_on, scalars_at}
+use Rattle.pli_map.specs.Parts.{PlacedPart}
+use Rattle.pli_value.specs.Value.{Value, Number, Characters, Bits, Located}
+use Rattle.pli_value.specs.Locators.{is_null}
 
 -- an activation is at most so many static links outward
 abbrev pub link_limit : ℕ
@@ -81,13 +83,14 @@ abbrev mutual
 abbrev pub IsDescription : Description → Type 0
 IsDescription d = IsDescribed level_limit d
 
--- values: a number of at most 31 binary digits, or a string of at most 32,767 elements
+-- values: a number of at most 31 binary digits, a string of at most 32,767 elements, or null
 
--- a number of at most 31 binary digits, or a string of at most 32,767 elements
+-- a number of at most 31 binary digits, a string of at most 32,767 elements, or null
 abbrev pub IsConstant : Value → Type 0
 IsConstant (Number x) = unsigned_abs x ≤ 2147483647
 IsConstant (Characters text) = length text ≤ 32767
 IsConstant (Bits bits) = length bits ≤ 32767
+IsConstant (Located l) = is_null l ≡ true
 
 -- variables
 
@@ -95,16 +98,16 @@ IsConstant (Bits bits) = length bits ≤ 32767
 abbrev pub IsMade : Description → Type 0
 IsMade d = IsDescription d × (size_of d ≤ 1000000)
 
--- an initial value is one that its scalar may hold
-abbrev pub IsInitial : (scalars : List Description) → InitialScalar → Type 0
-IsInitial scalars i =
-    ((d : Description) × (slice_get scalars i.scalar ≡ Some d) × IsTrue (holds d i.value))
+-- an initial value is one that the scalar may hold which begins on its byte
+abbrev pub IsInitial : Description → InitialScalar → Type 0
+IsInitial d i =
+    ((s : PlacedPart) × (scalar_on i.offset (scalars_at d) ≡ Some s) × IsTrue (holds s.description i.value))
     × IsConstant i.value
 
 -- what a variable is made from, with fewer than 2^32 initial values
 abbrev pub IsTemplate : Template → Type 0
 IsTemplate t =
-    IsMade t.description × AllByRecursion (IsInitial (scalars_of t.description)) t.initial
+    IsMade t.description × AllByRecursion (IsInitial t.description) t.initial
     × (length t.initial < word_limit)
 
 -- operations and subscripts

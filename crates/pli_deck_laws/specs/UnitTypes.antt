@@ -28,8 +28,8 @@ BeginsWithBytes t = AllByRecursion (λ (i : InitialScalar). HasBytes i.value) t.
 
 -- the name of a global that has one
 abbrev pub HasName : CodedGlobal → Type 0
-HasName (OwnVariable t) = Unit {0}
-HasName (ExternalVariable name t) = IsName name
+HasName (OwnVariable kind t) = Unit {0}
+HasName (ExternalVariable name kind t) = IsName name
 HasName (EntryPoint name s) = IsName name
 
 -- names are names in the code of a unit, and characters are bytes

@@ -2,7 +2,7 @@
 ghost use Rattle.pli_deck_laws.specs.DeckLaws.{ScalarsAreFound, NumbersFit, UnitsAreSaid};
 ghost use Rattle.pli_deck_laws.specs.examples.DeckUnits.{WorkedIsWellFormed};
 
-/// A law: where a scalar of a description within the limits of the language stands, there the description has it.
+/// A law: the scalar that begins on a byte of a description is the one that decks find there.
 #[tactic(auto, using(crate::proofs::ScalarsStand::scalars_are_found))]
 pub fn scalars_are_found()
     ensures { ScalarsAreFound }
@@ -18,7 +18,7 @@ pub fn numbers_fit()
 
 /// A law: the deck of a unit that is well formed, numbered well and not too long is one that bytes spell: each of its
 /// numbers is in the range of its field, what it names is there, its jumps lead to instructions, and its templates are
-/// within their limits. And it says each value as the code has it.
+/// within their limits.
 pub fn units_are_said()
     ensures { UnitsAreSaid }
 {}

@@ -1,11 +1,5 @@
 pub mod ComparedLists
 pub mod ComparedMarks
-pub mod DecksBack
-pub mod DecksForth
-pub mod FoundScalars
 pub mod LoadedModules
-pub mod MadeLists
 pub mod ModulesBack
 pub mod ModulesForth
-pub mod RisingOffsets
-pub mod ScalarNumbers

@@ -1,7 +1,5 @@
-pub mod CodeFields
-pub mod DeckCodes
 pub mod LinkedBytes
+pub mod LinkedEntries
 pub mod ModuleUnits
-pub mod Scalars
 pub mod answers
 pub mod laws

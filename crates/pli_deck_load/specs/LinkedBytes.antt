@@ -7,13 +7,13 @@ use Rattle.pli_deck_code.specs.CodeModules.{module_of}
 use Rattle.pli_unit_code.specs.Modules as linked
 use Rattle.pli_unit_code.specs.declared.code.Module.{Module}
 use Rattle.pli_unit_code.specs.views.CodeView.{module_view}
-use Rattle.pli_deck_load.specs.CodeFields.{module_fits}
+use Rattle.pli_deck_load.specs.LinkedEntries.{have_their_entries}
 use Rattle.pli_deck_load.specs.declared.error.LoadError.{LoadError}
 use Rattle.pli_deck_load.specs.declared.error.LoadError.TheVariants as errors
 
--- bytes are a linked module where its numbers are within their fields, and they spell its module of decks
+-- bytes are a linked module where each of its entries has its unit, and they spell its module of decks
 pub record IsLinked (bytes : List ℕ) (m : linked.Module) : Type 0 where
-  pub fits : module_fits m ≡ true
+  pub entries : have_their_entries m ≡ true
   pub spelled : SpellsModule bytes (module_of m)
 
 -- memory ran out

@@ -1,20 +1,19 @@
 //! Why no linked module was made of bytes.
 ghost use Rattle.std.specs.Prelude.{◌≡◌};
-ghost use Rattle.pli_deck_load.specs.answers.Answers.{load_error};
+ghost use Rattle.pli_deck_load.specs.answers.Errors.{load_error};
 ghost use Rattle.pli_deck_load.specs.declared.error.LoadError.TheVariants.{Memory};
 
 use pli_deck::DeckFault;
 use pli_deck_read::ReadError;
-use std::alloc::{AllocError, AllocFailed};
+use std::alloc::AllocError;
 
 /// Why nothing was loaded.
 #[derive(Debug, Drop)]
 pub enum LoadError {
     Memory,
     Fault(DeckFault),
-    /// The bytes are a module that the machine does not run yet: one with null pointers or offsets among its constants, or
-    /// with controlled variables; or one that is linked otherwise than by names alone. A module with instructions of
-    /// storage or of conditions is loaded, and a run that comes to one ends as a fault of the machine.
+    /// The bytes are a module that the machine does not run yet: one that is linked otherwise than by names alone. A module
+    /// with instructions of storage or of conditions is loaded, and a run that comes to one ends as a fault of the machine.
     NotYet,
 }
 
@@ -22,14 +21,6 @@ impl From<AllocError> for LoadError {
     ghost from_gives = { λ _ e. e ≡ Memory };
 
     fn from(_e: AllocError) -> LoadError {
-        LoadError::Memory
-    }
-}
-
-impl<T: Drop> From<AllocFailed<T>> for LoadError {
-    ghost from_gives = { λ _ e. e ≡ Memory };
-
-    fn from(_e: AllocFailed<T>) -> LoadError {
         LoadError::Memory
     }
 }

@@ -1,8 +1,8 @@
 -- What a deck that is read, or bytes that spell one, say of each other.
 use Rattle.std.proofs.Common.{ℕ, List, Result, Ok, Err, IfOk, subst}
-use Rattle.pli_deck.specs.declared.deck.Deck.{Deck}
-use Rattle.pli_deck.specs.Decks as plain
-use Rattle.pli_deck.specs.DeckView.{deck_view}
+use Rattle.pli_unit_code.specs.CodeTables as plain
+use Rattle.pli_unit_code.specs.declared.code.Deck.{Deck}
+use Rattle.pli_unit_code.specs.views.CodeView.{deck_view}
 use Rattle.pli_deck.specs.Fields.{AreBytes}
 use Rattle.pli_deck.specs.Spelling.{SpellsDeck, deck_read}
 use Rattle.pli_deck.proofs.SpellingLaws.{read_is_spelled, spelled_is_read}

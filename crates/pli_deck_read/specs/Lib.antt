@@ -1,3 +1,2 @@
 pub mod Earlier
 pub mod Operands
-pub mod TablesView

@@ -2,17 +2,24 @@
 ghost use Rattle.std.specs.Prelude.{◌≡◌, ◌≤◌, ◌<◌, ℕ, slice_index, map};
 ghost use Rattle.std.specs.Str.{bytes_eq};
 ghost use Rattle.pli_deck.specs.Fields.{made, list_of, u4};
-ghost use Rattle.pli_deck.specs.Decks as plain;
 ghost use Rattle.pli_deck.specs.DeckFields as deck_fields;
-ghost use Rattle.pli_deck.specs.DeckView.{constant_view, initial_view, template_view};
+ghost use Rattle.pli_type_tree.specs.Templates as templates;
+ghost use Rattle.pli_type_tree.specs.views.TemplateView.{initial_view};
+ghost use Rattle.pli_unit_code.specs.CodeTables as tables;
+ghost use Rattle.pli_unit_code.specs.views.CodeView.{coded_template_view};
+ghost use Rattle.pli_value.specs.Value as plain;
+ghost use Rattle.pli_value.specs.Value.{value_view};
 ghost use Rattle.pli_base.specs.answers.FailureAnswers.{Gives};
 
 use crate::error::ReadError;
 use crate::reading::{
     ReadsOne, byte_of, many_of, short_of, short_within, signed_within, text_of, word_of,
 };
-use pli_deck::{Constant, DeckFault, DeckTemplate, Initial};
+use pli_deck::DeckFault;
+use pli_type_tree::InitialScalar;
+use pli_unit_code::CodedTemplate;
 use pli_value::bit::Bits;
+use pli_value::{Locator, Value};
 use std::alloc::Global;
 
 /// So many bits, with zeros behind the last one.
@@ -43,39 +50,39 @@ pub fn are_same(left: &[u8], right: &[u8]) -> bool
 
 /// Bits, with their count.
 #[tactic(auto, unfolding(pli_deck::specs::DeckFields::bit_string))]
-fn bit_string_of(alloc: Global, bytes: &[u8]) -> Result<(Constant, &[u8]), ReadError>
-    ensures { Gives (λ x. (constant_view x.0, x.1.now)) result (made plain.Bits deck_fields.bit_string bytes.now) }
+fn bit_string_of(alloc: Global, bytes: &[u8]) -> Result<(Value, &[u8]), ReadError>
+    ensures { Gives (λ x. (value_view x.0, x.1.now)) result (made plain.Bits deck_fields.bit_string bytes.now) }
 {
     let (count, rest) = short_within(bytes, 0, 32767)?;
     let (bits, rest) = bits_of(alloc, usize::from(count), rest)?;
-    Ok((Constant::Bits(bits), rest))
+    Ok((Value::Bits(bits), rest))
 }
 
 /// Characters, with their count.
 #[tactic(auto, unfolding(pli_deck::specs::DeckFields::characters))]
-fn characters_of(alloc: Global, bytes: &[u8]) -> Result<(Constant, &[u8]), ReadError>
-    ensures { Gives (λ x. (constant_view x.0, x.1.now)) result (made plain.Characters deck_fields.characters bytes.now) }
+fn characters_of(alloc: Global, bytes: &[u8]) -> Result<(Value, &[u8]), ReadError>
+    ensures { Gives (λ x. (value_view x.0, x.1.now)) result (made plain.Characters deck_fields.characters bytes.now) }
 {
     let (count, rest) = short_within(bytes, 0, 32767)?;
     let (text, rest) = text_of(rest, usize::from(count))?;
-    Ok((Constant::Characters(Vec::from_slice(alloc, text)?), rest))
+    Ok((Value::Characters(Vec::from_slice(alloc, text)?), rest))
 }
 
 /// A constant.
 #[tactic(auto, unfolding(pli_deck::specs::DeckFields::constant))]
-pub fn constant_of(alloc: Global, bytes: &[u8]) -> Result<(Constant, &[u8]), ReadError>
-    ensures { Gives (λ x. (constant_view x.0, x.1.now)) result (deck_fields.constant.read bytes.now) }
+pub fn constant_of(alloc: Global, bytes: &[u8]) -> Result<(Value, &[u8]), ReadError>
+    ensures { Gives (λ x. (value_view x.0, x.1.now)) result (deck_fields.constant.read bytes.now) }
 {
     let (tag, rest) = byte_of(bytes)?;
     match tag {
         1 => {
             let (number, rest) = signed_within(rest, 2147483647)?;
-            Ok((Constant::Number(number), rest))
+            Ok((Value::Number(i64::from(number)), rest))
         }
         2 => characters_of(alloc, rest),
         3 => bit_string_of(alloc, rest),
-        4 => Ok((Constant::NullPointer, rest)),
-        5 => Ok((Constant::NullOffset, rest)),
+        4 => Ok((Value::Locator(Locator::Null), rest)),
+        5 => Ok((Value::Locator(Locator::Offset(0)), rest)),
         _ => Err(ReadError::Fault(DeckFault::OutOfRange)),
     }
 }
@@ -84,15 +91,15 @@ pub fn constant_of(alloc: Global, bytes: &[u8]) -> Result<(Constant, &[u8]), Rea
 pub struct Constants;
 
 impl ReadsOne for Constants {
-    type Value = Constant;
+    type Value = Value;
 
-    ghost Said = { plain.Constant };
+    ghost Said = { plain.Value };
 
-    ghost say = { constant_view };
+    ghost say = { value_view };
 
     ghost field = { deck_fields.constant };
 
-    fn read<'a>(&self, alloc: Global, bytes: &'a [u8]) -> Result<(Constant, &'a [u8]), ReadError> {
+    fn read<'a>(&self, alloc: Global, bytes: &'a [u8]) -> Result<(Value, &'a [u8]), ReadError> {
         constant_of(alloc, bytes)
     }
 }
@@ -101,24 +108,28 @@ impl ReadsOne for Constants {
 struct Initials;
 
 impl ReadsOne for Initials {
-    type Value = Initial;
+    type Value = InitialScalar;
 
-    ghost Said = { plain.Initial };
+    ghost Said = { templates.InitialScalar };
 
     ghost say = { initial_view };
 
     ghost field = { deck_fields.initial };
 
     #[tactic(auto, unfolding(pli_deck::specs::DeckFields::initial))]
-    fn read<'a>(&self, alloc: Global, bytes: &'a [u8]) -> Result<(Initial, &'a [u8]), ReadError> {
+    fn read<'a>(
+        &self,
+        alloc: Global,
+        bytes: &'a [u8],
+    ) -> Result<(InitialScalar, &'a [u8]), ReadError> {
         let (offset, rest) = word_of(bytes)?;
         let (value, rest) = constant_of(alloc, rest)?;
-        Ok((Initial { offset, value }, rest))
+        Ok((InitialScalar { offset, value }, rest))
     }
 }
 
 /// A list of initial values, with a count of four bytes.
-fn initials_of(alloc: Global, bytes: &[u8]) -> Result<(Vec<Initial>, &[u8]), ReadError>
+fn initials_of(alloc: Global, bytes: &[u8]) -> Result<(Vec<InitialScalar>, &[u8]), ReadError>
     ensures { Gives (λ x. (map initial_view x.0.items, x.1.now)) result ((list_of u4 deck_fields.initial).read bytes.now) }
 {
     let (count, rest) = word_of(bytes)?;
@@ -129,11 +140,11 @@ fn initials_of(alloc: Global, bytes: &[u8]) -> Result<(Vec<Initial>, &[u8]), Rea
 pub struct Templates;
 
 impl ReadsOne for Templates {
-    type Value = DeckTemplate;
+    type Value = CodedTemplate;
 
-    ghost Said = { plain.DeckTemplate };
+    ghost Said = { tables.CodedTemplate };
 
-    ghost say = { template_view };
+    ghost say = { coded_template_view };
 
     ghost field = { deck_fields.template };
 
@@ -142,11 +153,11 @@ impl ReadsOne for Templates {
         &self,
         alloc: Global,
         bytes: &'a [u8],
-    ) -> Result<(DeckTemplate, &'a [u8]), ReadError> {
+    ) -> Result<(CodedTemplate, &'a [u8]), ReadError> {
         let (description, rest) = short_of(bytes)?;
         let (initial, rest) = initials_of(alloc, rest)?;
         Ok((
-            DeckTemplate {
+            CodedTemplate {
                 description,
                 initial,
             },

@@ -3,7 +3,7 @@ ghost use Rattle.std.specs.Prelude.{◌≡◌, None, length, map};
 ghost use Rattle.std.specs.List.{filter};
 ghost use Rattle.pli_deck.specs.Fields.{u1, from_to};
 ghost use Rattle.pli_deck.specs.DeckFields as deck_fields;
-ghost use Rattle.pli_deck.specs.DeckView.{deck_view, global_view};
+ghost use Rattle.pli_unit_code.specs.views.CodeView.{deck_view, global_view};
 ghost use Rattle.pli_deck.specs.ModuleFields as module_fields;
 ghost use Rattle.pli_deck.specs.ModuleView.{kind_number, external_view, member_view, module_view};
 ghost use Rattle.pli_deck_read.specs.Earlier.{last_of};
@@ -18,20 +18,21 @@ use crate::reading::{
 use crate::tables::numbers_of;
 use crate::whole::behind;
 use pli_base::Name;
-use pli_deck::{Deck, DeckFault, DeckModule, External, ExternalKind, Global as DeckGlobal, Member};
+use pli_deck::{DeckFault, DeckModule, External, Member};
 use pli_deck_faults::is_external;
+use pli_unit_code::{CodedGlobal, Deck, VariableKind};
 use std::alloc::Global;
 use std::cmp::Ordering;
 
 /// What an external variable is: 2 for static, 3 for controlled.
-fn kind_of(bytes: &[u8]) -> Result<(ExternalKind, &[u8]), ReadError>
+fn kind_of(bytes: &[u8]) -> Result<(VariableKind, &[u8]), ReadError>
     ensures { Gives (λ x. (kind_number x.0, x.1.now)) result ((from_to 2 3 u1).read bytes.now) }
 {
     let (number, rest) = byte_within(bytes, 2, 3)?;
     let kind = if number == 2 {
-        ExternalKind::Static
+        VariableKind::Static
     } else {
-        ExternalKind::Controlled
+        VariableKind::Controlled
     };
     Ok((kind, rest))
 }
@@ -120,7 +121,7 @@ fn sized_deck_of(alloc: Global, bytes: &[u8]) -> Result<(Deck, &[u8]), ReadError
 }
 
 /// How many globals are known by external names.
-fn externals_in(globals: &[DeckGlobal]) -> usize
+fn externals_in(globals: &[CodedGlobal]) -> usize
     ensures { result ≡ length (filter module_fields.is_external (map global_view globals.now)) }
 {
     let mut count = 0;
@@ -141,7 +142,7 @@ fn links_of<'a>(
     ensures { Gives (λ x. (x.0.items, x.1.now)) result ((module_fields.links_of (deck_view deck.now)).read bytes.now) }
 {
     let (count, rest) = short_of(bytes)?;
-    if usize::from(count) != externals_in(&deck.globals) {
+    if usize::from(count) != externals_in(&deck.code.globals) {
         return Err(ReadError::Fault(DeckFault::OutOfRange));
     }
     numbers_of(alloc, u32::from(count), rest)

@@ -1,16 +1,17 @@
 //! Decks from bytes.
 ghost use Rattle.std.specs.Prelude.{◌≡◌, ◌<◌, ℕ, Ok, IfOk, slice_index};
-ghost use Rattle.pli_deck.specs.Decks as plain;
-ghost use Rattle.pli_deck.specs.DeckView.{deck_view};
 ghost use Rattle.pli_deck.specs.DeckFaults.{fault_of};
 ghost use Rattle.pli_deck.specs.Spelling.{SpellsDeck, deck_read};
 ghost use Rattle.pli_deck.specs.Whole.{whole};
+ghost use Rattle.pli_unit_code.specs.CodeTables as plain;
+ghost use Rattle.pli_unit_code.specs.views.CodeView.{deck_view};
 ghost use Rattle.pli_base.specs.answers.FailureAnswers.{Gives};
 
 use crate::error::ReadError;
 use crate::whole::deck_at;
-use pli_deck::{Deck, DeckFault};
+use pli_deck::DeckFault;
 use pli_deck_faults::deck_fault;
+use pli_unit_code::Deck;
 use std::alloc::Global;
 
 /// A deck, if no bytes stand behind it and it has no fault.

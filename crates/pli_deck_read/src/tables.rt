@@ -1,12 +1,11 @@
 //! The items of a deck's tables at the front of bytes.
-ghost use Rattle.std.specs.Prelude.{◌≡◌, ℕ, List, map, if◌then◌else◌};
+ghost use Rattle.std.specs.Prelude.{◌≡◌, ℕ, List, map};
 ghost use Rattle.pli_deck.specs.Fields.{Field, many, u2, list, made, ◌⊗◌};
-ghost use Rattle.pli_deck.specs.Decks as plain;
 ghost use Rattle.pli_deck.specs.DeckFields as deck_fields;
-ghost use Rattle.pli_deck.specs.DeckView.{signature_view, global_view};
 ghost use Rattle.pli_deck.specs.Instructions.{instruction};
+ghost use Rattle.pli_unit_code.specs.CodeTables as code;
 ghost use Rattle.pli_unit_code.specs.CodeTables.{CodedBlock};
-ghost use Rattle.pli_unit_code.specs.views.CodeView.{kind_view, block_view};
+ghost use Rattle.pli_unit_code.specs.views.CodeView.{kind_view, block_view, signature_view, global_view};
 ghost use Rattle.pli_base.specs.answers.FailureAnswers.{Gives};
 
 use crate::error::ReadError;
@@ -16,8 +15,8 @@ use crate::reading::{
     ReadsOne, byte_of, byte_within, count_within, list_at, many_of, name_text_of, optional_of,
     short_of, upper_name, word_of,
 };
-use pli_deck::{DeckFault, DeckSignature, Global as DeckGlobal};
-use pli_unit_code::{Block, BlockKind, Instruction};
+use pli_deck::DeckFault;
+use pli_unit_code::{Block, BlockKind, CodedGlobal, CodedSignature, Instruction, VariableKind};
 use std::alloc::Global;
 
 /// Reads a number of two bytes.
@@ -46,14 +45,14 @@ pub fn numbers_of(alloc: Global, count: u32, bytes: &[u8]) -> Result<(Vec<u16>, 
 
 /// The parameters and the result of a procedure.
 #[tactic(auto, unfolding(pli_deck::specs::DeckFields::signature))]
-pub fn signature_of(alloc: Global, bytes: &[u8]) -> Result<(DeckSignature, &[u8]), ReadError>
+pub fn signature_of(alloc: Global, bytes: &[u8]) -> Result<(CodedSignature, &[u8]), ReadError>
     ensures { Gives (λ x. (signature_view x.0, x.1.now)) result (deck_fields.signature.read bytes.now) }
 {
     let (count, rest) = count_within(bytes, 0, 64)?;
     let (parameters, rest) = numbers_of(alloc, u32::from(count), rest)?;
     let (returned, rest) = optional_of(rest)?;
     Ok((
-        DeckSignature {
+        CodedSignature {
             parameters,
             result: returned,
         },
@@ -70,42 +69,53 @@ fn number_list_of(alloc: Global, bytes: &[u8]) -> Result<(Vec<u16>, &[u8]), Read
 
 /// An external procedure.
 #[tactic(auto, unfolding(pli_deck::specs::DeckFields::name))]
-fn entry_of(alloc: Global, bytes: &[u8]) -> Result<(DeckGlobal, &[u8]), ReadError>
-    ensures { Gives (λ x. (global_view x.0, x.1.now)) result (made (λ p. plain.ExternalEntry p.0 p.1) (deck_fields.name ⊗ deck_fields.signature) bytes.now) }
+fn entry_of(alloc: Global, bytes: &[u8]) -> Result<(CodedGlobal, &[u8]), ReadError>
+    ensures { Gives (λ x. (global_view x.0, x.1.now)) result (made (λ p. code.EntryPoint p.0 p.1) (deck_fields.name ⊗ deck_fields.signature) bytes.now) }
 {
     let (text, rest) = name_text_of(bytes)?;
     let Some(name) = upper_name(text) else {
         return Err(ReadError::Fault(DeckFault::OutOfRange));
     };
     let (signature, rest) = signature_of(alloc, rest)?;
-    Ok((DeckGlobal::ExternalEntry { name, signature }, rest))
+    Ok((CodedGlobal::EntryPoint { name, signature }, rest))
 }
 
-/// An external variable, which is CONTROLLED or STATIC.
+/// A variable of a unit's own, of a kind.
+fn own_of(bytes: &[u8], kind: VariableKind) -> Result<(CodedGlobal, &[u8]), ReadError>
+    ensures { Gives (λ x. (global_view x.0, x.1.now)) result (made (code.OwnVariable kind) u2 bytes.now) }
+{
+    let (template, rest) = short_of(bytes)?;
+    Ok((CodedGlobal::OwnVariable { kind, template }, rest))
+}
+
+/// An external variable of a kind.
 #[tactic(auto, unfolding(pli_deck::specs::DeckFields::name))]
-fn external_of(bytes: &[u8], is_controlled: bool) -> Result<(DeckGlobal, &[u8]), ReadError>
+fn external_of(bytes: &[u8], kind: VariableKind) -> Result<(CodedGlobal, &[u8]), ReadError>
     ensures { Gives (λ x. (global_view x.0, x.1.now)) result
-        (made (λ p. if is_controlled then plain.ExternalControlled p.0 p.1 else plain.ExternalStatic p.0 p.1) (deck_fields.name ⊗ u2) bytes.now) }
+        (made (λ p. code.ExternalVariable p.0 kind p.1) (deck_fields.name ⊗ u2) bytes.now) }
 {
     let (text, rest) = name_text_of(bytes)?;
     let Some(name) = upper_name(text) else {
         return Err(ReadError::Fault(DeckFault::OutOfRange));
     };
     let (template, rest) = short_of(rest)?;
-    if is_controlled {
-        Ok((DeckGlobal::ExternalControlled { name, template }, rest))
-    } else {
-        Ok((DeckGlobal::ExternalStatic { name, template }, rest))
-    }
+    Ok((
+        CodedGlobal::ExternalVariable {
+            name,
+            kind,
+            template,
+        },
+        rest,
+    ))
 }
 
 /// Reads a global.
 pub struct Globals;
 
 impl ReadsOne for Globals {
-    type Value = DeckGlobal;
+    type Value = CodedGlobal;
 
-    ghost Said = { plain.Global };
+    ghost Said = { code.CodedGlobal };
 
     ghost say = { global_view };
 
@@ -116,19 +126,13 @@ impl ReadsOne for Globals {
         &self,
         alloc: Global,
         bytes: &'a [u8],
-    ) -> Result<(DeckGlobal, &'a [u8]), ReadError> {
+    ) -> Result<(CodedGlobal, &'a [u8]), ReadError> {
         let (kind, rest) = byte_of(bytes)?;
         match kind {
-            0 => {
-                let (template, rest) = short_of(rest)?;
-                Ok((DeckGlobal::Static(template), rest))
-            }
-            1 => {
-                let (template, rest) = short_of(rest)?;
-                Ok((DeckGlobal::Controlled(template), rest))
-            }
-            2 => external_of(rest, false),
-            3 => external_of(rest, true),
+            0 => own_of(rest, VariableKind::Static),
+            1 => own_of(rest, VariableKind::Controlled),
+            2 => external_of(rest, VariableKind::Static),
+            3 => external_of(rest, VariableKind::Controlled),
             4 => entry_of(alloc, rest),
             _ => Err(ReadError::Fault(DeckFault::OutOfRange)),
         }

@@ -2,8 +2,7 @@
 ghost use Rattle.std.specs.Prelude.{◌≡◌, option_map};
 ghost use Rattle.pli_deck.specs.Fields.{Reader};
 ghost use Rattle.pli_deck.specs.DeckFields as deck_fields;
-ghost use Rattle.pli_deck.specs.DeckView.{deck_view};
-ghost use Rattle.pli_deck_read.specs.TablesView.{tables_view};
+ghost use Rattle.pli_unit_code.specs.views.CodeView.{code_view, deck_view};
 ghost use Rattle.pli_base.specs.answers.FailureAnswers.{Gives};
 
 use crate::constants::{Constants, Templates, are_same};
@@ -11,35 +10,25 @@ use crate::described::descriptions_of;
 use crate::error::ReadError;
 use crate::reading::{byte_of, flag_of, list_at, name_text_of, upper_name};
 use crate::tables::{Blocks, Globals, instructions_of, signature_of};
-use pli_deck::{Constant, Deck, DeckFault, DeckTemplate, Global as DeckGlobal};
-use pli_map::Description;
-use pli_unit_code::{Block, Instruction};
+use pli_deck::DeckFault;
+use pli_unit_code::{Code, Deck};
 use std::alloc::Global;
 
-/// The tables of a deck in the order of its bytes.
-#[derive(Drop)]
-pub struct DeckTables {
-    pub descriptions: Vec<Description>,
-    pub templates: Vec<DeckTemplate>,
-    pub values: Vec<Constant>,
-    pub globals: Vec<DeckGlobal>,
-    pub blocks: Vec<Block>,
-    pub instructions: Vec<Instruction>,
-}
-
-/// The tables of a deck, each with its count.
-#[tactic(auto, unfolding(pli_deck::specs::DeckFields::tables))]
-fn tables_of(alloc: Global, bytes: &[u8]) -> Result<(DeckTables, &[u8]), ReadError>
-    ensures { Gives (λ x. (tables_view x.0, x.1.now)) result (deck_fields.tables.read bytes.now) }
+/// The code of a unit: its signature, its tables, each with its count, and its instructions.
+#[tactic(auto, unfolding(pli_deck::specs::DeckFields::code))]
+fn code_of(alloc: Global, bytes: &[u8]) -> Result<(Code, &[u8]), ReadError>
+    ensures { Gives (λ x. (code_view x.0, x.1.now)) result (deck_fields.code.read bytes.now) }
 {
-    let (descriptions, rest) = descriptions_of(alloc, bytes)?;
+    let (signature, rest) = signature_of(alloc, bytes)?;
+    let (descriptions, rest) = descriptions_of(alloc, rest)?;
     let (templates, rest) = list_at(alloc, &Templates, rest)?;
     let (values, rest) = list_at(alloc, &Constants, rest)?;
     let (globals, rest) = list_at(alloc, &Globals, rest)?;
     let (blocks, rest) = list_at(alloc, &Blocks, rest)?;
     let (instructions, rest) = instructions_of(alloc, rest)?;
     Ok((
-        DeckTables {
+        Code {
+            signature,
             descriptions,
             templates,
             values,
@@ -67,7 +56,7 @@ pub fn behind<'a>(bytes: &'a [u8], front: &[u8]) -> Option<&'a [u8]>
     }
 }
 
-/// The contents of a deck: its name, whether it is the main one, its signature, and the tables.
+/// The contents of a deck: its name, whether it is the main one, and its code.
 #[tactic(auto, unfolding(pli_deck::specs::DeckFields::contents, pli_deck::specs::DeckFields::name))]
 fn contents_of(alloc: Global, bytes: &[u8]) -> Result<(Deck, &[u8]), ReadError>
     ensures { Gives (λ x. (deck_view x.0, x.1.now)) result (deck_fields.contents.read bytes.now) }
@@ -77,19 +66,12 @@ fn contents_of(alloc: Global, bytes: &[u8]) -> Result<(Deck, &[u8]), ReadError>
         return Err(ReadError::Fault(DeckFault::OutOfRange));
     };
     let (is_main, rest) = flag_of(rest)?;
-    let (signature, rest) = signature_of(alloc, rest)?;
-    let (tables, rest) = tables_of(alloc, rest)?;
+    let (code, rest) = code_of(alloc, rest)?;
     Ok((
         Deck {
             name,
             is_main,
-            signature,
-            descriptions: tables.descriptions,
-            templates: tables.templates,
-            values: tables.values,
-            globals: tables.globals,
-            blocks: tables.blocks,
-            instructions: tables.instructions,
+            code,
         },
         rest,
     ))

@@ -14,13 +14,13 @@ use Rattle.pli_gen_tree.specs.Limits.{is_too_long}
 use Rattle.pli_include.specs.Expanded.{look_in}
 use Rattle.pli_include.specs.Expansion.{token_limit}
 use Rattle.pli_include.proofs.StepsKeep.{texts_have_origins}
-use Rattle.pli_link.specs.Units.{CompiledUnit}
 use Rattle.pli_meaning.specs.Scratch.{Diagnostic, origin_of, located, typed_unless, program_from, program_of, all_located, too_long, compiled_tree, coded_from, compiled_texts, with_unit, compiled_from, compiled_of}
 use Rattle.pli_parse.proofs.StatementFaultPlaces.{unit_fault_stands}
 use Rattle.pli_parse_statement.specs.StatementReading.{unit_of}
 use Rattle.pli_resolve.specs.ResolvedUnits.{resolved_unit_of}
 use Rattle.pli_type.specs.NamedUnits.{named_unit, checked_unit}
 use Rattle.pli_type_tree.specs.TypedTree.{TypedUnit}
+use Rattle.pli_unit_code.specs.CodeTables.{Deck}
 use Rattle.pli_fault_laws.specs.FaultOrder.{fault_tokens}
 use Rattle.pli_fault_laws.specs.TypeFaultPlaces.{AllStand}
 use Rattle.pli_fault_laws.specs.DiagnosticPlaces.{FaultsHavePlaces, HasPlace, HavePlaces, DiagnosticsHavePlaces}
@@ -58,7 +58,7 @@ first_stands : (ts : Tokens) → StandsAtToken ts too_long
 first_stands [] = refl
 first_stands (t ∷ ts) = omega arith
 
-long_stands : (ts : Tokens) (b : Bool) (c : CompiledUnit) (fs : List Fault) → (if b then Err (too_long ∷ []) else Ok c) ≡ Err fs → AllStand ts fs
+long_stands : (ts : Tokens) (b : Bool) (c : Deck) (fs : List Fault) → (if b then Err (too_long ∷ []) else Ok c) ≡ Err fs → AllStand ts fs
 long_stands ts true c fs e = subst (AllStand ts) (ap faults_in e) (first_stands ts, tt)
 long_stands ts false c fs e = absurd (cc)
 
@@ -86,7 +86,7 @@ places_of : (unit : Name) (ts : Tokens) (os : List Origin) (fs : List Fault) →
 places_of unit ts os [] same h = tt
 places_of unit ts os (f ∷ fs) same h = (place_of unit ts os f same h.0, places_of unit ts os fs same h.1)
 
-located_places : (unit : Name) (ts : Tokens) (os : List Origin) (r : Result CompiledUnit (List Fault)) (ds : List Diagnostic) → length os ≡ length ts
+located_places : (unit : Name) (ts : Tokens) (os : List Origin) (r : Result Deck (List Fault)) (ds : List Diagnostic) → length os ≡ length ts
     → ((fs : List Fault) → r ≡ Err fs → AllStand ts fs) → all_located unit os (with_unit unit r) ≡ Err ds → HavePlaces unit os ds
 located_places unit ts os (Ok c) ds same h e = absurd (cc)
 located_places unit ts os (Err fs) ds same h e = subst (HavePlaces unit os) (ap faults_in e) (places_of unit ts os fs same (h fs refl))

@@ -39,10 +39,10 @@ only_assigned : (high : ℕ) (n : Naming) (at equals : ℕ) (d : Denoted) (e : E
     → Below high (expression_tokens e) → Only high (statements.assigned n at equals d e)
 only_assigned high n at equals (DenotesVariable target) e a q h =
     only_if high _ _ _
-    (only_then high _ _ (only_value_of high n e h)
-    (λ v. only_then high _ _ (only_or high CannotAssign equals _ q) (λ x. fine high _)))
     (only_then high _ _ (only_then high _ _ (only_denoted high n AsArgument e h) (λ d. fine high _))
     (λ m. only_aggregate high equals target m q))
+    (only_then high _ _ (only_value_of high n e h)
+    (λ v. only_then high _ _ (only_or high CannotAssign equals _ q) (λ x. fine high _)))
 only_assigned high n at equals (DenotesResult value) e a q h = told high _ _ a
 
 only_items : (high : ℕ) (n : Naming) (es : List Expression) → Below high (tokens_of_each expression_tokens es)

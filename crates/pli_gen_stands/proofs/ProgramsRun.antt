@@ -1,14 +1,9 @@
 -- The module of a well-typed program does what the program means.
-use Rattle.std.specs.Prelude.{◌≡◌, ℕ, Bool, List, [], ◌∷◌, map, if◌then◌else◌}
-use Rattle.std.specs.List.{AllByRecursion}
-use Rattle.std.proofs.Common.{ap, ◌∙◌, sym, subst}
-use Rattle.pli_base.specs.Name.{Name}
-use Rattle.pli_base.specs.Words.{same_name}
-use Rattle.pli_base.specs.laws.NameLaws.{pointwise-refl}
+use Rattle.std.specs.Prelude.{◌≡◌, ℕ, suc, ◌+◌, Option, Some, None, List, [], ◌∷◌, map, slice_get, refl}
+use Rattle.std.proofs.Common.{ap, ◌∙◌, sym, subst, arith}
 use Rattle.pli_machine_step.proofs.OutcomesAreOne.{one_outcome}
 use Rattle.pli_type_tree.specs.TypedTree.{TypedUnit}
 use Rattle.pli_unit_code.specs.CodeTables as tables
-use Rattle.pli_unit_code.specs.CodeTables.{Code}
 use Rattle.pli_unit_code.specs.Modules.{LinkedUnit, unit_of, program_of}
 use Rattle.pli_gen_emit.specs.TreeTranslation.{blocks_of, places_of, statement_place, unit_code}
 use Rattle.pli_gen_tree.specs.Encoding.{code_of}
@@ -16,7 +11,6 @@ use Rattle.pli_gen_tree.proofs.TablesLookUp.{looked_up_is_unit_code}
 use Rattle.pli_meaning_simulation.specs.CodeStands.{UnitStands, UnitsStand}
 use Rattle.pli_meaning_simulation.proofs.ProgramsSimulate.{simulation}
 use Rattle.pli_meaning_tree.specs.Effects.{Label}
-use Rattle.pli_meaning_typed.specs.TypedPrograms.{NoneIsNamed, AreNamedApart}
 use Rattle.pli_meaning_typed.proofs.ProgramsMean.{always_meant}
 use Rattle.pli_gen_stands.specs.Laws.{AreWellNumbered, CodeStands, ProgramsRunAsMeant}
 use Rattle.pli_gen_stands.specs.Linked.{IsUnitOf, AreUnitsOf}
@@ -29,42 +23,41 @@ is_code program t u is =
     ∙ ap (λ n. tables.program_of (code_of t) n u.entries) is.name
     ∙ looked_up_is_unit_code t u.entries
 
--- the place of a label: that of its statement in the code of the unit of its name
+-- the place of a label: that of its statement in the code of the unit of its number
+abbrev place_in : Option TypedUnit → (number : ℕ) → ℕ
+place_in None number = 0
+place_in (Some t) number = statement_place (places_of (blocks_of t) 0) number
+
 abbrev label_place : List TypedUnit → Label → ℕ
-label_place [] label = 0
-label_place (t ∷ ts) label =
-    if same_name t.name label.unit then statement_place (places_of (blocks_of t) 0) label.number else label_place ts label
+label_place ts label = place_in (slice_get ts label.unit) label.number
 
--- the labels of a unit lead to the places of its statements
-abbrev LeadIn : (at : Label → ℕ) → TypedUnit → Type 0
-LeadIn at t = Lead at t.name (places_of (blocks_of t) 0)
+-- the labels of units, numbered from one on, lead to the places of their statements
+abbrev LeadIn : (at : Label → ℕ) → (from : ℕ) → List TypedUnit → Type 0
+LeadIn at from ts = (n : ℕ) (t : TypedUnit) → slice_get ts n ≡ Some t → Lead at (from + n) (places_of (blocks_of t) 0)
 
-labels_lead : (ts : List TypedUnit) → AreNamedApart ts → AllByRecursion (LeadIn (label_place ts)) ts
-labels_lead [] apart = tt
-labels_lead (t ∷ ts) apart = (λ n. ap (λ b. chosen b t.name n) (pointwise-refl t.name), behind ts apart.0 (labels_lead ts apart.1))
-  where
-    chosen : Bool → Name → ℕ → ℕ
-    chosen b name n = if b then statement_place (places_of (blocks_of t) 0) n else label_place ts (record { unit = name; number = n })
+units_stand : (program : List TypedUnit) (at : Label → ℕ) (from : ℕ) (ts : List TypedUnit) (us : List LinkedUnit) → AreWellNumbered ts → LeadIn at from ts → AreUnitsOf program ts us
+    → UnitsStand program at from ts (map unit_of us)
+units_stand program at from [] [] numbered lead linked = tt
+units_stand program at from [] (u ∷ us) numbered lead linked = absurd linked
+units_stand program at from (t ∷ ts) [] numbered lead linked = absurd linked
+units_stand program at from (t ∷ ts) (u ∷ us) numbered lead linked =
+    let first : from + 0 ≡ from = omega arith in
+    let next : (n : ℕ) → from + suc n ≡ suc from + n = λ n. omega arith in (
+      subst (UnitStands program at from t) (sym (is_code program t u linked.0))
+          (unit_stands program at from t u.entries numbered.0 linked.0.entries (subst (λ k. Lead at k (places_of (blocks_of t) 0)) first (lead 0 t refl))),
+      units_stand program at (suc from) ts us numbered.1 (λ n v e. subst (λ k. Lead at k (places_of (blocks_of v) 0)) (next n) (lead (suc n) v e)) linked.1,
+    )
 
-    behind : (us : List TypedUnit) → NoneIsNamed t.name us → AllByRecursion (LeadIn (label_place ts)) us → AllByRecursion (LeadIn (label_place (t ∷ ts))) us
-    behind [] none lead = tt
-    behind (u ∷ us) none lead = (λ n. ap (λ b. chosen b u.name n) none.0 ∙ lead.0 n, behind us none.1 lead.1)
-
-units_stand : (program : List TypedUnit) (at : Label → ℕ) (ts : List TypedUnit) (us : List LinkedUnit) → AreWellNumbered ts → AllByRecursion (LeadIn at) ts → AreUnitsOf program ts us
-    → UnitsStand program at ts (map unit_of us)
-units_stand program at [] [] numbered lead linked = tt
-units_stand program at [] (u ∷ us) numbered lead linked = absurd linked
-units_stand program at (t ∷ ts) [] numbered lead linked = absurd linked
-units_stand program at (t ∷ ts) (u ∷ us) numbered lead linked = (
-  subst (UnitStands program at t) (sym (is_code program t u linked.0)) (unit_stands program at t u.entries numbered.0 linked.0.entries lead.0),
-  units_stand program at ts us numbered.1 lead.1 linked.1,
-)
+labels_lead : (ts : List TypedUnit) → LeadIn (label_place ts) 0 ts
+labels_lead ts n t e number =
+    let at : 0 + n ≡ n = omega arith in
+    ap (λ o. place_in o number) (ap (slice_get ts) at ∙ e)
 
 pub code_stands : CodeStands
-code_stands t m numbered apart linked =
+code_stands t m numbered linked =
     record {
       at = label_place t.units;
-      units = units_stand t.units (label_place t.units) t.units m.units numbered (labels_lead t.units apart) linked.units;
+      units = units_stand t.units (label_place t.units) 0 t.units m.units numbered (labels_lead t.units) linked.units;
       main = linked.main;
       greatest = linked.greatest;
     }
@@ -73,7 +66,7 @@ pub programs_run : ProgramsRunAsMeant
 programs_run t m typed numbered linked steps =
     let meant = always_meant t typed steps in
     let p = program_of m in
-    let runs = simulation t p (code_stands t m numbered typed.names linked) steps meant.0 meant.1 in
+    let runs = simulation t p (code_stands t m numbered linked) steps meant.0 meant.1 in
     record {
       outcome = meant.0;
       meant = meant.1;

@@ -4,11 +4,10 @@ use Rattle.std.specs.List.{flat_map, list_any, AllByRecursion}
 use Rattle.std.specs.Prelude.{◌||◌, if◌then◌else◌}
 use Rattle.std.proofs.Common.{arith, ap, ◌∙◌, sym, subst, true≢false}
 use Rattle.std.proofs.lemmas.Bool.{eq-eqb}
-use Rattle.pli_base.specs.Name.{Name}
 use Rattle.pli_code.specs.declared.ending.RunError.TheVariants.{NoReturnedValue}
 use Rattle.pli_program.specs.Program as op
 use Rattle.pli_operation.specs.Operations.{Operation, Add, Within}
-use Rattle.pli_program.specs.Program.{Instruction, Block, Procedure, BeginBlock, UnitCode}
+use Rattle.pli_program.specs.Program.{Instruction, Block, UnitCode}
 use Rattle.pli_type_tree.specs.TypedTree.{Root, InSlot, OfProgram, TypedExpression, Literal, Held, Calculated, Called, TypedReference, Whole, Part, Operands, NoOperand, OperandThen}
 use Rattle.pli_type_tree.specs.TypedTree.{Subscripts, NoSubscript, SubscriptThen, TypedArguments, NoArgument, ByPlace, ByDummy, TypedStatement, Statement}
 use Rattle.pli_type_tree.specs.TypedTree.{Form, Null, Assign, AssignAggregate, Put, If, Begin, Group, While, Iterate, Call, Goto, Return, ReturnValue, Stop}
@@ -45,11 +44,11 @@ behind_both (x ∷ xs) ys p = behind_both xs ys (suc p)
 behind_three : (xs ys zs : List Instruction) (p : ℕ) → behind (xs ++ ys ++ zs) p ≡ behind zs (behind ys (behind xs p))
 behind_three xs ys zs p = behind_both (xs ++ ys) zs p ∙ ap (behind zs) (behind_both xs ys p)
 
--- the labels of a unit of this name lead to the places of its statements
-abbrev pub Lead : (at : Label → ℕ) → Name → List (ℕ × ℕ) → Type 0
-Lead at name places = (number : ℕ) → at (record { unit = name; number = number }) ≡ statement_place places number
+-- the labels of the unit of this number lead to the places of its statements
+abbrev pub Lead : (at : Label → ℕ) → (unit : ℕ) → List (ℕ × ℕ) → Type 0
+Lead at unit places = (number : ℕ) → at (record { unit = unit; number = number }) ≡ statement_place places number
 
-module _ (u : UnitCode) (places : List (ℕ × ℕ)) (at : Label → ℕ) (lead : Lead at u.name places) where
+module _ (u : UnitCode) (places : List (ℕ × ℕ)) (unit : ℕ) (at : Label → ℕ) (lead : Lead at unit places) where
   -- this code stands at a place, with the targets of its jumps
   abbrev Stand : List Instruction → ℕ → Type 0
   Stand [] p = Unit {0}
@@ -204,7 +203,7 @@ module _ (u : UnitCode) (places : List (ℕ × ℕ)) (at : Label → ℕ) (lead 
   nests c f two = record { least = two; most = f.most }
 
   -- a statement's label is where it begins
-  starts : (s : TypedStatement) (p : ℕ) → Known (places_in s p) → at (record { unit = u.name; number = number_of s }) ≡ p
+  starts : (s : TypedStatement) (p : ℕ) → Known (places_in s p) → at (record { unit = unit; number = number_of s }) ≡ p
   starts (Statement number form) p known = lead number ∙ known.0
 
   -- iterations
@@ -358,12 +357,12 @@ module _ (u : UnitCode) (places : List (ℕ × ℕ)) (at : Label → ℕ) (lead 
 
   mutual
     statement_stands : (s : TypedStatement) (block : ℕ) (c : Context) → Fits c → HasRoom c.bound s → KeepsApart c.depth c.size s → AllPlaced (blocks_in block s)
-        → (p : ℕ) → Known (places_in s p) → Stand (statement_code s p) p → stand.StatementStands u at block s c p (behind (statement_code s p) p)
+        → (p : ℕ) → Known (places_in s p) → Stand (statement_code s p) p → stand.StatementStands u unit at block s c p (behind (statement_code s p) p)
     statement_stands (Statement number form) block c fits room apart inner p known h =
         record { middle = suc p; fst = record { here = h.0; ends = refl }; snd = form_stands form number block c fits room apart inner (suc p) known.1 h.1 }
 
     form_stands : (form : Form) (number block : ℕ) (c : Context) → Fits c → HasRoom c.bound (Statement number form) → KeepsApart c.depth c.size (Statement number form) → AllPlaced (blocks_of_form block form)
-        → (p : ℕ) → Known (places_in_form form p) → Stand (form_code number form p) p → stand.FormStands u at block number form c p (behind (form_code number form p) p)
+        → (p : ℕ) → Known (places_in_form form p) → Stand (form_code number form p) p → stand.FormStands u unit at block number form c p (behind (form_code number form p) p)
     form_stands Null number block c fits room apart inner p known h = refl
     form_stands (Assign target e) number block c fits room apart inner p known h =
         two_parts (place_code target) (value_code e) op.Store (stand.PlaceStands u target) (stand.ValueStands u e) (place_stands target) (value_stands e) p h
@@ -375,7 +374,7 @@ module _ (u : UnitCode) (places : List (ℕ × ℕ)) (at : Label → ℕ) (lead 
         let q = suc (behind (value_code e) p) in
         let part = statement_code consequence q in
         let r = split (value_code e) (op.JumpUnless (behind part q) ∷ part) p h in
-        subst (λ z. stand.IfStands u at block (stand.ConditionStands u e) (stand.StatementStands u at block consequence c) NoElse c p z)
+        subst (λ z. stand.IfStands u unit at block (stand.ConditionStands u e) (stand.StatementStands u unit at block consequence c) NoElse c p z)
         (sym (behind_both (value_code e) (op.JumpUnless (behind part q) ∷ part) p))
         (record {
           start = q;
@@ -390,7 +389,7 @@ module _ (u : UnitCode) (places : List (ℕ × ℕ)) (at : Label → ℕ) (lead 
         let code = statement_code other t in
         let z = behind code t in
         let r = split_three (value_code e) (op.JumpUnless t ∷ part) (op.Jump z ∷ code) p h in
-        subst (λ z. stand.IfStands u at block (stand.ConditionStands u e) (stand.StatementStands u at block consequence c) (Else other) c p z)
+        subst (λ z. stand.IfStands u unit at block (stand.ConditionStands u e) (stand.StatementStands u unit at block consequence c) (Else other) c p z)
         (sym (behind_three (value_code e) (op.JumpUnless t ∷ part) (op.Jump z ∷ code) p))
         (record {
           start = q;
@@ -427,7 +426,7 @@ module _ (u : UnitCode) (places : List (ℕ × ℕ)) (at : Label → ℕ) (lead 
         let code = list_code statements q in
         let z = suc (behind code q) in
         let r = split_three (op.Line number ∷ value_code e) (op.JumpUnless z ∷ op.Step number ∷ code) (op.Jump p ∷ []) p h in
-        subst (λ z. stand.FormStands u at block number (While e statements) c p z)
+        subst (λ z. stand.FormStands u unit at block number (While e statements) c p z)
         (sym (behind_three (op.Line number ∷ value_code e) (op.JumpUnless z ∷ op.Step number ∷ code) (op.Jump p ∷ []) p)) (
           nests c fits room.0,
           record {
@@ -464,7 +463,7 @@ module _ (u : UnitCode) (places : List (ℕ × ℕ)) (at : Label → ℕ) (lead 
         let e : suc (behind tests turn) ≡ q = ap suc (tests_length i out 0 turn) in
         let l = split code back q (subst (λ k. Stand (code ++ back) k) e r.1.1.1) in
         let next = next_temporary i in
-        subst (λ z. stand.FormStands u at block number (Iterate i statements) c p z) (sym (iterate_ends number i (list_code statements) p)) (
+        subst (λ z. stand.FormStands u unit at block number (Iterate i statements) c p z) (sym (iterate_ends number i (list_code statements) p)) (
           record { free = apart.0; room = apart.1 },
           record {
             middle = behind keeps p;
@@ -473,9 +472,9 @@ module _ (u : UnitCode) (places : List (ℕ × ℕ)) (at : Label → ℕ) (lead 
               middle = turn;
               fst = subst (λ z. stand.SetsStand u i take (behind keeps p) z) (sym (behind_both keeps sets p))
                   (sets_stand i (op.TakeTemporary i.temporary ∷ []) take (one (op.TakeTemporary i.temporary)) (behind keeps p) s.1);
-              snd = turns_stand (is_iterated i.range) i number between (stand.AdvancesStand u i.range i) (advances_stand i.range i) (stand.ListStands u at block statements)
+              snd = turns_stand (is_iterated i.range) i number between (stand.AdvancesStand u i.range i) (advances_stand i.range i) (stand.ListStands u unit at block statements)
                   (stand.using next c) turn q (behind code q) (later code q) e r.1.0 r.1.1.0
-                  (turned (is_iterated i.range) statements (stand.ListStands u at block statements) c.size next c.bound q (behind code q) fits.most room
+                  (turned (is_iterated i.range) statements (stand.ListStands u unit at block statements) c.size next c.bound q (behind code q) fits.most room
                   (λ n most space. list_stands statements block (record { size = c.size; depth = next; bound = n }) (record { most = most; depth = apart.1 }) space apart.2 inner q known l.0))
                   l.1;
             };
@@ -490,7 +489,7 @@ module _ (u : UnitCode) (places : List (ℕ × ℕ)) (at : Label → ℕ) (lead 
     form_stands Stop number block c fits room apart inner p known h = one op.Stop p h
 
     list_stands : (ss : TypedStatements) (block : ℕ) (c : Context) → Fits c → HaveRoom c.bound ss → KeepApart c.depth c.size ss → AllPlaced (blocks_among block ss)
-        → (p : ℕ) → Known (places_among ss p) → Stand (list_code ss p) p → stand.ListStands u at block ss c p (behind (list_code ss p) p)
+        → (p : ℕ) → Known (places_among ss p) → Stand (list_code ss p) p → stand.ListStands u unit at block ss c p (behind (list_code ss p) p)
     list_stands NoStatement block c fits room apart inner p known h = refl
     list_stands (StatementThen s more) block c fits room apart inner p known h =
         let code = statement_code s p in
@@ -501,7 +500,7 @@ module _ (u : UnitCode) (places : List (ℕ × ℕ)) (at : Label → ℕ) (lead 
             middle = q;
             fst = statement_stands s block c fits room.0 apart.0 (all_front Placed (blocks_in block s) (blocks_among block more) inner) p
                 (all_front (λ e. statement_place places e.0 ≡ e.1) (places_in s p) (places_among more q) known) r.0;
-            snd = subst (λ z. stand.ListStands u at block more c q z) (sym (behind_both code (list_code more q) p))
+            snd = subst (λ z. stand.ListStands u unit at block more c q z) (sym (behind_both code (list_code more q) p))
                 (list_stands more block c fits room.1 apart.1 (all_back Placed (blocks_in block s) (blocks_among block more) inner) q
                 (all_back (λ e. statement_place places e.0 ≡ e.1) (places_in s p) (places_among more q) known) r.1);
           },
@@ -522,11 +521,11 @@ module _ (u : UnitCode) (places : List (ℕ × ℕ)) (at : Label → ℕ) (lead 
       let r = split (block_code x p) (blocks_code bs q) p h in
       found bs q (λ i. get (suc i)) r.1 (λ i. same (suc i)) (all_back (λ e. statement_place places e.0 ≡ e.1) (places_among x.statements p) (places_of bs q) known) i b e
 
-  end_stands : (end : Option ℕ) → Made (end_code end) (stand.EndStands u at end)
+  end_stands : (end : Option ℕ) → Made (end_code end) (stand.EndStands u unit at end)
   end_stands None = one (op.Return 0)
   end_stands (Some s) = before (op.Line s) (op.Raise NoReturnedValue ∷ []) (stand.Is u (op.Raise NoReturnedValue)) (one (op.Raise NoReturnedValue))
 
-  procedure_stands : (f : TypedProcedure) → AllPlaced (blocks_of_procedure f) → stand.ProcedureStands u at f
+  procedure_stands : (f : TypedProcedure) → AllPlaced (blocks_of_procedure f) → stand.ProcedureStands u unit at f
   procedure_stands f inner =
       let b = inner.0.0 in
       let r = split (list_code f.statements b.entry) (end_code f.function_end) b.entry b.code in
@@ -542,7 +541,7 @@ module _ (u : UnitCode) (places : List (ℕ × ℕ)) (at : Label → ℕ) (lead 
         ends = end_stands f.function_end finish r.1;
       }
 
-  procedures_stand : (fs : List TypedProcedure) → AllPlaced (flat_map blocks_of_procedure fs) → stand.ProceduresStand u at fs
+  procedures_stand : (fs : List TypedProcedure) → AllPlaced (flat_map blocks_of_procedure fs) → stand.ProceduresStand u unit at fs
   procedures_stand [] inner = tt
   procedures_stand (f ∷ fs) inner = (
     procedure_stands f (all_front Placed (blocks_of_procedure f) (flat_map blocks_of_procedure fs) inner),
@@ -634,20 +633,20 @@ globals_stand program (OwnVariable t ∷ gs) entries h = (refl, globals_stand pr
 globals_stand program (ExternalVariable name t ∷ gs) entries h = (refl, globals_stand program gs entries h)
 globals_stand program (EntryPoint name s ∷ gs) [] h = absurd h
 globals_stand program (EntryPoint name s ∷ gs) (n ∷ ns) h =
-    (record { number = n; is = refl; unit = h.0.unit; named = h.0.named; there = h.0.there }, globals_stand program gs ns h.1)
+    (record { unit = n; is = refl; named = h.0 }, globals_stand program gs ns h.1)
 
-pub unit_stands : (program : List TypedUnit) (at : Label → ℕ) (t : TypedUnit) (entries : List ℕ) → IsWellNumbered t → AreEntries program t.globals entries
-    → Lead at t.name (places_of (blocks_of t) 0) → UnitStands program at t (unit_code t entries)
-unit_stands program at t entries well linked lead =
+pub unit_stands : (program : List TypedUnit) (at : Label → ℕ) (unit : ℕ) (t : TypedUnit) (entries : List ℕ) → IsWellNumbered t → AreEntries program t.globals entries
+    → Lead at unit (places_of (blocks_of t) 0) → UnitStands program at unit t (unit_code t entries)
+unit_stands program at unit t entries well linked lead =
     let bs = blocks_of t in
     let places = places_of bs 0 in
     let u = unit_code t entries in
     let code = blocks_code bs 0 in
     let zero_and : (k : ℕ) → 0 + k ≡ k = λ k. omega arith in
-    let all = stand_all u places at lead code 0 (λ k. ap (slice_get u.instructions) (zero_and k)) in
-    let find = found u places at lead bs 0 (slice_get u.blocks) all (λ i. refl) (each_has_its_place places (subst AreDistinct (sym (numbered_blocks bs 0)) well.statements)) in
+    let all = stand_all u places unit at lead code 0 (λ k. ap (slice_get u.instructions) (zero_and k)) in
+    let find = found u places unit at lead bs 0 (slice_get u.blocks) all (λ i. refl) (each_has_its_place places (subst AreDistinct (sym (numbered_blocks bs 0)) well.statements)) in
     record {
       names = refl;
       globals = globals_stand program t.globals entries linked;
-      procedures = procedures_stand u places at lead t.procedures (all_placed u places at lead bs (flat_map blocks_of_procedure t.procedures) find well.blocks well.loops well.temporaries);
+      procedures = procedures_stand u places unit at lead t.procedures (all_placed u places unit at lead bs (flat_map blocks_of_procedure t.procedures) find well.blocks well.loops well.temporaries);
     }

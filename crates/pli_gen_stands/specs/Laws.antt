@@ -8,7 +8,7 @@ use Rattle.pli_machine_step.specs.ModuleRuns.{RunsTo}
 use Rattle.pli_gen_tree.specs.WellNumbered.{IsWellNumbered}
 use Rattle.pli_meaning_simulation.specs.CodeStands.{ProgramStands}
 use Rattle.pli_meaning_tree.specs.TreeMeaning.{TypedProgram, whole_run}
-use Rattle.pli_meaning_typed.specs.TypedPrograms.{AreNamedApart, WellTyped}
+use Rattle.pli_meaning_typed.specs.TypedPrograms.{WellTyped}
 use Rattle.pli_gen_stands.specs.Linked.{IsModuleOf}
 
 -- in all units blocks and statements are numbered well, and loops do not nest too deep
@@ -16,11 +16,10 @@ abbrev pub AreWellNumbered : List TypedUnit → Type 0
 AreWellNumbered [] = Unit {0}
 AreWellNumbered (t ∷ ts) = IsWellNumbered t × AreWellNumbered ts
 
--- where units are numbered so and no two have one name, as labels have the names of their units
+-- where units are numbered so
 abbrev pub CodeStands : Type 0
 CodeStands =
-    (t : TypedProgram) (m : Module) → AreWellNumbered t.units → AreNamedApart t.units → IsModuleOf t m
-    → ProgramStands t (program_of m)
+    (t : TypedProgram) (m : Module) → AreWellNumbered t.units → IsModuleOf t m → ProgramStands t (program_of m)
 
 -- with so many steps a program has a meaning, and the run of its module gives just that
 pub record RunsAsMeant (t : TypedProgram) (m : Module) (steps : ℕ) : Type 0 where

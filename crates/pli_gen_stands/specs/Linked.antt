@@ -1,17 +1,10 @@
 -- The module of a program: the code of each unit, and for each of its entries the number of the unit whose
 -- external procedure it names.
-use Rattle.std.specs.Prelude.{◌≡◌, ℕ, Some, List, [], ◌∷◌, slice_get}
-use Rattle.pli_base.specs.Name.{Name}
+use Rattle.std.specs.Prelude.{◌≡◌, ℕ, Some, List, [], ◌∷◌}
 use Rattle.pli_type_tree.specs.TypedTree.{Global, OwnVariable, ExternalVariable, EntryPoint, TypedUnit}
 use Rattle.pli_unit_code.specs.Modules.{LinkedUnit, Module, greatest_precision}
 use Rattle.pli_gen_tree.specs.Encoding.{code_of}
 use Rattle.pli_meaning_tree.specs.TreeMeaning.{TypedProgram, unit_named}
-
--- the unit of this number has the external procedure of a name
-pub record HasProcedure (program : List TypedUnit) (name : Name) (number : ℕ) : Type 0 where
-  pub unit : TypedUnit
-  pub named : unit_named program name ≡ Some unit
-  pub there : slice_get program number ≡ Some unit
 
 -- the units of the entries among globals have these numbers, in the order of the globals
 abbrev pub AreEntries : (program : List TypedUnit) → List Global → (entries : List ℕ) → Type 0
@@ -21,7 +14,7 @@ AreEntries program (OwnVariable t ∷ gs) entries = AreEntries program gs entrie
 AreEntries program (ExternalVariable name t ∷ gs) entries = AreEntries program gs entries
 AreEntries program (EntryPoint name signature ∷ gs) [] = ⊥
 AreEntries program (EntryPoint name signature ∷ gs) (n ∷ ns) =
-    HasProcedure program name n × AreEntries program gs ns
+    (unit_named program name ≡ Some n) × AreEntries program gs ns
 
 -- a unit in the module of a program
 pub record IsUnitOf (program : List TypedUnit) (t : TypedUnit) (u : LinkedUnit) : Type 0 where

@@ -3,8 +3,8 @@
 
 ghost use Rattle.pli_gen_stands.specs.Laws.{CodeStands, ProgramsRunAsMeant};
 
-/// The code of a program whose units are numbered well and have names of their own stands, form by form, as the simulation
-/// asks, and so do its globals, where entries have the numbers of the units that have their procedures.
+/// The code of a program whose units are numbered well stands, form by form, as the simulation asks, and so do its globals,
+/// where entries have the numbers of the units that have their procedures.
 pub fn code_stands()
     ensures { CodeStands }
 {}

@@ -8,6 +8,7 @@ use Rattle.pli_map.specs.laws.SameLaws.{same_decides}
 use Rattle.pli_type_tree.specs.Templates.{Template}
 use Rattle.pli_type_tree.specs.TypedTree.{Signature, Global, OwnVariable, ExternalVariable, EntryPoint}
 use Rattle.pli_unit_code.specs.CodeTables as plain
+use Rattle.pli_unit_code.specs.declared.code.VariableKind.TheVariants.{Static}
 use Rattle.pli_gen_tree.specs.Encoding.{NumberedTables, numbered, signature_descriptions, global_descriptions, global_templates, template_number, signature_code, global_code}
 use Rattle.pli_type_keys.specs.Same.{same_template}
 use Rattle.pli_gen_tree.proofs.KeyLemmas.{numbered_after, all_there, repeated}
@@ -74,13 +75,13 @@ entries_templated s (n ∷ ns) table = entries_templated s ns table
 
 -- the code of each
 module _ (t : NumberedTables) where
-  pub own_coded : (n : ℕ) (x : Template) → replicate n (plain.OwnVariable (template_number t x)) ≡ map (global_code t) (map OwnVariable (replicate n x))
+  pub own_coded : (n : ℕ) (x : Template) → replicate n (plain.OwnVariable Static (template_number t x)) ≡ map (global_code t) (map OwnVariable (replicate n x))
   own_coded zero x = refl
-  own_coded (suc n) x = ap (λ gs. plain.OwnVariable (template_number t x) ∷ gs) (own_coded n x)
+  own_coded (suc n) x = ap (λ gs. plain.OwnVariable Static (template_number t x) ∷ gs) (own_coded n x)
 
-  pub external_coded : (x : Template) (names : List Name) → map (λ name. plain.ExternalVariable name (template_number t x)) names ≡ map (global_code t) (external x names)
+  pub external_coded : (x : Template) (names : List Name) → map (λ name. plain.ExternalVariable name Static (template_number t x)) names ≡ map (global_code t) (external x names)
   external_coded x [] = refl
-  external_coded x (n ∷ ns) = ap (λ gs. plain.ExternalVariable n (template_number t x) ∷ gs) (external_coded x ns)
+  external_coded x (n ∷ ns) = ap (λ gs. plain.ExternalVariable n Static (template_number t x) ∷ gs) (external_coded x ns)
 
   pub entries_coded : (s : Signature) (names : List Name) → map (λ name. plain.EntryPoint name (signature_code t s)) names ≡ map (global_code t) (entries s names)
   entries_coded s [] = refl

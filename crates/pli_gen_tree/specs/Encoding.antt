@@ -21,6 +21,7 @@ use Rattle.pli_unit_code.specs.CodeTables.{CodedTemplate, CodedBlock, CodedSigna
 use Rattle.pli_unit_code.specs.CodeTables.{there}
 use Rattle.pli_unit_code.specs.declared.instruction.Instruction.{Instruction}
 use Rattle.pli_unit_code.specs.declared.instruction.Instruction.TheVariants as coded
+use Rattle.pli_unit_code.specs.declared.code.VariableKind.TheVariants.{Static}
 use Rattle.pli_gen_emit.specs.TreeTranslation.{BlockTree, blocks_of, block_code, behind, instructions_of}
 
 -- a table, with each further one that it has not got put at its end
@@ -188,8 +189,8 @@ module _ (tables : NumberedTables) where
 
   -- a global with the numbers of what it names
   abbrev pub global_code : Global → CodedGlobal
-  global_code (OwnVariable t) = plain.OwnVariable (template_number t)
-  global_code (ExternalVariable name t) = plain.ExternalVariable name (template_number t)
+  global_code (OwnVariable t) = plain.OwnVariable Static (template_number t)
+  global_code (ExternalVariable name t) = plain.ExternalVariable name Static (template_number t)
   global_code (EntryPoint name signature) = plain.EntryPoint name (signature_code signature)
 
   -- a block with its first instruction

@@ -54,7 +54,7 @@ fn copy_initial(alloc: Global, scalars: &[InitialScalar]) -> Result<Vec<InitialS
     for initial in scalars {
         let value = initial.value.copy(alloc)?;
         copied.push(InitialScalar {
-            scalar: initial.scalar,
+            offset: initial.offset,
             value,
         })?;
     }

@@ -4,6 +4,7 @@ ghost use Rattle.pli_map.specs.views.DescriptionView.{description_view};
 ghost use Rattle.pli_type_tree.specs.views.GlobalView.{signature_view, global_group_view, globals_view};
 ghost use Rattle.pli_unit_code.specs.CodeTables as plain;
 ghost use Rattle.pli_unit_code.specs.views.CodeView.{global_view};
+ghost use Rattle.pli_unit_code.specs.declared.code.VariableKind.TheVariants.{Static};
 ghost use Rattle.pli_gen_tree.specs.Encoding.{description_number, signature_code, global_code};
 ghost use Rattle.pli_gen_tree.specs.views.TableView.{tables_view};
 
@@ -12,7 +13,7 @@ use crate::table::template_key;
 use pli_base::Name;
 use pli_map::Description;
 use pli_type_tree::{GlobalGroup, Signature};
-use pli_unit_code::{CodedGlobal, CodedSignature};
+use pli_unit_code::{CodedGlobal, CodedSignature, VariableKind};
 use std::alloc::{AllocError, Global};
 
 /// Appends the numbers of descriptions.
@@ -48,10 +49,13 @@ pub(crate) fn result_number<'a>(
 fn put_own(globals: &mut Vec<CodedGlobal>, template: u16, count: u32) -> Result<(), AllocError>
     ensures { OnOk result
         (map global_view globals.new.items
-        ≡ map global_view globals.old.items ++ replicate count (plain.OwnVariable template)) }
+        ≡ map global_view globals.old.items ++ replicate count (plain.OwnVariable Static template)) }
 {
     for _ in 0..count {
-        globals.push(CodedGlobal::OwnVariable { template })?;
+        globals.push(CodedGlobal::OwnVariable {
+            kind: VariableKind::Static,
+            template,
+        })?;
     }
     Ok(())
 }
@@ -64,11 +68,12 @@ fn put_external(
 ) -> Result<(), AllocError>
     ensures { OnOk result
         (map global_view globals.new.items
-        ≡ map global_view globals.old.items ++ map (λ name. plain.ExternalVariable name template) names.now) }
+        ≡ map global_view globals.old.items ++ map (λ name. plain.ExternalVariable name Static template) names.now) }
 {
     for name in names {
         globals.push(CodedGlobal::ExternalVariable {
             name: *name,
+            kind: VariableKind::Static,
             template,
         })?;
     }

@@ -24,7 +24,8 @@ use Rattle.pli_resolve.specs.declared.symbol.SymbolKey.{SymbolKey}
 use Rattle.pli_resolve.proofs.MembersAreParts.{found_of, members_are_parts, region_good, region_items, region_owners, symbol_nowhere, symbol_there}
 use Rattle.pli_resolve_bounds.specs.SymbolBounds.{IsLimited}
 use Rattle.pli_resolve_bounds.proofs.SymbolsWithin.{symbols_are_limited}
-use Rattle.pli_type.specs.InitialScalars.{NumberedScalar, each_with, initial_scalars, scalars_on, values_written, InitialItem, template_of}
+use Rattle.pli_map.specs.Parts.{PlacedPart}
+use Rattle.pli_type.specs.InitialScalars.{each_with, initial_scalars, scalars_on, values_written, InitialItem, template_of}
 use Rattle.pli_type.specs.NamedUnits.{member_items}
 use Rattle.pli_value.specs.Value.{Value}
 use Rattle.pli_initial_laws.specs.InitialCounts.{HasFewInitial, HaveFewInitial, InitialValuesAreFew}
@@ -39,7 +40,7 @@ nothing x e = cc
 
 -- ---- how many initial values items have
 
-fewer : (ss : List NumberedScalar) (vs : List Value) → length (each_with ss vs) ≤ length ss
+fewer : (ss : List PlacedPart) (vs : List Value) → length (each_with ss vs) ≤ length ss
 fewer [] vs = omega arith
 fewer (s ∷ ss) [] = omega arith
 fewer (s ∷ ss) (v ∷ vs) = omega (arith, fewer ss vs)

@@ -11,7 +11,7 @@ use Rattle.pli_resolve.specs.laws.MemberLaws.{member_of, part_on}
 use Rattle.pli_deck_laws.specs.Limits.{IsDescribed, AreDescribed}
 use Rattle.pli_type.specs.InitialScalars.{counted_from, scalars_on, scalars_in_member}
 
--- ---- whichever number the first scalar has
+-- ---- wherever a description begins
 
 array_length : (e : Description) (path : List ℕ) (first distance count : ℕ) → ((k : ℕ) → length (scalars_on e path k) ≡ length (scalars_on e path 0))
     → length (flat_map (λ k. scalars_on e path k) (counted_from first distance count)) ≡ count * length (scalars_on e path 0)
@@ -27,16 +27,18 @@ array_length e path first distance (suc count) same =
 mutual
   on_length : (d : Description) (path : List ℕ) (first : ℕ) → length (scalars_on d path first) ≡ length (scalars_on d path 0)
   on_length (Array bs e) path first =
-      array_length e path first (scalars_in e) (count_of bs) (λ k. on_length e path k)
-      ∙ sym (array_length e path 0 (scalars_in e) (count_of bs) (λ k. on_length e path k))
+      array_length e path first (stride_of e) (count_of bs) (λ k. on_length e path k)
+      ∙ sym (array_length e path 0 (stride_of e) (count_of bs) (λ k. on_length e path k))
   on_length (Structure ds) [] first = refl
-  on_length (Structure ds) (i ∷ path) first = in_length ds i path first
+  on_length (Structure ds) (i ∷ path) first = in_length ds i path first 0
   on_length d path first = refl
 
-  in_length : (ds : Members) (i : ℕ) (path : List ℕ) (first : ℕ) → length (scalars_in_member ds i path first) ≡ length (scalars_in_member ds i path 0)
-  in_length NoMembers i path first = refl
-  in_length (MemberThen d ds) zero path first = on_length d path first
-  in_length (MemberThen d ds) (suc i) path first = in_length ds i path (first + scalars_in d) ∙ sym (in_length ds i path (0 + scalars_in d))
+  in_length : (ds : Members) (i : ℕ) (path : List ℕ) (first ended : ℕ) → length (scalars_in_member ds i path first ended) ≡ length (scalars_in_member ds i path 0 0)
+  in_length NoMembers i path first ended = refl
+  in_length (MemberThen d ds) zero path first ended =
+      on_length d path (first + next_multiple_of ended (alignment_of d)) ∙ sym (on_length d path (0 + next_multiple_of 0 (alignment_of d)))
+  in_length (MemberThen d ds) (suc i) path first ended =
+      in_length ds i path first (next_multiple_of ended (alignment_of d) + size_of d) ∙ sym (in_length ds i path 0 (next_multiple_of 0 (alignment_of d) + size_of d))
 
 -- ---- ways that differ
 
@@ -102,8 +104,8 @@ others ((suc i ∷ p) ∷ qs) = (i ∷ p) ∷ others qs
 split : (d : Description) (ds : Members) (qs : List (List ℕ)) → taken (Structure (MemberThen d ds)) qs ≡ taken d (firsts qs) + taken (Structure ds) (others qs)
 split d ds [] = refl
 split d ds ([] ∷ qs) = omega (arith, split d ds qs)
-split d ds ((zero ∷ p) ∷ qs) = omega (arith, split d ds qs)
-split d ds ((suc i ∷ p) ∷ qs) = omega (arith, split d ds qs, in_length ds i p (0 + scalars_in d))
+split d ds ((zero ∷ p) ∷ qs) = omega (arith, split d ds qs, on_length d p (0 + next_multiple_of 0 (alignment_of d)))
+split d ds ((suc i ∷ p) ∷ qs) = omega (arith, split d ds qs, in_length ds i p 0 (next_multiple_of 0 (alignment_of d) + size_of d))
 
 first_differs : (p : List ℕ) (qs : List (List ℕ)) → Differs (0 ∷ p) qs → Differs p (firsts qs)
 first_differs p [] h = tt
@@ -150,6 +152,10 @@ nothing_taken [] = refl
 nothing_taken ([] ∷ qs) = omega (arith, nothing_taken qs)
 nothing_taken ((i ∷ p) ∷ qs) = omega (arith, nothing_taken qs)
 
+none_in_area : (n : ℕ) (ps : List (List ℕ)) → taken (Area n) ps ≡ 0
+none_in_area n [] = refl
+none_in_area n (p ∷ ps) = omega (arith, none_in_area n ps)
+
 through : (bs : List Bounds) (e : Description) (p : List ℕ) → Reaches (Array bs e) p → Reaches e p
 through bs e [] h = (e, refl)
 through bs e (i ∷ p) h = h
@@ -159,9 +165,10 @@ mutual
   spread (Array bs e) ps distinct reach =
       let inner = spread e ps distinct (through_array (Array bs e) e (through bs e) ps reach) in
       let all : taken (Array bs e) ps ≡ count_of bs * taken e ps =
-      array_taken e (count_of bs) (Array bs e) (λ p. array_length e p 0 (scalars_in e) (count_of bs) (λ k. on_length e p k)) ps in
+      array_taken e (count_of bs) (Array bs e) (λ p. array_length e p 0 (stride_of e) (count_of bs) (λ k. on_length e p k)) ps in
       omega (arith, all, times_more (count_of bs) (taken e ps) (scalars_in e) inner)
   spread (Structure ds) ps distinct reach = spread_among ds ps distinct reach
+  spread (Area n) ps distinct reach = omega (arith, none_in_area n ps)
   spread d ps distinct reach = alone d (λ i. refl) refl ps distinct reach
 
   spread_among : (ds : Members) (ps : List (List ℕ)) → AreDistinct ps → AllReach (Structure ds) ps → taken (Structure ds) ps ≤ scalars_among ds
@@ -194,7 +201,7 @@ mutual
   scalars_take (suc n) (Bit k) h = omega (arith, h.0)
   scalars_take (suc n) Pointer h = omega arith
   scalars_take (suc n) Offset h = omega arith
-  scalars_take (suc n) (Area k) h = h.0
+  scalars_take (suc n) (Area k) h = omega arith
   scalars_take (suc n) (Array bs e) h =
       times_more (count_of bs) (scalars_in e) (stride_of e) (omega (arith, scalars_take n e h.3, fits_stride e))
   scalars_take (suc n) (Structure NoMembers) h = absurd h

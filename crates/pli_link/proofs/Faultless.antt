@@ -91,5 +91,5 @@ few n e = grind (arith, nat_tests)
 pub small : (cs : List Compiled) → is_too_large cs ≡ false → IsSmall cs
 small cs e =
     let parts = parts_false (are_too_large (map (λ (t : Template). t.description) (variables_made cs))) (nat_lt 65535 (length (externals cs)))
-    (nat_lt 1000000 (sum_by (λ (c : Compiled). length c.code.instructions) cs)) (nat_lt 65535 (length cs)) e in
+    (nat_lt 1000000 (sum_by (λ (c : Compiled). length c.deck.code.instructions) cs)) (nat_lt 65535 (length cs)) e in
     record { variables = parts.0; externals = parts.1; units = few (length cs) parts.2 }

@@ -15,14 +15,14 @@ empty_list [] e = refl
 empty_list (x ∷ xs) e = absurd (omega (arith, e))
 
 -- where a unit stands, as code has it and as it is seen
-place_seen : (us : List NamedUnit) → position_or_len (λ (c : plain.Compiled). c.is_main) (map compiled_view us) ≡ position_or_len (λ (u : NamedUnit). u.compiled.now.is_main) us
+place_seen : (us : List NamedUnit) → position_or_len (λ (c : plain.Compiled). c.deck.is_main) (map compiled_view us) ≡ position_or_len (λ (u : NamedUnit). u.deck.now.is_main) us
 place_seen [] = refl
-place_seen (u ∷ us) = ap (λ n. cond (not u.compiled.now.is_main) (1 + n) 0) (place_seen us)
+place_seen (u ∷ us) = ap (λ n. cond (not u.deck.now.is_main) (1 + n) 0) (place_seen us)
 
-pub main_seen : (us : List NamedUnit) → position (λ (c : plain.Compiled). c.is_main) (map compiled_view us) ≡ position (λ (u : NamedUnit). u.compiled.now.is_main) us
+pub main_seen : (us : List NamedUnit) → position (λ (c : plain.Compiled). c.deck.is_main) (map compiled_view us) ≡ position (λ (u : NamedUnit). u.deck.now.is_main) us
 main_seen us =
     ap (λ n. cond (nat_lt n (length (map compiled_view us))) (Some n) None) (place_seen us)
-    ∙ ap (λ n. cond (nat_lt (position_or_len (λ (u : NamedUnit). u.compiled.now.is_main) us) n) (Some (position_or_len (λ (u : NamedUnit). u.compiled.now.is_main) us)) None) (length-map us compiled_view)
+    ∙ ap (λ n. cond (nat_lt (position_or_len (λ (u : NamedUnit). u.deck.now.is_main) us) n) (Some (position_or_len (λ (u : NamedUnit). u.deck.now.is_main) us)) None) (length-map us compiled_view)
 
 within : (k n i : ℕ) → cond (nat_lt k n) (Some k) None ≡ Some i → i < n
 within k n i e = by (nat_lt k n) refl e
@@ -31,8 +31,8 @@ within k n i e = by (nat_lt k n) refl e
     by true is h = let same : k ≡ i = cc in grind (arith, nat_tests)
     by false is h = let bad : ⊥ = cc in absurd bad
 
-pub main_within : (us : List NamedUnit) (i : ℕ) → position (λ (u : NamedUnit). u.compiled.now.is_main) us ≡ Some i → i < length us
-main_within us i e = within (position_or_len (λ (u : NamedUnit). u.compiled.now.is_main) us) (length us) i e
+pub main_within : (us : List NamedUnit) (i : ℕ) → position (λ (u : NamedUnit). u.deck.now.is_main) us ≡ Some i → i < length us
+main_within us i e = within (position_or_len (λ (u : NamedUnit). u.deck.now.is_main) us) (length us) i e
 
 -- units without faults are few
 pub few_seen : (us : List NamedUnit) → link_faults (map compiled_view us) ≡ [] → length (map compiled_view us) ≤ 65535
@@ -42,6 +42,6 @@ pub few_units : (us : List NamedUnit) → link_faults (map compiled_view us) ≡
 few_units us none = omega (arith, few_seen us none, length-map us compiled_view)
 
 -- what a link of them gives
-pub linked_without : (cs : List plain.Compiled) (faults : List LinkFault) (main : Option ℕ) → link_faults cs ≡ faults → position (λ (c : plain.Compiled). c.is_main) cs ≡ main
+pub linked_without : (cs : List plain.Compiled) (faults : List LinkFault) (main : Option ℕ) → link_faults cs ≡ faults → position (λ (c : plain.Compiled). c.deck.is_main) cs ≡ main
     → link_of cs ≡ module_or faults main cs
-linked_without cs faults main f m = ap (λ fs. module_or fs (position (λ (c : plain.Compiled). c.is_main) cs) cs) f ∙ ap (λ o. module_or faults o cs) m
+linked_without cs faults main f m = ap (λ fs. module_or fs (position (λ (c : plain.Compiled). c.deck.is_main) cs) cs) f ∙ ap (λ o. module_or faults o cs) m

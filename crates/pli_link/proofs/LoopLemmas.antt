@@ -19,8 +19,8 @@ more_joined all each splits xs i d before here whole lt read added was =
 
 -- the main procedures of one unit more
 pub one_main : (u : NamedUnit) (us : List NamedUnit) → map procedure_of (mains (map compiled_view (u ∷ us)))
-    ≡ (if not u.compiled.now.is_main then [] else procedure_of (compiled_view u) ∷ []) ++ map procedure_of (mains (map compiled_view us))
-one_main u us = by u.compiled.now.is_main
+    ≡ (if not u.deck.now.is_main then [] else procedure_of (compiled_view u) ∷ []) ++ map procedure_of (mains (map compiled_view us))
+one_main u us = by u.deck.now.is_main
   where
     by : (b : Bool) → map procedure_of (cond b (compiled_view u ∷ mains (map compiled_view us)) (mains (map compiled_view us)))
         ≡ (if not b then [] else procedure_of (compiled_view u) ∷ []) ++ map procedure_of (mains (map compiled_view us))

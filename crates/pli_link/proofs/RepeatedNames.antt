@@ -16,13 +16,13 @@ turned true xs = refl
 turned false xs = refl
 
 pub one_repeated : (us : List NamedUnit) (i : ℕ) (u : NamedUnit) (before later : List Name) (names more whole : List LinkedName) (is_new : Bool)
-    → i < length us → u ≡ get_or us i u → is_new ≡ not (is_among (compiled_view u).procedure before) → later ≡ with_name before (compiled_view u).procedure
+    → i < length us → u ≡ get_or us i u → is_new ≡ not (is_among (compiled_view u).deck.name before) → later ≡ with_name before (compiled_view u).deck.name
     → more ≡ names ++ (if is_new then [] else procedure_of (compiled_view u) ∷ [])
     → names ++ defined_again before (map compiled_view (drop i us)) ≡ whole
     → more ++ defined_again later (map compiled_view (drop (i + 1) us)) ≡ whole
 one_repeated us i u before later names more whole is_new within is told next here all =
     let rest = map compiled_view (drop (i + 1) us) in
-    let among = is_among (compiled_view u).procedure before in
+    let among = is_among (compiled_view u).deck.name before in
     let one = procedure_of (compiled_view u) ∷ [] in
     ap (λ ns. ns ++ defined_again later rest) here
     ∙ append_assoc names (if is_new then [] else one) (defined_again later rest)

@@ -32,12 +32,12 @@ in_order = sorting.in_order name_alone (slice_cmp nat_cmp)
 abbrev pub defined_again : (before : List Name) → List Compiled → List LinkedName
 defined_again before [] = []
 defined_again before (c ∷ cs) =
-    (if is_among c.procedure before then procedure_of c ∷ [] else [])
-    ++ defined_again (with_name before c.procedure) cs
+    (if is_among c.deck.name before then procedure_of c ∷ [] else [])
+    ++ defined_again (with_name before c.deck.name) cs
 
 -- the units whose procedure is a main procedure
 abbrev pub mains : List Compiled → List Compiled
-mains = filter (λ c. c.is_main)
+mains = filter (λ c. c.deck.is_main)
 
 -- every one but the first
 abbrev pub later : {A : Type 0} → List A → List A
@@ -63,8 +63,8 @@ link_faults cs =
 
 -- the unit of an entry, among these procedures
 abbrev pub entry_in : List (Name × ℕ) → CodedGlobal → List ℕ
-entry_in procedures (OwnVariable t) = []
-entry_in procedures (ExternalVariable name t) = []
+entry_in procedures (OwnVariable kind t) = []
+entry_in procedures (ExternalVariable name kind t) = []
 entry_in procedures (EntryPoint name signature) = there (meant procedures name)
 
 -- the units of the entries among globals, in their order
@@ -75,9 +75,9 @@ entries_of procedures gs = flat_map (entry_in procedures) gs
 abbrev pub linked_unit : List (Name × ℕ) → Compiled → LinkedUnit
 linked_unit procedures c = record {
   unit = c.unit;
-  procedure = c.procedure;
-  code = c.code;
-  entries = entries_of procedures c.code.globals;
+  procedure = c.deck.name;
+  code = c.deck.code;
+  entries = entries_of procedures c.deck.code.globals;
 }
 
 -- the module of all units, of which this is the main one
@@ -92,4 +92,4 @@ module_or faults main cs = Err faults
 -- from units in the order of their names: the module of all, with the first one that has a main procedure as
 -- its main unit, or the faults
 abbrev pub link_of : List Compiled → Result Module (List LinkFault)
-link_of cs = module_or (link_faults cs) (position (λ c. c.is_main) cs) cs
+link_of cs = module_or (link_faults cs) (position (λ c. c.deck.is_main) cs) cs

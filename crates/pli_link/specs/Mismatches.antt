@@ -7,6 +7,7 @@ use Rattle.pli_base.specs.Name.{Name}
 use Rattle.pli_type_tree.specs.Templates.{Template}
 use Rattle.pli_unit_code.specs.CodeTables.{Code, CodedGlobal, OwnVariable, ExternalVariable, EntryPoint}
 use Rattle.pli_unit_code.specs.CodeTables.{template_at}
+use Rattle.pli_unit_code.specs.declared.code.VariableKind.TheVariants.{Static, Controlled}
 use Rattle.pli_link.specs.Alike.{FoundSignature, same_signature, signature_at}
 use Rattle.pli_type_keys.specs.Same.{same_template}
 use Rattle.pli_link.specs.Names.{with_name, meant, procedures, externals, unit_named}
@@ -18,7 +19,7 @@ use Rattle.pli_link.specs.declared.units.LinkedName.{LinkedName}
 -- an entry of this signature is unlike the procedure of its name, if there is one
 abbrev pub is_unlike_procedure : FoundSignature → Option Compiled → Bool
 is_unlike_procedure s None = false
-is_unlike_procedure s (Some c) = not (same_signature (signature_at c.code c.code.signature) s)
+is_unlike_procedure s (Some c) = not (same_signature (signature_at c.deck.code c.deck.code.signature) s)
 
 -- an external variable of this template is like the first one of its name
 abbrev pub is_like_first : Option Template → (first : Option (Option Template)) → Bool
@@ -33,21 +34,24 @@ is_unlike t None first = not (is_like_first t first)
 
 -- a global of a unit has this fault: an entry, that no unit has a procedure of its name, or that the first
 -- one which has takes or gives something else; a variable, that it has a procedure's name, or that the first
--- variable of its name has another description or other initial values
+-- variable of its name has another description or other initial values; a CONTROLLED external variable, that
+-- it is not resolved, since none is yet
 abbrev pub has_fault : List Compiled → GlobalFault → Code → CodedGlobal → Bool
-has_fault cs Unresolved code (OwnVariable t) = false
-has_fault cs Unresolved code (ExternalVariable name t) = false
+has_fault cs Unresolved code (OwnVariable kind t) = false
+has_fault cs Unresolved code (ExternalVariable name Static t) = false
+has_fault cs Unresolved code (ExternalVariable name Controlled t) = true
 has_fault cs Unresolved code (EntryPoint name s) = is_none (meant (procedures cs) name)
-has_fault cs Mismatch code (OwnVariable t) = false
-has_fault cs Mismatch code (ExternalVariable name t) =
+has_fault cs Mismatch code (OwnVariable kind t) = false
+has_fault cs Mismatch code (ExternalVariable name Static t) =
     is_unlike (template_at code t) (unit_named cs name) (meant (externals cs) name)
+has_fault cs Mismatch code (ExternalVariable name Controlled t) = false
 has_fault cs Mismatch code (EntryPoint name s) =
     is_unlike_procedure (signature_at code s) (unit_named cs name)
 
 -- the name of a global that has one
 abbrev pub name_of : CodedGlobal → List Name
-name_of (OwnVariable t) = []
-name_of (ExternalVariable name t) = name ∷ []
+name_of (OwnVariable kind t) = []
+name_of (ExternalVariable name kind t) = name ∷ []
 name_of (EntryPoint name s) = name ∷ []
 
 -- names, each once
@@ -69,7 +73,7 @@ linked_in unit names = map (λ n. record { name = n; unit = unit }) names
 
 -- the names of a unit's globals that have it, each once, with the unit
 abbrev pub faulty_in_unit : List Compiled → GlobalFault → Compiled → List LinkedName
-faulty_in_unit cs f c = linked_in c.unit (each_once [] (faulty_names cs f c.code c.code.globals))
+faulty_in_unit cs f c = linked_in c.unit (each_once [] (faulty_names cs f c.deck.code c.deck.code.globals))
 
 -- those among all units
 abbrev pub faulty_linked : List Compiled → GlobalFault → (some : List Compiled) → List LinkedName

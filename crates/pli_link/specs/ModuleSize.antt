@@ -8,13 +8,15 @@ use Rattle.pli_map.specs.Variables.{byte_limit}
 use Rattle.pli_type_tree.specs.Templates.{Template}
 use Rattle.pli_unit_code.specs.CodeTables.{Code, CodedGlobal, OwnVariable, ExternalVariable, EntryPoint}
 use Rattle.pli_unit_code.specs.CodeTables.{there, template_at}
+use Rattle.pli_unit_code.specs.declared.code.VariableKind.TheVariants.{Static, Controlled}
 use Rattle.pli_link.specs.Names.{externals}
 use Rattle.pli_link.specs.Units.{Compiled}
 
--- the variable that a unit has for itself, if a global is one
+-- the STATIC variable that a unit has for itself, if a global is one
 abbrev pub own_in : Code → CodedGlobal → List Template
-own_in code (OwnVariable t) = there (template_at code t)
-own_in code (ExternalVariable name t) = []
+own_in code (OwnVariable Static t) = there (template_at code t)
+own_in code (OwnVariable Controlled t) = []
+own_in code (ExternalVariable name kind t) = []
 own_in code (EntryPoint name signature) = []
 
 -- those among globals
@@ -23,7 +25,7 @@ own_of code gs = flat_map (own_in code) gs
 
 -- those of all units
 abbrev pub all_own : List Compiled → List Template
-all_own cs = flat_map (λ c. own_of c.code c.code.globals) cs
+all_own cs = flat_map (λ c. own_of c.deck.code c.deck.code.globals) cs
 
 -- the variables that are made before a program begins: each unit's own, and each external one once
 abbrev pub variables_made : List Compiled → List Template
@@ -42,4 +44,4 @@ are_too_large ds = list_any is_oversized ds || nat_lt byte_limit (sum_by size_of
 abbrev pub is_too_large : List Compiled → Bool
 is_too_large cs =
     are_too_large (map (λ t. t.description) (variables_made cs)) || nat_lt 65535 (length (externals cs))
-    || nat_lt 1000000 (sum_by (λ c. length c.code.instructions) cs) || nat_lt 65535 (length cs)
+    || nat_lt 1000000 (sum_by (λ c. length c.deck.code.instructions) cs) || nat_lt 65535 (length cs)

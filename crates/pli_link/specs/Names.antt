@@ -7,6 +7,7 @@ use Rattle.pli_base.specs.Words.{same_name, is_among}
 use Rattle.pli_type_tree.specs.Templates.{Template}
 use Rattle.pli_unit_code.specs.CodeTables.{Code, CodedGlobal, OwnVariable, ExternalVariable, EntryPoint}
 use Rattle.pli_unit_code.specs.CodeTables.{template_at}
+use Rattle.pli_unit_code.specs.declared.code.VariableKind.TheVariants.{Static, Controlled}
 use Rattle.pli_link.specs.Units.{Compiled}
 
 -- one name more, unless it is there
@@ -29,16 +30,17 @@ meant things name = lookup (same_name name) things
 -- the procedures of units, by the numbers of the units from this one on
 abbrev pub procedures_from : (number : ℕ) → List Compiled → List (Name × ℕ)
 procedures_from number [] = []
-procedures_from number (c ∷ cs) = (c.procedure, number) ∷ procedures_from (number + 1) cs
+procedures_from number (c ∷ cs) = (c.deck.name, number) ∷ procedures_from (number + 1) cs
 
 -- the external procedures, by the numbers of their units
 abbrev pub procedures : List Compiled → List (Name × ℕ)
 procedures cs = firsts [] (procedures_from 0 cs)
 
--- the variable that units share, if a global is one, with its template as the unit's tables have it
+-- the STATIC variable that units share, if a global is one, with its template as the unit's tables have it
 abbrev pub shared_in : Code → CodedGlobal → List (Name × Option Template)
-shared_in code (OwnVariable t) = []
-shared_in code (ExternalVariable name t) = (name, template_at code t) ∷ []
+shared_in code (OwnVariable kind t) = []
+shared_in code (ExternalVariable name Static t) = (name, template_at code t) ∷ []
+shared_in code (ExternalVariable name Controlled t) = []
 shared_in code (EntryPoint name signature) = []
 
 -- those among globals
@@ -47,7 +49,7 @@ shared_by code gs = flat_map (shared_in code) gs
 
 -- those of all units, in the order of the units
 abbrev pub all_shared : List Compiled → List (Name × Option Template)
-all_shared cs = flat_map (λ c. shared_by c.code c.code.globals) cs
+all_shared cs = flat_map (λ c. shared_by c.deck.code c.deck.code.globals) cs
 
 -- the external variables, each with the template of its first declaration, in the order of the units and of
 -- their texts

@@ -1,8 +1,8 @@
 //! Laws of linking.
 ghost use Rattle.pli_link.specs.laws.Sorting.{NamesAreSorted};
 ghost use Rattle.pli_link.specs.examples.Examples.{TwoUnits, OneOfThree, NoneOfTwo, NoneCalled, OtherShared};
-ghost use Rattle.pli_link.specs.examples.Examples.{SameShared, OtherTaken, EntryAndVariables, ToldOnce};
-ghost use Rattle.pli_link.specs.examples.Examples.{TooLarge, NotTooLarge, SharedOnce};
+ghost use Rattle.pli_link.specs.examples.Examples.{SameShared, ControlledShared, OtherTaken, EntryAndVariables};
+ghost use Rattle.pli_link.specs.examples.Examples.{ToldOnce, TooLarge, NotTooLarge, SharedOnce};
 
 /// A law: the order of names with their units is a stable sort of them by name.
 pub fn names_are_sorted()
@@ -10,7 +10,7 @@ pub fn names_are_sorted()
 {}
 
 /// Worked examples: two main procedures, one of three units, none of two; an entry without a procedure, and with
-/// another one; external variables that are alike or not; and modules that are too large or not.
+/// another one; external variables that are alike or not, or CONTROLLED; and modules that are too large or not.
 pub fn worked_examples()
     ensures two_units { TwoUnits }
     ensures one_of_three { OneOfThree }
@@ -18,6 +18,7 @@ pub fn worked_examples()
     ensures none_called { NoneCalled }
     ensures other_shared { OtherShared }
     ensures same_shared { SameShared }
+    ensures controlled_shared { ControlledShared }
     ensures other_taken { OtherTaken }
     ensures entry_and_variables { EntryAndVariables }
     ensures told_once { ToldOnce }

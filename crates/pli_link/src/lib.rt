@@ -15,4 +15,4 @@ mod units;
 
 pub use laws::{names_are_sorted, worked_examples};
 pub use linking::{LinkError, LinkFault, link};
-pub use units::{CompiledUnit, LinkedName, NamedUnit};
+pub use units::{LinkedName, NamedUnit};

@@ -16,9 +16,9 @@ use std::alloc::{AllocError, Global};
 
 /// Where the first main procedure stands.
 pub(crate) fn main_at(units: &[NamedUnit<'_>]) -> Option<usize>
-    ensures { result ≡ position (λ u. u.compiled.now.is_main) units.now }
+    ensures { result ≡ position (λ u. u.deck.now.is_main) units.now }
 {
-    units.iter().position(|unit| unit.compiled.is_main)
+    units.iter().position(|unit| unit.deck.is_main)
 }
 
 /// The unit of an entry, if a global is one whose procedure is there.
@@ -59,10 +59,10 @@ fn linked_unit<'a>(
     requires { AreSmall procedures.now.entries }
     ensures { IfOk result (λ linked. lent_view linked ≡ link.linked_unit procedures.now.entries (compiled_view unit.now)) }
 {
-    let code = &unit.compiled.code;
+    let code = &unit.deck.code;
     Ok(LentUnit {
         unit: unit.unit,
-        procedure: unit.compiled.procedure,
+        procedure: unit.deck.name,
         code,
         entries: entries_of(alloc, procedures, &code.globals)?,
     })

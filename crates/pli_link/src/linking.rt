@@ -26,13 +26,13 @@ pub enum LinkFault {
     NoMainProcedure,
     /// N2, for each main procedure after the first.
     TwoMainProcedures(LinkedName),
-    /// N3, for each unit and name of an entry of which no unit has a procedure.
+    /// N3, for each unit and name of an entry of which no unit has a procedure, or of a CONTROLLED external variable.
     Unresolved(LinkedName),
     /// N4, for each procedure that has the name of an earlier one.
     DefinedTwice(LinkedName),
     /// N5, for each unit and name of an entry that takes or gives something else than the first procedure of the name,
-    /// or of an external variable that has a procedure's name, or another description or other initial values than
-    /// the first variable of its name.
+    /// or of a STATIC external variable that has a procedure's name, or another description or other initial values
+    /// than the first variable of its name.
     Mismatch(LinkedName),
     /// N6, where the module has more than 1,000,000 instructions, 65,535 external variables or 16,777,216 bytes of
     /// variables that are made before the program begins.

@@ -10,6 +10,8 @@ ghost use Rattle.pli_type_keys.specs.declared.key.TemplateKey.{TemplateKey};
 ghost use Rattle.pli_link.specs.views.UnitView.{compiled_view};
 ghost use Rattle.pli_type_keys.specs.views.KeyView.{templated};
 ghost use Rattle.pli_unit_code.specs.CodeTables.{there};
+ghost use Rattle.pli_unit_code.specs.CodeTables as plain;
+ghost use Rattle.pli_link.specs.declared.global_fault.GlobalFault.TheVariants as faults;
 ghost use Rattle.pli_unit_code.specs.views.CodeView.{code_view, global_view, signature_view};
 
 use crate::alike::is_same_signature;
@@ -20,7 +22,7 @@ use crate::units::{LinkedName, NamedUnit};
 use indexmap::IndexSet;
 use pli_base::Name;
 use pli_type_keys::TemplateKey;
-use pli_unit_code::{Code, CodedGlobal, CodedSignature};
+use pli_unit_code::{Code, CodedGlobal, CodedSignature, VariableKind};
 use std::alloc::{AllocError, Global};
 
 /// The first unit whose external procedure has this name.
@@ -43,8 +45,8 @@ fn is_unlike_procedure(
     match procedure {
         None => false,
         Some(unit) => !is_same_signature(
-            &unit.compiled.code,
-            &unit.compiled.code.signature,
+            &unit.deck.code,
+            &unit.deck.code.signature,
             code,
             signature,
         ),
@@ -66,6 +68,28 @@ fn is_unlike(
     }
 }
 
+/// Is an external variable unlike the first one of its name? A CONTROLLED one is never told to be.
+fn is_unlike_variable(
+    names: &Names<'_, '_>,
+    classes: &[Option<usize>],
+    name: &Name,
+    kind: VariableKind,
+    template: u16,
+) -> bool
+    requires { AreNames names.now }
+    ensures { (code : plain.Code) (known : List TemplateKey) → HaveClasses known names.now → AreClasses (known_in known) code classes.now
+        → result ≡ spec.has_fault (units_in names.now) faults.Mismatch code (plain.ExternalVariable name.now kind template) }
+{
+    match kind {
+        VariableKind::Controlled => false,
+        VariableKind::Static => is_unlike(
+            class_at(classes, template),
+            unit_named(names, name),
+            names.externals.get(name),
+        ),
+    }
+}
+
 /// Whether a global of a unit, whose templates have these classes, has a fault.
 fn has_fault(
     names: &Names<'_, '_>,
@@ -82,14 +106,24 @@ fn has_fault(
         (GlobalFault::Unresolved, CodedGlobal::EntryPoint { name, .. }) => {
             !names.procedures.contains_key(name)
         }
+        (
+            GlobalFault::Unresolved,
+            CodedGlobal::ExternalVariable {
+                kind: VariableKind::Controlled,
+                ..
+            },
+        ) => true,
         (GlobalFault::Mismatch, CodedGlobal::EntryPoint { name, signature }) => {
             is_unlike_procedure(code, signature, unit_named(names, name))
         }
-        (GlobalFault::Mismatch, CodedGlobal::ExternalVariable { name, template }) => is_unlike(
-            class_at(classes, *template),
-            unit_named(names, name),
-            names.externals.get(name),
-        ),
+        (
+            GlobalFault::Mismatch,
+            CodedGlobal::ExternalVariable {
+                name,
+                kind,
+                template,
+            },
+        ) => is_unlike_variable(names, classes, name, *kind, *template),
         _ => false,
     }
 }
@@ -176,14 +210,14 @@ pub(crate) fn faulty_names<'a>(
 {
     let mut linked = Vec::new(alloc);
     for unit in units {
-        let classes = classes_of(alloc, known, &unit.compiled.code)?;
+        let classes = classes_of(alloc, known, &unit.deck.code)?;
         let found = names_with_fault(
             alloc,
             names,
             fault,
             &classes,
-            &unit.compiled.code,
-            &unit.compiled.code.globals,
+            &unit.deck.code,
+            &unit.deck.code.globals,
         )?;
         add_linked(&mut linked, unit.unit, &found)?;
     }

@@ -14,7 +14,7 @@ use crate::units::NamedUnit;
 use indexmap::{IndexMap, IndexSet};
 use pli_base::Name;
 use pli_type_keys::TemplateKey;
-use pli_unit_code::{Code, CodedGlobal};
+use pli_unit_code::{Code, CodedGlobal, VariableKind};
 use std::alloc::{AllocError, Global};
 
 /// An external variable: the template of its first declaration, if the unit's tables have it, and its class among the
@@ -58,7 +58,7 @@ pub(crate) fn procedures(
 {
     let mut found = IndexMap::new(alloc);
     for (number, unit) in units.iter().enumerate() {
-        note_procedure(&mut found, unit.compiled.procedure, number)?;
+        note_procedure(&mut found, unit.deck.name, number)?;
     }
     Ok(found)
 }
@@ -81,7 +81,7 @@ fn note_external<'a>(
     Ok(())
 }
 
-/// Notes the external variables of a unit whose templates have these classes.
+/// Notes the external STATIC variables of a unit whose templates have these classes.
 fn note_shared<'a>(
     externals: &mut IndexMap<Name, KnownExternal<'a>>,
     code: &'a Code,
@@ -92,7 +92,12 @@ fn note_shared<'a>(
     ensures classed { OnOk result ((known : List Template) → AreClasses known (code_view code.now) classes.now → AreClassed known externals.old.entries → AreClassed known externals.new.entries) }
 {
     for global in globals {
-        if let CodedGlobal::ExternalVariable { name, template } = global {
+        if let CodedGlobal::ExternalVariable {
+            name,
+            kind: VariableKind::Static,
+            template,
+        } = global
+        {
             let external = KnownExternal {
                 template: template_at(code, *template),
                 class: class_at(classes, *template),
@@ -114,12 +119,12 @@ pub(crate) fn externals<'a>(
 {
     let mut found = IndexMap::new(alloc);
     for unit in units {
-        let classes = classes_of(alloc, known, &unit.compiled.code)?;
+        let classes = classes_of(alloc, known, &unit.deck.code)?;
         note_shared(
             &mut found,
-            &unit.compiled.code,
+            &unit.deck.code,
             &classes,
-            &unit.compiled.code.globals,
+            &unit.deck.code.globals,
         )?;
     }
     Ok(found)

@@ -6,7 +6,6 @@ ghost use Rattle.pli_link.specs.views.UnitView.{compiled_view};
 
 use crate::units::{LinkedName, NamedUnit, procedure_of};
 use indexmap::IndexSet;
-use pli_base::Name;
 use std::alloc::{AllocError, Global};
 
 /// Puts names in their order; those that are equal stay as they stand.
@@ -26,7 +25,7 @@ pub(crate) fn main_names(
 {
     let mut names = Vec::new(alloc);
     for unit in units {
-        add_unless(&mut names, unit, !unit.compiled.is_main)?;
+        add_unless(&mut names, unit, !unit.deck.is_main)?;
     }
     Ok(names)
 }
@@ -55,7 +54,7 @@ pub(crate) fn repeated_names(
     let mut before = IndexSet::new(alloc);
     let mut names = Vec::new(alloc);
     for unit in units {
-        let is_new = before.insert(unit.compiled.procedure)?;
+        let is_new = before.insert(unit.deck.name)?;
         add_unless(&mut names, unit, is_new)?;
     }
     Ok(names)

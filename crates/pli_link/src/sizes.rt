@@ -20,7 +20,7 @@ use indexmap::IndexMap;
 use pli_base::Name;
 use pli_map::{Description, size};
 use pli_type_keys::TemplateKey;
-use pli_unit_code::{Code, CodedGlobal};
+use pli_unit_code::{Code, CodedGlobal, VariableKind};
 
 /// The most bytes that live at once (own).
 const BYTE_LIMIT: u32 = 16_777_216;
@@ -59,7 +59,7 @@ fn with_template(bytes: u32, template: &Option<TemplateKey<'_>>) -> Option<u32>
     }
 }
 
-/// Bytes with those of the variables that a unit has for itself, unless they are too many.
+/// Bytes with those of the STATIC variables that a unit has for itself, unless they are too many.
 fn with_own(bytes: u32, code: &Code, globals: &[CodedGlobal]) -> Option<u32>
     requires { bytes ≤ 16777216 }
     ensures counts { result ≡ counted bytes (spec.own_of (code_view code.now) (map global_view globals.now)) }
@@ -67,7 +67,11 @@ fn with_own(bytes: u32, code: &Code, globals: &[CodedGlobal]) -> Option<u32>
 {
     let mut bytes = bytes;
     for global in globals {
-        if let CodedGlobal::OwnVariable { template } = global {
+        if let CodedGlobal::OwnVariable {
+            kind: VariableKind::Static,
+            template,
+        } = global
+        {
             bytes = with_template(bytes, &template_at(code, *template))?;
         }
     }
@@ -81,7 +85,7 @@ fn with_all_own(units: &[NamedUnit<'_>]) -> Option<u32>
 {
     let mut bytes = 0;
     for unit in units {
-        bytes = with_own(bytes, &unit.compiled.code, &unit.compiled.code.globals)?;
+        bytes = with_own(bytes, &unit.deck.code, &unit.deck.code.globals)?;
     }
     Some(bytes)
 }
@@ -101,11 +105,11 @@ fn with_externals(bytes: u32, externals: &IndexMap<Name, KnownExternal<'_>>) -> 
 
 /// Whether units have too many instructions.
 fn are_instructions_too_many(units: &[NamedUnit<'_>]) -> bool
-    ensures { result ≡ nat_lt 1000000 (sum_by (λ c. length c.code.instructions) (map compiled_view units.now)) }
+    ensures { result ≡ nat_lt 1000000 (sum_by (λ c. length c.deck.code.instructions) (map compiled_view units.now)) }
 {
     let mut count = 0;
     for unit in units {
-        count += unit.compiled.code.instructions.len();
+        count += unit.deck.code.instructions.len();
         if count > INSTRUCTION_LIMIT {
             return true;
         }

@@ -1,52 +1,49 @@
 -- What a deck that has a spelling says of its globals, and what templates take in bytes.
-use Rattle.std.proofs.Common.{◌≡◌, ℕ, ◌≤◌, Bool, true, ◌&&◌, Option, Some, None, option_map, List, [], ◌∷◌, length, map, slice_get, refl, ap, ◌∙◌, arith, ltb-true}
+use Rattle.std.proofs.Common.{◌≡◌, ℕ, ◌≤◌, Bool, true, ◌&&◌, Option, Some, None, List, [], ◌∷◌, length, slice_get, refl, arith, ltb-true}
 use Rattle.std.specs.List.{list_all}
-use Rattle.std.proofs.lemmas.Option.{slice_get-map}
 use Rattle.pli_base.specs.Name.{Name}
 use Rattle.pli_map.specs.Description.{Description}
 use Rattle.pli_map.specs.Sizes.{size_of}
 use Rattle.pli_type_tree.specs.Templates.{InitialScalar, Template}
-use Rattle.pli_unit_code.specs.CodeTables.{CodedTemplate, CodedGlobal, OwnVariable, ExternalVariable, EntryPoint, there, described, with_description, template_at}
-use Rattle.pli_unit_code.specs.Modules.{LinkedUnit}
+use Rattle.pli_unit_code.specs.CodeTables.{CodedTemplate, CodedGlobal, OwnVariable, ExternalVariable, EntryPoint, Code, Deck, there, described, with_description, template_at}
+use Rattle.pli_unit_code.specs.declared.code.VariableKind.TheVariants.{Static, Controlled}
 use Rattle.pli_link.specs.ModuleSize.{own_of}
-use Rattle.pli_deck.specs.Decks.{Deck, ExternalStatic}
 use Rattle.pli_deck.specs.Fields.{u2, list}
 use Rattle.pli_deck.specs.Descriptions.{description}
 use Rattle.pli_deck.specs.Instructions.{instruction}
-use Rattle.pli_deck.specs.DeckFields.{name, flag, constant, template, signature, global, block, tables, contents, deck}
+use Rattle.pli_deck.specs.DeckFields.{name, flag, constant, template, signature, global, block, code, contents, deck}
 use Rattle.pli_deck.specs.ModuleSpelling.{description_bytes, bytes_by_template, template_bytes, static_bytes}
-use Rattle.pli_deck_code.specs.CodeDecks.{template_of, global_of, deck_of}
 use Rattle.pli_link_laws.proofs.Sums.{total, total_joined, both_of}
 
 pub short_of : (n : ℕ) → u2.fits n ≡ true → n ≤ 65535
 short_of n h = let l = ltb-true n 65536 h in omega (arith, l)
 
 pub record GlobalsFit (d : Deck) : Type 0 where
-  pub few : length d.globals ≤ 65535
-  pub each : list_all global.fits d.globals ≡ true
+  pub few : length d.code.globals ≤ 65535
+  pub each : list_all global.fits d.code.globals ≡ true
 
 second_of : (a b : Bool) → (a && b) ≡ true → b ≡ true
 second_of a b h = (both_of a b h).1
 
 pub globals_fit : (d : Deck) → deck.fits d ≡ true → GlobalsFit d
-unfolding deck contents tables
+unfolding deck contents code
 globals_fit d h =
-    let ds = (list description).fits d.descriptions in
-    let ts = (list template).fits d.templates in
-    let vs = (list constant).fits d.values in
-    let gs = (list global).fits d.globals in
-    let rest = (list block).fits d.blocks && (list instruction).fits d.instructions in
+    let ds = (list description).fits d.code.descriptions in
+    let ts = (list template).fits d.code.templates in
+    let vs = (list constant).fits d.code.values in
+    let gs = (list global).fits d.code.globals in
+    let rest = (list block).fits d.code.blocks && (list instruction).fits d.code.instructions in
     let tail = ds && (ts && (vs && (gs && rest))) in
-    let behind_name = second_of (name.fits d.name) (flag.fits d.is_main && (signature.fits d.signature && tail)) h in
-    let behind_flag = second_of (flag.fits d.is_main) (signature.fits d.signature && tail) behind_name in
-    let all = second_of (signature.fits d.signature) tail behind_flag in
+    let behind_name = second_of (name.fits d.name) (flag.fits d.is_main && (signature.fits d.code.signature && tail)) h in
+    let behind_flag = second_of (flag.fits d.is_main) (signature.fits d.code.signature && tail) behind_name in
+    let all = second_of (signature.fits d.code.signature) tail behind_flag in
     let behind_descriptions = second_of ds (ts && (vs && (gs && rest))) all in
     let behind_templates = second_of ts (vs && (gs && rest)) behind_descriptions in
     let behind_values = second_of vs (gs && rest) behind_templates in
-    let parts = both_of (u2.fits (length d.globals)) (list_all global.fits d.globals) (both_of gs rest behind_values).0 in
-    record { few = short_of (length d.globals) parts.0; each = parts.1 }
+    let parts = both_of (u2.fits (length d.code.globals)) (list_all global.fits d.code.globals) (both_of gs rest behind_values).0 in
+    record { few = short_of (length d.code.globals) parts.0; each = parts.1 }
 
-pub name_fits : (n : Name) (t : ℕ) → global.fits (ExternalStatic n t) ≡ true → name.fits n ≡ true
+pub name_fits : (n : Name) (t : ℕ) → global.fits (ExternalVariable n Static t) ≡ true → name.fits n ≡ true
 unfolding global
 name_fits n t h = (both_of (name.fits n) (u2.fits t) h).0
 
@@ -59,25 +56,26 @@ bytes_of (Some t) = size_of t.description
 abbrev pub size_in : Template → ℕ
 size_in t = size_of t.description
 
-pub template_same : (is_main : Bool) (u : LinkedUnit) (t : ℕ) → template_bytes (deck_of is_main u.procedure u.code) t ≡ bytes_of (template_at u.code t)
-template_same is_main u t = ap (bytes_by_template (deck_of is_main u.procedure u.code)) (slice_get-map (template_of u.code.descriptions) u.code.templates t) ∙ by (slice_get u.code.templates t)
+pub template_same : (c : Code) (t : ℕ) → template_bytes c t ≡ bytes_of (template_at c t)
+template_same c t = by (slice_get c.templates t)
   where
-    named : (initial : List InitialScalar) (o : Option Description) → description_bytes o ≡ bytes_of (described u.code initial o)
+    named : (initial : List InitialScalar) (o : Option Description) → description_bytes o ≡ bytes_of (described c initial o)
     named initial None = refl
     named initial (Some d) = refl
 
-    by : (o : Option CodedTemplate) → bytes_by_template (deck_of is_main u.procedure u.code) (option_map (template_of u.code.descriptions) o) ≡ bytes_of (with_description u.code o)
+    by : (o : Option CodedTemplate) → bytes_by_template c o ≡ bytes_of (with_description c o)
     by None = refl
-    by (Some t) = named t.initial (slice_get u.code.descriptions t.description)
+    by (Some t) = named t.initial (slice_get c.descriptions t.description)
 
 pub there_bytes : (o : Option Template) → total size_in (there o) ≡ bytes_of o
 there_bytes None = refl
 there_bytes (Some t) = omega arith
 
 -- the variables that a unit has for itself take the same bytes in its deck
-pub own_bytes : (is_main : Bool) (u : LinkedUnit) (gs : List CodedGlobal) → total (static_bytes (deck_of is_main u.procedure u.code)) (map global_of gs) ≡ total size_in (own_of u.code gs)
-own_bytes is_main u [] = refl
-own_bytes is_main u (OwnVariable t ∷ gs) =
-    omega (arith, own_bytes is_main u gs, template_same is_main u t, there_bytes (template_at u.code t), total_joined size_in (there (template_at u.code t)) (own_of u.code gs))
-own_bytes is_main u (ExternalVariable n t ∷ gs) = omega (arith, own_bytes is_main u gs)
-own_bytes is_main u (EntryPoint n s ∷ gs) = omega (arith, own_bytes is_main u gs)
+pub own_bytes : (c : Code) (gs : List CodedGlobal) → total (static_bytes c) gs ≡ total size_in (own_of c gs)
+own_bytes c [] = refl
+own_bytes c (OwnVariable Static t ∷ gs) =
+    omega (arith, own_bytes c gs, template_same c t, there_bytes (template_at c t), total_joined size_in (there (template_at c t)) (own_of c gs))
+own_bytes c (OwnVariable Controlled t ∷ gs) = omega (arith, own_bytes c gs)
+own_bytes c (ExternalVariable n kind t ∷ gs) = omega (arith, own_bytes c gs)
+own_bytes c (EntryPoint n s ∷ gs) = omega (arith, own_bytes c gs)

@@ -63,16 +63,16 @@ no_more test (x ∷ xs) = by (test x) (no_more test xs)
 
 -- what is asked of the links of a unit
 pub record Leads (m : DeckModule) (u : Member) : Type 0 where
-  pub good : are_good_links m (filter is_external u.deck.globals) u.links ≡ true
-  pub counted : length u.links ≡ length (filter is_external u.deck.globals)
+  pub good : are_good_links m (filter is_external u.deck.code.globals) u.links ≡ true
+  pub counted : length u.links ≡ length (filter is_external u.deck.code.globals)
   pub short : list_all u2.fits u.links ≡ true
 
 unit_fits : (m : DeckModule) (u : Member) → IsSaidAlone u → Leads m u → member.fits u ≡ true
 unfolding member
 unit_fits m u said leads =
     let few = (globals_fit u.deck said.is_deck.fits).few in
-    let k = length (filter is_external u.deck.globals) in
-    let within : k ≤ 65535 = omega (arith, few, no_more is_external u.deck.globals) in
+    let k = length (filter is_external u.deck.code.globals) in
+    let within : k ≤ 65535 = omega (arith, few, no_more is_external u.deck.code.globals) in
     let size = u4.fits (length (deck_bytes u.deck)) in
     let faultless = deck.fits u.deck && is_none (fault_of u.deck) in
     both_hold (name.fits u.name && (size && faultless)) ((from_to k k u2).fits (length u.links) && list_all u2.fits u.links)
@@ -86,10 +86,10 @@ units_fit : (m : DeckModule) (us : List Member) → AllByRecursion IsSaidAlone u
 units_fit m [] said leads = refl
 units_fit m (u ∷ us) said leads = both_hold (member.fits u) (list_all member.fits us) (unit_fits m u said.0 leads.0) (units_fit m us said.1 leads.1)
 
-units_stand : (m : DeckModule) (us : List Member) → AllByRecursion (Leads m) us → list_all (λ (u : Member). are_good_links m (filter is_external u.deck.globals) u.links) us ≡ true
+units_stand : (m : DeckModule) (us : List Member) → AllByRecursion (Leads m) us → list_all (λ (u : Member). are_good_links m (filter is_external u.deck.code.globals) u.links) us ≡ true
 units_stand m [] leads = refl
 units_stand m (u ∷ us) leads =
-    both_hold (are_good_links m (filter is_external u.deck.globals) u.links) (list_all (λ (u : Member). are_good_links m (filter is_external u.deck.globals) u.links) us) leads.0.good
+    both_hold (are_good_links m (filter is_external u.deck.code.globals) u.links) (list_all (λ (u : Member). are_good_links m (filter is_external u.deck.code.globals) u.links) us) leads.0.good
     (units_stand m us leads.1)
 
 -- ---- the module
@@ -121,7 +121,7 @@ module _ (m : DeckModule) (ds : List (Name × ExternalDeclaration)) (h : HasPart
   stand : links_stand m ≡ true
   stand =
       let declared = list_all (λ (e : External). has_kind e.kind (global_at m.units e.unit e.global)) in
-      let linked = list_all (λ (u : Member). are_good_links m (filter is_external u.deck.globals) u.links) m.units in
+      let linked = list_all (λ (u : Member). are_good_links m (filter is_external u.deck.code.globals) u.links) m.units in
       both_hold (nat_lt m.main (length m.units) && declared m.externals) linked
       (both_hold (nat_lt m.main (length m.units)) (declared m.externals) (lt-ltb m.main (length m.units) h.main) (ap declared h.externals ∙ externals_stand m.units ds h.declared))
       (units_stand m m.units h.leads)

@@ -7,7 +7,7 @@ use Rattle.pli_base.specs.Name.{Name}
 use Rattle.pli_unit_code.specs.Modules as unit
 use Rattle.pli_unit_code.specs.Modules.{LinkedUnit}
 use Rattle.pli_link.specs.Link as link
-use Rattle.pli_link.specs.Link.{linked_unit, link_of, link_faults, module_or}
+use Rattle.pli_link.specs.Link.{linked_unit, link_faults}
 use Rattle.pli_link.specs.Names.{all_shared, externals, procedures}
 use Rattle.pli_link.specs.Units.{Compiled}
 use Rattle.pli_link.proofs.Faultless.{IsFaultless, faultless}
@@ -38,15 +38,15 @@ within k n i e = by (nat_lt k n) refl e
     by true is h = let same : k ≡ i = cc in let lt = ltb-true k n is in omega (arith, lt, same)
     by false is h = let bad : ⊥ = cc in absurd bad
 
-main_within : (cs : List Compiled) (i : ℕ) → position (λ (c : Compiled). c.is_main) cs ≡ Some i → i < length cs
-main_within cs i e = within (position_or_len (λ (c : Compiled). c.is_main) cs) (length cs) i e
+main_within : (cs : List Compiled) (i : ℕ) → position (λ (c : Compiled). c.deck.is_main) cs ≡ Some i → i < length cs
+main_within cs i e = within (position_or_len (λ (c : Compiled). c.deck.is_main) cs) (length cs) i e
 
 few_found : (bound bound_is : ℕ) (es : List (Name × ℕ)) → bound ≡ bound_is → AllByRecursion (λ p. p.1 < bound) es → AllByRecursion (λ p. p.1 < bound_is) es
 few_found bound bound_is es e h = subst (λ b. AllByRecursion (λ p. p.1 < b) es) e h
 
 -- ---- a module of units without faults
 
-module _ (cs : List Compiled) (main : ℕ) (few : length cs ≤ 999) (here : position (λ (c : Compiled). c.is_main) cs ≡ Some main) (good : IsFaultless cs) where
+module _ (cs : List Compiled) (main : ℕ) (few : length cs ≤ 999) (here : position (λ (c : Compiled). c.deck.is_main) cs ≡ Some main) (good : IsFaultless cs) where
   abbrev m : deck.DeckModule
   m = module_of (link.module_of cs main)
 
@@ -77,7 +77,7 @@ module _ (cs : List Compiled) (main : ℕ) (few : length cs ≤ 999) (here : pos
     leads_each : (some : List Member) → AllByRecursion (LeadsOf m ds cs refl (few_externals said) small numbers) some → AllByRecursion (Leads m) some
     leads_each [] h = tt
     leads_each (u ∷ some) h =
-        let gs = filter is_external u.deck.globals in (
+        let gs = filter is_external u.deck.code.globals in (
           record {
             good = links_good m ds cs refl (few_externals said) small numbers gs u.links h.0;
             counted = links_counted m ds cs refl (few_externals said) small numbers gs u.links h.0;
@@ -108,5 +108,5 @@ module _ (cs : List Compiled) (main : ℕ) (few : length cs ≤ 999) (here : pos
 
 pub linked_modules_are_said : LinkedModulesAreSaid
 linked_modules_are_said cs m linked few said =
-    let o = of_faultless (link_faults cs) (position (λ (c : Compiled). c.is_main) cs) cs m linked in
+    let o = of_faultless (link_faults cs) (position (λ (c : Compiled). c.deck.is_main) cs) cs m linked in
     subst (λ (n : unit.Module). AllByRecursion IsSaidAlone (module_of n).units → IsModule (module_of n)) o.is (λ h. stands cs o.main few o.here (faultless cs o.none) h) said

@@ -4,6 +4,7 @@ use Rattle.std.specs.List.{AllByRecursion}
 use Rattle.pli_base.specs.Name.{Name}
 use Rattle.pli_base.specs.Words.{is_among}
 use Rattle.pli_unit_code.specs.CodeTables.{CodedGlobal, OwnVariable, ExternalVariable, EntryPoint}
+use Rattle.pli_unit_code.specs.declared.code.VariableKind.TheVariants.{Static, Controlled}
 use Rattle.pli_link.specs.Mismatches.{each_once, faulty_in, faulty_names, faulty_in_unit, faulty_linked}
 use Rattle.pli_link.specs.Names.{meant, procedures}
 use Rattle.pli_link.specs.Units.{Compiled}
@@ -24,34 +25,36 @@ once_empty [] e = refl
 once_empty (n ∷ ns) e = absurd (once_filled n [] ns e)
 
 module _ (cs : List Compiled) where
-  -- an entry whose procedure is there
+  -- an entry whose procedure is there; no external variable is CONTROLLED
   abbrev pub IsResolved : CodedGlobal → Type 0
-  IsResolved (OwnVariable t) = Unit {0}
-  IsResolved (ExternalVariable n t) = Unit {0}
+  IsResolved (OwnVariable kind t) = Unit {0}
+  IsResolved (ExternalVariable n Static t) = Unit {0}
+  IsResolved (ExternalVariable n Controlled t) = ⊥
   IsResolved (EntryPoint n s) = is_none (meant (procedures cs) n) ≡ false
 
-  one_resolved : (c : Compiled) (g : CodedGlobal) → faulty_in cs Unresolved c.code g ≡ [] → IsResolved g
-  one_resolved c (OwnVariable t) e = tt
-  one_resolved c (ExternalVariable n t) e = tt
+  one_resolved : (c : Compiled) (g : CodedGlobal) → faulty_in cs Unresolved c.deck.code g ≡ [] → IsResolved g
+  one_resolved c (OwnVariable kind t) e = tt
+  one_resolved c (ExternalVariable n Static t) e = tt
+  one_resolved c (ExternalVariable n Controlled t) e = cc
   one_resolved c (EntryPoint n s) e = by (is_none (meant (procedures cs) n)) e
     where
       by : (b : Bool) → (if b then n ∷ [] else []) ≡ [] → b ≡ false
       by true h = cc
       by false h = refl
 
-  globals_resolved : (c : Compiled) (gs : List CodedGlobal) → faulty_names cs Unresolved c.code gs ≡ [] → AllByRecursion IsResolved gs
+  globals_resolved : (c : Compiled) (gs : List CodedGlobal) → faulty_names cs Unresolved c.deck.code gs ≡ [] → AllByRecursion IsResolved gs
   globals_resolved c [] e = tt
   globals_resolved c (g ∷ gs) e = (
-    one_resolved c g (front_empty (faulty_in cs Unresolved c.code g) (faulty_names cs Unresolved c.code gs) e),
-    globals_resolved c gs (back_empty (faulty_in cs Unresolved c.code g) (faulty_names cs Unresolved c.code gs) e),
+    one_resolved c g (front_empty (faulty_in cs Unresolved c.deck.code g) (faulty_names cs Unresolved c.deck.code gs) e),
+    globals_resolved c gs (back_empty (faulty_in cs Unresolved c.deck.code g) (faulty_names cs Unresolved c.deck.code gs) e),
   )
 
   abbrev pub AreResolved : Compiled → Type 0
-  AreResolved c = AllByRecursion IsResolved c.code.globals
+  AreResolved c = AllByRecursion IsResolved c.deck.code.globals
 
   pub units_resolved : (some : List Compiled) → faulty_linked cs Unresolved some ≡ [] → AllByRecursion AreResolved some
   units_resolved [] e = tt
   units_resolved (c ∷ some) e = (
-    globals_resolved c c.code.globals (once_empty _ (map_empty _ _ (front_empty (faulty_in_unit cs Unresolved c) (faulty_linked cs Unresolved some) e))),
+    globals_resolved c c.deck.code.globals (once_empty _ (map_empty _ _ (front_empty (faulty_in_unit cs Unresolved c) (faulty_linked cs Unresolved some) e))),
     units_resolved some (back_empty (faulty_in_unit cs Unresolved c) (faulty_linked cs Unresolved some) e),
   )

@@ -1,21 +1,18 @@
 -- The external variables of units are declared where the module says.
-use Rattle.std.proofs.Common.{◌≡◌, ℕ, suc, ◌+◌, ◌≤◌, nat_eq, Bool, true, Option, Some, option_map, List, [], ◌∷◌, length, map, slice_get, refl, ap, sym, ◌∙◌, arith}
+use Rattle.std.proofs.Common.{◌≡◌, ℕ, suc, ◌+◌, ◌≤◌, nat_eq, Bool, true, Option, Some, List, [], ◌∷◌, length, map, slice_get, refl, ap, sym, ◌∙◌, arith}
 use Rattle.std.specs.List.{list_all, AllByRecursion}
-use Rattle.std.proofs.lemmas.List.{length-map}
-use Rattle.std.proofs.lemmas.Option.{slice_get-map}
 use Rattle.pli_base.specs.Name.{Name}
 use Rattle.pli_type_tree.specs.Templates.{Template}
 use Rattle.pli_unit_code.specs.CodeTables.{CodedGlobal, OwnVariable, ExternalVariable, EntryPoint, template_at}
+use Rattle.pli_unit_code.specs.declared.code.VariableKind.TheVariants.{Static, Controlled}
 use Rattle.pli_unit_code.specs.Modules.{LinkedUnit}
 use Rattle.pli_link.specs.Link.{linked_unit}
 use Rattle.pli_link.specs.Names.{shared_by, all_shared}
 use Rattle.pli_link.specs.Units.{Compiled}
-use Rattle.pli_deck.specs.Decks as deck
 use Rattle.pli_deck.specs.DeckFields.{name, global}
 use Rattle.pli_deck.specs.ModuleFields.{Member}
 use Rattle.pli_deck.specs.ModuleSpelling.{global_in, global_at, has_kind, declared_bytes, bytes_in_unit, external_bytes}
-use Rattle.pli_deck_code.specs.CodeDecks.{short, global_of, deck_of}
-use Rattle.pli_deck_code.specs.CodeModules.{declaration, declared_in, all_declared, external_of, member, members_of}
+use Rattle.pli_deck_code.specs.CodeModules.{short, declaration, declared_in, all_declared, external_of, deck_of, member, members_of}
 use Rattle.pli_deck_code.specs.declared.externals.ExternalDeclaration.{ExternalDeclaration}
 use Rattle.pli_link_laws.specs.LinkedModules.{IsSaidAlone}
 use Rattle.pli_link_laws.proofs.Sums.{both_of}
@@ -42,19 +39,19 @@ short_within : (n : ℕ) → short n ≤ 65535
 short_within n = omega arith
 
 module _ (members : List Member) (i : ℕ) (is_main : Bool) (names : List Name) (u : LinkedUnit) (few : i ≤ 65535) (stands : slice_get members i ≡ Some (member names is_main u)) where
-  one_declared : (j : ℕ) (n : Name) (t : ℕ) → j ≤ 65535 → slice_get u.code.globals j ≡ Some (ExternalVariable n t) → name.fits n ≡ true
+  one_declared : (j : ℕ) (n : Name) (t : ℕ) → j ≤ 65535 → slice_get u.code.globals j ≡ Some (ExternalVariable n Static t) → name.fits n ≡ true
       → IsDeclared members (n, declaration i j) × (bytes_where members (n, declaration i j) ≡ bytes_of (template_at u.code t))
   one_declared j n t within is fits =
       let unit_at : slice_get members (short i) ≡ Some (member names is_main u) = ap (slice_get members) (short_is i few) ∙ stands in
-      let variable_at : slice_get (map global_of u.code.globals) (short j) ≡ Some (deck.ExternalStatic n t) =
-      ap (slice_get (map global_of u.code.globals)) (short_is j within) ∙ slice_get-map global_of u.code.globals j ∙ ap (option_map global_of) is in (
+      let variable_at : slice_get u.code.globals (short j) ≡ Some (ExternalVariable n Static t) =
+      ap (slice_get u.code.globals) (short_is j within) ∙ is in (
         record {
           named = fits;
           kind = ap (λ o. has_kind 2 (global_in o (short j))) unit_at ∙ ap (has_kind 2) variable_at;
           unit = short_within i;
           number = short_within j;
         },
-        ap (λ o. bytes_in_unit o (short j)) unit_at ∙ ap (declared_bytes (deck_of is_main u.procedure u.code)) variable_at ∙ template_same is_main u t,
+        ap (λ o. bytes_in_unit o (short j)) unit_at ∙ ap (declared_bytes u.code) variable_at ∙ template_same u.code t,
       )
 
   abbrev Stand : List CodedGlobal → (number : ℕ) → Type 0
@@ -66,17 +63,22 @@ module _ (members : List Member) (i : ℕ) (is_main : Bool) (names : List Name) 
   rest_at : (g : CodedGlobal) (gs : List CodedGlobal) (j : ℕ) → Stand (g ∷ gs) j → Stand gs (j + 1)
   rest_at g gs j at k = let e : j + suc k ≡ (j + 1) + k = omega arith in at (suc k) ∙ ap (slice_get u.code.globals) e
 
-  unit_paired : (gs : List CodedGlobal) (j : ℕ) → Stand gs j → j + length gs ≤ 65535 → list_all global.fits (map global_of gs) ≡ true
+  skipped : (g : CodedGlobal) (gs : List CodedGlobal) → list_all global.fits (g ∷ gs) ≡ true → list_all global.fits gs ≡ true
+  skipped g gs fit = (both_of (global.fits g) (list_all global.fits gs) fit).1
+
+  unit_paired : (gs : List CodedGlobal) (j : ℕ) → Stand gs j → j + length gs ≤ 65535 → list_all global.fits gs ≡ true
       → Paired shared_bytes (bytes_where members) (IsDeclared members) (shared_by u.code gs) (declared_in i j gs)
   unit_paired [] j at within fit = tt
-  unit_paired (OwnVariable t ∷ gs) j at within fit =
-      unit_paired gs (j + 1) (rest_at (OwnVariable t) gs j at) (omega (arith, within)) (both_of (global.fits (global_of (OwnVariable t))) (list_all global.fits (map global_of gs)) fit).1
-  unit_paired (ExternalVariable n t ∷ gs) j at within fit =
-      let fits = both_of (global.fits (global_of (ExternalVariable n t))) (list_all global.fits (map global_of gs)) fit in
-      let one = one_declared j n t (omega (arith, within)) (first_at (ExternalVariable n t) gs j at) (name_fits n t fits.0) in
-      (refl, sym one.1, one.0, unit_paired gs (j + 1) (rest_at (ExternalVariable n t) gs j at) (omega (arith, within)) fits.1)
+  unit_paired (OwnVariable kind t ∷ gs) j at within fit =
+      unit_paired gs (j + 1) (rest_at (OwnVariable kind t) gs j at) (omega (arith, within)) (skipped (OwnVariable kind t) gs fit)
+  unit_paired (ExternalVariable n Static t ∷ gs) j at within fit =
+      let fits = both_of (global.fits (ExternalVariable n Static t)) (list_all global.fits gs) fit in
+      let one = one_declared j n t (omega (arith, within)) (first_at (ExternalVariable n Static t) gs j at) (name_fits n t fits.0) in
+      (refl, sym one.1, one.0, unit_paired gs (j + 1) (rest_at (ExternalVariable n Static t) gs j at) (omega (arith, within)) fits.1)
+  unit_paired (ExternalVariable n Controlled t ∷ gs) j at within fit =
+      unit_paired gs (j + 1) (rest_at (ExternalVariable n Controlled t) gs j at) (omega (arith, within)) (skipped (ExternalVariable n Controlled t) gs fit)
   unit_paired (EntryPoint n s ∷ gs) j at within fit =
-      unit_paired gs (j + 1) (rest_at (EntryPoint n s) gs j at) (omega (arith, within)) (both_of (global.fits (global_of (EntryPoint n s))) (list_all global.fits (map global_of gs)) fit).1
+      unit_paired gs (j + 1) (rest_at (EntryPoint n s) gs j at) (omega (arith, within)) (skipped (EntryPoint n s) gs fit)
 
 module _ (numbers : List (Name × ℕ)) (main : ℕ) (names : List Name) (members : List Member) where
   pub units_paired : (cs : List Compiled) (i : ℕ) → ((k : ℕ) → slice_get (members_of main names i (map (linked_unit numbers) cs)) k ≡ slice_get members (i + k)) → i + length cs ≤ 65535
@@ -85,10 +87,10 @@ module _ (numbers : List (Name × ℕ)) (main : ℕ) (names : List Name) (member
   units_paired [] i at few said = tt
   units_paired (c ∷ cs) i at few said =
       let u = linked_unit numbers c in
-      let gs = c.code.globals in
-      let fit = globals_fit (deck_of (nat_eq i main) c.procedure c.code) said.0.is_deck.fits in
+      let gs = c.deck.code.globals in
+      let fit = globals_fit (deck_of (nat_eq i main) u) said.0.is_deck.fits in
       let here : i ≡ i + 0 = omega arith in
-      paired_behind shared_bytes (bytes_where members) (IsDeclared members) (shared_by c.code gs) (all_shared cs) (declared_in i 0 gs) (all_declared (i + 1) (map (linked_unit numbers) cs))
+      paired_behind shared_bytes (bytes_where members) (IsDeclared members) (shared_by c.deck.code gs) (all_shared cs) (declared_in i 0 gs) (all_declared (i + 1) (map (linked_unit numbers) cs))
       (unit_paired members i (nat_eq i main) names u (omega (arith, few)) (ap (slice_get members) here ∙ sym (at 0)) gs 0 (λ k. let e : k ≡ 0 + k = omega arith in ap (slice_get gs) e)
-      (omega (arith, fit.few, length-map gs global_of)) fit.each)
+      (omega (arith, fit.few)) fit.each)
       (units_paired cs (i + 1) (λ k. let e : i + suc k ≡ (i + 1) + k = omega arith in at (suc k) ∙ ap (slice_get members) e) (omega (arith, few)) said.1)

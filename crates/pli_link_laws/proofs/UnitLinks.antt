@@ -6,15 +6,14 @@ use Rattle.std.specs.Map.{keys_of, lookup}
 use Rattle.pli_base.specs.Name.{Name}
 use Rattle.pli_base.specs.Words.{same_name}
 use Rattle.pli_unit_code.specs.CodeTables.{CodedGlobal, OwnVariable, ExternalVariable, EntryPoint, there}
+use Rattle.pli_unit_code.specs.declared.code.VariableKind.TheVariants.{Static, Controlled}
 use Rattle.pli_link.specs.Link.{entries_of, linked_unit}
 use Rattle.pli_link.specs.Names.{meant, procedures}
 use Rattle.pli_link.specs.Units.{Compiled}
-use Rattle.pli_deck.specs.Decks.{Global}
 use Rattle.pli_deck.specs.Fields.{u2}
 use Rattle.pli_deck.specs.ModuleFields.{Member, DeckModule, is_external}
 use Rattle.pli_deck.specs.ModuleSpelling.{is_of_kind, is_good_link, are_good_links}
-use Rattle.pli_deck_code.specs.CodeDecks.{short, global_of}
-use Rattle.pli_deck_code.specs.CodeModules.{declared_in, all_declared, external_of, number_of, links_of, members_of}
+use Rattle.pli_deck_code.specs.CodeModules.{short, declared_in, all_declared, external_of, number_of, links_of, members_of}
 use Rattle.pli_deck_code.specs.declared.externals.ExternalDeclaration.{ExternalDeclaration}
 use Rattle.pli_link_laws.proofs.Sums.{both_hold, all_front, all_back}
 use Rattle.pli_link_laws.proofs.Tables.{at}
@@ -66,17 +65,19 @@ number_within bound test (x ∷ es) n all e = by (test x.0) e (number_within bou
 -- what external globals lead to, of a module with these declarations and so many units
 module _ (m : DeckModule) (ds : List (Name × ExternalDeclaration)) (cs : List Compiled) (declared : m.externals ≡ map external_of ds) (few : length ds ≤ 65535) (units : length m.units ≤ 999)
     (all : AllByRecursion (λ p. p.1 < length m.units) (procedures cs)) where
-  abbrev pub Lead : List Global → List ℕ → Type 0
+  abbrev pub Lead : List CodedGlobal → List ℕ → Type 0
   Lead [] [] = Unit {0}
   Lead [] (l ∷ ls) = ⊥
   Lead (g ∷ gs) [] = ⊥
   Lead (g ∷ gs) (l ∷ ls) = (is_good_link m g l ≡ true) × (l ≤ 65535) × Lead gs ls
 
   links_lead : (gs : List CodedGlobal) (i j : ℕ) → AllByRecursion (IsFoundIn ds) (declared_in i j gs) → AllByRecursion (IsResolved cs) gs
-      → Lead (filter is_external (map global_of gs)) (links_of (keys_of ds) gs (entries_of (procedures cs) gs))
+      → Lead (filter is_external gs) (links_of (keys_of ds) gs (entries_of (procedures cs) gs))
   links_lead [] i j found resolved = tt
-  links_lead (OwnVariable t ∷ gs) i j found resolved = links_lead gs i (j + 1) found resolved.1
-  links_lead (ExternalVariable n t ∷ gs) i j found resolved =
+  links_lead (OwnVariable Static t ∷ gs) i j found resolved = links_lead gs i (j + 1) found resolved.1
+  links_lead (OwnVariable Controlled t ∷ gs) i j found resolved = links_lead gs i (j + 1) found resolved.1
+  links_lead (ExternalVariable n Controlled t ∷ gs) i j found resolved = absurd resolved.0
+  links_lead (ExternalVariable n Static t ∷ gs) i j found resolved =
       let number = number_found ds 0 n found.0 in
       let link = unwrap_or (number_of 0 (keys_of ds) n) 0 in
       let is : link ≡ number.place = ap (λ o. unwrap_or o 0) number.found in
@@ -88,27 +89,27 @@ module _ (m : DeckModule) (ds : List (Name × ExternalDeclaration)) (cs : List C
   links_lead (EntryPoint n s ∷ gs) i j found resolved = by (meant (procedures cs) n) refl resolved.0 (links_lead gs i (j + 1) found resolved.1)
     where
       by : (o : Option ℕ) → meant (procedures cs) n ≡ o → is_none o ≡ false
-          → Lead (filter is_external (map global_of gs)) (links_of (keys_of ds) gs (entries_of (procedures cs) gs))
-          → Lead (global_of (EntryPoint n s) ∷ filter is_external (map global_of gs)) (links_of (keys_of ds) (EntryPoint n s ∷ gs) (there o ++ entries_of (procedures cs) gs))
+          → Lead (filter is_external gs) (links_of (keys_of ds) gs (entries_of (procedures cs) gs))
+          → Lead (EntryPoint n s ∷ filter is_external gs) (links_of (keys_of ds) (EntryPoint n s ∷ gs) (there o ++ entries_of (procedures cs) gs))
       by None e none rest = absurd (true≢false none)
       by (Some l) e none rest =
           let within = number_within (length m.units) (same_name n) (procedures cs) l all e in
           (lt-ltb l (length m.units) within, omega (arith, within, units), rest)
 
   -- the links of one unit are as many as its external globals, good ones, and numbers of two bytes
-  pub links_good : (gs : List Global) (ls : List ℕ) → Lead gs ls → are_good_links m gs ls ≡ true
+  pub links_good : (gs : List CodedGlobal) (ls : List ℕ) → Lead gs ls → are_good_links m gs ls ≡ true
   links_good [] [] h = refl
   links_good [] (l ∷ ls) h = absurd h
   links_good (g ∷ gs) [] h = absurd h
   links_good (g ∷ gs) (l ∷ ls) h = both_hold (is_good_link m g l) (are_good_links m gs ls) h.0 (links_good gs ls h.2)
 
-  pub links_counted : (gs : List Global) (ls : List ℕ) → Lead gs ls → length ls ≡ length gs
+  pub links_counted : (gs : List CodedGlobal) (ls : List ℕ) → Lead gs ls → length ls ≡ length gs
   links_counted [] [] h = refl
   links_counted [] (l ∷ ls) h = absurd h
   links_counted (g ∷ gs) [] h = absurd h
   links_counted (g ∷ gs) (l ∷ ls) h = omega (arith, links_counted gs ls h.2)
 
-  pub links_fit : (gs : List Global) (ls : List ℕ) → Lead gs ls → list_all u2.fits ls ≡ true
+  pub links_fit : (gs : List CodedGlobal) (ls : List ℕ) → Lead gs ls → list_all u2.fits ls ≡ true
   links_fit [] [] h = refl
   links_fit [] (l ∷ ls) h = absurd h
   links_fit (g ∷ gs) [] h = absurd h
@@ -116,14 +117,14 @@ module _ (m : DeckModule) (ds : List (Name × ExternalDeclaration)) (cs : List C
 
   -- of all units
   abbrev pub LeadsOf : Member → Type 0
-  LeadsOf u = Lead (filter is_external u.deck.globals) u.links
+  LeadsOf u = Lead (filter is_external u.deck.code.globals) u.links
 
   pub units_lead : (main : ℕ) (some : List Compiled) (i : ℕ) → AllByRecursion (IsFoundIn ds) (all_declared i (map (linked_unit (procedures cs)) some)) → AllByRecursion (AreResolved cs) some
       → AllByRecursion LeadsOf (members_of main (keys_of ds) i (map (linked_unit (procedures cs)) some))
   units_lead main [] i found resolved = tt
   units_lead main (c ∷ some) i found resolved =
-      let here = declared_in i 0 c.code.globals in
+      let here = declared_in i 0 c.deck.code.globals in
       let rest = all_declared (i + 1) (map (linked_unit (procedures cs)) some) in (
-        links_lead c.code.globals i 0 (all_front (IsFoundIn ds) here rest found) resolved.0,
+        links_lead c.deck.code.globals i 0 (all_front (IsFoundIn ds) here rest found) resolved.0,
         units_lead main some (i + 1) (all_back (IsFoundIn ds) here rest found) resolved.1,
       )

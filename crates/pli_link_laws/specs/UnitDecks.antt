@@ -1,25 +1,14 @@
 -- The decks of units, each for itself and in the module that linking gives.
 use Rattle.std.specs.Prelude.{◌≡◌, Ok, List, map}
-use Rattle.pli_deck.specs.Decks.{Deck}
 use Rattle.pli_deck.specs.ModuleFields.{Member}
-use Rattle.pli_deck_code.specs.CodeDecks.{deck_of}
 use Rattle.pli_deck_code.specs.CodeModules.{module_of}
 use Rattle.pli_link.specs.Link.{link_of}
-use Rattle.pli_link.specs.Units.{CompiledUnit, Compiled}
+use Rattle.pli_link.specs.Units.{Compiled}
 use Rattle.pli_unit_code.specs.Modules.{Module}
-
--- the deck of a compiled unit
-abbrev pub compiled_deck : CompiledUnit → Deck
-compiled_deck c = deck_of c.is_main c.procedure c.code
-
--- a compiled unit, without the name of its member
-abbrev pub without_member : Compiled → CompiledUnit
-without_member c = record { procedure = c.procedure; is_main = c.is_main; code = c.code }
 
 -- the decks of the module that linking gives are those of the compiled units, whole and in order: linking
 -- takes nothing from a unit's deck and adds nothing to it
 abbrev pub LinkingKeepsDecks : Type 0
 LinkingKeepsDecks =
     (cs : List Compiled) (m : Module) → link_of cs ≡ Ok m
-    → map (λ (u : Member). u.deck) (module_of m).units
-    ≡ map (λ (c : Compiled). compiled_deck (without_member c)) cs
+    → map (λ (u : Member). u.deck) (module_of m).units ≡ map (λ (c : Compiled). c.deck) cs

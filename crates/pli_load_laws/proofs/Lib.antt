@@ -1,2 +1,2 @@
-pub mod KeptNumbers
+pub mod LinkedEntries
 pub mod ModulesLoad

@@ -3,11 +3,10 @@ use Rattle.std.specs.Prelude.{◌≡◌, ◌≤◌, ◌<◌, true, false, Ok, Li
 use Rattle.std.specs.List.{AllByRecursion}
 use Rattle.pli_deck.specs.ModuleSpelling.{module_bytes}
 use Rattle.pli_deck_code.specs.CodeModules.{module_of}
-use Rattle.pli_deck_laws.specs.KeptNumbers.{KeepsNumbers}
 use Rattle.pli_deck_laws.specs.UnitTypes.{IsTypedUnit}
 use Rattle.pli_deck_laws.specs.WellFormed.{IsWellFormed}
-use Rattle.pli_deck_load.specs.CodeFields.{module_fits}
 use Rattle.pli_deck_load.specs.LinkedBytes.{IsLinked}
+use Rattle.pli_deck_load.specs.LinkedEntries.{have_their_entries}
 use Rattle.pli_gen_tree.specs.Encoding.{code_of}
 use Rattle.pli_gen_tree.specs.Limits.{is_too_long}
 use Rattle.pli_gen_tree.specs.WellNumbered.{IsWellNumbered}
@@ -17,27 +16,21 @@ use Rattle.pli_link_laws.specs.LinkedModules.{IsSaidAlone}
 use Rattle.pli_type_tree.specs.TypedTree.{TypedUnit}
 use Rattle.pli_unit_code.specs.Modules.{Module}
 
--- a unit whose code keeps its values in a deck
-abbrev pub KeepsItsNumbers : Compiled → Type 0
-KeepsItsNumbers c = KeepsNumbers c.code
-
--- the values of what is linked of them are within their fields, and each entry has its unit
-abbrev pub LinkedModulesKeepNumbers : Type 0
-LinkedModulesKeepNumbers =
-    (cs : List Compiled) (m : Module) → link_of cs ≡ Ok m → AllByRecursion KeepsItsNumbers cs
-    → module_fits m ≡ true
+-- each entry of a linked module has its unit
+abbrev pub LinkedModulesHaveEntries : Type 0
+LinkedModulesHaveEntries =
+    (cs : List Compiled) (m : Module) → link_of cs ≡ Ok m → have_their_entries m ≡ true
 
 -- what is linked of at most 999 units that bytes can say is what its bytes are
 abbrev pub LinkedModulesAreLoaded : Type 0
 LinkedModulesAreLoaded =
     (cs : List Compiled) (m : Module) → link_of cs ≡ Ok m → length cs ≤ 999
-    → AllByRecursion KeepsItsNumbers cs → AllByRecursion IsSaidAlone (module_of m).units
-    → IsLinked (module_bytes (module_of m)) m
+    → AllByRecursion IsSaidAlone (module_of m).units → IsLinked (module_bytes (module_of m)) m
 
 -- a unit that is compiled from a typed unit which is well formed, numbered well and not too long
 pub record IsCompiledFrom (t : TypedUnit) (c : Compiled) : Type 0 where
-  pub procedure : c.procedure ≡ t.procedure
-  pub code : c.code ≡ code_of t
+  pub procedure : c.deck.name ≡ t.procedure
+  pub code : c.deck.code ≡ code_of t
   pub numbered : IsWellNumbered t
   pub formed : IsWellFormed t
   pub short : is_too_long (code_of t) ≡ false

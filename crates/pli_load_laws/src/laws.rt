@@ -1,12 +1,11 @@
 //! Laws of loading what was linked.
 ghost use Rattle.pli_load_laws.specs.LoadedModules.{CompiledModulesAreLoaded, LinkedModulesAreLoaded};
-ghost use Rattle.pli_load_laws.specs.LoadedModules.{LinkedModulesKeepNumbers};
+ghost use Rattle.pli_load_laws.specs.LoadedModules.{LinkedModulesHaveEntries};
 
-/// Laws: where units whose code keeps its values in a deck are linked, the values of the module are within their fields,
-/// and each of its entries has its unit; and where bytes can say each of them, the module's bytes are the module that was
-/// linked, so that it is loaded from them.
+/// Laws: where units are linked, each entry of the module has its unit; and where bytes can say each of them, the module's
+/// bytes are the module that was linked, so that it is loaded from them.
 pub fn linked_modules_are_loaded()
-    ensures numbers { LinkedModulesKeepNumbers }
+    ensures entries { LinkedModulesHaveEntries }
     ensures loaded { LinkedModulesAreLoaded }
 {}
 

@@ -101,6 +101,10 @@ pub element_fails : example.ElementFails
 unfolding nothing entered made_of stepped at_statement height_of slot_place error_at
 element_fails = refl
 
+pub leading_faults : example.LeadingFaults
+unfolding nothing entered made_of stepped left_by at_statement height_of slot_place
+leading_faults = (refl, refl)
+
 pub part_prints : example.PartPrints
 unfolding nothing entered stepped left_by calculated printed
 part_prints = refl

@@ -1,14 +1,14 @@
 -- A run with a step more goes on from where the run stopped: no instruction knows how many steps are left.
-use Rattle.std.specs.Prelude.{◌⊎◌, ℕ, zero, suc, ◌+◌, slice_get, refl}
+use Rattle.std.specs.Prelude.{◌⊎◌, ℕ, zero, suc, ◌+◌, List, slice_get, refl}
 use Rattle.std.proofs.Common.{◌≡◌, sym, ap, subst, ◌∙◌, inl, inr, ⊎_elim, arith}
-use Rattle.pli_code.specs.declared.ending.Ending.{Ending}
-use Rattle.pli_code.specs.declared.ending.Ending.TheVariants.{OutOfSteps}
+use Rattle.pli_base.specs.Name.{Name}
+use Rattle.pli_world.specs.Ends.{RunEnd, OutOfSteps, told}
 use Rattle.pli_world.specs.World.{World, nothing}
 use Rattle.pli_world.specs.laws.Operations.{IsPrefix}
 use Rattle.pli_world.specs.laws.OperationLaws.{prefix_same, prefix_then}
 use Rattle.pli_program.specs.Program.{Program}
 use Rattle.pli_machine_step.specs.Machine.{State, At, Over, Move, Goes, Stops, Steps, ahead, act_in, resume, next_of, iterate}
-use Rattle.pli_machine_step.specs.Runs.{Outcome, first_move, outcome_of, start}
+use Rattle.pli_machine_step.specs.Runs.{Outcome, first_move, outcome_of, names_of, start}
 use Rattle.pli_machine_step.specs.laws.Laws.{GoesOn, RunsGoOn, OneFrameEach}
 use Rattle.pli_machine_step.specs.laws.Moves.{IsFramed, Adds, output_of}
 use Rattle.pli_machine_step.specs.laws.MoveLaws.{frame_leads, leads_add, resume_adds, first_adds}
@@ -43,21 +43,22 @@ start_ahead : (p : Program) (steps : ℕ) → Ahead (start p steps) (start p (su
 start_ahead p steps = resume_ahead (Unit {0}) nothing (first_move p) steps (first_adds p)
 
 -- a run that has ended is over after more instructions too
-ended : (p : Program) (i j : ℕ) (s : State) (e : Ending) (w : World) → iterate p i s ≡ Over e w → iterate p j (iterate p i s) ≡ Over e w
+ended : (p : Program) (i j : ℕ) (s : State) (e : RunEnd) (w : World) → iterate p i s ≡ Over e w → iterate p j (iterate p i s) ≡ Over e w
 ended p i j s e w over = ap (iterate p j) over ∙ over_stays p j e w
 
-abbrev outcome_or : Outcome → State → Outcome
-outcome_or o (At here frames w left) = o
-outcome_or o (Over e w) = outcome_of e w
+abbrev outcome_or : List Name → Outcome → State → Outcome
+outcome_or names o (At here frames w left) = o
+outcome_or names o (Over e w) = outcome_of names e w
 
-ends_go_on : (e f : Ending) (v w : World) → Ahead (Over e v) (Over f w) → GoesOn (outcome_of e v) (outcome_of f w)
-ends_go_on e f v w (inl same) =
-    let outcome = ap (outcome_or (outcome_of f w)) same in
+ends_go_on : (names : List Name) (e f : RunEnd) (v w : World) → Ahead (Over e v) (Over f w)
+    → GoesOn (outcome_of names e v) (outcome_of names f w)
+ends_go_on names e f v w (inl same) =
+    let outcome = ap (outcome_or names (outcome_of names f w)) same in
     record {
       prefix = subst (λ o. IsPrefix v.output o.output) (sym outcome) (prefix_same v.output);
       stays = λ other. outcome;
     }
-ends_go_on e f v w (inr spent) = record { prefix = spent.1; stays = λ other. absurd (other spent.0) }
+ends_go_on names e f v w (inr spent) = record { prefix = spent.1; stays = λ other. absurd (other (ap (told names) spent.0)) }
 
 pub runs_go_on : RunsGoOn
 runs_go_on p steps before after run more =
@@ -70,10 +71,10 @@ runs_go_on p steps before after run more =
     let first = ended p i j s run.ending run.world run.over in
     let over = ap (λ k. iterate p j (start p k)) (sym plus) ∙ more.over in
     let second = iterate_swap p j i t ∙ ended p j i t more.ending more.world over in
-    let ends = ends_go_on run.ending more.ending run.world more.world
+    let ends = ends_go_on (names_of p) run.ending more.ending run.world more.world
     (subst (λ x. Ahead x (Over more.ending more.world)) first (subst (λ x. Ahead (iterate p j (iterate p i s)) x) second both)) in
     subst (λ o. GoesOn o after) (sym run.gives)
-    (subst (λ o. GoesOn (outcome_of run.ending run.world) o) (sym more.gives) ends)
+    (subst (λ o. GoesOn (outcome_of (names_of p) run.ending run.world) o) (sym more.gives) ends)
 
 pub one_frame_each : OneFrameEach
 one_frame_each p steps count = stays_framed p count (start p steps) (start_framed p steps)

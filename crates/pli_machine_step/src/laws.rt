@@ -7,7 +7,7 @@ ghost use Rattle.pli_machine_step.specs.examples.MachineExamples.{BeginEnds, Beg
 ghost use Rattle.pli_machine_step.specs.examples.MachineExamples.{GotosEnd, GotosFault, JumpsEnd};
 ghost use Rattle.pli_machine_step.specs.examples.MachineExamples.{ArgumentIsShared, FunctionGives, ValueFaults};
 ghost use Rattle.pli_machine_step.specs.examples.MachineExamples.{BeginsEnd, LoopEnds, ElementPrints};
-ghost use Rattle.pli_machine_step.specs.examples.MachineExamples.{ElementFails, PartPrints, PartFails};
+ghost use Rattle.pli_machine_step.specs.examples.MachineExamples.{ElementFails, LeadingFaults, PartPrints, PartFails};
 ghost use Rattle.pli_machine_step.specs.examples.MachineExamples.{ComparisonPrints, BitsPrint, SkipEndsLine};
 ghost use Rattle.pli_machine_step.specs.examples.MachineExamples.{StaticIsShared, UnitsShare, UnitsStop};
 ghost use Rattle.pli_machine_step.specs.examples.MachineExamples.{UnitFails, NoUnitFaults};
@@ -34,8 +34,8 @@ pub fn every_run_ends()
 
 /// Worked examples: steps, a GOTO out of a call, jumps without a step, the limit of activations, the kinds of
 /// blocks, the code's end, an argument by place, a function's value, a loop, an element and a part of a string that are
-/// there and that are not, a comparison, bits printed, a line ended, a variable that is made once, a call of another
-/// unit's procedure and a variable that both units have.
+/// there and that are not, how far a place is led on, a comparison, bits printed, a line ended, a variable that is made
+/// once, a call of another unit's procedure and a variable that both units have.
 pub fn worked_examples()
     ensures smallest_stops { SmallestStops }
     ensures smallest_ends { SmallestEnds }
@@ -61,6 +61,7 @@ pub fn worked_examples()
     ensures loop_ends { LoopEnds }
     ensures element_prints { ElementPrints }
     ensures element_fails { ElementFails }
+    ensures leading_faults { LeadingFaults }
     ensures part_prints { PartPrints }
     ensures part_fails { PartFails }
     ensures comparison_prints { ComparisonPrints }

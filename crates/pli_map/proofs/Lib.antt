@@ -3,6 +3,7 @@ pub mod Counts
 pub mod Elements
 pub mod EqualityLemmas
 pub mod FarSizes
+pub mod FirstHeld
 pub mod FirstValues
 pub mod FoundScalars
 pub mod Members
@@ -16,3 +17,4 @@ pub mod ScalarPlaces
 pub mod StoredLawsHold
 pub mod StoredNumbers
 pub mod SubscriptLawsHold
+pub mod TableLemmas

@@ -1,5 +1,5 @@
 -- The laws of scalars.
-use Rattle.std.proofs.Common.{◌≡◌, ℕ, zero, suc, ◌+◌, ◌-◌, ◌*◌, ◌/◌, ◌%◌, ◌<◌, Bool, true, false, true≢false, nat_le, nat_lt, int_le, ℤ, pos, ◌+ℤ◌, ◌-ℤ◌, ◌≤ℤ◌, unsigned_abs, List, [], ◌∷◌, Some, None, option_map, if◌then◌else◌, refl, ap, sym, ◌∙◌, subst, arith, inl, inr}
+use Rattle.std.proofs.Common.{◌≡◌, ℕ, zero, suc, ◌+◌, ◌-◌, ◌*◌, ◌/◌, ◌%◌, ◌<◌, Bool, true, false, ◌||◌, true≢false, nat_le, nat_lt, int_le, ℤ, pos, ◌+ℤ◌, ◌-ℤ◌, ◌≤ℤ◌, unsigned_abs, List, [], ◌∷◌, Some, None, option_map, if◌then◌else◌, refl, ap, sym, ◌∙◌, subst, arith, inl, inr}
 use Rattle.std.proofs.lemmas.Bool.{ltb-true, ltb-false, and_parts}
 use Rattle.std.proofs.lemmas.Int.{ints}
 use Rattle.std.proofs.lemmas.Nat.{div-add-mod', div_below}
@@ -9,7 +9,7 @@ use Rattle.pli_map.specs.declared.description.Bounds.{Bounds}
 use Rattle.pli_map.specs.Description.{Description, FixedBinary, Character, Varying, Bit, Pointer, Offset, Area, Array, Structure, Members, NoMembers, MemberThen}
 use Rattle.pli_map.specs.laws.ScalarLaws.{PartsAreFound, PartsAreDetermined, FoundIsPlaced, ScalarsLieWithin, PartsOfParts, FilledPartsTakeBytes}
 use Rattle.pli_map.specs.Parts.{PathStep, Member, Element, PlacedPart, distance_of, index_of, member_behind, part_at, place_of}
-use Rattle.pli_map.specs.ScalarPaths.{scalars_before_member, scalars_before_step, scalars_before, is_filled, are_filled}
+use Rattle.pli_map.specs.ScalarPaths.{scalars_before_member, scalars_before_step, scalars_before, is_filled, are_filled, has_area, have_area}
 use Rattle.pli_map.specs.Scalars.{scalars_in, stands_here, first_scalar, scalar_behind}
 use Rattle.pli_map.specs.Sizes.{extent_of, count_of, size_of, stride_of}
 use Rattle.pli_map.proofs.Members.{later}
@@ -243,7 +243,7 @@ found_is_placed whole offset description k e = is_placed whole offset descriptio
 -- ---- filled descriptions take bytes
 
 abbrev pub TakesBytes : Description → Type 0
-TakesBytes d = (0 < size_of d) × (0 < scalars_in d)
+TakesBytes d = (0 < size_of d) × (has_area d ≡ false → 0 < scalars_in d)
 
 number_takes : (b c : Bool) → 0 < (if b then 2 else (if c then 4 else 8))
 number_takes true c = omega arith
@@ -255,26 +255,30 @@ positive_product (suc n) (suc m) p q = omega arith
 positive_product zero m p q = absurd (none_below_0 0 p)
 positive_product (suc n) zero p q = absurd (none_below_0 0 q)
 
+or_parts : (a b : Bool) → a || b ≡ false → a ≡ false
+or_parts false b e = refl
+or_parts true b e = e
+
 mutual
   pub takes_bytes : (d : Description) → is_filled d ≡ true → TakesBytes d
-  takes_bytes (FixedBinary p) e = (number_takes (nat_le p 15) (nat_le p 31), omega arith)
-  takes_bytes (Character n) e = (ltb-true 0 n e, omega arith)
-  takes_bytes (Varying n) e = (omega arith, omega arith)
-  takes_bytes (Bit n) e = (omega (arith, ltb-true 0 n e), omega arith)
-  takes_bytes Pointer e = (omega arith, omega arith)
-  takes_bytes Offset e = (omega arith, omega arith)
-  takes_bytes (Area n) e = (ltb-true 0 n e, omega arith)
+  takes_bytes (FixedBinary p) e = (number_takes (nat_le p 15) (nat_le p 31), λ _. omega arith)
+  takes_bytes (Character n) e = (ltb-true 0 n e, λ _. omega arith)
+  takes_bytes (Varying n) e = (omega arith, λ _. omega arith)
+  takes_bytes (Bit n) e = (omega (arith, ltb-true 0 n e), λ _. omega arith)
+  takes_bytes Pointer e = (omega arith, λ _. omega arith)
+  takes_bytes Offset e = (omega arith, λ _. omega arith)
+  takes_bytes (Area n) e = (ltb-true 0 n e, λ none. absurd (true≢false none))
   takes_bytes (Array bs element) e =
       let both = and_parts (nat_lt 0 (count_of bs)) (is_filled element) e in
       let inner = takes_bytes element both.1 in
       let some = ltb-true 0 (count_of bs) both.0 in
-      (positive_product (count_of bs) (stride_of element) some (omega (arith, inner.0, fits_stride element)), positive_product (count_of bs) (scalars_in element) some inner.1)
+      (positive_product (count_of bs) (stride_of element) some (omega (arith, inner.0, fits_stride element)), λ none. positive_product (count_of bs) (scalars_in element) some (inner.1 none))
   takes_bytes (Structure NoMembers) e = absurd (true≢false (sym e))
   takes_bytes (Structure (MemberThen d ds)) e =
       let both = and_parts (is_filled d) (are_filled ds) e in
       let inner = takes_bytes d both.0 in
       let end = later (start_of 0 d + size_of d) ds in
-      (omega (arith, inner.0, end), omega (arith, inner.1))
+      (omega (arith, inner.0, end), λ none. let first = inner.1 (or_parts (has_area d) (have_area ds) none) in omega (arith, first))
 
 same_filled : (whole : Description) (o : ℕ) (part : Description) → stands_here whole o part ≡ true → is_filled whole ≡ true → is_filled part ≡ true
 same_filled whole o part stands e = sym (ap is_filled (here whole o part stands).part_is) ∙ e

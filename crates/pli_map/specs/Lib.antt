@@ -1,4 +1,5 @@
 pub mod Description
+pub mod Digests
 pub mod Layouts
 pub mod Parts
 pub mod Same
@@ -7,6 +8,7 @@ pub mod Scalars
 pub mod Sizes
 pub mod StoredValues
 pub mod Subscripts
+pub mod Tables
 pub mod Values
 pub mod Variables
 pub mod examples

@@ -1,6 +1,6 @@
 -- How many of the scalars of a description stand before the part that a path leads to, and descriptions of
 -- which each part takes bytes (own).
-use Rattle.std.specs.Prelude.{ℕ, zero, suc, ◌+◌, ◌*◌, nat_lt, Bool, true, false, ◌&&◌, Option, Some, None}
+use Rattle.std.specs.Prelude.{ℕ, zero, suc, ◌+◌, ◌*◌, nat_lt, Bool, true, false, ◌&&◌, ◌||◌, Option, Some, None}
 use Rattle.std.specs.Prelude.{option_map, option_and_then, List, [], ◌∷◌}
 use Rattle.pli_map.specs.Description.{Description, FixedBinary, Character, Varying, Bit, Pointer, Offset}
 use Rattle.pli_map.specs.Description.{Area, Array, Structure, Members, NoMembers, MemberThen}
@@ -49,3 +49,16 @@ abbrev mutual
   pub are_filled : Members → Bool
   are_filled NoMembers = true
   are_filled (MemberThen d ds) = is_filled d && are_filled ds
+
+-- it is an area, or one is within it
+abbrev mutual
+  pub has_area : Description → Bool
+  has_area (Area n) = true
+  has_area (Array bounds element) = has_area element
+  has_area (Structure members) = have_area members
+  has_area scalar = false
+
+  -- so one of these members
+  pub have_area : Members → Bool
+  have_area NoMembers = false
+  have_area (MemberThen d ds) = has_area d || have_area ds

@@ -1,16 +1,29 @@
--- The scalars of a description (own): the types that are no arrays and no structures, in the order in which
--- they stand, those of an array in row-major order. What an aggregate holds is the list of what they hold.
+-- The scalars of a description (own): the types of values, in the order in which they stand, those of an array
+-- in row-major order. What a description holds is the list of what they hold. An area is no scalar: it holds
+-- blocks, which are storage of their own.
 use Rattle.std.specs.Prelude.{ℕ, ◌+◌, ◌-◌, ◌*◌, ◌/◌, ◌%◌, nat_eq, nat_lt, ◌&&◌, Option, Some, None}
 use Rattle.std.specs.Prelude.{option_map}
 use Rattle.std.specs.Prelude.{Bool, true, false, if◌then◌else◌, List, [], ◌∷◌, ◌++◌, replicate}
 use Rattle.std.specs.List.{flat_map}
 use Rattle.std.specs.Int.{next_multiple_of}
-use Rattle.pli_map.specs.Description.{Description, Array, Structure, Members, NoMembers, MemberThen}
+use Rattle.pli_map.specs.Description.{Description, Area, Array, Structure, Members, NoMembers, MemberThen}
 use Rattle.pli_map.specs.Same.{same}
 use Rattle.pli_map.specs.Sizes.{count_of, alignment_of, size_of, stride_of}
 
--- no array and no structure
+-- an array or a structure
+abbrev pub is_aggregate : Description → Bool
+is_aggregate (Array _ _) = true
+is_aggregate (Structure _) = true
+is_aggregate other = false
+
+-- an area
+abbrev pub is_area : Description → Bool
+is_area (Area bytes) = true
+is_area other = false
+
+-- no aggregate and no area
 abbrev pub is_scalar : Description → Bool
+is_scalar (Area _) = false
 is_scalar (Array _ _) = false
 is_scalar (Structure _) = false
 is_scalar scalar = true
@@ -18,6 +31,7 @@ is_scalar scalar = true
 -- how many scalars a description has
 abbrev mutual
   pub scalars_in : Description → ℕ
+  scalars_in (Area bytes) = 0
   scalars_in (Array bounds element) = count_of bounds * scalars_in element
   scalars_in (Structure members) = scalars_among members
   scalars_in scalar = 1
@@ -30,6 +44,7 @@ abbrev mutual
 -- the scalars themselves
 abbrev mutual
   pub scalars_of : Description → List Description
+  scalars_of (Area bytes) = []
   scalars_of (Array bounds element) = flat_map (λ ds. ds) (replicate (count_of bounds) (scalars_of element))
   scalars_of (Structure members) = scalars_of_members members
   scalars_of scalar = scalar ∷ []

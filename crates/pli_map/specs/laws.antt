@@ -3,3 +3,4 @@ pub mod SameLaws
 pub mod ScalarLaws
 pub mod StoredLaws
 pub mod SubscriptLaws
+pub mod ValueLaws

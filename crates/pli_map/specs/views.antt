@@ -1,2 +1,3 @@
 pub mod DescriptionView
 pub mod PartView
+pub mod TableView

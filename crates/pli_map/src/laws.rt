@@ -3,9 +3,10 @@ ghost use Rattle.pli_map.specs.examples.Examples.{ScalarSizes, MixedMembers, Row
 ghost use Rattle.pli_map.specs.laws.Laws.{PartsDoNotMeet, PartsLieWithin, PartsStandAligned, FourAlignments, AreasAreRounded, ElementsAreWithinBounds, ElementsAreInRowMajorOrder, ElementsAreCounted, SameIsEqual};
 ghost use Rattle.pli_map.specs.examples.ScalarExamples.{CountedScalars, FoundScalars, NamedSubscripts};
 ghost use Rattle.pli_map.specs.laws.ScalarLaws.{PartsAreFound, PartsAreDetermined, FoundIsPlaced, ScalarsLieWithin, PartsOfParts, FilledPartsTakeBytes};
-ghost use Rattle.pli_map.specs.examples.StoredExamples.{StoredNumbers, StoredStrings};
+ghost use Rattle.pli_map.specs.examples.StoredExamples.{StoredNumbers, StoredStrings, StoredLocators};
 ghost use Rattle.pli_map.specs.laws.StoredLaws.{StoredBytesFill, StoredIsLoaded, BytesAreOfOneValue};
 ghost use Rattle.pli_map.specs.laws.SubscriptLaws.{OffsetsAreSums, SubscriptsWithinLead};
+ghost use Rattle.pli_map.specs.laws.ValueLaws.{FirstValuesAreHeld};
 
 /// A law: two different members or elements of one whole have no byte in common, nor have parts of them.
 #[tactic(auto, using(crate::proofs::PlaceLaws::do_not_meet))]
@@ -74,7 +75,7 @@ pub fn parts_of_parts()
     ensures { PartsOfParts }
 {}
 
-/// A law: where no length, size and number of elements is 0 each part takes bytes and has a scalar.
+/// A law: where no length, size and number of elements is 0 each part takes bytes, and one without areas has a scalar.
 pub fn filled_parts_take_bytes()
     ensures { FilledPartsTakeBytes }
 {}
@@ -94,6 +95,12 @@ pub fn stored_is_loaded()
     ensures one { BytesAreOfOneValue }
 {}
 
+/// A law: each scalar of each description begins with a value that it may hold.
+#[tactic(auto, using(crate::proofs::FirstHeld::first_values_are_held))]
+pub fn first_values_are_held()
+    ensures { FirstValuesAreHeld }
+{}
+
 /// Worked examples of sizes, alignments and places, of scalars, of subscripts and of stored values.
 pub fn worked_examples()
     ensures scalars { ScalarSizes }
@@ -106,4 +113,5 @@ pub fn worked_examples()
     ensures named_subscripts { NamedSubscripts }
     ensures stored_numbers { StoredNumbers }
     ensures stored_strings { StoredStrings }
+    ensures stored_locators { StoredLocators }
 {}

@@ -3,6 +3,7 @@
 #![tactic(auto)]
 
 mod description;
+pub mod digest;
 mod extents;
 mod laws;
 mod layout;
@@ -10,19 +11,21 @@ mod parts;
 mod scalars;
 mod sizes;
 mod stored;
+mod table;
 mod values;
 
 pub use description::{Bounds, Description};
 pub use extents::{FAR, far_size};
 pub use laws::{
     areas_are_rounded, elements_are_in_row_major_order, elements_are_within_bounds,
-    filled_parts_take_bytes, four_alignments, offsets_are_sums, parts_do_not_meet,
-    parts_have_their_scalars, parts_lie_within, parts_of_parts, parts_stand_aligned, same_is_equal,
-    scalars_lie_within, stored_is_loaded, worked_examples,
+    filled_parts_take_bytes, first_values_are_held, four_alignments, offsets_are_sums,
+    parts_do_not_meet, parts_have_their_scalars, parts_lie_within, parts_of_parts,
+    parts_stand_aligned, same_is_equal, scalars_lie_within, stored_is_loaded, worked_examples,
 };
 pub use layout::{Layout, SIZE_LIMIT};
 pub use parts::{PathStep, PlacedPart, place};
-pub use scalars::{first_scalar, is_scalar, scalars_in};
+pub use scalars::{first_scalar, is_aggregate, is_area, is_scalar, scalars_in};
 pub use sizes::{alignment, fixed_binary_size, measure, size};
 pub use stored::{load_value, store_value};
+pub use table::Table;
 pub use values::{first_values, holds};

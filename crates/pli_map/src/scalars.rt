@@ -1,6 +1,6 @@
 //! The scalars of a description, and which of them are those of a part.
 ghost use Rattle.std.specs.Prelude.{◌≡◌, ◌+◌, ◌*◌, ◌/◌, ◌%◌, ◌≤◌, min, nat_lt, if◌then◌else◌, None, option_map};
-ghost use Rattle.pli_map.specs.Scalars.{is_scalar, scalars_in, scalars_among, stands_here, first_scalar, scalar_behind};
+ghost use Rattle.pli_map.specs.Scalars.{is_aggregate, is_area, is_scalar, scalars_in, scalars_among, stands_here, first_scalar, scalar_behind};
 ghost use Rattle.pli_map.specs.Sizes.{count_of, stride_of};
 ghost use Rattle.pli_map.specs.views.DescriptionView.{description_view, members_view};
 
@@ -8,13 +8,32 @@ use crate::description::{Bounds, Description};
 use crate::extents::{every_element, far_size, far_stride};
 use crate::sizes::alignment;
 
-/// Whether a description is no array and no structure.
+/// Whether a description is an array or a structure.
+#[inline]
+pub fn is_aggregate(description: &Description) -> bool
+    ensures { result ≡ is_aggregate (description_view description.now) }
+{
+    match description {
+        Description::Array { .. } | Description::Structure(_) => true,
+        _ => false,
+    }
+}
+
+/// Whether a description is an area.
+#[inline]
+pub fn is_area(description: &Description) -> bool
+    ensures { result ≡ is_area (description_view description.now) }
+{
+    matches!(description, Description::Area(_))
+}
+
+/// Whether a description is no array, no structure and no area.
 #[inline]
 pub fn is_scalar(description: &Description) -> bool
     ensures { result ≡ is_scalar (description_view description.now) }
 {
     match description {
-        Description::Array { .. } | Description::Structure(_) => false,
+        Description::Area(_) | Description::Array { .. } | Description::Structure(_) => false,
         _ => true,
     }
 }
@@ -27,6 +46,7 @@ pub fn scalars_in(description: &Description) -> usize
     match description {
         Description::Array { bounds, element } => scalars_of_array(bounds, element),
         Description::Structure(members) => scalars_among(members),
+        Description::Area(_) => 0,
         _ => 1,
     }
 }

@@ -3,17 +3,19 @@ ghost use Rattle.std.specs.Prelude.{◌≡◌, ◌≤◌, ◌+◌, ◌-◌, ◌/
 ghost use Rattle.std.specs.Int.{cast_signed, cast_unsigned};
 ghost use Rattle.byteorder.specs.Endian.{big_bytes, big_number};
 ghost use Rattle.pli_map.specs.Sizes.{number_bytes, size_of};
-ghost use Rattle.pli_map.specs.StoredValues.{is_storable, stored_bytes, loaded_value, width_of};
+ghost use Rattle.pli_map.specs.Description as tree;
+ghost use Rattle.pli_map.specs.StoredValues.{is_storable, stored_bytes, loaded_value, pointer_of, width_of};
 ghost use Rattle.pli_map.specs.Values.{holds};
 ghost use Rattle.pli_map.specs.views.DescriptionView.{description_view};
 ghost use Rattle.pli_value.specs.Packing.{packed};
+ghost use Rattle.pli_value.specs.Value as plain;
 ghost use Rattle.pli_value.specs.Value.{value_view};
 
 use crate::description::Description;
 use byteorder::{BigEndian, ByteOrder};
-use pli_value::Value;
 use pli_value::bit::Bits;
 use pli_value::character::fit_varying;
+use pli_value::{Locator, Value};
 use std::alloc::{AllocError, Global};
 
 /// Writes a value into as many bytes as its description takes. The description holds the value.
@@ -31,6 +33,10 @@ pub fn store_value(description: &Description, value: &Value, bytes: &mut [u8])
             store_varying(text, *greatest, bytes)
         }
         (Description::Bit(_), Value::Bits(bits)) => store_bits(bits, bytes),
+        (Description::Pointer, Value::Locator(locator)) => store_pointer(*locator, bytes),
+        (Description::Offset, Value::Locator(Locator::Offset(position))) => {
+            BigEndian::write_u32(bytes, *position);
+        }
         _ => unreachable!(),
     }
 }
@@ -76,6 +82,23 @@ fn store_bits(bits: &Bits, bytes: &mut [u8])
     bytes.copy_from_slice(from);
 }
 
+/// A pointer: one more than the number of its generation, then its position; zeros where it is null.
+fn store_pointer(locator: Locator, bytes: &mut [u8])
+    requires held { IsTrue (holds tree.Pointer (plain.Located locator)) }
+    requires size { length bytes.old ≡ 8 }
+    ensures { bytes.new ≡ stored_bytes tree.Pointer (plain.Located locator) }
+{
+    let (generation, position) = match locator {
+        Locator::Pointer {
+            generation,
+            position,
+        } => (generation + 1, position),
+        Locator::Null | Locator::Offset(_) => (0, 0),
+    };
+    BigEndian::write_u32(bytes, generation);
+    BigEndian::write_u32(&mut bytes[4..], position);
+}
+
 /// The value that bytes hold, as many as the description takes.
 pub fn load_value(
     alloc: Global,
@@ -98,6 +121,8 @@ pub fn load_value(
             bytes,
             usize::from(*length),
         )?)),
+        Description::Pointer => Ok(Value::Locator(load_pointer(bytes))),
+        Description::Offset => Ok(Value::Locator(Locator::Offset(BigEndian::read_u32(bytes)))),
         _ => unreachable!(),
     }
 }
@@ -111,6 +136,20 @@ fn load_number(precision: u8, bytes: &[u8]) -> i64
         0..=15 => i64::from(BigEndian::read_i16(bytes)),
         16..=31 => i64::from(BigEndian::read_i32(bytes)),
         _ => BigEndian::read_i64(bytes),
+    }
+}
+
+/// The pointer that bytes hold.
+fn load_pointer(bytes: &[u8]) -> Locator
+    requires { length bytes.now ≡ 8 }
+    ensures { result ≡ pointer_of (big_number 4 bytes.now) (big_number 4 (drop 4 bytes.now)) }
+{
+    match BigEndian::read_u32(bytes).checked_sub(1) {
+        Some(generation) => Locator::Pointer {
+            generation,
+            position: BigEndian::read_u32(&bytes[4..]),
+        },
+        None => Locator::Null,
     }
 }
 

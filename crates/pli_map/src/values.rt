@@ -1,6 +1,7 @@
 //! Which values a description may hold, and with which ones its scalars begin.
 ghost use Rattle.std.specs.Prelude.{◌≡◌, ◌++◌, ◌∷◌, [], map, replicate, false, IfOk, OnOk};
 ghost use Rattle.std.specs.List.{flat_map};
+ghost use Rattle.pli_map.specs.Description as tree;
 ghost use Rattle.pli_map.specs.Sizes.{count_of};
 ghost use Rattle.pli_map.specs.Values.{holds, first_values, first_values_of};
 ghost use Rattle.pli_map.specs.views.DescriptionView.{description_view, members_view};
@@ -10,8 +11,8 @@ ghost use Rattle.pli_value.specs.Value.{value_view};
 
 use crate::description::{Bounds, Description};
 use crate::extents::every_element;
-use pli_value::Value;
 use pli_value::bit::{self, Bits};
+use pli_value::{Locator, Value};
 use std::alloc::{AllocError, Global};
 
 /// Whether a value is of the description's type, within its range or of its length.
@@ -29,7 +30,30 @@ pub fn holds(description: &Description, value: &Value) -> bool
             text.len() <= usize::from(*length)
         }
         (Description::Bit(length), Value::Bits(bits)) => bits.length() == usize::from(*length),
+        (Description::Pointer, Value::Locator(locator)) => is_stored_pointer(*locator),
+        (Description::Offset, Value::Locator(locator)) => is_stored_offset(*locator),
         _ => false,
+    }
+}
+
+/// Whether a locator is a pointer, null or to a generation that there may be.
+fn is_stored_pointer(locator: Locator) -> bool
+    ensures { result ≡ holds tree.Pointer (plain.Located locator) }
+{
+    match locator {
+        Locator::Null => true,
+        Locator::Pointer { generation, .. } => generation < u32::MAX,
+        Locator::Offset(_) => false,
+    }
+}
+
+/// Whether a locator is an offset.
+fn is_stored_offset(locator: Locator) -> bool
+    ensures { result ≡ holds tree.Offset (plain.Located locator) }
+{
+    match locator {
+        Locator::Offset(_) => true,
+        Locator::Null | Locator::Pointer { .. } => false,
     }
 }
 
@@ -42,7 +66,7 @@ fn has_digits(number: i64, precision: u8) -> bool
 }
 
 /// The values with which the scalars of a variable begin that has no initial values (own): zero, blanks, the empty
-/// string, or zero bits. Bits of more than 32,767, which are not of the language, have no room.
+/// string, zero bits, or null. Bits of more than 32,767, which are not of the language, have no room.
 pub fn first_values(alloc: Global, description: &Description) -> Result<Vec<Value>, AllocError>
     ensures { IfOk result (λ values. map value_view values.items ≡ first_values (description_view description.now)) }
 {
@@ -67,7 +91,9 @@ fn put_first_values(
         Description::Bit(length) => put(zeros(alloc, usize::from(*length))?, values),
         Description::Array { bounds, element } => put_elements(alloc, bounds, element, values),
         Description::Structure(members) => put_members(alloc, members, values),
-        Description::Pointer | Description::Offset | Description::Area(_) => Ok(()),
+        Description::Pointer => put(Value::Locator(Locator::Null), values),
+        Description::Offset => put(Value::Locator(Locator::Offset(0)), values),
+        Description::Area(_) => Ok(()),
     }
 }
 

@@ -21,7 +21,7 @@ use Rattle.pli_link.specs.Alike.{same_signature}
 use Rattle.pli_link.specs.Link.{entries_of, linked_unit, module_of}
 use Rattle.pli_link.specs.Mismatches.{is_unlike_procedure, is_unlike, has_fault, name_of, each_once, faulty_in, faulty_names, faulty_in_unit, faulty_linked}
 use Rattle.pli_link.specs.Names as meaning
-use Rattle.pli_link.specs.Names.{with_name, meant, procedures_from, procedures, externals, unit_at}
+use Rattle.pli_link.specs.Names.{meant, procedures_from, procedures, externals, unit_at}
 use Rattle.pli_link.specs.Units.{Compiled}
 use Rattle.pli_link.specs.declared.global_fault.GlobalFault.{GlobalFault}
 use Rattle.pli_link.specs.declared.global_fault.GlobalFault.TheVariants.{Unresolved, Mismatch}
@@ -48,27 +48,27 @@ once_empty (n ∷ ns) e = absurd (once_filled n [] ns e)
 -- where no fault of a kind is told, no global that has a name has it
 module _ (cs : List Compiled) (f : GlobalFault) where
   abbrev HasNone : Compiled → CodedGlobal → Type 0
-  HasNone c g = (name : Name) → name_of g ≡ name ∷ [] → has_fault cs f c.code g ≡ false
+  HasNone c g = (name : Name) → name_of g ≡ name ∷ [] → has_fault cs f c.deck.code g ≡ false
 
-  none_in : (c : Compiled) (g : CodedGlobal) → faulty_in cs f c.code g ≡ [] → HasNone c g
-  none_in c g e name is = by (has_fault cs f c.code g) e
+  none_in : (c : Compiled) (g : CodedGlobal) → faulty_in cs f c.deck.code g ≡ [] → HasNone c g
+  none_in c g e name is = by (has_fault cs f c.deck.code g) e
     where
       by : (b : Bool) → (if b then name_of g else []) ≡ [] → b ≡ false
       by true h = let bad : name ∷ [] ≡ [] = sym is ∙ h in cc
       by false h = refl
 
-  none_among_globals : (c : Compiled) (gs : List CodedGlobal) → faulty_names cs f c.code gs ≡ [] → AllByRecursion (HasNone c) gs
+  none_among_globals : (c : Compiled) (gs : List CodedGlobal) → faulty_names cs f c.deck.code gs ≡ [] → AllByRecursion (HasNone c) gs
   none_among_globals c [] e = tt
   none_among_globals c (g ∷ gs) e =
-      (none_in c g (front_empty (faulty_in cs f c.code g) (faulty_names cs f c.code gs) e), none_among_globals c gs (back_empty (faulty_in cs f c.code g) (faulty_names cs f c.code gs) e))
+      (none_in c g (front_empty (faulty_in cs f c.deck.code g) (faulty_names cs f c.deck.code gs) e), none_among_globals c gs (back_empty (faulty_in cs f c.deck.code g) (faulty_names cs f c.deck.code gs) e))
 
   abbrev HasNoneInUnit : Compiled → Type 0
-  HasNoneInUnit c = AllByRecursion (HasNone c) c.code.globals
+  HasNoneInUnit c = AllByRecursion (HasNone c) c.deck.code.globals
 
   none_in_units : (some : List Compiled) → faulty_linked cs f some ≡ [] → AllByRecursion HasNoneInUnit some
   none_in_units [] e = tt
   none_in_units (c ∷ some) e = (
-    none_among_globals c c.code.globals (once_empty _ (map_empty _ _ (front_empty (faulty_in_unit cs f c) (faulty_linked cs f some) e))),
+    none_among_globals c c.deck.code.globals (once_empty _ (map_empty _ _ (front_empty (faulty_in_unit cs f c) (faulty_linked cs f some) e))),
     none_in_units some (back_empty (faulty_in_unit cs f c) (faulty_linked cs f some) e),
   )
 
@@ -115,10 +115,10 @@ all_at P (y ∷ ys) (suc i) x all e = all_at P ys i x all.1 e
 
 -- the unit that a name's procedure is of
 record Named (us : List TypedUnit) (from : ℕ) (name : Name) (number : ℕ) : Type 0 where
-  unit : TypedUnit
-  named : unit_named us name ≡ Some unit
   place : ℕ
   is : number ≡ from + place
+  named : unit_named us name ≡ Some place
+  unit : TypedUnit
   there : slice_get us place ≡ Some unit
 
 number_named : (us : List TypedUnit) (from : ℕ) (name : Name) (number : ℕ) → meant (procedures_from from (map coded_tree us)) name ≡ Some number → Named us from name number
@@ -131,30 +131,21 @@ number_named (u ∷ us) from name number e = by (same_name name u.procedure) ref
     by : (b : Bool) → same_name name u.procedure ≡ b → cond b (Some from) (meant (procedures_from (from + 1) (map coded_tree us)) name) ≡ Some number
         → (meant (procedures_from (from + 1) (map coded_tree us)) name ≡ Some number → Named us (from + 1) name number) → Named (u ∷ us) from name number
     by true is h later = record {
-      unit = u;
-      named = ap (λ b. if b then Some u else unit_named us name) (turned true is);
       place = 0;
       is = sym (some_is from number h) ∙ omega arith;
+      named = ap (λ b. if b then Some 0 else option_map suc (unit_named us name)) (turned true is);
+      unit = u;
       there = refl;
     }
     by false is h later =
         let n = later h in
         record {
-          unit = n.unit;
-          named = ap (λ b. if b then Some u else unit_named us name) (turned false is) ∙ n.named;
           place = suc n.place;
           is = n.is ∙ omega arith;
+          named = ap (λ b. if b then Some 0 else option_map suc (unit_named us name)) (turned false is) ∙ ap (option_map suc) n.named;
+          unit = n.unit;
           there = n.there;
         }
-
-none_named : (us : List TypedUnit) (from : ℕ) (name : Name) → meant (procedures_from from (map coded_tree us)) name ≡ None → unit_named us name ≡ None
-none_named [] from name e = refl
-none_named (u ∷ us) from name e = by (same_name name u.procedure) refl e (none_named us (from + 1) name)
-  where
-    by : (b : Bool) → same_name name u.procedure ≡ b → cond b (Some from) (meant (procedures_from (from + 1) (map coded_tree us)) name) ≡ None
-        → (meant (procedures_from (from + 1) (map coded_tree us)) name ≡ None → unit_named us name ≡ None) → unit_named (u ∷ us) name ≡ None
-    by true is h later = let bad : ⊥ = cc in absurd bad
-    by false is h later = ap (λ b. if b then Some u else unit_named us name) (nat_list_eq_equiv.symm u.procedure name ∙ is) ∙ later h
 
 module _ (us : List TypedUnit) where
   abbrev cs : List Compiled
@@ -164,8 +155,8 @@ module _ (us : List TypedUnit) where
   pub record Leads (name : Name) : Type 0 where
     pub number : ℕ
     pub means : meant (procedures (map coded_tree us)) name ≡ Some number
+    pub named : unit_named us name ≡ Some number
     pub unit : TypedUnit
-    pub named : unit_named us name ≡ Some unit
     pub there : slice_get us number ≡ Some unit
 
   first_meant : (name : Name) → meant (procedures cs) name ≡ meant (procedures_from 0 cs) name
@@ -176,7 +167,7 @@ module _ (us : List TypedUnit) where
   leads name (Some number) e h =
       let n = number_named us 0 name number (sym (first_meant name) ∙ e) in
       let same : n.place ≡ number = omega (arith, n.is) in
-      record { number = number; means = e; unit = n.unit; named = n.named; there = ap (slice_get us) (sym same) ∙ n.there }
+      record { number = number; means = e; named = n.named ∙ ap Some same; unit = n.unit; there = ap (slice_get us) (sym same) ∙ n.there }
 
   -- the linker finds that unit
   unit_found : (name : Name) (l : Leads name) → meaning.unit_named cs name ≡ Some (coded_tree l.unit)
@@ -230,7 +221,7 @@ module _ (us : List TypedUnit) where
   -- so the units are linked
   pub linked_where_fit : AllByRecursion Fits (all_globals us) → IsLinked us
   linked_where_fit all = record {
-    entries = λ i name s e. let fit = all_at Fits (all_globals us) i (EntryPoint name s) all e in (fit.0.unit, fit.0.named, fit.1);
+    entries = λ i name s e. let fit = all_at Fits (all_globals us) i (EntryPoint name s) all e in (fit.0.number, fit.0.named, (fit.0.unit, fit.0.there, fit.1));
     variables = λ i j name one other e f.
         let first = all_at Fits (all_globals us) i (ExternalVariable name one) all e in
         let second = all_at Fits (all_globals us) j (ExternalVariable name other) all f in
@@ -245,7 +236,7 @@ module _ (us : List TypedUnit) where
   entries_are u (EntryPoint name s ∷ gs) all =
       let l = all.0.0 in
       subst (λ o. AreEntries us (EntryPoint name s ∷ gs) (there o ++ entries_of (procedures cs) (map (coded_global u) gs))) (sym l.means)
-      (record { unit = l.unit; named = l.named; there = l.there }, entries_are u gs all.1)
+      (l.named, entries_are u gs all.1)
 
   units_are : (some : List TypedUnit) → AllByRecursion Fits (all_globals some) → AreUnitsOf us some (map (linked_unit (procedures cs)) (map coded_tree some))
   units_are [] all = tt

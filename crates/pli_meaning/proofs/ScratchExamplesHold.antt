@@ -30,7 +30,7 @@ use Rattle.pli_type.specs.NamedUnits.{checked_unit}
 use Rattle.std.specs.Fmt.{digits}
 use Rattle.pli_operation.specs.Operations.{calculated}
 use Rattle.pli_world.specs.World.{nothing, made_of, entered, left_by, stepped, at_statement, height_of, slot_place, parts_held, parts_stored, held, stored, printed}
-use Rattle.pli_code.specs.declared.ending.Ending.TheVariants.{Ended, OutOfSteps}
+use Rattle.pli_world.specs.Ends.{Ended, OutOfSteps}
 use Rattle.pli_meaning.specs.examples.ScratchExamples.{FirstIsMade, RunsWithThree, RunsWithTwo, TypesAreTold}
 
 pub first_is_made : FirstIsMade

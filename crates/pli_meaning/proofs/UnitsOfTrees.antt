@@ -11,7 +11,8 @@ use Rattle.pli_include.specs.Expansion.{Outcome}
 use Rattle.pli_members.specs.Members.{Member}
 use Rattle.pli_members.specs.declared.kind.MemberKind.{MemberKind}
 use Rattle.pli_members.specs.declared.kind.MemberKind.TheVariants.{Source, Include}
-use Rattle.pli_link.specs.Units.{CompiledUnit, Compiled, as_unit}
+use Rattle.pli_link.specs.Units.{Compiled, as_unit}
+use Rattle.pli_link.proofs.Faultless.{front_empty, back_empty}
 use Rattle.pli_gen_tree.specs.Encoding.{code_of}
 use Rattle.pli_gen_tree.specs.Limits.{is_too_long}
 use Rattle.pli_gen_tree.specs.WellNumbered.{IsWellNumbered}
@@ -24,6 +25,7 @@ use Rattle.pli_type.proofs.FaultCodes.{faults_are_of_types}
 use Rattle.pli_type_laws.specs.TypedUnits.{MainTakesNothing}
 use Rattle.pli_type_laws.proofs.CheckedUnits.{checked_is_typed}
 use Rattle.pli_type_tree.specs.TypedTree.{TypedUnit}
+use Rattle.pli_unit_code.specs.CodeTables.{Deck}
 use Rattle.pli_parse_statement.specs.StatementReading.{unit_of}
 use Rattle.pli_base.specs.Statements.{ExternalProcedure}
 use Rattle.pli_base.specs.Words.{Tokens}
@@ -35,15 +37,6 @@ use Rattle.pli_meaning.specs.Scratch.{Diagnostic, typed_unless, program_from, pr
 filled : {A : Type 0} (xs ys : List A) (y : A) → xs ++ y ∷ ys ≡ [] → ⊥
 filled [] ys y e = cc
 filled (x ∷ xs) ys y e = cc
-
--- the parts of an empty list are empty
-pub front_empty : {A : Type 0} (xs ys : List A) → xs ++ ys ≡ [] → xs ≡ []
-front_empty [] ys e = refl
-front_empty (x ∷ xs) ys e = cc
-
-pub back_empty : {A : Type 0} (xs ys : List A) → xs ++ ys ≡ [] → ys ≡ []
-back_empty [] ys e = e
-back_empty (x ∷ xs) ys e = cc
 
 -- where there are diagnostics there is a text
 text_filled : (name : Name) (d : Diagnostic) (ds : List Diagnostic) → flat_map (diagnostic_line name) (d ∷ ds) ≡ [] → ⊥
@@ -79,8 +72,8 @@ program_read texts = by (unit_of texts) refl
     by (Ok unit) read = typed_read texts unit read (resolution_faults unit)
     by (Err fault) read = tt
 
--- so what is compiled is a unit, or has a fault at least
-abbrev pub IsToldOfCompiling : Result CompiledUnit (List Fault) → Type 0
+-- so what is compiled is a deck, or has a fault at least
+abbrev pub IsToldOfCompiling : Result Deck (List Fault) → Type 0
 IsToldOfCompiling (Ok c) = Unit {0}
 IsToldOfCompiling (Err faults) = IsFault faults
 

@@ -18,7 +18,7 @@ use Rattle.pli_parse_statement.specs.StatementReading.{unit_of}
 use Rattle.pli_base.specs.Statements.{ExternalProcedure}
 use Rattle.pli_declare.specs.Resolution.{resolution_faults}
 use Rattle.pli_link.specs.Link.{link_of}
-use Rattle.pli_link.specs.Units.{CompiledUnit, Compiled, as_unit}
+use Rattle.pli_link.specs.Units.{Compiled, as_unit}
 use Rattle.pli_link.specs.declared.linking.LinkFault.{LinkFault}
 use Rattle.pli_link.specs.declared.linking.LinkFault.TheVariants as faults
 use Rattle.pli_link.specs.declared.units.LinkedName.{LinkedName}
@@ -26,6 +26,7 @@ use Rattle.pli_resolve.specs.ResolvedUnits.{resolved_unit_of}
 use Rattle.pli_type.specs.NamedUnits.{checked_unit}
 use Rattle.pli_type_tree.specs.TypedTree.{TypedUnit}
 use Rattle.pli_machine_step.specs.Runs.{Outcome}
+use Rattle.pli_unit_code.specs.CodeTables.{Deck}
 use Rattle.pli_unit_code.specs.Modules.{Module}
 use Rattle.pli_gen_tree.specs.Encoding.{code_of}
 use Rattle.pli_gen_tree.specs.Limits.{is_too_long}
@@ -86,26 +87,26 @@ parsed_of entries unit = parsed_from unit (outcome_of entries unit)
 abbrev pub too_long : Fault
 too_long = record { code = code.CodeTooLong; at = 0 }
 
--- what a tree is compiled to
-abbrev pub compiled_tree : TypedUnit → CompiledUnit
-compiled_tree u = record { procedure = u.procedure; is_main = u.is_main; code = code_of u }
+-- the deck that a tree is compiled to
+abbrev pub compiled_tree : TypedUnit → Deck
+compiled_tree u = record { name = u.procedure; is_main = u.is_main; code = code_of u }
 
--- the code of a tree, if it is not too long
-abbrev pub coded : TypedUnit → Result CompiledUnit (List Fault)
+-- the deck of a tree, if its code is not too long
+abbrev pub coded : TypedUnit → Result Deck (List Fault)
 coded u = if is_too_long (code_of u) then Err (too_long ∷ []) else Ok (compiled_tree u)
 
--- the code of what was typed, or its faults
-abbrev pub coded_from : Result TypedUnit (List Fault) → Result CompiledUnit (List Fault)
+-- the deck of what was typed, or its faults
+abbrev pub coded_from : Result TypedUnit (List Fault) → Result Deck (List Fault)
 coded_from (Ok u) = coded u
 coded_from (Err faults) = Err faults
 
 -- the tokens of a unit compiled, or the faults of the first pass that has any: what the tokens say is all
 -- that counts, and neither what their member is called nor where they come from
-abbrev pub compiled_texts : Tokens → Result CompiledUnit (List Fault)
+abbrev pub compiled_texts : Tokens → Result Deck (List Fault)
 compiled_texts texts = coded_from (program_of texts)
 
--- a unit that was compiled gets the name of its member
-abbrev pub with_unit : {E : Type 0} → (unit : Name) → Result CompiledUnit E → Result Compiled E
+-- the deck of a unit gets the name of its member
+abbrev pub with_unit : {E : Type 0} → (unit : Name) → Result Deck E → Result Compiled E
 with_unit unit (Ok c) = Ok (as_unit unit c)
 with_unit unit (Err e) = Err e
 

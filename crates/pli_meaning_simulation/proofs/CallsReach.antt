@@ -1,18 +1,18 @@
 -- The machine does what calls mean, at each level.
-use Rattle.std.specs.Prelude.{◌≡◌, ℕ, zero, suc, nat_eq, Bool, true, false, Option, Some, None, List, [], ◌∷◌, length, slice_get, if◌then◌else◌, refl}
+use Rattle.std.specs.Prelude.{◌≡◌, ℕ, zero, suc, ◌+◌, nat_eq, Bool, true, false, Option, Some, None, List, [], ◌∷◌, length, slice_get, if◌then◌else◌, refl}
 use Rattle.std.proofs.Common.{ap, ◌∙◌, sym, subst, arith}
 use Rattle.std.proofs.lemmas.Bool.{eqb-true}
 use Rattle.pli_world.specs.Storage.{Place}
 use Rattle.pli_world.specs.World.{World, entered, left_by, stepped}
 use Rattle.pli_value.specs.Value.{Value}
 use Rattle.pli_program.specs.Program as op
-use Rattle.pli_program.specs.Program.{Procedure, is_external, Block, UnitCode, Program, head_of}
+use Rattle.pli_program.specs.Program.{Procedure, is_external, Block, UnitCode, Program}
 use Rattle.pli_machine_step.specs.Machine as machine
-use Rattle.pli_machine_step.specs.Machine.{Operand, Locals, Frame, State, At, Over, Move, Goes, Stops, Steps, given, calm, fresh, places_off, called, link_of, enters, faulty, act, resume}
+use Rattle.pli_machine_step.specs.Machine.{Operand, Locals, Frame, At, Move, Steps, calm, fresh, places_off, called, link_of, enters, faulty, act, resume}
 use Rattle.pli_type_tree.specs.TypedTree.{Callee, OfBlock, OfEntry, Global, OwnVariable, ExternalVariable, EntryPoint, TypedProcedure, TypedUnit}
 use Rattle.pli_meaning_tree.specs.Effects as effect
 use Rattle.pli_meaning_tree.specs.Effects.{Label, Effect, Lost, Flow, Next, Returned, leaving, procedure_end}
-use Rattle.pli_meaning_tree.specs.TreeMeaning.{Calls, in_order, head_in, static_link, activation_of, does_from, does_list, procedure_run, activates_in, activates, procedure_in, unit_named, entry_unit, activates_outer, activates_unit, called_in, calls}
+use Rattle.pli_meaning_tree.specs.TreeMeaning.{Calls, in_order, head_in, static_link, activation_of, does_from, does_list, procedure_run, activates_in, activates, procedure_in, unit_named, entry_unit, activates_outer, activates_unit, activates_entry, called_in, calls}
 use Rattle.pli_meaning_simulation.specs.CodeStands.{Context, call_of, block_of, EndStands, ProcedureStands, ProceduresStand, GlobalStands, GlobalsStand, UnitStands, UnitsStand}
 use Rattle.pli_meaning_simulation.proofs.ReachesLemmas.{Fine, calm_kept, calm_fine, stays, from, frame, flows, returns, Reaches, gives, keeping, goes}
 use Rattle.pli_meaning_simulation.proofs.ExpressionsReach.{CallsRun, places_above, places_come_off, as_long}
@@ -24,9 +24,9 @@ module _ (p : Program) (number : ℕ) (u : UnitCode) (at : Label → ℕ) where
   -- what a look-up of a procedure finds has its number, and its code stands
   abbrev pub Found : (block : ℕ) → Option TypedProcedure → Type 0
   Found block None = Unit
-  Found block (Some f) = (f.head.number ≡ block) × ProcedureStands u at f
+  Found block (Some f) = (f.head.number ≡ block) × ProcedureStands u number at f
 
-  pub procedure_there : (fs : List TypedProcedure) (block : ℕ) → ProceduresStand u at fs → Found block (procedure_in fs block)
+  pub procedure_there : (fs : List TypedProcedure) (block : ℕ) → ProceduresStand u number at fs → Found block (procedure_in fs block)
   procedure_there [] block stand = tt
   procedure_there (f ∷ fs) block stand = by (nat_eq f.head.number block) refl (procedure_there fs block stand.1)
     where
@@ -34,11 +34,11 @@ module _ (p : Program) (number : ℕ) (u : UnitCode) (at : Label → ℕ) where
       by true e rest = (eqb-true f.head.number block e, stand.0)
       by false e rest = rest
 
-  links_same : (parent : Option ℕ) (w : World) → link_of u parent w ≡ static_link u.name parent w
+  links_same : (parent : Option ℕ) (w : World) → link_of number parent w ≡ static_link number parent w
   links_same None w = refl
   links_same (Some parent) w = refl
 
-  module _ (there : slice_get p.units number ≡ Some u) (call : Calls) (calls_run : CallsRun p number u at call) (level : ℕ) (f : TypedProcedure) (is : ProcedureStands u at f) where
+  module _ (there : slice_get p.units number ≡ Some u) (call : Calls) (calls_run : CallsRun p number u at call) (level : ℕ) (f : TypedProcedure) (is : ProcedureStands u number at f) where
     abbrev pub code : Block
     code = block_of Procedure f.parent f.parameters f.head is.entry
 
@@ -51,16 +51,16 @@ module _ (p : Program) (number : ℕ) (u : UnitCode) (at : Label → ℕ) where
 
     -- its statements
     pub body_run : (fs : List Frame) (w : World) (left : ℕ)
-        → Reaches p number u at context (At first fs w left) (fresh f.head.temporaries) (flows p number u is.finish fs) fs (does_list p.greatest call u.name level f.head.number f.statements w left)
+        → Reaches p number u at context (At first fs w left) (fresh f.head.temporaries) (flows p number u is.finish fs) fs (does_list p.greatest call number level f.head.number f.statements w left)
     body_run fs w left =
-        list_run p number u at there call calls_run level f.statements (does_from p.greatest call u.name level f.head.number f.statements)
+        list_run p number u at there call calls_run level f.statements (does_from p.greatest call number level f.head.number f.statements)
         (λ start l fine fs w left. from_run p number u at there call calls_run level f.statements f.head.number context is.entry is.finish is.does start l fine fs w left)
         (fresh f.head.temporaries) (fresh_fine f.head.temporaries is.bound is.some) fs w left
 
 -- a call that stands in one unit, of a procedure of another one or of the same
 module _ (p : Program) (number : ℕ) (u : UnitCode) (at : Label → ℕ) (other : ℕ) (v : UnitCode) (there : slice_get p.units other ≡ Some v) where
   -- the end of a procedure
-  procedure_end_run : (function_end : Option ℕ) (x : Flow) (finish behind : ℕ) {b : ℕ} {ops : List Operand} → EndStands v at function_end finish behind → {c : Context} (n l : Locals) → Fine c l
+  procedure_end_run : (function_end : Option ℕ) (x : Flow) (finish behind : ℕ) {b : ℕ} {ops : List Operand} → EndStands v other at function_end finish behind → {c : Context} (n l : Locals) → Fine c l
       → (fs : List Frame) (w : World) (left : ℕ)
       → Reaches p number u at c (flows p other v finish (frame p number u b ops l ∷ fs) n x w left) l (returns p number u b ops fs) fs (procedure_end function_end x w left)
   procedure_end_run None Next finish behind is n l fine fs w left = gives p number u at None (left_by w) left fine (goes p other v at there is refl)
@@ -72,74 +72,82 @@ module _ (p : Program) (number : ℕ) (u : UnitCode) (at : Label → ℕ) (other
   procedure_end_run None (Returned (suc d) o) finish behind is n l fine fs w left = record { by = tt }
   procedure_end_run (Some s) (Returned (suc d) o) finish behind is n l fine fs w left = record { by = tt }
 
-  module _ (call : Calls) (calls_run : CallsRun p other v at call) (level : ℕ) (f : TypedProcedure) (is : ProcedureStands v at f)
+  module _ (call : Calls) (calls_run : CallsRun p other v at call) (level : ℕ) (f : TypedProcedure) (is : ProcedureStands v other at f)
       (c : Context) (b : ℕ) (ops : List Operand) (l : Locals) (fine : Fine c l) (fs : List Frame) where
     abbrev block : Block
     block = code p other v at there call calls_run level f is
 
     -- its activation
     activation_run : (link : ℕ) (places : List Place) (w : World) (left : ℕ)
-        → Reaches p number u at c (resume (machine.calls other v f.head.number block (Some link) places (frame p number u b ops l) fs w) left) l (returns p number u b ops fs) fs
-        (effect.unless_full (procedure_run p.greatest call level v.name f link places) w left)
+        → Reaches p number u at c (resume (machine.calls other f.head.number block (Some link) places (frame p number u b ops l) fs w) left) l (returns p number u b ops fs) fs
+        (effect.unless_full (procedure_run p.greatest call level other f link places) w left)
     activation_run link places w left =
         let waiting = frame p number u b ops (calm l) in
-        full_run p number u at (procedure_run p.greatest call level v.name f link places)
-        (Steps w (enters (head_of v f.head.number block) other block link places (waiting ∷ fs) (stepped w))) w left
+        full_run p number u at (procedure_run p.greatest call level other f link places)
+        (Steps w (enters other f.head.number block link places (waiting ∷ fs) (stepped w))) w left
         (step_run p number u at
-        (activation_of (head_in v.name f.head) link places (does_list p.greatest call v.name level f.head.number f.statements) (procedure_end f.function_end))
-        (enters (head_of v f.head.number block) other block link places (waiting ∷ fs) (stepped w)) w left
-        (λ left. enters_run p number u at (first p other v at there call calls_run level f is) (entered (head_in v.name f.head) link places (stepped w))
-        (λ _ w left. leaving (does_list p.greatest call v.name level f.head.number f.statements w left) (procedure_end f.function_end)) (stepped w) left
+        (activation_of (head_in other f.head) link places (does_list p.greatest call other level f.head.number f.statements) (procedure_end f.function_end))
+        (enters other f.head.number block link places (waiting ∷ fs) (stepped w)) w left
+        (λ left. enters_run p number u at (first p other v at there call calls_run level f is) (entered (head_in other f.head) link places (stepped w))
+        (λ _ w left. leaving (does_list p.greatest call other level f.head.number f.statements w left) (procedure_end f.function_end)) (stepped w) left
         (λ x. keeping p number u at (calm_kept c l fine)
         (leaves p number u at other v {d = context p other v at there call calls_run level f is} {to = flows p other v is.finish (waiting ∷ fs)}
-        (does_list p.greatest call v.name level f.head.number f.statements x left) (procedure_end f.function_end) (calm_fine c l fine) refl
+        (does_list p.greatest call other level f.head.number f.statements x left) (procedure_end f.function_end) (calm_fine c l fine) refl
         (body_run p other v at there call calls_run level f is (waiting ∷ fs) x left)
         (λ n fine2 x w left. procedure_end_run f.function_end x is.finish is.behind is.ends n (calm l) (calm_fine c l fine) fs w left)))))
 
     -- from the test
     tested_run : (link : Option ℕ) (places : List Place) (w : World) (left : ℕ) (t : Bool) → nat_eq f.parameters (length places) ≡ t
-        → Reaches p number u at c (resume (if t then machine.calls other v f.head.number block link places (frame p number u b ops l) fs w else faulty w) left) l (returns p number u b ops fs) fs
-        (activates_in p.greatest call level v.name f link places w left)
+        → Reaches p number u at c (resume (if t then machine.calls other f.head.number block link places (frame p number u b ops l) fs w else faulty w) left) l (returns p number u b ops fs) fs
+        (activates_in p.greatest call level other f link places w left)
     tested_run None places w left t e = record { by = tt }
     tested_run (Some link) places w left true e =
-        subst (λ t. Reaches p number u at c (resume (machine.calls other v f.head.number block (Some link) places (frame p number u b ops l) fs w) left) l (returns p number u b ops fs) fs
-        (if t then effect.unless_full (procedure_run p.greatest call level v.name f link places) w left else Lost)) (sym e) (activation_run link places w left)
+        subst (λ t. Reaches p number u at c (resume (machine.calls other f.head.number block (Some link) places (frame p number u b ops l) fs w) left) l (returns p number u b ops fs) fs
+        (if t then effect.unless_full (procedure_run p.greatest call level other f link places) w left else Lost)) (sym e) (activation_run link places w left)
     tested_run (Some link) places w left false e =
         subst (λ t. Reaches p number u at c (resume (faulty w) left) l (returns p number u b ops fs) fs
-        (if t then effect.unless_full (procedure_run p.greatest call level v.name f link places) w left else Lost)) (sym e) (record { by = tt })
+        (if t then effect.unless_full (procedure_run p.greatest call level other f link places) w left else Lost)) (sym e) (record { by = tt })
 
     -- from the call
     found_run : (before : List Place) (w : World) (left : ℕ)
-        → Reaches p number u at c (resume (machine.called_with other v f.head.number block (length before) (places_off (length before) [] (places_above before ops))
+        → Reaches p number u at c (resume (machine.called_with other f.head.number block (length before) (places_off (length before) [] (places_above before ops))
         (frame p number u b (places_above before ops) l) fs w) left) l
-        (returns p number u b ops fs) fs (activates_in p.greatest call level v.name f (static_link v.name f.parent w) (in_order before []) w left)
+        (returns p number u b ops fs) fs (activates_in p.greatest call level other f (static_link other f.parent w) (in_order before []) w left)
     found_run before w left =
         let places = in_order before [] in
         let here = frame p number u b (places_above before ops) l in
         let count : length before ≡ length places = let e = as_long before [] in omega arith in
         let same =
-        ap (λ x. resume (machine.called_with other v f.head.number block (length before) x here fs w) left) (places_come_off before [] ops)
-        ∙ ap (λ n. resume (if nat_eq f.parameters n then machine.calls other v f.head.number block (link_of v f.parent w) places (frame p number u b ops l) fs w else faulty w) left) count
-        ∙ ap (λ x. resume (if nat_eq f.parameters (length places) then machine.calls other v f.head.number block x places (frame p number u b ops l) fs w else faulty w) left)
+        ap (λ x. resume (machine.called_with other f.head.number block (length before) x here fs w) left) (places_come_off before [] ops)
+        ∙ ap (λ n. resume (if nat_eq f.parameters n then machine.calls other f.head.number block (link_of other f.parent w) places (frame p number u b ops l) fs w else faulty w) left) count
+        ∙ ap (λ x. resume (if nat_eq f.parameters (length places) then machine.calls other f.head.number block x places (frame p number u b ops l) fs w else faulty w) left)
         (links_same p other v at f.parent w) in
-        subst (λ s. Reaches p number u at c s l (returns p number u b ops fs) fs (activates_in p.greatest call level v.name f (static_link v.name f.parent w) places w left)) (sym same)
-        (tested_run (static_link v.name f.parent w) places w left (nat_eq f.parameters (length places)) refl)
+        subst (λ s. Reaches p number u at c s l (returns p number u b ops fs) fs (activates_in p.greatest call level other f (static_link other f.parent w) places w left)) (sym same)
+        (tested_run (static_link other f.parent w) places w left (nat_eq f.parameters (length places)) refl)
 
--- where a unit of a program stands among its code
-abbrev pub IsThere : List TypedUnit → (Label → ℕ) → Option TypedUnit → List UnitCode → ℕ → Type 0
-IsThere program at None us k = Unit
-IsThere program at (Some t) us k = (u : UnitCode) × (slice_get us k ≡ Some u) × UnitStands program at t u
+-- where the unit of a number of a program stands among its code
+abbrev pub IsThere : List TypedUnit → (Label → ℕ) → (number : ℕ) → Option TypedUnit → List UnitCode → (place : ℕ) → Type 0
+IsThere program at number None us k = Unit
+IsThere program at number (Some t) us k = (u : UnitCode) × (slice_get us k ≡ Some u) × UnitStands program at number t u
 
-pub unit_there : (program : List TypedUnit) (at : Label → ℕ) (ts : List TypedUnit) (us : List UnitCode) (k : ℕ) → UnitsStand program at ts us → IsThere program at (slice_get ts k) us k
-unit_there program at [] us zero stand = tt
-unit_there program at [] us (suc k) stand = tt
-unit_there program at (t ∷ ts) [] k stand = absurd stand
-unit_there program at (t ∷ ts) (u ∷ us) zero stand = (u, refl, stand.0)
-unit_there program at (t ∷ ts) (u ∷ us) (suc k) stand = behind (slice_get ts k) (unit_there program at ts us k stand.1)
+unit_behind : (program : List TypedUnit) (at : Label → ℕ) (from : ℕ) (ts : List TypedUnit) (us : List UnitCode) (k number : ℕ) → number ≡ from + k
+    → UnitsStand program at from ts us → IsThere program at number (slice_get ts k) us k
+unit_behind program at from [] us zero number is stand = tt
+unit_behind program at from [] us (suc k) number is stand = tt
+unit_behind program at from (t ∷ ts) [] k number is stand = absurd stand
+unit_behind program at from (t ∷ ts) (u ∷ us) zero number is stand =
+    let first : from ≡ number = omega (arith, is) in
+    (u, refl, subst (λ n. UnitStands program at n t u) first stand.0)
+unit_behind program at from (t ∷ ts) (u ∷ us) (suc k) number is stand =
+    behind (slice_get ts k) (unit_behind program at (suc from) ts us k number (omega (arith, is)) stand.1)
   where
-    behind : (o : Option TypedUnit) → IsThere program at o us k → IsThere program at o (u ∷ us) (suc k)
+    behind : (o : Option TypedUnit) → IsThere program at number o us k → IsThere program at number o (u ∷ us) (suc k)
     behind None h = tt
     behind (Some t) h = (h.0, h.1, h.2)
+
+pub unit_there : (program : List TypedUnit) (at : Label → ℕ) (ts : List TypedUnit) (us : List UnitCode) (k : ℕ) → UnitsStand program at 0 ts us
+    → IsThere program at k (slice_get ts k) us k
+unit_there program at ts us k stand = unit_behind program at 0 ts us k k (omega arith) stand
 
 -- a global of a unit, and its code
 abbrev HasCode : List TypedUnit → Option Global → List op.GlobalCode → ℕ → Type 0
@@ -158,13 +166,14 @@ global_there program (x ∷ xs) (g ∷ gs) (suc n) stand = behind (slice_get xs 
     behind (Some x) h = (h.0, h.1, h.2)
 
 -- calls in a program
-module _ (p : Program) (units : List TypedUnit) (at : Label → ℕ) (stand : UnitsStand units at units p.units) where
+module _ (p : Program) (units : List TypedUnit) (at : Label → ℕ) (stand : UnitsStand units at 0 units p.units) where
   -- those of each unit
   abbrev AllRun : (level : ℕ) → Type 0
   AllRun level =
-      (number : ℕ) (u : UnitCode) → slice_get p.units number ≡ Some u → (t : TypedUnit) (is : UnitStands units at t u) → CallsRun p number u at (calls p.greatest units level t)
+      (number : ℕ) (u : UnitCode) → slice_get p.units number ≡ Some u → (t : TypedUnit) (is : UnitStands units at number t u)
+      → CallsRun p number u at (calls p.greatest units level number t)
 
-  module _ (level : ℕ) (run : AllRun level) (number : ℕ) (u : UnitCode) (there : slice_get p.units number ≡ Some u) (t : TypedUnit) (is : UnitStands units at t u)
+  module _ (level : ℕ) (run : AllRun level) (number : ℕ) (u : UnitCode) (there : slice_get p.units number ≡ Some u) (t : TypedUnit) (is : UnitStands units at number t u)
       (before : List Place) (c : Context) (b : ℕ) (ops : List Operand) (l : Locals) (fs : List Frame) (fine : Fine c l) (w : World) (left : ℕ) where
     abbrev Does : Move → Effect (Option Value) → Type 0
     Does m o = Reaches p number u at c (resume m left) l (returns p number u b ops fs) fs o
@@ -176,79 +185,78 @@ module _ (p : Program) (units : List TypedUnit) (at : Label → ℕ) (stand : Un
     places = in_order before []
 
     -- of a procedure of the unit
-    inside_run : (block : ℕ) → Does (called u block (length before) (slice_get u.blocks block) here fs w)
-        (activates p.greatest (calls p.greatest units level t) level t.name (procedure_in t.procedures block) places w left)
+    inside_run : (block : ℕ) → Does (called block (length before) (slice_get u.blocks block) here fs w)
+        (activates p.greatest (calls p.greatest units level number t) level number (procedure_in t.procedures block) places w left)
     inside_run block = by (procedure_in t.procedures block) (procedure_there p number u at t.procedures block is.procedures)
       where
         call : Calls
-        call = calls p.greatest units level t
+        call = calls p.greatest units level number t
 
         by : (o : Option TypedProcedure) → Found p number u at block o
-            → Does (called u block (length before) (slice_get u.blocks block) here fs w) (activates p.greatest call level t.name o places w left)
+            → Does (called block (length before) (slice_get u.blocks block) here fs w) (activates p.greatest call level number o places w left)
         by None found = record { by = tt }
         by (Some f) found =
-            subst (λ k. Does (called u k (length before) (slice_get u.blocks k) here fs w) (activates p.greatest call level t.name (Some f) places w left)) found.0
-            (subst (λ name. Does (called u f.head.number (length before) (slice_get u.blocks f.head.number) here fs w) (activates p.greatest call level name (Some f) places w left)) is.names
-            (subst (λ x. Does (called u f.head.number (length before) x here fs w) (activates p.greatest call level u.name (Some f) places w left)) (sym found.1.there)
-            (found_run p number u at number u there call (run number u there t is) level f found.1 c b ops l fine fs before w left)))
+            subst (λ k. Does (called k (length before) (slice_get u.blocks k) here fs w) (activates p.greatest call level number (Some f) places w left)) found.0
+            (subst (λ x. Does (called f.head.number (length before) x here fs w) (activates p.greatest call level number (Some f) places w left)) (sym found.1.there)
+            (found_run p number u at number u there call (run number u there t is) level f found.1 c b ops l fine fs before w left))
 
     -- of the external procedure of a unit
-    outer_run : (k : ℕ) (s : TypedUnit) (v : UnitCode) → slice_get p.units k ≡ Some v → (stands : UnitStands units at s v)
-        → Does (machine.called_outside k v (length before) (slice_get v.blocks 0) here fs w)
-        (activates_outer p.greatest (calls p.greatest units level s) level s.name (procedure_in s.procedures 0) places w left)
+    outer_run : (k : ℕ) (s : TypedUnit) (v : UnitCode) → slice_get p.units k ≡ Some v → (stands : UnitStands units at k s v)
+        → Does (machine.called_outside k (length before) (slice_get v.blocks 0) here fs w)
+        (activates_outer p.greatest (calls p.greatest units level k s) level k (procedure_in s.procedures 0) places w left)
     outer_run k s v found stands = by (procedure_in s.procedures 0) (procedure_there p k v at s.procedures 0 stands.procedures)
       where
         call : Calls
-        call = calls p.greatest units level s
+        call = calls p.greatest units level k s
 
         by : (o : Option TypedProcedure) → Found p k v at 0 o
-            → Does (machine.called_outside k v (length before) (slice_get v.blocks 0) here fs w) (activates_outer p.greatest call level s.name o places w left)
+            → Does (machine.called_outside k (length before) (slice_get v.blocks 0) here fs w) (activates_outer p.greatest call level k o places w left)
         by None has = record { by = tt }
         by (Some f) has =
             let block = code p k v at found call (run k v found s stands) level f has.1 in
-            subst (λ x. Does (machine.called_outside k v (length before) x here fs w) (activates_outer p.greatest call level s.name (Some f) places w left))
+            subst (λ x. Does (machine.called_outside k (length before) x here fs w) (activates_outer p.greatest call level k (Some f) places w left))
             (sym (ap (slice_get v.blocks) (sym has.0) ∙ has.1.there))
-            (subst (λ name. Does (machine.called_outside k v (length before) (Some block) here fs w) (activates_outer p.greatest call level name (Some f) places w left)) stands.names
-            (subst (λ n. Does (if is_external f.parent then machine.called_with k v n block (length before) (places_off (length before) [] (places_above before ops)) here fs w else faulty w)
-            (activates_outer p.greatest call level v.name (Some f) places w left)) has.0
-            (tested (f.parent) refl)))
+            (subst (λ n. Does (if is_external f.parent then machine.called_with k n block (length before) (places_off (length before) [] (places_above before ops)) here fs w else faulty w)
+            (activates_outer p.greatest call level k (Some f) places w left)) has.0
+            (tested (f.parent) refl))
           where
             way : Move
-            way = machine.called_with k v f.head.number (code p k v at found call (run k v found s stands) level f has.1) (length before) (places_off (length before) [] (places_above before ops)) here fs w
+            way = machine.called_with k f.head.number (code p k v at found call (run k v found s stands) level f has.1) (length before) (places_off (length before) [] (places_above before ops)) here fs w
 
             what : Option ℕ → Effect (Option Value)
-            what link = activates_in p.greatest call level v.name f link places w left
+            what link = activates_in p.greatest call level k f link places w left
 
             tested : (parent : Option ℕ) → f.parent ≡ parent → Does (if is_external f.parent then way else faulty w) (if is_external f.parent then what (Some 0) else Lost)
             tested None e =
                 subst (λ x. Does (if is_external x then way else faulty w) (if is_external x then what (Some 0) else Lost)) (sym e)
-                (subst (λ x. Does way (what (static_link v.name x w))) e
+                (subst (λ x. Does way (what (static_link k x w))) e
                 (found_run p number u at k v found call (run k v found s stands) level f has.1 c b ops l fine fs before w left))
             tested (Some parent) e =
                 subst (λ x. Does (if is_external x then way else faulty w) (if is_external x then what (Some 0) else Lost)) (sym e) (record { by = tt })
 
     -- of an entry
     outside_run : (n : ℕ) → Does (machine.called_entry p.units (length before) (slice_get u.globals n) here fs w)
-        (activates_unit p.greatest (calls p.greatest units level) level (entry_unit units (slice_get t.globals n)) places w left)
+        (activates_entry p.greatest units (calls p.greatest units level) level (entry_unit units (slice_get t.globals n)) places w left)
     outside_run n = by (slice_get t.globals n) (global_there units t.globals u.globals n is.globals)
       where
-        unit_run : (k : ℕ) (s : TypedUnit) → IsThere units at (Some s) p.units k
-            → Does (machine.called_unit k (slice_get p.units k) (length before) here fs w) (activates_unit p.greatest (calls p.greatest units level) level (Some s) places w left)
-        unit_run k s h =
-            subst (λ x. Does (machine.called_unit k x (length before) here fs w) (activates_unit p.greatest (calls p.greatest units level) level (Some s) places w left)) (sym h.1)
+        unit_run : (k : ℕ) (o : Option TypedUnit) → IsThere units at k o p.units k
+            → Does (machine.called_unit k (slice_get p.units k) (length before) here fs w) (activates_unit p.greatest (calls p.greatest units level) level k o places w left)
+        unit_run k None h = record { by = tt }
+        unit_run k (Some s) h =
+            subst (λ x. Does (machine.called_unit k x (length before) here fs w) (activates_unit p.greatest (calls p.greatest units level) level k (Some s) places w left)) (sym h.1)
             (outer_run k s h.0 h.1 h.2)
 
         by : (o : Option Global) → HasCode units o u.globals n
-            → Does (machine.called_entry p.units (length before) (slice_get u.globals n) here fs w) (activates_unit p.greatest (calls p.greatest units level) level (entry_unit units o) places w left)
+            → Does (machine.called_entry p.units (length before) (slice_get u.globals n) here fs w) (activates_entry p.greatest units (calls p.greatest units level) level (entry_unit units o) places w left)
         by None h = record { by = tt }
         by (Some (OwnVariable x)) h = record { by = tt }
         by (Some (ExternalVariable name x)) h = record { by = tt }
         by (Some (EntryPoint name signature)) h =
-            subst (λ g. Does (machine.called_entry p.units (length before) g here fs w) (activates_unit p.greatest (calls p.greatest units level) level (unit_named units name) places w left))
+            subst (λ g. Does (machine.called_entry p.units (length before) g here fs w) (activates_entry p.greatest units (calls p.greatest units level) level (unit_named units name) places w left))
             (sym (h.1 ∙ ap Some h.2.is))
-            (subst (λ o. Does (machine.called_unit h.2.number (slice_get p.units h.2.number) (length before) here fs w) (activates_unit p.greatest (calls p.greatest units level) level o places w left))
+            (subst (λ o. Does (machine.called_unit h.2.unit (slice_get p.units h.2.unit) (length before) here fs w) (activates_entry p.greatest units (calls p.greatest units level) level o places w left))
             (sym h.2.named)
-            (unit_run h.2.number h.2.unit (subst (λ o. IsThere units at o p.units h.2.number) h.2.there (unit_there units at units p.units h.2.number stand))))
+            (unit_run h.2.unit (slice_get units h.2.unit) (unit_there units at units p.units h.2.unit stand)))
 
   pub calls_run : (level : ℕ) → AllRun level
   calls_run zero number u there t is = record { procedure = λ callee before c b ops l fs fine w left. record { by = tt } }
@@ -256,6 +264,6 @@ module _ (p : Program) (units : List TypedUnit) (at : Label → ℕ) (stand : Un
     where
       by : AllRun level → (callee : Callee) (before : List Place) (c : Context) (b : ℕ) (ops : List Operand) (l : Locals) (fs : List Frame) (fine : Fine c l) (w : World) (left : ℕ)
           → Reaches p number u at c (resume (act p u (Some (call_of callee (length before))) (frame p number u b (places_above before ops) l) fs w) left) l (returns p number u b ops fs) fs
-          (called_in p.greatest units (calls p.greatest units level) level t callee (in_order before []) w left)
+          (called_in p.greatest units (calls p.greatest units level) level number t callee (in_order before []) w left)
       by run (OfBlock block) before c b ops l fs fine w left = inside_run level run number u there t is before c b ops l fs fine w left block
       by run (OfEntry n) before c b ops l fs fine w left = outside_run level run number u there t is before c b ops l fs fine w left n

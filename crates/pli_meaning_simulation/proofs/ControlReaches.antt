@@ -5,14 +5,14 @@ use Rattle.std.proofs.lemmas.Bool.{le-ltb, lt-ltb}
 use Rattle.pli_world.specs.Activations.{activation_limit}
 use Rattle.pli_world.specs.World.{World, Answer, Yields, Raises, Wrong, height, height_of, stepped, left_by, cleared, error_at}
 use Rattle.pli_code.specs.declared.ending.RunError.TheVariants.{TooManyActivations}
-use Rattle.pli_value.specs.Value.{Value, Number, Characters, Bits}
+use Rattle.pli_value.specs.Value.{Value, Number, Characters, Bits, Located}
 use Rattle.pli_operation.specs.Operations.{is_true}
 use Rattle.pli_program.specs.Program as op
-use Rattle.pli_program.specs.Program.{Instruction, UnitCode, Program}
+use Rattle.pli_program.specs.Program.{UnitCode, Program}
 use Rattle.pli_machine_step.specs.Machine as machine
-use Rattle.pli_machine_step.specs.Machine.{Operand, OfValue, Locals, Frame, State, At, Over, Move, Goes, Stops, Steps, given, calm, fresh, lands, jumps_at, jump_limit, counted, counted_jump, jumped, resume}
+use Rattle.pli_machine_step.specs.Machine.{Operand, OfValue, Locals, Frame, State, At, Move, Goes, Stops, Steps, given, calm, fresh, lands, jumps_at, counted, counted_jump, jumped, resume}
 use Rattle.pli_meaning_tree.specs.Effects as effect
-use Rattle.pli_meaning_tree.specs.Effects.{Label, Effect, Gives, Jumps, Fails, Spent, Lost, Short, Flow, Next, Returned, Doing, and_then, nothing_done, followed, answered, as_step, chosen, truth, turns, on_jump, caught, leaving}
+use Rattle.pli_meaning_tree.specs.Effects.{Label, Effect, Gives, Jumps, Fails, Spent, Lost, Short, Flow, Next, Doing, and_then, nothing_done, followed, answered, as_step, chosen, truth, turns, on_jump, caught, leaving}
 use Rattle.pli_meaning_tree.specs.TreeMeaning.{jumps_to}
 use Rattle.pli_meaning_simulation.specs.CodeStands.{Context, deeper, Nests, Is, Forward}
 use Rattle.pli_meaning_simulation.proofs.ReachesLemmas.{Fine, Kept, kept_out, kept_same, WithinContext, Target, Comes, stays, Arrives, arrives_from, frame, flows, tested, landed, Reaches, gives, then_reaches, keeping, bound, goes_on_in, goes}
@@ -186,6 +186,7 @@ module _ (p : Program) (number : ℕ) (u : UnitCode) where
           → Reaches p number u at c (At (frame p number u a (OfValue v ∷ []) l) fs w left) l (tested p number u b target fs) fs (truth v w left)
       truth_run (Number x) is l fine fs w left = record { by = tt }
       truth_run (Characters text) is l fine fs w left = record { by = tt }
+      truth_run (Located a) is l fine fs w left = record { by = tt }
       truth_run (Bits bits) {target} {a} {b} is {c} l fine fs w left = by (is_true bits) refl
         where
           way : Bool → State

@@ -2,9 +2,10 @@
 use Rattle.std.specs.Prelude.{◌≡◌, ℕ, ℤ, ◌+◌, Option, Some, None, List, [], ◌∷◌, length, slice_get, refl}
 use Rattle.std.proofs.Common.{ap, ◌∙◌, sym, subst, arith}
 use Rattle.pli_operation.specs.Operations.{Operation, operands_of, calculated}
-use Rattle.pli_world.specs.Storage.{Place, field_of}
-use Rattle.pli_world.specs.World.{World, Answer, held, slot_place, static_place, subscripted, calculation, dummy_of}
-use Rattle.pli_value.specs.Value.{Value, Number, Characters, Bits}
+use Rattle.pli_world.specs.Storage.{Place}
+use Rattle.pli_world.specs.World.{World, Answer, held, slot_place, static_place, subscripted, calculation}
+use Rattle.pli_world.specs.World.{dummy_of, led_on}
+use Rattle.pli_value.specs.Value.{Value, Number, Characters, Bits, Located}
 use Rattle.pli_program.specs.Program as op
 use Rattle.pli_program.specs.Program.{UnitCode, Program}
 use Rattle.pli_machine_step.specs.Machine.{Operand, OfValue, AtPlace, Locals, Frame, At, values_off, places_off, operated, act, resume}
@@ -63,6 +64,7 @@ module _ (p : Program) (number : ℕ) (u : UnitCode) (at : Label → ℕ) where
         answers p number u at there (λ x. AtPlace x ∷ ops) (subscripted low high multiplier x q w) is fine w left refl
     subscript_run low high multiplier is q (Characters text) ops l fine fs w left = record { by = tt }
     subscript_run low high multiplier is q (Bits bits) ops l fine fs w left = record { by = tt }
+    subscript_run low high multiplier is q (Located a) ops l fine fs w left = record { by = tt }
 
     -- an operation on what lies above
     pub operation_run : (operation : Operation) {a b : ℕ} → Is u (op.Operate operation) a b → (before : List Value) (ops : List Operand) (l : Locals) → Fine c l
@@ -115,8 +117,9 @@ module _ (p : Program) (number : ℕ) (u : UnitCode) (at : Label → ℕ) where
       place_run (Whole root) is ops l fine fs w left = root_run root is ops l fine fs w left
       place_run (Part root offset d subscripts) is ops l fine fs w left =
           bound p number u at (root_place root w left) _ (root_run root is.fst ops l fine fs w left)
-          (λ m k q w left. then_reaches p number u at (goes p number u at there is.snd.fst refl)
-          (element_run subscripts is.snd.snd (field_of offset d q) ops m k.fine fs w left))
+          (λ m k q w left. bound p number u at (answered (led_on offset d q w) left) _
+          (answers p number u at there (λ x. AtPlace x ∷ ops) (led_on offset d q w) is.snd.fst k.fine w left refl)
+          (λ m k q w left. element_run subscripts is.snd.snd q ops m k.fine fs w left))
 
       pub element_run : (subscripts : Subscripts) {a b : ℕ} → SubscriptsStand u subscripts a b → (q : Place) (ops : List Operand) (l : Locals) → Fine c l
           → (fs : List Frame) (w : World) (left : ℕ)

@@ -2,12 +2,12 @@
 use Rattle.std.specs.Prelude.{◌≡◌, ℕ, zero, suc, Bool, true, false, Option, Some, None, List, [], ◌∷◌, slice_get, if◌then◌else◌, refl}
 use Rattle.std.proofs.Common.{ap, ◌∙◌, sym, subst, arith}
 use Rattle.pli_world.specs.World.{World, stored, copied, printed, line_ended, entered, left_by, at_statement}
-use Rattle.pli_value.specs.Value.{Value, Number, Characters, Bits}
+use Rattle.pli_value.specs.Value.{Value, Number, Characters, Bits, Located}
 use Rattle.pli_value.specs.Conversions.{bit_constant}
 use Rattle.pli_program.specs.Program as op
-use Rattle.pli_program.specs.Program.{BlockKind, BeginBlock, Block, UnitCode, Program, head_of}
+use Rattle.pli_program.specs.Program.{BeginBlock, Block, UnitCode, Program}
 use Rattle.pli_machine_step.specs.Machine as machine
-use Rattle.pli_machine_step.specs.Machine.{Operand, OfValue, AtPlace, Locals, Frame, State, At, Over, Goes, calm, fresh, begun, enters, resume}
+use Rattle.pli_machine_step.specs.Machine.{OfValue, AtPlace, Locals, Frame, State, At, calm, fresh, begun, enters, resume}
 use Rattle.pli_type_tree.specs.TypedTree.{Callee, TypedExpression, Called, TypedReference, TypedArguments, BlockHead, TypedStatements}
 use Rattle.pli_meaning_tree.specs.Effects.{Label, Effect, Gives, Jumps, Fails, Spent, Lost, Short, Flow, Next, Returned, Doing, and_then, nothing_done, answered, as_statement, back_at, truth, chosen, turns, leaving, block_end}
 use Rattle.pli_meaning_tree.specs.TreeMeaning.{Calls, no_value, printed_item, value_of, place_of, called_with, condition, assigns, assigns_aggregate, puts, skips, does_call, returns_value, labels_in, as_list, head_in, static_link, activation_of, in_block}
@@ -52,6 +52,7 @@ module _ (p : Program) (number : ℕ) (u : UnitCode) (at : Label → ℕ) where
     pub printed_run : (v : Value) {a b : ℕ} → Is u op.Put a b → {c : Context} (l : Locals) → Fine c l → (fs : List Frame) (w : World) (left : ℕ)
         → Reaches p number u at c (At (frame p number u a (OfValue v ∷ []) l) fs w left) l (flows p number u b fs) fs (printed_item v w left)
     printed_run (Number x) is l fine fs w left = record { by = tt }
+    printed_run (Located a) is l fine fs w left = record { by = tt }
     printed_run (Characters text) is l fine fs w left = gives p number u at Next (printed text w) left fine (goes p number u at there is refl)
     printed_run (Bits bits) is l fine fs w left = gives p number u at Next (printed (bit_constant bits) w) left fine (goes p number u at there is refl)
 
@@ -71,8 +72,8 @@ module _ (p : Program) (number : ℕ) (u : UnitCode) (at : Label → ℕ) where
     -- a BEGIN block
     pub begin_run : (block : ℕ) (head : BlockHead) (list : Context → Span) (run : Doing Flow) {c : Context} {a b : ℕ} → BeginStands u head block list a b
         → ((d : Context) (x y : ℕ) → list d x y → Runs d run x y)
-        → RunsCalm c (λ w left. in_block (head_in u.name head) (static_link u.name (Some block) w) run w left) a b
-    begin_run block head list run {c} {a} {b} is body l fine none fs w left = by (static_link u.name (Some block) w) refl
+        → RunsCalm c (λ w left. in_block (head_in number head) (static_link number (Some block) w) run w left) a b
+    begin_run block head list run {c} {a} {b} is body l fine none fs w left = by (static_link number (Some block) w) refl
       where
         d : Context
         d = record { size = head.temporaries; depth = 0; bound = is.block.bound }
@@ -80,17 +81,17 @@ module _ (p : Program) (number : ℕ) (u : UnitCode) (at : Label → ℕ) where
         code : Block
         code = block_of BeginBlock (Some block) 0 head is.block.entry
 
-        by : (link : Option ℕ) → static_link u.name (Some block) w ≡ link
-            → Reaches p number u at c (At (frame p number u a [] l) fs w left) l (flows p number u b fs) fs (in_block (head_in u.name head) link run w left)
+        by : (link : Option ℕ) → static_link number (Some block) w ≡ link
+            → Reaches p number u at c (At (frame p number u a [] l) fs w left) l (flows p number u b fs) fs (in_block (head_in number head) link run w left)
         by None e = record { by = tt }
         by (Some link) e =
             then_reaches p number u at
             (goes p number u at there is.begins
-            (ap (λ x. resume (machine.begins u head.number x (frame p number u b [] l) fs w) left) is.block.there
-            ∙ ap (λ x. resume (begun u head.number code x (frame p number u b [] l) fs w) left) e))
-            (full_run p number u at (activation_of (head_in u.name head) link [] run block_end)
-            (enters (head_of u head.number code) number code link [] (frame p number u b [] l ∷ fs) w) w left
-            (enters_run p number u at (frame p number u is.block.entry [] (fresh head.temporaries)) (entered (head_in u.name head) link [] w) (λ _ w left. leaving (run w left) block_end) w left
+            (ap (λ x. resume (machine.begins head.number x (frame p number u b [] l) fs w) left) is.block.there
+            ∙ ap (λ x. resume (begun head.number code x (frame p number u b [] l) fs w) left) e))
+            (full_run p number u at (activation_of (head_in number head) link [] run block_end)
+            (enters number head.number code link [] (frame p number u b [] l ∷ fs) w) w left
+            (enters_run p number u at (frame p number u is.block.entry [] (fresh head.temporaries)) (entered (head_in number head) link [] w) (λ _ w left. leaving (run w left) block_end) w left
             (λ v. leaves p number u at number u {d = d} {to = flows p number u is.block.finish (frame p number u b [] l ∷ fs)} (run v left) block_end fine none
             (body d is.block.entry is.block.finish is.block.does (fresh head.temporaries) (fresh_fine head.temporaries is.block.bound is.block.some) (frame p number u b [] l ∷ fs) v left)
             (λ n fine2 x w left. block_end_run x is.block.ends n l fine fs w left))))
@@ -164,8 +165,8 @@ module _ (p : Program) (number : ℕ) (u : UnitCode) (at : Label → ℕ) where
       pub list_run : (ss : TypedStatements) (run : Option Label → Doing Flow) {c : Context} {a b : ℕ}
           → ((start : Option Label) (l : Locals) → Fine c l → (fs : List Frame) (w : World) (left : ℕ)
           → Reaches p number u at c (At (frame p number u (start_of p number u at a start) [] l) fs w left) l (flows p number u b fs) fs (run start w left))
-          → Runs c (as_list level u.name ss run) a b
-      list_run ss run f l fine fs w left = caught_run p number u at level (labels_in u.name ss) run (λ start m fine w left. f start m fine fs w left) None l fine w left
+          → Runs c (as_list level number ss run) a b
+      list_run ss run f l fine fs w left = caught_run p number u at level (labels_in number ss) run (λ start m fine w left. f start m fine fs w left) None l fine w left
 
       -- a DO WHILE
       pub while_run : (n : ℕ) (e : TypedExpression) (list : Context → Span) (run : Doing Flow) {c : Context} {a b : ℕ} → Nests c

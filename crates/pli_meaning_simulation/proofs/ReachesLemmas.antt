@@ -2,7 +2,7 @@
 -- form of the tree is mentioned.
 use Rattle.std.specs.Prelude.{◌≡◌, ℕ, zero, suc, ◌<◌, ◌≤◌, nat_eq, Bool, true, false, Option, Some, None, List, [], ◌∷◌, length, slice_get, if◌then◌else◌, refl}
 use Rattle.std.proofs.Common.{ap, ◌∙◌, subst, arith}
-use Rattle.pli_code.specs.declared.ending.Ending.TheVariants.{OutOfSteps}
+use Rattle.pli_world.specs.Ends.{OutOfSteps}
 use Rattle.pli_world.specs.World.{World, Answer, Yields, Raises, Wrong, height, at_statement, stepped, left_by, cleared}
 use Rattle.pli_value.specs.Value.{Value}
 use Rattle.pli_program.specs.Program as op

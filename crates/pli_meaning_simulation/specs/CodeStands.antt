@@ -266,9 +266,9 @@ module _ (u : UnitCode) where
     pub block : BlockStands
         (block_of BeginBlock (Some parent) 0 head) head.number head.temporaries list (Is (op.Return 0))
 
-  -- statements, where labels stand at these places, each in the code of its unit
+  -- statements of the unit of a number, where labels stand at these places, each in the code of its unit
 
-  module _ (at : Label → ℕ) where
+  module _ (unit : ℕ) (at : Label → ℕ) where
     abbrev mutual
       -- a statement begins with its step
       pub StatementStands : (block : ℕ) → TypedStatement → Context → Span
@@ -297,7 +297,7 @@ module _ (u : UnitCode) where
       FormStands block number (Call callee arguments) c =
           Then (ArgumentsStand arguments) (Is (call_of callee (arguments_in arguments)))
       FormStands block number (Goto outward label) c =
-          Is (op.Goto outward (at (record { unit = u.name; number = label })))
+          Is (op.Goto outward (at (record { unit = unit; number = label })))
       FormStands block number (Return outward) c = Is (op.Return outward)
       FormStands block number (ReturnValue outward e) c = Then (ValueStands e) (Is (op.ReturnValue outward))
       FormStands block number Stop c = Is op.Stop
@@ -311,7 +311,7 @@ module _ (u : UnitCode) where
       pub ListStands : (block : ℕ) → TypedStatements → Context → Span
       ListStands block NoStatement c = Empty
       ListStands block (StatementThen s more) c =
-          λ p q. (at (record { unit = u.name; number = number_of s }) ≡ p)
+          λ p q. (at (record { unit = unit; number = number_of s }) ≡ p)
           × Then (StatementStands block s c) (ListStands block more c) p q
 
     -- the end of a procedure, and of a function, which must not reach it
@@ -333,11 +333,9 @@ module _ (u : UnitCode) where
 
 -- an entry of this name has the number of its unit in the program
 pub record EntryStands (program : List TypedUnit) (name : Name) (g : op.GlobalCode) : Type 0 where
-  pub number : ℕ
-  pub is : g ≡ op.EntryPoint number
-  pub unit : TypedUnit
+  pub unit : ℕ
+  pub is : g ≡ op.EntryPoint unit
   pub named : unit_named program name ≡ Some unit
-  pub there : slice_get program number ≡ Some unit
 
 -- a global, in a program of these units
 abbrev pub GlobalStands : (program : List TypedUnit) → Global → op.GlobalCode → Type 0
@@ -352,24 +350,25 @@ GlobalsStand program (x ∷ xs) (g ∷ gs) = GlobalStands program x g × Globals
 GlobalsStand program [] (g ∷ gs) = ⊥
 GlobalsStand program (x ∷ xs) [] = ⊥
 
--- the code of a unit, where labels stand at these places
-pub record UnitStands (program : List TypedUnit) (at : Label → ℕ) (t : TypedUnit) (u : UnitCode)
+-- the code of the unit of a number, where labels stand at these places
+pub record UnitStands (program : List TypedUnit) (at : Label → ℕ) (number : ℕ) (t : TypedUnit) (u : UnitCode)
     : Type 0 where
   pub names : u.name ≡ t.name
   pub globals : GlobalsStand program t.globals u.globals
-  pub procedures : ProceduresStand u at t.procedures
+  pub procedures : ProceduresStand u number at t.procedures
 
--- the code of units, one for one
-abbrev pub UnitsStand : (program : List TypedUnit) → (at : Label → ℕ) → List TypedUnit → List UnitCode
-    → Type 0
-UnitsStand program at [] [] = Unit
-UnitsStand program at (t ∷ ts) (u ∷ us) = UnitStands program at t u × UnitsStand program at ts us
-UnitsStand program at [] (u ∷ us) = ⊥
-UnitsStand program at (t ∷ ts) [] = ⊥
+-- the code of units, numbered from one on, one for one
+abbrev pub UnitsStand : (program : List TypedUnit) → (at : Label → ℕ) → (number : ℕ) → List TypedUnit
+    → List UnitCode → Type 0
+UnitsStand program at number [] [] = Unit
+UnitsStand program at number (t ∷ ts) (u ∷ us) =
+    UnitStands program at number t u × UnitsStand program at (suc number) ts us
+UnitsStand program at number [] (u ∷ us) = ⊥
+UnitsStand program at number (t ∷ ts) [] = ⊥
 
 -- the code of a program, and where its labels stand
 pub record ProgramStands (t : TypedProgram) (p : Program) : Type 0 where
   pub at : Label → ℕ
-  pub units : UnitsStand t.units at t.units p.units
+  pub units : UnitsStand t.units at 0 t.units p.units
   pub main : p.main ≡ t.main
   pub greatest : p.greatest ≡ t.greatest

@@ -2,18 +2,17 @@
 -- recursion of a definition; the steps left are what the language counts, and go from one thing to the next.
 use Rattle.std.specs.Prelude.{ℕ, zero, suc, nat_eq, nat_lt, Bool, true, false, ◌&&◌, Option, Some, None}
 use Rattle.std.specs.Prelude.{if◌then◌else◌}
-use Rattle.pli_base.specs.Name.{Name}
-use Rattle.pli_code.specs.declared.ending.Ending.{Ending}
 use Rattle.pli_code.specs.declared.ending.RunError.TheVariants.{NoReturnedValue, TooManyActivations}
 use Rattle.pli_operation.specs.Operations.{is_true}
 use Rattle.pli_world.specs.Activations.{activation_limit}
+use Rattle.pli_world.specs.Ends.{RunEnd}
 use Rattle.pli_world.specs.World.{World, Answer, Yields, Raises, Wrong, height, at_statement, stepped}
 use Rattle.pli_world.specs.World.{left_by, cleared, error_at}
 use Rattle.pli_value.specs.Value.{Value, Bits}
 
--- a label: the name of its unit, as activations have it, and the number of its statement there
+-- a label: the number of its unit, as activations have it, and that of its statement there
 pub record Label : Type 0 where
-  pub unit : Name
+  pub unit : ℕ
   pub number : ℕ
 
 -- it gives a result and leaves so many steps; it jumps to a label of an activation, which is named by its
@@ -22,7 +21,7 @@ pub record Label : Type 0 where
 pub data Effect (A : Type 0) : Type 0 where
   Gives : (result : A) (world : World) (left : ℕ) → Effect A
   Jumps : (activation : ℕ) (label : Label) (world : World) (left : ℕ) → Effect A
-  Fails : (ending : Ending) (world : World) → Effect A
+  Fails : (ending : RunEnd) (world : World) → Effect A
   Spent : (world : World) → Effect A
   Lost : Effect A
   Short : Effect A

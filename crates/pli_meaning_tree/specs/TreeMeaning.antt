@@ -1,17 +1,18 @@
 -- Meaning: what a program of typed units does, by recursion on its trees (own). No instruction is mentioned.
 use Rattle.std.specs.Prelude.{ℕ, ℤ, zero, suc, nat_eq, Bool, true, false, ◌||◌, ◌&&◌, Option, Some, None}
+use Rattle.std.specs.Prelude.{option_map}
 use Rattle.std.specs.Prelude.{List, [], ◌∷◌, ◌++◌, length, map, slice_get, if◌then◌else◌}
 use Rattle.pli_base.specs.Name.{Name}
 use Rattle.pli_code.specs.declared.ending.Ending.{Ending}
-use Rattle.pli_code.specs.declared.ending.Ending.TheVariants.{Ended, OutOfSteps, Error, MachineFault}
+use Rattle.pli_code.specs.declared.ending.Ending.TheVariants as message
 use Rattle.pli_program.specs.Program.{is_external}
 use Rattle.pli_machine_step.specs.Runs.{Outcome, outcome_of}
 use Rattle.pli_operation.specs.Operations.{Operation, Add, Within, calculated}
-use Rattle.pli_world.specs.Activations.{nearest_of}
-use Rattle.pli_world.specs.Storage.{Place, field_of}
+use Rattle.pli_world.specs.Activations.{Head, nearest_of}
+use Rattle.pli_world.specs.Ends.{RunEnd, Ended, OutOfSteps, told}
+use Rattle.pli_world.specs.Storage.{Place}
 use Rattle.pli_world.specs.World.{World, Answer, Yields, known, further, nothing, height, held, stored}
-use Rattle.pli_world.specs.World.{copied, subscripted, calculation, entered, height_of, slot_place}
-use Rattle.pli_program.specs.Program.{Head}
+use Rattle.pli_world.specs.World.{copied, led_on, subscripted, calculation, entered, height_of, slot_place}
 use Rattle.pli_world.specs.World.{static_place, dummy_of, printed, line_ended, statics_made}
 use Rattle.pli_base.specs.Words.{same_name}
 use Rattle.pli_type_tree.specs.Globals.{global_variable}
@@ -98,7 +99,8 @@ module _ (greatest : ℕ) (call : Calls) where
     place_of (Whole root) w left = root_place root w left
     place_of (Part root offset description subscripts) w left =
         and_then (root_place root w left)
-        (λ p w left. element_at subscripts (field_of offset description p) w left)
+        (λ p w left. and_then (answered (led_on offset description p w) left)
+        (λ q w left. element_at subscripts q w left))
 
     -- each subscript is evaluated, and tested before the next one is evaluated
     pub element_at : Subscripts → Place → Doing Place
@@ -246,22 +248,22 @@ abbrev pub number_of : TypedStatement → ℕ
 number_of (Statement number form) = number
 
 -- a statement of a unit bears a label of the unit that has its number
-abbrev pub bears : (unit : Name) → TypedStatement → Label → Bool
-bears unit s label = same_name unit label.unit && nat_eq (number_of s) label.number
+abbrev pub bears : (unit : ℕ) → TypedStatement → Label → Bool
+bears unit s label = nat_eq unit label.unit && nat_eq (number_of s) label.number
 
 -- a list holds the labels of its own statements
-abbrev pub labels_in : (unit : Name) → TypedStatements → Label → Bool
+abbrev pub labels_in : (unit : ℕ) → TypedStatements → Label → Bool
 labels_in unit NoStatement label = false
 labels_in unit (StatementThen s more) label = bears unit s label || labels_in unit more label
 
 -- a list catches the jumps to its labels
-abbrev pub as_list : (level : ℕ) → (unit : Name) → TypedStatements → (Option Label → Doing Flow) → Doing Flow
+abbrev pub as_list : (level unit : ℕ) → TypedStatements → (Option Label → Doing Flow) → Doing Flow
 as_list level unit ss run = caught level (labels_in unit ss) run None
 
 -- blocks
 
 -- what an activation of a block begins with
-abbrev pub head_in : (unit : Name) → BlockHead → Head
+abbrev pub head_in : (unit : ℕ) → BlockHead → Head
 head_in unit head = record {
   unit = unit;
   block = head.number;
@@ -271,7 +273,7 @@ head_in unit head = record {
 
 -- the static link of a block: the nearest activation outward of the block around it, none for an external
 -- procedure
-abbrev pub static_link : (unit : Name) → (parent : Option ℕ) → World → Option ℕ
+abbrev pub static_link : (unit : ℕ) → (parent : Option ℕ) → World → Option ℕ
 static_link unit None w = Some 0
 static_link unit (Some parent) w = nearest_of unit parent w.activations (height w)
 
@@ -286,8 +288,8 @@ abbrev pub in_block : Head → (link : Option ℕ) → Doing Flow → Doing Flow
 in_block head None run w left = Lost
 in_block head (Some link) run w left = unless_full (activation_of head link [] run block_end) w left
 
--- statements, in a unit, at a level: what a turn, a jump or a call inside may do is the level below
-module _ (greatest : ℕ) (call : Calls) (unit : Name) (level : ℕ) where
+-- statements, in a unit of a number, at a level: what a turn, a jump or a call inside may do is the level below
+module _ (greatest : ℕ) (call : Calls) (unit level : ℕ) where
   abbrev mutual
     -- a statement in a block is a step and what its form says
     pub does : (block : ℕ) → TypedStatement → Doing Flow
@@ -345,7 +347,7 @@ module _ (greatest : ℕ) (call : Calls) (unit : Name) (level : ℕ) where
 -- procedures
 
 -- an activation of a procedure is a step, which is taken before its variables are made
-abbrev pub procedure_run : (greatest : ℕ) → Calls → (level : ℕ) → (unit : Name) → TypedProcedure → (link : ℕ)
+abbrev pub procedure_run : (greatest : ℕ) → Calls → (level unit : ℕ) → TypedProcedure → (link : ℕ)
     → List Place → Doing (Option Value)
 procedure_run greatest call level unit f link places =
     as_step
@@ -353,16 +355,16 @@ procedure_run greatest call level unit f link places =
     (does_list greatest call unit level f.head.number f.statements) (procedure_end f.function_end))
 
 -- a call, with as many arguments as there are parameters; the limit of activations is tested before the step
-abbrev pub activates_in : (greatest : ℕ) → Calls → (level : ℕ) → (unit : Name) → TypedProcedure
-    → (link : Option ℕ) → List Place → Doing (Option Value)
+abbrev pub activates_in : (greatest : ℕ) → Calls → (level unit : ℕ) → TypedProcedure → (link : Option ℕ)
+    → List Place → Doing (Option Value)
 activates_in greatest call level unit f None places w left = Lost
 activates_in greatest call level unit f (Some link) places w left =
     if nat_eq f.parameters (length places)
     then unless_full (procedure_run greatest call level unit f link places) w left else Lost
 
 -- a call of a procedure of the unit, if it is there, by its static link
-abbrev pub activates : (greatest : ℕ) → Calls → (level : ℕ) → (unit : Name) → Option TypedProcedure
-    → List Place → Doing (Option Value)
+abbrev pub activates : (greatest : ℕ) → Calls → (level unit : ℕ) → Option TypedProcedure → List Place
+    → Doing (Option Value)
 activates greatest call level unit None places w left = Lost
 activates greatest call level unit (Some f) places w left =
     activates_in greatest call level unit f (static_link unit f.parent w) places w left
@@ -372,54 +374,62 @@ abbrev pub procedure_in : List TypedProcedure → (block : ℕ) → Option Typed
 procedure_in [] block = None
 procedure_in (f ∷ fs) block = if nat_eq f.head.number block then Some f else procedure_in fs block
 
--- the unit whose external procedure has a name: of several, the first
-abbrev pub unit_named : List TypedUnit → (procedure : Name) → Option TypedUnit
+-- the number of the unit whose external procedure has a name: of several, the first
+abbrev pub unit_named : List TypedUnit → (procedure : Name) → Option ℕ
 unit_named [] name = None
-unit_named (u ∷ us) name = if same_name u.procedure name then Some u else unit_named us name
+unit_named (u ∷ us) name =
+    if same_name u.procedure name then Some 0 else option_map suc (unit_named us name)
 
--- the unit of an entry
-abbrev pub entry_unit : List TypedUnit → Option Global → Option TypedUnit
+-- that of the unit of an entry
+abbrev pub entry_unit : List TypedUnit → Option Global → Option ℕ
 entry_unit us (Some (EntryPoint name signature)) = unit_named us name
 entry_unit us g = None
 
 -- a call of the external procedure of a unit: it is block 0 there and stands in no block
-abbrev pub activates_outer : (greatest : ℕ) → Calls → (level : ℕ) → (unit : Name) → Option TypedProcedure
-    → List Place → Doing (Option Value)
+abbrev pub activates_outer : (greatest : ℕ) → Calls → (level unit : ℕ) → Option TypedProcedure → List Place
+    → Doing (Option Value)
 activates_outer greatest call level unit None places w left = Lost
 activates_outer greatest call level unit (Some f) places w left =
     if is_external f.parent then activates_in greatest call level unit f (Some 0) places w left else Lost
 
--- a call of the external procedure of a unit, if it is there
-abbrev pub activates_unit : (greatest : ℕ) → (call : TypedUnit → Calls) → (level : ℕ) → Option TypedUnit
-    → List Place → Doing (Option Value)
-activates_unit greatest call level None places w left = Lost
-activates_unit greatest call level (Some u) places w left =
-    activates_outer greatest (call u) level u.name (procedure_in u.procedures 0) places w left
+-- a call of the external procedure of the unit of a number, if it is there
+abbrev pub activates_unit : (greatest : ℕ) → (call : (unit : ℕ) → TypedUnit → Calls) → (level unit : ℕ)
+    → Option TypedUnit → List Place → Doing (Option Value)
+activates_unit greatest call level unit None places w left = Lost
+activates_unit greatest call level unit (Some u) places w left =
+    activates_outer greatest (call unit u) level unit (procedure_in u.procedures 0) places w left
 
--- a call that stands in a unit of a program
-abbrev pub called_in : (greatest : ℕ) → List TypedUnit → (call : TypedUnit → Calls) → (level : ℕ) → TypedUnit
-    → Callee → List Place → Doing (Option Value)
-called_in greatest us call level u (OfBlock block) places w left =
-    activates greatest (call u) level u.name (procedure_in u.procedures block) places w left
-called_in greatest us call level u (OfEntry number) places w left =
-    activates_unit greatest call level (entry_unit us (slice_get u.globals number)) places w left
+-- a call of the one of an entry
+abbrev pub activates_entry : (greatest : ℕ) → List TypedUnit → (call : (unit : ℕ) → TypedUnit → Calls)
+    → (level : ℕ) → (unit : Option ℕ) → List Place → Doing (Option Value)
+activates_entry greatest us call level None places w left = Lost
+activates_entry greatest us call level (Some unit) places w left =
+    activates_unit greatest call level unit (slice_get us unit) places w left
+
+-- a call that stands in the unit of a number of a program
+abbrev pub called_in : (greatest : ℕ) → List TypedUnit → (call : (unit : ℕ) → TypedUnit → Calls)
+    → (level unit : ℕ) → TypedUnit → Callee → List Place → Doing (Option Value)
+called_in greatest us call level unit u (OfBlock block) places w left =
+    activates greatest (call unit u) level unit (procedure_in u.procedures block) places w left
+called_in greatest us call level unit u (OfEntry number) places w left =
+    activates_entry greatest us call level (entry_unit us (slice_get u.globals number)) places w left
 
 -- the calls that stand in a unit, at a level: what is called inside may do is the level below
-abbrev pub calls : (greatest : ℕ) → List TypedUnit → (level : ℕ) → TypedUnit → Calls
-calls greatest us zero u = record { procedure = λ callee places w left. Short }
-calls greatest us (suc level) u =
-    record { procedure = called_in greatest us (calls greatest us level) level u }
+abbrev pub calls : (greatest : ℕ) → List TypedUnit → (level unit : ℕ) → TypedUnit → Calls
+calls greatest us zero unit u = record { procedure = λ callee places w left. Short }
+calls greatest us (suc level) unit u =
+    record { procedure = called_in greatest us (calls greatest us level) level unit u }
 
 -- programs
 
--- the variables of all units that are made before the program begins
-abbrev pub all_made : List TypedUnit → World → Answer Unit
-all_made [] w = Yields tt w
-all_made (u ∷ us) w =
-    further (statics_made u.name 0 (map global_variable u.globals) w) (λ _ w. all_made us w)
+-- the variables of units, numbered from one on, that are made before the program begins
+abbrev pub all_made : (unit : ℕ) → List TypedUnit → World → Answer Unit
+all_made unit [] w = Yields tt w
+all_made unit (u ∷ us) w =
+    further (statics_made unit 0 (map global_variable u.globals) w) (λ _ w. all_made (suc unit) us w)
 
 -- the main procedure has no parameters and stands in no block
-abbrev pub main_run : (greatest : ℕ) → Calls → (level : ℕ) → (unit : Name) → Option TypedProcedure
+abbrev pub main_run : (greatest : ℕ) → Calls → (level unit : ℕ) → Option TypedProcedure
     → Doing (Option Value)
 main_run greatest call level unit None w left = Lost
 main_run greatest call level unit (Some f) w left =
@@ -427,38 +437,44 @@ main_run greatest call level unit (Some f) w left =
     then procedure_run greatest call level unit f 0 [] w left else Lost
 
 -- the main unit runs, if it is there
-abbrev pub unit_run : (greatest : ℕ) → (call : TypedUnit → Calls) → (level : ℕ) → Option TypedUnit
-    → Doing (Option Value)
-unit_run greatest call level None w left = Lost
-unit_run greatest call level (Some u) w left =
-    main_run greatest (call u) level u.name (procedure_in u.procedures 0) w left
+abbrev pub unit_run : (greatest : ℕ) → (call : (unit : ℕ) → TypedUnit → Calls) → (level unit : ℕ)
+    → Option TypedUnit → Doing (Option Value)
+unit_run greatest call level unit None w left = Lost
+unit_run greatest call level unit (Some u) w left =
+    main_run greatest (call unit u) level unit (procedure_in u.procedures 0) w left
 
 -- what a program does with so many steps, at one level more than steps: the variables that are made once,
 -- and then block 0 of the main unit
 abbrev pub run_effect : TypedProgram → (steps : ℕ) → Effect (Option Value)
 run_effect p n =
-    and_then (answered (all_made p.units nothing) n)
+    and_then (answered (all_made 0 p.units nothing) n)
     (λ _ w left.
-    unit_run p.greatest (calls p.greatest p.units (suc n)) (suc n) (slice_get p.units p.main) w left)
+    unit_run p.greatest (calls p.greatest p.units (suc n)) (suc n) p.main (slice_get p.units p.main) w left)
 
--- an end that a program may come to: not the machine's fault
-abbrev pub ended_as : Ending → World → Option Outcome
-ended_as (Error e unit s) w = Some (outcome_of (Error e unit s) w)
-ended_as Ended w = Some (outcome_of Ended w)
-ended_as OutOfSteps w = Some (outcome_of OutOfSteps w)
-ended_as MachineFault w = None
+-- the names of its units
+abbrev pub unit_names : List TypedUnit → List Name
+unit_names us = map (λ u. u.name) us
+
+-- an outcome that a program may have: it does not end by the machine's fault
+abbrev pub unless_fault : Ending → Outcome → Option Outcome
+unless_fault message.MachineFault o = None
+unless_fault e o = Some o
+
+-- that of an end in a world
+abbrev pub ended_as : (names : List Name) → RunEnd → World → Option Outcome
+ended_as names e w = unless_fault (told names e) (outcome_of names e w)
 
 -- how a run has ended, if it has a meaning: it gives no value, it does not jump out of the program, it is not
 -- lost, and the level was high enough
-abbrev pub ran : Effect (Option Value) → Option Outcome
-ran (Gives None w left) = Some (outcome_of Ended w)
-ran (Gives (Some v) w left) = None
-ran (Jumps h k w left) = None
-ran (Fails e w) = ended_as e w
-ran (Spent w) = Some (outcome_of OutOfSteps w)
-ran Lost = None
-ran Short = None
+abbrev pub ran : (names : List Name) → Effect (Option Value) → Option Outcome
+ran names (Gives None w left) = Some (outcome_of names Ended w)
+ran names (Gives (Some v) w left) = None
+ran names (Jumps h k w left) = None
+ran names (Fails e w) = ended_as names e w
+ran names (Spent w) = Some (outcome_of names OutOfSteps w)
+ran names Lost = None
+ran names Short = None
 
 -- Whole run: the output, the ending and the next column
 abbrev pub whole_run : TypedProgram → (steps : ℕ) → Option Outcome
-whole_run p n = ran (run_effect p n)
+whole_run p n = ran (unit_names p.units) (run_effect p n)

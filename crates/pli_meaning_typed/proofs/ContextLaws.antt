@@ -4,8 +4,6 @@ use Rattle.std.specs.Prelude.{List, [], ◌∷◌, ◌++◌, ◌⊎◌, length, 
 use Rattle.std.specs.List.{list_any}
 use Rattle.std.proofs.Common.{arith, sym, ap, ◌∙◌, subst, inl, inr}
 use Rattle.std.proofs.lemmas.Bool.{eqb-true, eq-eqb}
-use Rattle.pli_base.specs.Name.{Name}
-use Rattle.pli_base.specs.Words.{same_name}
 use Rattle.pli_code.specs.declared.ending.RunError.TheVariants.{NoGeneration}
 use Rattle.pli_map.specs.Description.{Description}
 use Rattle.pli_world.specs.Activations.{Activation, activation_at, outward_from, nearest_of, is_of}
@@ -24,12 +22,12 @@ abbrev pub Known : Type 0
 Known = (activation : ℕ) → Label → Bool
 
 -- the labels of a unit that have these numbers
-abbrev pub AreKnown : (unit : Name) → Known → (activation : ℕ) → List ℕ → Type 0
+abbrev pub AreKnown : (unit : ℕ) → Known → (activation : ℕ) → List ℕ → Type 0
 AreKnown unit known h labels =
     (number : ℕ) → IsTrue (list_any (nat_eq number) labels) → IsTrue (known h (record { unit = unit; number = number }))
 
 -- from the activation of a height on, along static links, stand the blocks of a context, which are of a unit
-abbrev pub Stand : (unit : Name) → Known → List Shape → (height : ℕ) → List BlockAround → Type 0
+abbrev pub Stand : (unit : ℕ) → Known → List Shape → (height : ℕ) → List BlockAround → Type 0
 Stand unit known [] h [] = Unit {0}
 Stand unit known [] h (b ∷ bs) = ⊥
 Stand unit known (s ∷ older) h [] = Unit {0}
@@ -51,10 +49,6 @@ unequal n m lt = by (nat_eq n m) refl
     by true e = absurd (omega (arith, eqb-true n m e, lt))
     by false e = refl
 
-pub same_self : (n : Name) → same_name n n ≡ true
-same_self [] = refl
-same_self (c ∷ cs) = ap (λ b. b && same_name cs cs) (eq-eqb c c refl) ∙ same_self cs
-
 pub shaped_length : (w : World) (ss : List Shape) (stack : List Activation) → AreShaped w ss stack
     → length stack ≡ length ss
 shaped_length w [] [] h = refl
@@ -63,7 +57,7 @@ shaped_length w (s ∷ ss) [] h = absurd h
 shaped_length w (s ∷ ss) (a ∷ older) h = ap (λ n. suc n) (shaped_length w ss older h.4)
 
 -- the activation of a block outward
-pub record Found (unit : Name) (known : Known) (w : World) (stack : List Activation) (from outward : ℕ) (b : BlockAround) : Type 0 where
+pub record Found (unit : ℕ) (known : Known) (w : World) (stack : List Activation) (from outward : ℕ) (b : BlockAround) : Type 0 where
   pub height : ℕ
   pub activation : Activation
   pub walked : outward_from stack from outward ≡ Some height
@@ -73,7 +67,7 @@ pub record Found (unit : Name) (known : Known) (w : World) (stack : List Activat
   pub below : height ≤ length stack
 
 -- behind an activation more
-found_older : (unit : Name) (known : Known) (w : World) (a : Activation) (older : List Activation) (from outward : ℕ) (b : BlockAround)
+found_older : (unit : ℕ) (known : Known) (w : World) (a : Activation) (older : List Activation) (from outward : ℕ) (b : BlockAround)
     → from ≤ length older → Found unit known w older from outward b → Found unit known w (a ∷ older) from outward b
 found_older unit known w a older from zero b le f = record {
   height = f.height;
@@ -95,7 +89,7 @@ found_older unit known w a older from (suc outward) b le f = record {
 }
 
 -- along a link
-found_along : (unit : Name) (known : Known) (w : World) (a : Activation) (older : List Activation) (from outward : ℕ) (b : BlockAround)
+found_along : (unit : ℕ) (known : Known) (w : World) (a : Activation) (older : List Activation) (from outward : ℕ) (b : BlockAround)
     → from ≡ suc (length older) → Found unit known w older a.link outward b → Found unit known w (a ∷ older) from (suc outward) b
 found_along unit known w a older from outward b e f = record {
   height = f.height;
@@ -107,7 +101,7 @@ found_along unit known w a older from outward b e f = record {
   below = omega (arith, f.below);
 }
 
-module _ (unit : Name) (known : Known) (w : World) where
+module _ (unit : ℕ) (known : Known) (w : World) where
   pub find : (ss : List Shape) (stack : List Activation) (h : ℕ) (blocks : List BlockAround) (outward : ℕ) (b : BlockAround)
       → AreShaped w ss stack → Stand unit known ss h blocks → slice_get blocks outward ≡ Some b → Found unit known w stack h outward b
   find [] stack h [] outward b shaped stand e = absurd (none_some e)
@@ -137,19 +131,19 @@ module _ (unit : Name) (known : Known) (w : World) where
       (subst (λ l. Found unit known w older l n b) (sym shaped.2) (find ss older s.link cs n b shaped.4 stand.4 e))
 
 -- with an activation more
-raised : (unit : Name) (known : Known) (s : Shape) (ss : List Shape) (h : ℕ) (blocks : List BlockAround) → h ≤ length ss → Stand unit known ss h blocks
+raised : (unit : ℕ) (known : Known) (s : Shape) (ss : List Shape) (h : ℕ) (blocks : List BlockAround) → h ≤ length ss → Stand unit known ss h blocks
     → Stand unit known (s ∷ ss) h blocks
 raised unit known s ss h [] le stand = tt
 raised unit known s ss h (b ∷ bs) le stand = inl (le, stand)
 
 -- the nearest activation of a block
-pub record Near (unit : Name) (known : Known) (ss : List Shape) (stack : List Activation) (from parent : ℕ) (blocks : List BlockAround) : Type 0 where
+pub record Near (unit : ℕ) (known : Known) (ss : List Shape) (stack : List Activation) (from parent : ℕ) (blocks : List BlockAround) : Type 0 where
   pub link : ℕ
   pub walked : nearest_of unit parent stack from ≡ Some link
   pub stand : Stand unit known ss link blocks
   pub below : link ≤ length ss
 
-near_older : (unit : Name) (known : Known) (s : Shape) (ss : List Shape) (a : Activation) (older : List Activation)
+near_older : (unit : ℕ) (known : Known) (s : Shape) (ss : List Shape) (a : Activation) (older : List Activation)
     (from parent : ℕ) (blocks : List BlockAround) → from < suc (length older)
     → Near unit known ss older from parent blocks → Near unit known (s ∷ ss) (a ∷ older) from parent blocks
 near_older unit known s ss a older from parent blocks lt n = record {
@@ -161,10 +155,10 @@ near_older unit known s ss a older from parent blocks lt n = record {
   below = omega (arith, n.below);
 }
 
-module _ (unit : Name) (known : Known) (w : World) where
+module _ (unit : ℕ) (known : Known) (w : World) where
   is_this : (a : Activation) (parent : ℕ) (b : Bool) → a.unit ≡ unit → nat_eq a.block parent ≡ b → is_of unit parent a ≡ b
   is_this a parent b e f =
-      ap (λ c. c && nat_eq a.block parent) (ap (λ n. same_name n unit) e ∙ same_self unit) ∙ f
+      ap (λ c. c && nat_eq a.block parent) (eq-eqb a.unit unit e) ∙ f
 
   pub near : (ss : List Shape) (stack : List Activation) (h parent : ℕ) (blocks found : List BlockAround)
       → AreShaped w ss stack → Stand unit known ss h blocks → blocks_from parent blocks ≡ Some found
@@ -210,7 +204,7 @@ module _ (unit : Name) (known : Known) (w : World) where
           }
 
 -- the blocks around a procedure
-pub stand_around : (unit : Name) (known : Known) (ss : List Shape) (h : ℕ) (blocks around : List BlockAround) → AreAround blocks around
+pub stand_around : (unit : ℕ) (known : Known) (ss : List Shape) (h : ℕ) (blocks around : List BlockAround) → AreAround blocks around
     → Stand unit known ss h blocks → Stand unit known ss h around
 stand_around unit known [] h [] [] same stand = tt
 stand_around unit known [] h [] (c ∷ cs) same stand = absurd same
@@ -238,7 +232,7 @@ in_either label (l ∷ ls) more h = by (nat_eq label l) h (in_either label ls mo
     by true h rest = inl refl
     by false h rest = rest h
 
-pub stand_wider : (unit : Name) (known more : Known) (ss : List Shape) (h : ℕ) (blocks : List BlockAround) → Wider known more
+pub stand_wider : (unit : ℕ) (known more : Known) (ss : List Shape) (h : ℕ) (blocks : List BlockAround) → Wider known more
     → Stand unit known ss h blocks → Stand unit more ss h blocks
 stand_wider unit known more [] h [] wide stand = tt
 stand_wider unit known more [] h (b ∷ bs) wide stand = absurd stand
@@ -247,7 +241,7 @@ stand_wider unit known more (s ∷ ss) h (b ∷ bs) wide (inl stand) = inl (stan
 stand_wider unit known more (s ∷ ss) h (b ∷ bs) wide (inr stand) =
     inr (stand.0, stand.1, stand.2, λ n k. wide h (record { unit = unit; number = n }) (stand.3 n k), stand_wider unit known more ss s.link bs wide stand.4, stand.5)
 
-pub stand_labels : (unit : Name) (known more : Known) (labels : List ℕ) (ss : List Shape) (h : ℕ) (blocks : List BlockAround) → Wider known more
+pub stand_labels : (unit : ℕ) (known more : Known) (labels : List ℕ) (ss : List Shape) (h : ℕ) (blocks : List BlockAround) → Wider known more
     → AreKnown unit more h labels → Stand unit known ss h blocks → Stand unit more ss h (with_labels labels blocks)
 stand_labels unit known more labels [] h [] wide new stand = tt
 stand_labels unit known more labels [] h (b ∷ bs) wide new stand = absurd stand
@@ -269,7 +263,7 @@ good_at w (c ∷ ds) [] n d good e = absurd good
 good_at w (c ∷ ds) (p ∷ ps) zero d good e = (p, refl, subst (λ c. IsGood w c p) (some_same e) good.0)
 good_at w (c ∷ ds) (p ∷ ps) (suc n) d good e = good_at w ds ps n d good.1 e
 
-module _ (unit : Name) (units : List TypedUnit) (known : Known) (ss : List Shape) (blocks : List BlockAround) where
+module _ (unit : ℕ) (units : List TypedUnit) (known : Known) (ss : List Shape) (blocks : List BlockAround) where
   walked_to : (w : World) (outward : ℕ) (b : BlockAround) → IsSound units ss w → Stand unit known ss (length ss) blocks
       → slice_get blocks outward ≡ Some b → Found unit known w w.activations (height w) outward b
   walked_to w outward b sound stand e =
@@ -300,32 +294,30 @@ first_unit : (w : World) (s : Shape) (ss : List Shape) (stack : List Activation)
 first_unit w s ss [] h = absurd h
 first_unit w s ss (a ∷ older) h = ap (λ n. Some n) h.0
 
--- a unit of a program, of a name and with these globals
-pub record IsUnit (units : List TypedUnit) (name : Name) (globals : List Global) : Type 0 where
-  pub number : ℕ
+-- a unit of a program, of a number and with these globals
+pub record IsUnit (units : List TypedUnit) (number : ℕ) (globals : List Global) : Type 0 where
   pub unit : TypedUnit
   pub there : slice_get units number ≡ Some unit
-  pub named : unit.name ≡ name
   pub has : unit.globals ≡ globals
 
-pub static_answers : (units : List TypedUnit) (unit : Name) (globals : List Global) (s : Shape) (ss : List Shape) (w : World) (number : ℕ) (d : Description)
+pub static_answers : (units : List TypedUnit) (unit : ℕ) (globals : List Global) (s : Shape) (ss : List Shape) (w : World) (number : ℕ) (d : Description)
     → IsUnit units unit globals → s.unit ≡ unit → IsSound units (s ∷ ss) w → description_of (slice_get globals number) ≡ Some d
-    → Answers (λ p v. IsGood v d p × IsSound units (s ∷ ss) v × IsLater w v) (static_place number w)
+    → Answers units (λ p v. IsGood v d p × IsSound units (s ∷ ss) v × IsLater w v) (static_place number w)
 unfolding static_place
 static_answers units unit globals s ss w number d own top sound e =
-    let t = sound.made own.number own.unit own.there number d (ap (λ gs. description_of (slice_get gs number)) own.has ∙ e) in
-    subst (λ o. Answers Good o)
+    let t = sound.made unit own.unit own.there number d (ap (λ gs. description_of (slice_get gs number)) own.has ∙ e) in
+    subst (λ o. Answers units Good o)
     (sym (ap (λ o. further (there_is o w) (λ unit w. further (there_is (static_in w.statics unit number) w) place_standing)) (first_unit w s ss w.activations sound.stack)
-    ∙ ap (λ n. further (there_is (static_in w.statics n number) w) place_standing) (top ∙ sym own.named) ∙ ap (λ o. further (there_is o w) place_standing) t.1))
+    ∙ ap (λ n. further (there_is (static_in w.statics n number) w) place_standing) top ∙ ap (λ o. further (there_is o w) place_standing) t.1))
     (placed t.0 t.2)
   where
     Good : Place → World → Type 0
     Good p v = IsGood v d p × IsSound units (s ∷ ss) v × IsLater w v
 
-    newest : (ps : List Place) → EachGood w d ps → Answers Good (newest_in ps w)
+    newest : (ps : List Place) → EachGood w d ps → Answers units Good (newest_in ps w)
     newest [] good = error_named units s ss w NoGeneration sound
     newest (p ∷ ps) good = (good.0, sound, later_same w)
 
-    placed : (t : Standing) → StandsGood w d t → Answers Good (place_standing t w)
+    placed : (t : Standing) → StandsGood w d t → Answers units Good (place_standing t w)
     placed (Lies p) good = (good, sound, later_same w)
-    placed (Stacked list) good = subst (λ o. Answers Good (further (there_is o w) newest_in)) (sym good.1) (newest good.0 good.2)
+    placed (Stacked list) good = subst (λ o. Answers units Good (further (there_is o w) newest_in)) (sym good.1) (newest good.0 good.2)

@@ -1,7 +1,7 @@
 -- The worked examples are well-typed.
 use Rattle.std.specs.Prelude.{◌≡◌, ℕ, zero, suc, nat_eq, Bool, true, false, pos, Option, Some, None, List, [], ◌∷◌, slice_get, codes, if◌then◌else◌, refl}
 use Rattle.std.proofs.Common.{arith, sym, ap, ◌∙◌, subst, inl}
-use Rattle.std.proofs.lemmas.Bool.{eqb-true}
+use Rattle.std.proofs.lemmas.Bool.{eqb-true, leb-true}
 use Rattle.pli_operation.specs.Operations.{Fit}
 use Rattle.pli_base.specs.Name.{Name}
 use Rattle.pli_type_tree.specs.Templates.{Template}
@@ -97,7 +97,7 @@ caller_typed = (
 )
 
 caller_is : IsTypedProcedure 31 [] signatures of_caller caller
-caller_is = record { parent = refl; parameters = refl; end = tt; made = ((refl, tt), tt); statements = caller_typed }
+caller_is = record { parent = refl; parameters = refl; end = tt; made = ((leb-true 4 1000000 refl, (refl, tt)), tt); statements = caller_typed }
 
 successor_is : IsTypedProcedure 31 [] signatures of_successor successor
 successor_is = record { parent = refl; parameters = refl; end = tt; made = tt; statements = successor_typed }
@@ -130,7 +130,6 @@ pub example_is : ExampleIsWellTyped
 unfolding unit_is
 example_is = record {
   units = (unit_is, tt);
-  names = (tt, tt);
   bytes = omega arith;
   count = omega arith;
   linked = record { entries = λ i name s e. absurd (none_some e); variables = λ i j name t o e f. absurd (none_some e) };
@@ -201,7 +200,7 @@ asking_typed : IsTypedUnit 31 asking_unit
 asking_typed = record {
   procedures = alone known_asker;
   outer = refl;
-  made = ((refl, tt), tt);
+  made = ((leb-true 4 1000000 refl, (refl, tt)), tt);
   typed = λ n q e. lone known_asker asker asking_unit.globals refl refl (record {
     parent = refl;
     parameters = refl;
@@ -226,7 +225,7 @@ answering_typed : IsTypedUnit 31 answering_unit
 answering_typed = record {
   procedures = alone known_answerer;
   outer = refl;
-  made = ((refl, tt), tt);
+  made = ((leb-true 4 1000000 refl, (refl, tt)), tt);
   typed = λ n q e. lone known_answerer answerer answering_unit.globals refl refl (record {
     parent = refl;
     parameters = refl;
@@ -255,11 +254,10 @@ variable_is (suc (suc (suc i))) name t e = absurd (none_some e)
 pub units_are : UnitsAreWellTyped
 units_are = record {
   units = (asking_typed, (answering_typed, tt));
-  names = ((refl, tt), (tt, tt));
   linked =
       record {
         entries = λ i name s e. let n = entry_is i name s e in
-            (answering_unit, ap (unit_named (asking_unit ∷ answering_unit ∷ [])) (sym n.0), n.1);
+            (1, ap (unit_named (asking_unit ∷ answering_unit ∷ [])) (sym n.0), (answering_unit, refl, n.1));
         variables = λ i j name t other e f. sym (variable_is i name t e) ∙ variable_is j name other f;
       };
   bytes = omega arith;

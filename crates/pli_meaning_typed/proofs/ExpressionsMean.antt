@@ -3,15 +3,16 @@ use Rattle.std.specs.Prelude.{◌≡◌, ℕ, suc, ◌+◌, ◌*◌, ◌≤◌, 
 use Rattle.std.specs.Prelude.{List, [], ◌∷◌, length, slice_get, ◌==◌, if◌then◌else◌, refl}
 use Rattle.std.proofs.Common.{arith, sym, ap, ◌∙◌, subst, add_assoc, ltb-true, lt-ltb, leb-true, le-leb}
 use Rattle.std.proofs.lemmas.Bool.{eqb-true, eq-eqb}
+use Rattle.std.proofs.lemmas.Int.{ints}
 use Rattle.std.proofs.Common.{pow_mono, lt_of_lt_of_le}
-use Rattle.pli_base.specs.Name.{Name}
 use Rattle.pli_code.specs.declared.ending.RunError.TheVariants.{SubscriptRange, FixedOverflow, ZeroDivide, StringRange}
 use Rattle.pli_map.specs.Description.{Description, FixedBinary, Character, Varying, Bit}
 use Rattle.pli_map.specs.Scalars.{first_scalar, is_scalar}
 use Rattle.pli_operation.specs.Operations.{Operation, Calculation, Calculates, RaisesCondition, OutOfString, Misfits, calculated}
-use Rattle.pli_world.specs.Storage.{Generation, Place, field_of, generation_in}
+use Rattle.pli_world.specs.Storage.{Generation, Place, field_of, generation_in, offset_limit}
 use Rattle.pli_map.specs.Values.{holds}
-use Rattle.pli_world.specs.World.{World, Answer, Yields, Raises, Wrong, held, slot_place, static_place, calculation, dummy_of}
+use Rattle.pli_world.specs.World.{World, Answer, Yields, Raises, Wrong, held, led_on, slot_place, static_place, calculation, dummy_of}
+use Rattle.pli_world.specs.laws.OperationLaws.{led_near}
 use Rattle.pli_value.specs.Value.{Value, Number, Characters, Bits}
 use Rattle.pli_value.specs.declared.number.Raised.TheVariants as raised
 use Rattle.pli_type_tree.specs.TypedTree.{Root, InSlot, OfProgram, Callee, Global, TypedUnit, Stride, TypedExpression, Literal, Held, Calculated, Called, TypedReference}
@@ -23,7 +24,7 @@ use Rattle.pli_map.specs.Scalars.{scalars_of}
 use Rattle.pli_type_tree.specs.WellTyped.{AreSubscripts, ArePassed}
 use Rattle.pli_meaning_tree.specs.Effects.{Effect, Doing, and_then, answered}
 use Rattle.pli_meaning_tree.specs.TreeMeaning.{Calls, a_value, in_order, root_place, element_of, value_of, operated, place_of, element_at, called_with}
-use Rattle.pli_meaning_typed.specs.SoundWorlds.{IsPartAt, IsGood, AreGood, Shape, IsSound, IsLater, Answers}
+use Rattle.pli_meaning_typed.specs.SoundWorlds.{IsPartAt, IsNear, IsGood, AreGood, Shape, IsSound, IsLater, Answers}
 use Rattle.pli_meaning_typed.proofs.MeansLemmas.{IsBelow, Means, then_means, answer_means}
 use Rattle.pli_meaning_typed.proofs.OperationsFit.{IsCalculated, operated_fits}
 use Rattle.pli_meaning_typed.proofs.PartsWithin.{parts_within}
@@ -108,7 +109,7 @@ abbrev pub Gives : Option Description → Option Value → World → Type 0
 Gives d v w = IsReturned d v
 
 -- what is called means something
-pub record CallsMean (units : List TypedUnit) (unit : Name) (globals : List Global) (procedures : ℕ → Option KnownProcedure) (level : ℕ) (call : Calls) : Type 0 where
+pub record CallsMean (units : List TypedUnit) (unit : ℕ) (globals : List Global) (procedures : ℕ → Option KnownProcedure) (level : ℕ) (call : Calls) : Type 0 where
   pub procedure :
       (callee : Callee) (parameters : List Description) (value : Option Description) (known : Known) (x : Shape) (ss : List Shape) (blocks : List BlockAround)
       → IsCallee globals procedures blocks callee parameters value
@@ -117,7 +118,7 @@ pub record CallsMean (units : List TypedUnit) (unit : Name) (globals : List Glob
       → Means units level left known (x ∷ ss) w (Gives value) (call.procedure callee places w left)
 
 -- a part of a unit's text, which the newest activation runs
-pub record IsInside (units : List TypedUnit) (unit : Name) (globals : List Global) (x : Shape) : Type 0 where
+pub record IsInside (units : List TypedUnit) (unit : ℕ) (globals : List Global) (x : Shape) : Type 0 where
   pub own : IsUnit units unit globals
   pub top : x.unit ≡ unit
 
@@ -135,26 +136,38 @@ ordered_good w [] ds (p ∷ before) ps h g = absurd h
 ordered_good w (d ∷ done) ds [] ps h g = absurd h
 ordered_good w (d ∷ done) ds (p ∷ before) ps h g = ordered_good w done (d ∷ ds) before (p ∷ ps) h.1 (h.0, g)
 
--- a place on the way to a part
+-- a place on the way to a part: so many bytes behind where the whole stands
 record IsOn (w : World) (whole : Description) (offset : ℕ) (d : Description) (p : Place) : Type 0 where
   was_made : p.generation < w.made
   outside : p.position ≡ 0
   described : p.description ≡ d
-  part : (g : Generation) → generation_in w.storage p.generation ≡ Some g
-      → (base : ℕ) × IsPartAt g.description base whole × (p.offset ≡ base + offset)
+  base : ℕ
+  at : p.offset ≡ base + offset
+  near : IsNear base whole
+  part : (g : Generation) → generation_in w.storage p.generation ≡ Some g → IsPartAt g.description base whole
 
 on_later : (v w : World) (whole : Description) (offset : ℕ) (d : Description) (p : Place) → IsLater v w → IsOn v whole offset d p → IsOn w whole offset d p
 on_later v w whole offset d p later h = record {
   was_made = omega (arith, h.was_made, later.more);
   outside = h.outside;
   described = h.described;
+  base = h.base;
+  at = h.at;
+  near = h.near;
   part = λ x e. let old = later.lived p.generation x h.was_made e in
-      let b = h.part old.0 old.1 in (b.0, subst (λ e. IsPartAt e b.0 whole) old.2 b.1, b.2);
+      subst (λ e. IsPartAt e h.base whole) old.2 (h.part old.0 old.1);
 }
 
 on_first : (w : World) (whole : Description) (offset : ℕ) (d : Description) (p : Place) → IsGood w whole p → IsOn w whole offset d (field_of offset d p)
-on_first w whole offset d p h =
-    record { was_made = h.was_made; outside = h.outside; described = refl; part = λ g e. (p.offset, h.part g e, refl) }
+on_first w whole offset d p h = record {
+  was_made = h.was_made;
+  outside = h.outside;
+  described = refl;
+  base = p.offset;
+  at = refl;
+  near = h.near;
+  part = h.part;
+}
 
 on_next : (w : World) (whole : Description) (offset more : ℕ) (d : Description) (p : Place) → IsOn w whole offset d p
     → IsOn w whole (offset + more) d (field_of more p.description p)
@@ -162,7 +175,10 @@ on_next w whole offset more d p h = record {
   was_made = h.was_made;
   outside = h.outside;
   described = h.described;
-  part = λ g e. let b = h.part g e in (b.0, b.1, ap (λ n. n + more) b.2 ∙ add_assoc b.0 offset more);
+  base = h.base;
+  at = ap (λ n. n + more) h.at ∙ add_assoc h.base offset more;
+  near = h.near;
+  part = h.part;
 }
 
 on_last : (w : World) (whole : Description) (offset k : ℕ) (d : Description) (p : Place) → first_scalar whole offset d ≡ Some k
@@ -171,14 +187,32 @@ on_last w whole offset k d p f h = record {
   was_made = h.was_made;
   outside = h.outside;
   described = h.described;
-  part = λ g e. let b = h.part g e in
-      subst (λ n. IsPartAt g.description n d) (sym b.2)
+  near = λ more c j i. let inner = parts_within whole offset d k f more c j i in
+      let outer = h.near (offset + more) c inner.0 inner.1 in
+      omega (arith, h.at, outer);
+  part = λ g e. subst (λ n. IsPartAt g.description n d) (sym h.at)
       (λ more c j i. let inner = parts_within whole offset d k f more c j i in
-      let outer = b.1 (offset + more) c inner.0 inner.1 in
-      (outer.0, subst (λ n. first_scalar g.description n c ≡ Some outer.0) (sym (add_assoc b.0 offset more)) outer.1));
+      let outer = h.part g e (offset + more) c inner.0 inner.1 in
+      (outer.0, subst (λ n. first_scalar g.description n c ≡ Some outer.0) (sym (add_assoc h.base offset more)) outer.1));
 }
 
-module _ (units : List TypedUnit) (greatest level : ℕ) (call : Calls) (unit : Name) (s : TypingContext) (known : Known) (x : Shape) (ss : List Shape)
+-- where the subscripts that are still to come are the lowest, there is a part, also before them
+abbrev IsReached : (whole : Description) → (offset : ℕ) → Description → Type 0
+IsReached whole offset d = (k : ℕ) × (first_scalar whole offset d ≡ Some k)
+
+lowest : (x : ℤ) → int_le x x ≡ true
+lowest x = grind (arith, ints)
+
+none_passed : (x : ℤ) (offset m : ℕ) → offset + unsigned_abs (x -ℤ x) * m ≡ offset
+none_passed x offset m = let none : unsigned_abs (x -ℤ x) ≡ 0 = omega (arith, ints) in ap (λ n. offset + n * m) none ∙ omega arith
+
+reached : (subscripts : Subscripts) (whole : Description) (offset : ℕ) (d : Description) → LeadTo whole offset subscripts d → IsReached whole offset d
+reached NoSubscript whole offset d lead = lead
+reached (SubscriptThen stride e more) whole offset d lead =
+    reached more whole offset d
+    (subst (λ n. LeadTo whole n more d) (none_passed stride.low offset stride.multiplier) (lead.1 stride.low (lowest stride.low) lead.0))
+
+module _ (units : List TypedUnit) (greatest level : ℕ) (call : Calls) (unit : ℕ) (s : TypingContext) (known : Known) (x : Shape) (ss : List Shape)
     (inside : IsInside units unit s.globals x) (stand : Stand unit known (x ∷ ss) (suc (length ss)) s.blocks) (below : IsBelow known (suc (length ss)))
     (calls : CallsMean units unit s.globals s.procedures level call) where
   abbrev Sound : World → Type 0
@@ -207,7 +241,7 @@ module _ (units : List TypedUnit) (greatest level : ℕ) (call : Calls) (unit : 
 
   -- what an operation comes to
   calculation_answers : (t : ValueType) (c : Calculation) (w : World) → Sound w → IsCalculated t c
-      → Answers (λ v u. IsOf t v × Sound u × IsLater w u) (calculation c w)
+      → Answers units (λ v u. IsOf t v × Sound u × IsLater w u) (calculation c w)
   calculation_answers t (Calculates v) w sound h = (h, sound, later_same w)
   calculation_answers t (RaisesCondition raised.Overflow) w sound h = error_named units x ss w FixedOverflow sound
   calculation_answers t (RaisesCondition raised.ZeroDivide) w sound h = error_named units x ss w ZeroDivide sound
@@ -228,10 +262,11 @@ module _ (units : List TypedUnit) (greatest level : ℕ) (call : Calls) (unit : 
   -- the subscript's distance, of which one knows where it leads
   element_found : (stride : Stride) (p : ℕ) (whole : Description) (offset : ℕ) (d : Description) (q : Place) (v : Value) (w : World) (left : ℕ)
       → Sound w → IsOn w whole offset d q → IsOf (Numbers p) v → (go : Place → Doing Place)
+      → ((y : ℤ) → IsTrue (int_le stride.low y) → IsTrue (int_le y stride.high) → IsReached whole (offset + unsigned_abs (y -ℤ stride.low) * stride.multiplier) d)
       → ((y : ℤ) (q : Place) (w : World) (l : ℕ) → IsTrue (int_le stride.low y) → IsTrue (int_le y stride.high) → Sound w
       → IsOn w whole (offset + unsigned_abs (y -ℤ stride.low) * stride.multiplier) d q → Here l w (AtPlace d) (go q w l))
       → Here left w (AtPlace d) (and_then (element_of stride.low stride.high stride.multiplier q v w left) go)
-  element_found stride p whole offset d q v w left sound on is go f =
+  element_found stride p whole offset d q v w left sound on is go reach f =
       subst (λ v. Here left w (AtPlace d) (and_then (element_of stride.low stride.high stride.multiplier q v w left) go)) (sym is.1)
       (by (int_le stride.low is.0) (int_le is.0 stride.high) refl refl)
     where
@@ -239,15 +274,19 @@ module _ (units : List TypedUnit) (greatest level : ℕ) (call : Calls) (unit : 
       m = unsigned_abs (is.0 -ℤ stride.low) * stride.multiplier
 
       by : (b c : Bool) → int_le stride.low is.0 ≡ b → int_le is.0 stride.high ≡ c
-          → Here left w (AtPlace d) (and_then (answered (if b && c then Yields (field_of (unsigned_abs (is.0 -ℤ stride.low) * stride.multiplier) q.description q) w else Raises SubscriptRange w) left) go)
+          → Here left w (AtPlace d) (and_then (answered (if b && c then led_on (unsigned_abs (is.0 -ℤ stride.low) * stride.multiplier) q.description q w else Raises SubscriptRange w) left) go)
       by true true e g =
-          f is.0 (field_of (unsigned_abs (is.0 -ℤ stride.low) * stride.multiplier) q.description q) w left e g sound (on_next w whole offset (unsigned_abs (is.0 -ℤ stride.low) * stride.multiplier) d q on)
+          let part = reach is.0 e g in
+          let there = on.near (offset + m) d part.0 part.1 in
+          let near : q.offset + m ≤ offset_limit = omega (arith, on.at, there) in
+          subst (λ a. Here left w (AtPlace d) (and_then (answered a left) go)) (sym (led_near m q.description q w near))
+          (f is.0 (field_of m q.description q) w left e g sound (on_next w whole offset m d q on))
       by true false e g = error_named units x ss w SubscriptRange sound
       by false c e g = error_named units x ss w SubscriptRange sound
 
   -- what is held, and what a function gives, is of its type
   held_of : (d : Description) (t : ValueType) (p : Place) (w : World) → type_held d ≡ Some t → (o : Answer Value)
-      → Answers (λ v u. IsTrue (holds d v) × Sound u × IsLater w u) o → Answers (λ v u. IsOf t v × Sound u × IsLater w u) o
+      → Answers units (λ v u. IsTrue (holds d v) × Sound u × IsLater w u) o → Answers units (λ v u. IsOf t v × Sound u × IsLater w u) o
   held_of d t p w e (Yields v u) h = (held_is_of d t v e h.0, h.1, h.2)
   held_of d t p w e (Raises r u) h = h
   held_of d t p w e Wrong h = h
@@ -298,8 +337,12 @@ module _ (units : List TypedUnit) (greatest level : ℕ) (call : Calls) (unit : 
     place_means (Part root offset part subscripts) d placed w left sound =
         let whole = placed.1.0 in
         then_here (AtPlace whole) (AtPlace d) left w (root_place root w left) _ (root_means root whole placed.1.1 w left sound)
-        (λ p w l good sound later. subscripts_mean subscripts whole offset d (field_of offset part p) placed.1.2 placed.2 w l sound
-        (subst (λ e. IsOn w whole offset d (field_of offset e p)) (sym placed.0) (on_first w whole offset d p good)))
+        (λ p w l good sound later.
+        let first = reached subscripts whole offset d placed.1.2 in
+        subst (λ a. Here l w (AtPlace d) (and_then (answered a l) (λ q w left. element_at greatest call subscripts q w left)))
+        (sym (led_near offset part p w (good.near offset d first.0 first.1)))
+        (subscripts_mean subscripts whole offset d (field_of offset part p) placed.1.2 placed.2 w l sound
+        (subst (λ e. IsOn w whole offset d (field_of offset e p)) (sym placed.0) (on_first w whole offset d p good))))
 
     subscripts_mean : (subscripts : Subscripts) (whole : Description) (offset : ℕ) (d : Description) (p : Place) → LeadTo whole offset subscripts d
         → AreSubscripts greatest s subscripts → (w : World) (left : ℕ) → Sound w → IsOn w whole offset d p
@@ -310,7 +353,8 @@ module _ (units : List TypedUnit) (greatest level : ℕ) (call : Calls) (unit : 
         then_here (OfType (Numbers are.0.0)) (AtPlace d) left w (value_of greatest call e w left) _ (value_means e (Numbers are.0.0) are.0.1 w left sound)
         (λ v u l is sound later. element_found stride are.0.0 whole offset d p v u l sound (on_later w u whole offset d p later on) is
         (λ q w left. element_at greatest call more q w left)
-        (λ y q w l low high sound on. subscripts_mean more whole (offset + unsigned_abs (y -ℤ stride.low) * stride.multiplier) d q (lead y low high) are.1 w l sound on))
+        (λ y low high. reached more whole (offset + unsigned_abs (y -ℤ stride.low) * stride.multiplier) d (lead.1 y low high))
+        (λ y q w l low high sound on. subscripts_mean more whole (offset + unsigned_abs (y -ℤ stride.low) * stride.multiplier) d q (lead.1 y low high) are.1 w l sound on))
 
     pub called_means : (arguments : TypedArguments) (parameters : List Description) (callee : Callee) (all : List Description) (value : Option Description) (before : List Place) (done : List Description)
         → ArePassed greatest s arguments parameters → in_order done parameters ≡ all → IsCallee s.globals s.procedures s.blocks callee all value
@@ -330,6 +374,6 @@ module _ (units : List TypedUnit) (greatest level : ℕ) (call : Calls) (unit : 
         then_here (OfType t) (Gives value) left w (value_of greatest call e w left) _ (value_means e t passed.2.1 w left sound)
         (λ v u l is sound later.
         then_here (AtPlace d) (Gives value) l u (answered (dummy_of d v u) l) _
-        (answer_means units (AtPlace d) level l known (x ∷ ss) u (dummy_of d v u) (dummy_answers units x ss d v u sound (narrow_held d t v held is) one.1))
+        (answer_means units (AtPlace d) level l known (x ∷ ss) u (dummy_of d v u) (dummy_answers units x ss d v u sound (narrow_held d t v held is) one.0 one.1))
         (λ q z l is sound later2. called_means more passed.0 callee all value (q ∷ before) (d ∷ done) passed.3
         (ap (λ ds. in_order done ds) (sym passed.1) ∙ same) found z l sound (is, goods_later w z done before (later_then w u z later later2) good)))

@@ -2,7 +2,6 @@
 use Rattle.std.specs.Prelude.{◌≡◌, ℕ, suc, Bool, true, false, Option, Some, None}
 use Rattle.std.specs.Prelude.{List, [], ◌∷◌, length, slice_get, refl}
 use Rattle.std.proofs.Common.{arith, sym, subst}
-use Rattle.pli_base.specs.Name.{Name}
 use Rattle.pli_map.specs.Description.{Description}
 use Rattle.pli_world.specs.World.{World, stored, copied, line_ended}
 use Rattle.pli_value.specs.Conversions.{bit_constant}
@@ -31,7 +30,7 @@ FlowIs begins value Next w = Unit {0}
 FlowIs begins value (Returned outward v) w = (outward ≡ begins) × IsReturned value v
 
 -- what a typing context knows is there, in a block
-pub record Fits (units : List TypedUnit) (unit : Name) (known : Known) (x : Shape) (ss : List Shape) (s : TypingContext) (block : ℕ) : Type 0 where
+pub record Fits (units : List TypedUnit) (unit : ℕ) (known : Known) (x : Shape) (ss : List Shape) (s : TypingContext) (block : ℕ) : Type 0 where
   pub inside : IsInside units unit s.globals x
   pub stand : Stand unit known (x ∷ ss) (suc (length ss)) s.blocks
   pub below : IsBelow known (suc (length ss))
@@ -40,7 +39,7 @@ pub record Fits (units : List TypedUnit) (unit : Name) (known : Known) (x : Shap
   pub blocks : s.blocks ≡ first ∷ others
   pub own : first.number ≡ block
 
-module _ (units : List TypedUnit) (greatest level : ℕ) (call : Calls) (unit : Name) where
+module _ (units : List TypedUnit) (greatest level : ℕ) (call : Calls) (unit : ℕ) where
   abbrev pub Here : {A : Type 0} → TypingContext → Known → Shape → List Shape → (left : ℕ) → World → (A → World → Type 0) → Effect A → Type 0
   Here s known x ss left u Is o = Means units level left known (x ∷ ss) u Is o
 
@@ -101,7 +100,7 @@ module _ (units : List TypedUnit) (greatest level : ℕ) (call : Calls) (unit : 
         then_here (AtPlace d) (Flows s) left w (place_of greatest call target w left) _ (place target d typed.1 w left sound)
         (λ p v l good sound later. then_here (AtPlace d) (Flows s) l v (place_of greatest call source v l) _ (place source d typed.2 v l sound)
         (λ q u l from sound later. then_here Anything (Flows s) l u (answered (copied q p u) l) _
-        (answer_kept units level l known (x ∷ ss) u (copied q p u) (copied_answers units x ss d q p u sound from (good_later v u d p later good)))
+        (answer_kept units level l known (x ∷ ss) u (copied q p u) (copied_answers units x ss d q p u sound typed.3 from (good_later v u d p later good)))
         (λ _ w l any sound later. ends w l sound)))
 
     item_means : (k : StringKind) (a b : ℕ) (v : Value) (w : World) (left : ℕ) → IsOf (Strings k a b) v → Sound w

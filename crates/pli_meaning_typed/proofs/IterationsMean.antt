@@ -2,7 +2,6 @@
 use Rattle.std.specs.Prelude.{◌≡◌, ℕ, zero, suc, ◌+◌, min, max, Bool, true, false, pos, IsTrue, Option, Some, None}
 use Rattle.std.specs.Prelude.{List, [], ◌∷◌, ◌++◌, slice_get, refl}
 use Rattle.std.proofs.Common.{arith, sym, ap, subst, append_assoc}
-use Rattle.pli_base.specs.Name.{Name}
 use Rattle.pli_map.specs.Description.{Description}
 use Rattle.pli_map.specs.Values.{holds}
 use Rattle.pli_operation.specs.Operations.{Operation, Add, Within, calculated}
@@ -105,7 +104,7 @@ module _ (greatest : ℕ) (s : TypingContext) where
       }
   is_kept conversion d first (Repeated next) h = record { types = []; valued = tt; limit = tt; step = h }
 
-module _ (units : List TypedUnit) (greatest level : ℕ) (call : Calls) (unit : Name) (s : TypingContext) (known : Known) (x : Shape) (ss : List Shape) (block : ℕ)
+module _ (units : List TypedUnit) (greatest level : ℕ) (call : Calls) (unit : ℕ) (s : TypingContext) (known : Known) (x : Shape) (ss : List Shape) (block : ℕ)
     (fits : Fits units unit known x ss s block) (calls : CallsMean units unit s.globals s.procedures level call) where
   abbrev Sound : World → Type 0
   Sound w = IsSound units (x ∷ ss) w

@@ -1,9 +1,8 @@
 -- What doing something means, and a lemma for each combinator: no effect is lost, and none is short of a level.
-use Rattle.std.specs.Prelude.{◌≡◌, ◌≢◌, ℕ, zero, suc, ◌≤◌, ◌<◌, nat_eq, nat_lt, Bool, true, false, ◌&&◌, IsTrue, Option, Some}
+use Rattle.std.specs.Prelude.{◌≡◌, ℕ, zero, suc, ◌≤◌, ◌<◌, nat_eq, nat_lt, Bool, true, false, ◌&&◌, IsTrue, Option, Some}
 use Rattle.std.specs.Prelude.{List, ◌∷◌, length, if◌then◌else◌, refl}
 use Rattle.std.proofs.Common.{arith, sym, ◌∙◌, subst, true≢false}
 use Rattle.std.proofs.lemmas.Bool.{eqb-true}
-use Rattle.pli_code.specs.declared.ending.Ending.TheVariants.{MachineFault}
 use Rattle.pli_code.specs.declared.ending.RunError.TheVariants.{TooManyActivations}
 use Rattle.pli_world.specs.Activations.{activation_limit}
 use Rattle.pli_world.specs.World.{World, Answer, Yields, Raises, Wrong, height, stepped, at_statement, left_by, cleared, error_at}
@@ -11,7 +10,7 @@ use Rattle.pli_type_tree.specs.TypedTree.{TypedUnit}
 use Rattle.pli_meaning_tree.specs.Effects.{Label, Effect, Gives, Jumps, Fails, Spent, Lost, Short, Flow, Next, Returned, Doing, and_then}
 use Rattle.pli_meaning_tree.specs.Effects.{after_flow, followed, answered, as_step, as_statement, chosen, turns, on_jump, caught}
 use Rattle.pli_meaning_tree.specs.Effects.{unless_full, leaving, nothing_done}
-use Rattle.pli_meaning_typed.specs.SoundWorlds.{Shape, IsSound, IsLater, Answers}
+use Rattle.pli_meaning_typed.specs.SoundWorlds.{Shape, IsSound, IsLater, IsTold, Answers}
 use Rattle.pli_meaning_typed.proofs.ContextLaws.{Known, shaped_length}
 use Rattle.pli_meaning_typed.proofs.WorldLaws.{later_same, later_then, error_named, statement_sound, stepped_sound, cleared_sound, cleared_later, left_sound, left_later}
 
@@ -35,7 +34,7 @@ module _ (units : List TypedUnit) where
   abbrev pub Means : {A : Type 0} → (level steps : ℕ) → Known → List Shape → World → (A → World → Type 0) → Effect A → Type 0
   Means n l known ss u Is (Gives x w left) = (left ≤ l) × Is x w × IsSound units ss w × IsLater u w
   Means n l known ss u Is (Jumps h k w left) = (left < l) × IsTrue (known h k) × IsSound units ss w × IsLater u w
-  Means n l known ss u Is (Fails e w) = e ≢ MachineFault
+  Means n l known ss u Is (Fails e w) = IsTold units e
   Means n l known ss u Is (Spent w) = Unit {0}
   Means n l known ss u Is Lost = ⊥
   Means n l known ss u Is Short = n ≤ l
@@ -63,13 +62,13 @@ module _ (units : List TypedUnit) where
 
   -- an operation
   pub answer_means : {A : Type 0} (P : A → World → Type 0) (n left : ℕ) (known : Known) (ss : List Shape) (u : World) (o : Answer A)
-      → Answers (λ x w. P x w × IsSound units ss w × IsLater u w) o → Means n left known ss u P (answered o left)
+      → Answers units (λ x w. P x w × IsSound units ss w × IsLater u w) o → Means n left known ss u P (answered o left)
   answer_means P n left known ss u (Yields x w) h = (omega arith, h.0, h.1, h.2)
   answer_means P n left known ss u (Raises e w) h = h
   answer_means P n left known ss u Wrong h = h
 
   pub answer_kept : (n left : ℕ) (known : Known) (ss : List Shape) (u : World) (o : Answer (Unit {0}))
-      → Answers (λ x w. IsSound units ss w × IsLater u w) o → Means n left known ss u Anything (answered o left)
+      → Answers units (λ x w. IsSound units ss w × IsLater u w) o → Means n left known ss u Anything (answered o left)
   answer_kept n left known ss u (Yields x w) h = (omega arith, tt, h.0, h.1)
   answer_kept n left known ss u (Raises e w) h = h
   answer_kept n left known ss u Wrong h = h

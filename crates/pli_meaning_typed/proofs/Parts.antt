@@ -5,7 +5,7 @@ use Rattle.std.specs.List.{flat_map}
 use Rattle.std.proofs.Common.{arith, sym, ap, ◌∙◌, subst, length-append, append_assoc, append-nil, ltb-true, suc-mul}
 use Rattle.std.specs.Int.{next_multiple_of}
 use Rattle.pli_map.specs.declared.description.Bounds.{Bounds}
-use Rattle.pli_map.specs.Description.{Description, FixedBinary, Character, Varying, Bit, Pointer, Offset, Area, Array}
+use Rattle.pli_map.specs.Description.{Description, Array}
 use Rattle.pli_map.specs.Description.{Structure, Members, NoMembers, MemberThen}
 use Rattle.pli_map.specs.Same.{same}
 use Rattle.pli_map.specs.laws.SameLaws.{same_decides}
@@ -252,22 +252,3 @@ part_stored whole offset part k new vs e hn h =
     let s = part_stands whole offset part k e in
     subst (λ ds. AreHeld ds (with_values_at k new vs)) (sym s.parted)
     (held_with s.before (scalars_of part) s.behind new vs k s.first hn (subst (λ ds. AreHeld ds vs) s.parted h))
-
--- a description stands in itself
-stands_itself : (d : Description) → stands_here d 0 d ≡ true
-stands_itself d = (same_decides d d).1 refl
-
-chosen_first : (b : Bool) (o : Option ℕ) → b ≡ true → (if b then Some 0 else o) ≡ Some 0
-chosen_first true o e = refl
-chosen_first false o e = absurd (cc)
-
-pub first_itself : (d : Description) → first_scalar d 0 d ≡ Some 0
-first_itself (Array bounds element) = chosen_first (stands_here (Array bounds element) 0 (Array bounds element)) _ (stands_itself (Array bounds element))
-first_itself (Structure members) = chosen_first (stands_here (Structure members) 0 (Structure members)) _ (stands_itself (Structure members))
-first_itself (FixedBinary p) = chosen_first (stands_here (FixedBinary p) 0 (FixedBinary p)) None (stands_itself (FixedBinary p))
-first_itself (Character n) = chosen_first (stands_here (Character n) 0 (Character n)) None (stands_itself (Character n))
-first_itself (Varying n) = chosen_first (stands_here (Varying n) 0 (Varying n)) None (stands_itself (Varying n))
-first_itself (Bit n) = chosen_first (stands_here (Bit n) 0 (Bit n)) None (stands_itself (Bit n))
-first_itself Pointer = refl
-first_itself Offset = refl
-first_itself (Area n) = chosen_first (stands_here (Area n) 0 (Area n)) None (stands_itself (Area n))

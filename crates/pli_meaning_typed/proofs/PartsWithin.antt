@@ -2,7 +2,7 @@
 use Rattle.std.specs.Prelude.{◌≡◌, ℕ, suc, ◌+◌, ◌*◌, ◌/◌, ◌%◌, ◌-◌, ◌≤◌, ◌<◌, nat_eq, nat_lt, Bool, true, false, ◌&&◌}
 use Rattle.std.specs.Prelude.{List, Some, None, option_map, ◌⊎◌, if◌then◌else◌, refl}
 use Rattle.std.specs.Int.{next_multiple_of}
-use Rattle.std.proofs.Common.{arith, sym, ap, ◌∙◌, subst, inl, inr, ltb-true, lt-ltb, mod-lt, mul-le-mul_right, suc-mul, div-add-mod', eq-zero-or-pos, mul-zero, le_trans, true≢false}
+use Rattle.std.proofs.Common.{arith, sym, ap, ◌∙◌, subst, inl, inr, ltb-true, lt-ltb, mod-lt, mul-le-mul_right, suc-mul, div-add-mod', eq-zero-or-pos, mul-zero, true≢false}
 use Rattle.std.proofs.Common.{mod-eq_of_lt}
 use Rattle.std.proofs.Math.Nat.{mul-add-mod_self_right}
 use Rattle.std.proofs.lemmas.Nat.{div-mul-add}
@@ -12,8 +12,9 @@ use Rattle.pli_map.specs.Description.{Description, FixedBinary, Character, Varyi
 use Rattle.pli_map.specs.Description.{Structure, Members, NoMembers, MemberThen}
 use Rattle.pli_map.specs.Same.{same}
 use Rattle.pli_map.specs.laws.SameLaws.{same_decides}
-use Rattle.pli_map.specs.Scalars.{scalars_in, stands_here, first_scalar, scalar_behind}
+use Rattle.pli_map.specs.Scalars.{is_scalar, scalars_in, stands_here, first_scalar, scalar_behind}
 use Rattle.pli_map.specs.Sizes.{count_of, alignment_of, size_of, end_behind, stride_of}
+use Rattle.pli_map.proofs.ScalarLawsHold.{scalars_lie_within}
 use Rattle.pli_meaning_typed.proofs.Parts.{mapped_from, none_some}
 
 not_less : (n m : ℕ) → nat_lt n m ≡ false → m ≤ n
@@ -42,6 +43,19 @@ stands_alone whole offset part k h = by (stands_here whole offset part) refl h
     by : (b : Bool) → stands_here whole offset part ≡ b → (if b then Some 0 else None) ≡ Some k → (offset ≡ 0) × (whole ≡ part)
     by true e h = stands whole offset part e
     by false e h = absurd (none_some h)
+
+-- a scalar has no part but itself
+pub scalar_first : (whole : Description) (offset : ℕ) (part : Description) (k : ℕ) → is_scalar whole ≡ true → first_scalar whole offset part ≡ Some k
+    → offset ≡ 0
+scalar_first (Array bounds element) offset part k one h = absurd (true≢false (sym one))
+scalar_first (Structure members) offset part k one h = absurd (true≢false (sym one))
+scalar_first (FixedBinary p) offset part k one h = (stands_alone (FixedBinary p) offset part k h).0
+scalar_first (Character n) offset part k one h = (stands_alone (Character n) offset part k h).0
+scalar_first (Varying n) offset part k one h = (stands_alone (Varying n) offset part k h).0
+scalar_first (Bit n) offset part k one h = (stands_alone (Bit n) offset part k h).0
+scalar_first Pointer offset part k one h = (stands_alone Pointer offset part k h).0
+scalar_first Offset offset part k one h = (stands_alone Offset offset part k h).0
+scalar_first (Area n) offset part k one h = (stands_alone (Area n) offset part k h).0
 
 -- what is found in an array stands there itself, or in an element
 array_found : (bounds : List Bounds) (element : Description) (offset : ℕ) (part : Description) (k : ℕ)
@@ -90,7 +104,7 @@ members_found d ds at offset part k h = by (nat_lt offset (start_of at d + size_
         let m = mapped_from (scalar_behind (start_of at d + size_of d) ds offset part) (λ k. scalars_in d + k) k h in
         inr (not_less offset (start_of at d + size_of d) e, (m.0, m.1))
 
--- a part ends where the whole ends, or before
+-- the end of members
 next_least : (n m : ℕ) → n ≤ next_multiple_of n m
 next_least n m = omega arith
 
@@ -98,9 +112,6 @@ ends_behind : (at : ℕ) (ds : Members) → at ≤ end_behind at ds
 ends_behind at NoMembers = omega arith
 ends_behind at (MemberThen d ds) =
     omega (arith, ends_behind (start_of at d + size_of d) ds, next_least at (alignment_of d))
-
-itself_fits : (whole : Description) (offset : ℕ) (part : Description) → (offset ≡ 0) × (whole ≡ part) → offset + size_of part ≤ size_of whole
-itself_fits whole offset part h = let e : size_of whole ≡ size_of part = ap (λ d. size_of d) h.1 in omega (arith, e, h.0)
 
 -- an element's part, by its element's distance and its own within that
 element_ends : (bounds : List Bounds) (element : Description) (offset rest : ℕ) → offset / stride_of element < count_of bounds
@@ -110,55 +121,6 @@ element_ends bounds element offset rest lt le =
     let q = offset / s in
     let top : suc q * s ≤ count_of bounds * s = mul-le-mul_right s lt in
     omega (arith, div-add-mod' offset s, le, suc-mul q s, top)
-
-array_fits : (bounds : List Bounds) (element : Description) (offset : ℕ) (part : Description)
-    → ((r j : ℕ) → first_scalar element r part ≡ Some j → r + size_of part ≤ size_of element)
-    → ((offset ≡ 0) × (Array bounds element ≡ part))
-    ⊎ ((offset / stride_of element < count_of bounds) × ((j : ℕ) × (first_scalar element (offset % stride_of element) part ≡ Some j)))
-    → offset + size_of part ≤ size_of (Array bounds element)
-array_fits bounds element offset part rest (inl h) = itself_fits (Array bounds element) offset part h
-array_fits bounds element offset part rest (inr h) =
-    element_ends bounds element offset (size_of part) h.0
-    (le_trans (rest (offset % stride_of element) h.1.0 h.1.1) (next_least (size_of element) (alignment_of element)))
-
-structure_fits : (members : Members) (offset : ℕ) (part : Description) (k : ℕ)
-    → (scalar_behind 0 members offset part ≡ Some k → offset + size_of part ≤ end_behind 0 members)
-    → ((offset ≡ 0) × (Structure members ≡ part)) ⊎ (scalar_behind 0 members offset part ≡ Some k)
-    → offset + size_of part ≤ size_of (Structure members)
-structure_fits members offset part k rest (inl h) = itself_fits (Structure members) offset part h
-structure_fits members offset part k rest (inr h) = rest h
-
-member_fits : (d : Description) (ds : Members) (at offset : ℕ) (part : Description) (k : ℕ)
-    → ((r j : ℕ) → first_scalar d r part ≡ Some j → r + size_of part ≤ size_of d)
-    → ((at j : ℕ) → scalar_behind at ds offset part ≡ Some j → offset + size_of part ≤ end_behind at ds)
-    → ((offset < start_of at d + size_of d) × (start_of at d ≤ offset) × (first_scalar d (offset - start_of at d) part ≡ Some k))
-    ⊎ ((start_of at d + size_of d ≤ offset) × ((j : ℕ) × (scalar_behind (start_of at d + size_of d) ds offset part ≡ Some j)))
-    → offset + size_of part ≤ end_behind at (MemberThen d ds)
-member_fits d ds at offset part k first others (inl h) =
-    omega (arith, first (offset - start_of at d) k h.2, h.1, ends_behind (start_of at d + size_of d) ds)
-member_fits d ds at offset part k first others (inr h) = others (start_of at d + size_of d) h.1.0 h.1.1
-
-mutual
-  fits : (whole : Description) (offset : ℕ) (part : Description) (k : ℕ) → first_scalar whole offset part ≡ Some k
-      → offset + size_of part ≤ size_of whole
-  fits (Array bounds element) offset part k h =
-      array_fits bounds element offset part (λ r j g. fits element r part j g) (array_found bounds element offset part k h)
-  fits (Structure members) offset part k h =
-      structure_fits members offset part k (λ g. members_fit members 0 offset part k g) (structure_found members offset part k h)
-  fits (FixedBinary p) offset part k h = itself_fits (FixedBinary p) offset part (stands_alone (FixedBinary p) offset part k h)
-  fits (Character n) offset part k h = itself_fits (Character n) offset part (stands_alone (Character n) offset part k h)
-  fits (Varying n) offset part k h = itself_fits (Varying n) offset part (stands_alone (Varying n) offset part k h)
-  fits (Bit n) offset part k h = itself_fits (Bit n) offset part (stands_alone (Bit n) offset part k h)
-  fits Pointer offset part k h = itself_fits Pointer offset part (stands_alone Pointer offset part k h)
-  fits Offset offset part k h = itself_fits Offset offset part (stands_alone Offset offset part k h)
-  fits (Area n) offset part k h = itself_fits (Area n) offset part (stands_alone (Area n) offset part k h)
-
-  members_fit : (ds : Members) (at offset : ℕ) (part : Description) (k : ℕ) → scalar_behind at ds offset part ≡ Some k
-      → offset + size_of part ≤ end_behind at ds
-  members_fit NoMembers at offset part k h = absurd (none_some h)
-  members_fit (MemberThen d ds) at offset part k h =
-      member_fits d ds at offset part k (λ r j g. fits d r part j g) (λ next j g. members_fit ds next offset part j g)
-      (members_found d ds at offset part k h)
 
 -- what is found stands at the beginning, or before the end
 abbrev IsInside : ℕ → ℕ → Type 0
@@ -272,7 +234,7 @@ module _ (part : Description) (more : ℕ) (d : Description) (j : ℕ) (has : fi
       room : IsInside more (size_of part) → (more ≡ 0) ⊎ (offset % stride_of element + more < stride_of element)
       room (inl z) = inl z
       room (inr lt) =
-          inr (omega (arith, lt, fits element (offset % stride_of element) part h.1.0 h.1.1, next_least (size_of element) (alignment_of element)))
+          inr (omega (arith, lt, (scalars_lie_within element (offset % stride_of element) part h.1.0 h.1.1).1, next_least (size_of element) (alignment_of element)))
 
   structure_has : (members : Members) (offset k : ℕ)
       → (scalar_behind 0 members offset part ≡ Some k → (i : ℕ) × (scalar_behind 0 members (offset + more) d ≡ Some i))
@@ -306,7 +268,7 @@ module _ (part : Description) (more : ℕ) (d : Description) (j : ℕ) (has : fi
     where
       before : IsInside more (size_of part) → offset + more < start_of at first + size_of first
       before (inl z) = omega (arith, z, h.0)
-      before (inr lt) = omega (arith, lt, h.1, fits first (offset - start_of at first) part k h.2)
+      before (inr lt) = omega (arith, lt, h.1, (scalars_lie_within first (offset - start_of at first) part k h.2).1)
   member_has first ds at offset k here behind (inr h) =
       let r = behind (start_of at first + size_of first) h.1.0 h.1.1 in (
         scalars_in first + r.0,

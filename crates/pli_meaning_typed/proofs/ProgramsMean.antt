@@ -1,12 +1,12 @@
 -- What calls and runs of well-typed programs mean.
-use Rattle.std.specs.Prelude.{◌≡◌, ◌≢◌, ℕ, zero, suc, ◌<◌, nat_eq, Bool, true, false, ◌&&◌, Option, Some, None}
+use Rattle.std.specs.Prelude.{◌≡◌, ◌≢◌, ℕ, zero, suc, ◌<◌, nat_eq, true, false, ◌&&◌, Option, Some, None}
 use Rattle.std.specs.Prelude.{List, [], ◌∷◌, ◌++◌, length, map, slice_get, if◌then◌else◌, refl}
 use Rattle.std.proofs.Common.{arith, sym, ap, ◌∙◌, subst, true≢false}
 use Rattle.std.proofs.lemmas.Bool.{eq-eqb}
 use Rattle.pli_base.specs.Name.{Name}
-use Rattle.pli_base.specs.Words.{same_name}
 use Rattle.pli_code.specs.declared.ending.Ending.{Ending}
-use Rattle.pli_code.specs.declared.ending.Ending.TheVariants.{Ended, OutOfSteps, Error, MachineFault}
+use Rattle.pli_code.specs.declared.ending.Ending.TheVariants as message
+use Rattle.pli_world.specs.Ends.{Ended, OutOfSteps, told}
 use Rattle.pli_code.specs.declared.ending.RunError.TheVariants.{NoReturnedValue}
 use Rattle.pli_map.specs.Description.{Description}
 use Rattle.pli_program.specs.Program.{is_external}
@@ -20,8 +20,8 @@ use Rattle.pli_type_tree.specs.Globals.{signature_of}
 use Rattle.pli_type_tree.specs.TypedTree.{Callee, OfBlock, OfEntry, Global, OwnVariable, ExternalVariable, EntryPoint, TypedProcedure, TypedUnit}
 use Rattle.pli_type_tree.specs.WellTyped.{BlockAround, KnownProcedure, IsReached, IsCallee}
 use Rattle.pli_meaning_tree.specs.Effects.{Effect, Gives, Jumps, Fails, Spent, Lost, Short, Flow, Next, Returned, and_then, answered, unless_full, procedure_end}
-use Rattle.pli_meaning_tree.specs.TreeMeaning.{Calls, static_link, head_in, activation_of, does_list, procedure_run, activates_in, activates, procedure_in, unit_named, entry_unit, activates_outer, activates_unit, called_in, calls}
-use Rattle.pli_meaning_tree.specs.TreeMeaning.{main_run, unit_run, ended_as, ran}
+use Rattle.pli_meaning_tree.specs.TreeMeaning.{Calls, static_link, head_in, activation_of, does_list, procedure_run, activates_in, activates, procedure_in, entry_unit, activates_outer, activates_unit, activates_entry, called_in, calls}
+use Rattle.pli_meaning_tree.specs.TreeMeaning.{main_run, unit_run, unit_names, unless_fault, ran}
 use Rattle.pli_meaning_typed.specs.SoundWorlds.{AreGood, Shape, HoldsValues, AreShaped, AreStatics, IsSound}
 use Rattle.pli_meaning_typed.specs.TypedPrograms.{context_in, HasEnd, IsTypedProcedure, IsOuter, IsTypedUnit, AreTypedUnits, IsLinked, HasMain, EveryRunIsMeant}
 use Rattle.pli_meaning_typed.proofs.ExpressionsMean.{IsReturned, Gives as GivesBack, CallsMean}
@@ -44,7 +44,7 @@ good_length w [] (p ∷ ps) h = absurd h
 good_length w (d ∷ ds) [] h = absurd h
 good_length w (d ∷ ds) (p ∷ ps) h = ap (λ n. suc n) (good_length w ds ps h.1)
 
-module _ (units : List TypedUnit) (greatest : ℕ) (u : TypedUnit) (own : IsUnit units u.name u.globals) (procedures : ℕ → Option KnownProcedure) where
+module _ (units : List TypedUnit) (greatest unit : ℕ) (u : TypedUnit) (own : IsUnit units unit u.globals) (procedures : ℕ → Option KnownProcedure) where
   -- the end of a procedure
   procedure_ends : (level : ℕ) (known : Known) (y : Shape) (ss : List Shape) (p : KnownProcedure) (function_end : Option ℕ) → HasEnd function_end p.value
       → (x : Flow) (v : World) (l : ℕ) → FlowIs 0 p.value x v → IsSound units (y ∷ ss) v
@@ -66,79 +66,69 @@ module _ (units : List TypedUnit) (greatest : ℕ) (u : TypedUnit) (own : IsUnit
 
   -- a procedure's run, behind its step
   run_means : (level : ℕ) (call : Calls) (f : TypedProcedure) (p : KnownProcedure) (known : Known) (ss : List Shape) (link : ℕ) (places : List Place)
-      → IsTypedProcedure greatest u.globals procedures p f → CallsMean units u.name u.globals procedures level call
-      → Stand u.name known ss link p.around → IsBelow known (length ss) → (w : World) (left : ℕ) → IsSound units ss w → AreGood w p.parameters places
+      → IsTypedProcedure greatest u.globals procedures p f → CallsMean units unit u.globals procedures level call
+      → Stand unit known ss link p.around → IsBelow known (length ss) → (w : World) (left : ℕ) → IsSound units ss w → AreGood w p.parameters places
       → Means units level left known ss w (GivesBack p.value)
-      (activation_of (head_in u.name f.head) link places (does_list greatest call u.name level f.head.number f.statements) (procedure_end f.function_end) w left)
+      (activation_of (head_in unit f.head) link places (does_list greatest call unit level f.head.number f.statements) (procedure_end f.function_end) w left)
   run_means level call f p known ss link places typed means stand below w left sound good =
       let s = context_in u.globals procedures p f in
-      activation_means units (FlowIs 0 p.value) (GivesBack p.value) level known ss (head_in u.name f.head) link places p.parameters
-      (does_list greatest call u.name level f.head.number f.statements) (procedure_end f.function_end) w left below sound good typed.made
-      (λ v l sound. list_means units greatest level call u.name f.statements s known (inner link) ss f.head.number typed.statements
-      (in_own_block units u.name known f.head p.parameters f.statements link ss s p.around refl own stand below) means v l sound)
+      activation_means units (FlowIs 0 p.value) (GivesBack p.value) level known ss (head_in unit f.head) link places p.parameters
+      (does_list greatest call unit level f.head.number f.statements) (procedure_end f.function_end) w left below sound (own.unit, own.there) good typed.made
+      (λ v l sound. list_means units greatest level call unit f.statements s known (inner link) ss f.head.number typed.statements
+      (in_own_block units unit known f.head p.parameters f.statements link ss s p.around refl own stand below) means v l sound)
       (λ x v l is sound. procedure_ends level known (inner link) ss p f.function_end typed.end x v l is sound)
     where
       inner : ℕ → Shape
-      inner link = record { unit = u.name; block = f.head.number; link = link; slots = p.parameters ++ map (λ v. v.description) (map variable_of f.head.variables) }
+      inner link = record { unit = unit; block = f.head.number; link = link; slots = p.parameters ++ map (λ v. v.description) (map variable_of f.head.variables) }
 
   -- with its step, at the level above
   procedure_means : (level : ℕ) (call : Calls) (f : TypedProcedure) (p : KnownProcedure) (known : Known) (ss : List Shape) (link : ℕ) (places : List Place)
-      → IsTypedProcedure greatest u.globals procedures p f → CallsMean units u.name u.globals procedures level call
-      → Stand u.name known ss link p.around → IsBelow known (length ss) → (w : World) (left : ℕ) → IsSound units ss w → AreGood w p.parameters places
-      → Means units (suc level) left known ss w (GivesBack p.value) (procedure_run greatest call level u.name f link places w left)
+      → IsTypedProcedure greatest u.globals procedures p f → CallsMean units unit u.globals procedures level call
+      → Stand unit known ss link p.around → IsBelow known (length ss) → (w : World) (left : ℕ) → IsSound units ss w → AreGood w p.parameters places
+      → Means units (suc level) left known ss w (GivesBack p.value) (procedure_run greatest call level unit f link places w left)
   procedure_means level call f p known ss link places typed means stand below w zero sound good = tt
   procedure_means level call f p known ss link places typed means stand below w (suc left) sound good =
       let s = stepped_sound units ss w sound in
       behind_step units (GivesBack p.value) level left known ss w (stepped w)
-      (activation_of (head_in u.name f.head) link places (does_list greatest call u.name level f.head.number f.statements) (procedure_end f.function_end) (stepped w) left) s.1
+      (activation_of (head_in unit f.head) link places (does_list greatest call unit level f.head.number f.statements) (procedure_end f.function_end) (stepped w) left) s.1
       (run_means level call f p known ss link places typed means stand below (stepped w) left s.0 (goods_later w (stepped w) p.parameters places s.1 good))
 
   -- the static link of a procedure that is reached
   record Linked (known : Known) (ss : List Shape) (parent : Option ℕ) (around : List BlockAround) (w : World) : Type 0 where
     link : ℕ
-    found : static_link u.name parent w ≡ Some link
-    stand : Stand u.name known ss link around
+    found : static_link unit parent w ≡ Some link
+    stand : Stand unit known ss link around
 
-  nothing_around : (known : Known) (ss : List Shape) (h : ℕ) (around : List BlockAround) → around ≡ [] → Stand u.name known ss h around
+  nothing_around : (known : Known) (ss : List Shape) (h : ℕ) (around : List BlockAround) → around ≡ [] → Stand unit known ss h around
   nothing_around known [] h [] e = tt
   nothing_around known (s ∷ ss) h [] e = tt
   nothing_around known ss h (b ∷ bs) e = absurd (cc)
 
   linked : (known : Known) (ss : List Shape) (blocks around : List BlockAround) (parent : Option ℕ) (w : World) → IsSound units ss w
-      → Stand u.name known ss (length ss) blocks → IsReached parent blocks around → Linked known ss parent around w
+      → Stand unit known ss (length ss) blocks → IsReached parent blocks around → Linked known ss parent around w
   linked known ss blocks around None w sound stand reached =
       record { link = 0; found = refl; stand = nothing_around known ss 0 around reached }
   linked known ss blocks around (Some parent) w sound stand reached =
-      let n = near u.name known w ss w.activations (length ss) parent blocks reached.0 sound.stack stand reached.1 in record {
+      let n = near unit known w ss w.activations (length ss) parent blocks reached.0 sound.stack stand reached.1 in record {
         link = n.link;
-        found = ap (λ h. nearest_of u.name parent w.activations h) (shaped_length w ss w.activations sound.stack) ∙ n.walked;
-        stand = stand_around u.name known ss n.link reached.0 around reached.2 n.stand;
+        found = ap (λ h. nearest_of unit parent w.activations h) (shaped_length w ss w.activations sound.stack) ∙ n.walked;
+        stand = stand_around unit known ss n.link reached.0 around reached.2 n.stand;
       }
 
   -- a call of a procedure
   activates_means : (level : ℕ) (call : Calls) (f : TypedProcedure) (p : KnownProcedure) (known : Known) (x : Shape) (ss : List Shape) (blocks : List BlockAround)
-      (places : List Place) → IsTypedProcedure greatest u.globals procedures p f → CallsMean units u.name u.globals procedures level call
-      → Stand u.name known (x ∷ ss) (suc (length ss)) blocks → IsReached p.parent blocks p.around → IsBelow known (suc (length ss))
+      (places : List Place) → IsTypedProcedure greatest u.globals procedures p f → CallsMean units unit u.globals procedures level call
+      → Stand unit known (x ∷ ss) (suc (length ss)) blocks → IsReached p.parent blocks p.around → IsBelow known (suc (length ss))
       → (w : World) (left : ℕ) → IsSound units (x ∷ ss) w → AreGood w p.parameters places
       → Means units (suc level) left known (x ∷ ss) w (GivesBack p.value)
-      (activates_in greatest call level u.name f (static_link u.name f.parent w) places w left)
+      (activates_in greatest call level unit f (static_link unit f.parent w) places w left)
   activates_means level call f p known x ss blocks places typed means stand reached below w left sound good =
       let l = linked known (x ∷ ss) blocks p.around p.parent w sound stand reached in
-      subst (λ o. Means units (suc level) left known (x ∷ ss) w (GivesBack p.value) (activates_in greatest call level u.name f o places w left)) (sym (ap (λ o. static_link u.name o w) typed.parent ∙ l.found))
-      (subst (λ b. Means units (suc level) left known (x ∷ ss) w (GivesBack p.value) (if b then unless_full (procedure_run greatest call level u.name f l.link places) w left else Lost))
+      subst (λ o. Means units (suc level) left known (x ∷ ss) w (GivesBack p.value) (activates_in greatest call level unit f o places w left)) (sym (ap (λ o. static_link unit o w) typed.parent ∙ l.found))
+      (subst (λ b. Means units (suc level) left known (x ∷ ss) w (GivesBack p.value) (if b then unless_full (procedure_run greatest call level unit f l.link places) w left else Lost))
       (sym (eq-eqb f.parameters (length places) (typed.parameters ∙ good_length w p.parameters places good)))
-      (full_means units (GivesBack p.value) (suc level) left known x ss (procedure_run greatest call level u.name f l.link places) w sound
+      (full_means units (GivesBack p.value) (suc level) left known x ss (procedure_run greatest call level unit f l.link places) w sound
       (procedure_means level call f p known (x ∷ ss) l.link places typed means l.stand below w left sound good)))
-
--- a unit is there where a name leads to it
-named_there : (us : List TypedUnit) (name : Name) (u : TypedUnit) → unit_named us name ≡ Some u → (i : ℕ) × (slice_get us i ≡ Some u)
-named_there [] name u e = absurd (none_some e)
-named_there (v ∷ us) name u e = by (same_name v.procedure name) e (named_there us name u)
-  where
-    by : (b : Bool) → (if b then Some v else unit_named us name) ≡ Some u → (unit_named us name ≡ Some u → (i : ℕ) × (slice_get us i ≡ Some u))
-        → (i : ℕ) × (slice_get (v ∷ us) i ≡ Some u)
-    by true e rest = (0, e)
-    by false e rest = let r = rest e in (suc r.0, r.1)
 
 unit_typed : (n : ℕ) (us : List TypedUnit) (i : ℕ) (u : TypedUnit) → AreTypedUnits n us → slice_get us i ≡ Some u → IsTypedUnit n u
 unit_typed n [] i u typed e = absurd (none_some e)
@@ -150,7 +140,7 @@ module _ (units : List TypedUnit) (greatest : ℕ) (all_typed : AreTypedUnits gr
   abbrev AllMean : (level : ℕ) → Type 0
   AllMean level =
       (i : ℕ) (u : TypedUnit) → slice_get units i ≡ Some u → (typed : IsTypedUnit greatest u)
-      → CallsMean units u.name u.globals typed.procedures level (calls greatest units level u)
+      → CallsMean units i u.globals typed.procedures level (calls greatest units level i u)
 
   module _ (level : ℕ) (means : AllMean level) (known : Known) (x : Shape) (ss : List Shape) (below : IsBelow known (suc (length ss)))
       (places : List Place) (w : World) (left : ℕ) (sound : IsSound units (x ∷ ss) w) where
@@ -159,30 +149,30 @@ module _ (units : List TypedUnit) (greatest : ℕ) (all_typed : AreTypedUnits gr
 
     -- of a procedure of the unit
     inside_means : (i : ℕ) (u : TypedUnit) → slice_get units i ≡ Some u → (typed : IsTypedUnit greatest u) (blocks : List BlockAround) (block : ℕ) (p : KnownProcedure)
-        → typed.procedures block ≡ Some p → IsReached p.parent blocks p.around → Stand u.name known (x ∷ ss) (suc (length ss)) blocks → AreGood w p.parameters places
-        → Mean p.value (activates greatest (calls greatest units level u) level u.name (procedure_in u.procedures block) places w left)
+        → typed.procedures block ≡ Some p → IsReached p.parent blocks p.around → Stand i known (x ∷ ss) (suc (length ss)) blocks → AreGood w p.parameters places
+        → Mean p.value (activates greatest (calls greatest units level i u) level i (procedure_in u.procedures block) places w left)
     inside_means i u there typed blocks block p found reached stand good =
         let f = typed.typed block p found in
-        let own : IsUnit units u.name u.globals = record { number = i; unit = u; there = there; named = refl; has = refl } in
-        subst (λ o. Mean p.value (activates greatest (calls greatest units level u) level u.name o places w left)) (sym f.1)
-        (activates_means units greatest u own typed.procedures level (calls greatest units level u) f.0 p known x ss blocks places f.2 (means i u there typed) stand reached below w left sound good)
+        let own : IsUnit units i u.globals = record { unit = u; there = there; has = refl } in
+        subst (λ o. Mean p.value (activates greatest (calls greatest units level i u) level i o places w left)) (sym f.1)
+        (activates_means units greatest i u own typed.procedures level (calls greatest units level i u) f.0 p known x ss blocks places f.2 (means i u there typed) stand reached below w left sound good)
 
     -- of the external procedure of a unit
     outer_means : (i : ℕ) (u : TypedUnit) → slice_get units i ≡ Some u → AreGood w u.signature.parameters places
-        → Mean u.signature.result (activates_outer greatest (calls greatest units level u) level u.name (procedure_in u.procedures 0) places w left)
+        → Mean u.signature.result (activates_outer greatest (calls greatest units level i u) level i (procedure_in u.procedures 0) places w left)
     outer_means i u there good =
-        subst (λ o. Mean p.value (activates_outer greatest call level u.name o places w left)) (sym f.1)
-        (subst (λ b. Mean p.value (if b then activates_in greatest call level u.name f.0 (Some 0) places w left else Lost)) (sym (ap is_external f.2.parent))
-        (subst (λ b. Mean p.value (if b then unless_full (procedure_run greatest call level u.name f.0 0 places) w left else Lost))
+        subst (λ o. Mean p.value (activates_outer greatest call level i o places w left)) (sym f.1)
+        (subst (λ b. Mean p.value (if b then activates_in greatest call level i f.0 (Some 0) places w left else Lost)) (sym (ap is_external f.2.parent))
+        (subst (λ b. Mean p.value (if b then unless_full (procedure_run greatest call level i f.0 0 places) w left else Lost))
         (sym (eq-eqb f.0.parameters (length places) (f.2.parameters ∙ good_length w p.parameters places good)))
-        (full_means units (GivesBack p.value) (suc level) left known x ss (procedure_run greatest call level u.name f.0 0 places) w sound
-        (procedure_means units greatest u own typed.procedures level call f.0 p known (x ∷ ss) 0 places f.2 (means i u there typed) tt below w left sound good))))
+        (full_means units (GivesBack p.value) (suc level) left known x ss (procedure_run greatest call level i f.0 0 places) w sound
+        (procedure_means units greatest i u own typed.procedures level call f.0 p known (x ∷ ss) 0 places f.2 (means i u there typed) tt below w left sound good))))
       where
         typed : IsTypedUnit greatest u
         typed = unit_typed greatest units i u all_typed there
 
         call : Calls
-        call = calls greatest units level u
+        call = calls greatest units level i u
 
         p : KnownProcedure
         p = record { parent = None; around = []; parameters = u.signature.parameters; value = u.signature.result }
@@ -190,28 +180,29 @@ module _ (units : List TypedUnit) (greatest : ℕ) (all_typed : AreTypedUnits gr
         f : (f : TypedProcedure) × (procedure_in u.procedures 0 ≡ Some f) × IsTypedProcedure greatest u.globals typed.procedures p f
         f = typed.typed 0 p typed.outer
 
-        own : IsUnit units u.name u.globals
-        own = record { number = i; unit = u; there = there; named = refl; has = refl }
+        own : IsUnit units i u.globals
+        own = record { unit = u; there = there; has = refl }
 
     -- of an entry
     entry_means : (i : ℕ) (u : TypedUnit) → slice_get units i ≡ Some u → (number : ℕ) (parameters : List Description) (value : Option Description)
         → signature_of (slice_get u.globals number) ≡ Some (record { parameters = parameters; result = value }) → AreGood w parameters places
-        → Mean value (activates_unit greatest (calls greatest units level) level (entry_unit units (slice_get u.globals number)) places w left)
+        → Mean value (activates_entry greatest units (calls greatest units level) level (entry_unit units (slice_get u.globals number)) places w left)
     entry_means i u there number parameters value e good = by (slice_get u.globals number) refl e
       where
         by : (o : Option Global) → slice_get u.globals number ≡ o → signature_of o ≡ Some (record { parameters = parameters; result = value })
-            → Mean value (activates_unit greatest (calls greatest units level) level (entry_unit units o) places w left)
+            → Mean value (activates_entry greatest units (calls greatest units level) level (entry_unit units o) places w left)
         by None h e = absurd (none_some e)
         by (Some (OwnVariable t)) h e = absurd (none_some e)
         by (Some (ExternalVariable name t)) h e = absurd (none_some e)
         by (Some (EntryPoint name s)) h e =
             let k = global_among units i u number (EntryPoint name s) there h in
             let v = linked_units.entries k.0 name s k.1 in
-            let n = named_there units name v.0 v.1 in
-            let same : v.0.signature ≡ record { parameters = parameters; result = value } = v.2 ∙ some_same e in
-            subst (λ o. Mean value (activates_unit greatest (calls greatest units level) level o places w left)) (sym v.1)
-            (subst (λ d. Mean d (activates_outer greatest (calls greatest units level v.0) level v.0.name (procedure_in v.0.procedures 0) places w left)) (ap (λ s. s.result) same)
-            (outer_means n.0 v.0 n.1 (subst (λ ds. AreGood w ds places) (sym (ap (λ s. s.parameters) same)) good)))
+            let t = v.2.0 in
+            let same : t.signature ≡ record { parameters = parameters; result = value } = v.2.2 ∙ some_same e in
+            subst (λ o. Mean value (activates_entry greatest units (calls greatest units level) level o places w left)) (sym v.1)
+            (subst (λ o. Mean value (activates_unit greatest (calls greatest units level) level v.0 o places w left)) (sym v.2.1)
+            (subst (λ d. Mean d (activates_outer greatest (calls greatest units level v.0 t) level v.0 (procedure_in t.procedures 0) places w left)) (ap (λ s. s.result) same)
+            (outer_means v.0 t v.2.1 (subst (λ ds. AreGood w ds places) (sym (ap (λ s. s.parameters) same)) good))))
 
   pub calls_mean : (level : ℕ) → AllMean level
   calls_mean zero i u there typed = record { procedure = λ callee parameters value known x ss blocks found stand below places w left sound good. omega arith }
@@ -222,74 +213,80 @@ module _ (units : List TypedUnit) (greatest : ℕ) (all_typed : AreTypedUnits gr
       }
     where
       by : AllMean level → (callee : Callee) (parameters : List Description) (value : Option Description) (known : Known) (x : Shape) (ss : List Shape) (blocks : List BlockAround)
-          → IsCallee u.globals typed.procedures blocks callee parameters value → Stand u.name known (x ∷ ss) (suc (length ss)) blocks → IsBelow known (suc (length ss))
+          → IsCallee u.globals typed.procedures blocks callee parameters value → Stand i known (x ∷ ss) (suc (length ss)) blocks → IsBelow known (suc (length ss))
           → (places : List Place) (w : World) (left : ℕ) → IsSound units (x ∷ ss) w → AreGood w parameters places
-          → Means units (suc level) left known (x ∷ ss) w (GivesBack value) (called_in greatest units (calls greatest units level) level u callee places w left)
+          → Means units (suc level) left known (x ∷ ss) w (GivesBack value) (called_in greatest units (calls greatest units level) level i u callee places w left)
       by means (OfBlock block) parameters value known x ss blocks found stand below places w left sound good =
           let p = found.0 in
-          subst (λ d. Means units (suc level) left known (x ∷ ss) w (GivesBack d) (activates greatest (calls greatest units level u) level u.name (procedure_in u.procedures block) places w left)) found.4
+          subst (λ d. Means units (suc level) left known (x ∷ ss) w (GivesBack d) (activates greatest (calls greatest units level i u) level i (procedure_in u.procedures block) places w left)) found.4
           (inside_means level means known x ss below places w left sound i u there typed blocks block p found.1 found.2 stand (subst (λ ds. AreGood w ds places) (sym found.3) good))
       by means (OfEntry number) parameters value known x ss blocks found stand below places w left sound good =
           entry_means level means known x ss below places w left sound i u there number parameters value found good
 
 -- a run: what has a meaning ends so
-ended : (e : Ending) (w : World) → e ≢ MachineFault → (o : Outcome) × (ended_as e w ≡ Some o)
-ended (Error e unit s) w h = (outcome_of (Error e unit s) w, refl)
-ended Ended w h = (outcome_of Ended w, refl)
-ended OutOfSteps w h = (outcome_of OutOfSteps w, refl)
-ended MachineFault w h = absurd (h refl)
+ended : (e : Ending) (o : Outcome) → e ≢ message.MachineFault → unless_fault e o ≡ Some o
+ended (message.Error e unit s) o h = refl
+ended message.Ended o h = refl
+ended message.OutOfSteps o h = refl
+ended message.MachineFault o h = absurd (h refl)
 
-ran_so : (units : List TypedUnit) (m n : ℕ) (u : World) (o : Effect (Option Value)) → n < m
-    → Means units m n (λ h k. false) [] u (GivesBack None) o → (x : Outcome) × (ran o ≡ Some x)
-ran_so units m n u (Gives None w left) lt h = (outcome_of Ended w, refl)
-ran_so units m n u (Gives (Some v) w left) lt h = absurd h.1
-ran_so units m n u (Jumps i k w left) lt h = absurd (true≢false (sym h.1))
-ran_so units m n u (Fails e w) lt h = ended e w h
-ran_so units m n u (Spent w) lt h = (outcome_of OutOfSteps w, refl)
-ran_so units m n u Lost lt h = absurd h
-ran_so units m n u Short lt h = absurd (omega (arith, lt, h))
+module _ (units : List TypedUnit) where
+  abbrev names : List Name
+  names = unit_names units
 
-main_means : (units : List TypedUnit) (greatest : ℕ) (all_typed : AreTypedUnits greatest units) → IsLinked units → (i : ℕ) (u : TypedUnit) → slice_get units i ≡ Some u
-    → u.signature ≡ record { parameters = []; result = None } → (n : ℕ) (w : World) → IsSound units [] w
-    → (x : Outcome) × (ran (main_run greatest (calls greatest units (suc n) u) (suc n) u.name (procedure_in u.procedures 0) w n) ≡ Some x)
-main_means units greatest all_typed linked_units i u there nothing_given n w sound =
-    subst (λ o. (x : Outcome) × (ran (main_run greatest call (suc n) u.name o w n) ≡ Some x)) (sym f.1)
-    (subst (λ b. (x : Outcome) × (ran (if b then procedure_run greatest call (suc n) u.name f.0 0 [] w n else Lost) ≡ Some x)) (sym tested)
-    (ran_so units (suc (suc n)) n w (procedure_run greatest call (suc n) u.name f.0 0 [] w n) (omega arith)
-    (procedure_means units greatest u own typed.procedures (suc n) call f.0 p (λ h k. false) [] 0 [] f.2 (calls_mean units greatest all_typed linked_units (suc n) i u there typed)
-    tt (λ h k lt. refl) w n sound tt)))
-  where
-    typed : IsTypedUnit greatest u
-    typed = unit_typed greatest units i u all_typed there
+  ran_so : (m n : ℕ) (u : World) (o : Effect (Option Value)) → n < m
+      → Means units m n (λ h k. false) [] u (GivesBack None) o → (x : Outcome) × (ran names o ≡ Some x)
+  ran_so m n u (Gives None w left) lt h = (outcome_of names Ended w, refl)
+  ran_so m n u (Gives (Some v) w left) lt h = absurd h.1
+  ran_so m n u (Jumps i k w left) lt h = absurd (true≢false (sym h.1))
+  ran_so m n u (Fails e w) lt h = (outcome_of names e w, ended (told names e) (outcome_of names e w) h)
+  ran_so m n u (Spent w) lt h = (outcome_of names OutOfSteps w, refl)
+  ran_so m n u Lost lt h = absurd h
+  ran_so m n u Short lt h = absurd (omega (arith, lt, h))
 
-    call : Calls
-    call = calls greatest units (suc n) u
+  main_means : (greatest : ℕ) (all_typed : AreTypedUnits greatest units) → IsLinked units → (i : ℕ) (u : TypedUnit) → slice_get units i ≡ Some u
+      → u.signature ≡ record { parameters = []; result = None } → (n : ℕ) (w : World) → IsSound units [] w
+      → (x : Outcome) × (ran names (main_run greatest (calls greatest units (suc n) i u) (suc n) i (procedure_in u.procedures 0) w n) ≡ Some x)
+  main_means greatest all_typed linked_units i u there nothing_given n w sound =
+      subst (λ o. (x : Outcome) × (ran names (main_run greatest call (suc n) i o w n) ≡ Some x)) (sym f.1)
+      (subst (λ b. (x : Outcome) × (ran names (if b then procedure_run greatest call (suc n) i f.0 0 [] w n else Lost) ≡ Some x)) (sym tested)
+      (ran_so (suc (suc n)) n w (procedure_run greatest call (suc n) i f.0 0 [] w n) (omega arith)
+      (procedure_means units greatest i u own typed.procedures (suc n) call f.0 p (λ h k. false) [] 0 [] f.2 (calls_mean units greatest all_typed linked_units (suc n) i u there typed)
+      tt (λ h k lt. refl) w n sound tt)))
+    where
+      typed : IsTypedUnit greatest u
+      typed = unit_typed greatest units i u all_typed there
 
-    p : KnownProcedure
-    p = record { parent = None; around = []; parameters = []; value = None }
+      call : Calls
+      call = calls greatest units (suc n) i u
 
-    f : (f : TypedProcedure) × (procedure_in u.procedures 0 ≡ Some f) × IsTypedProcedure greatest u.globals typed.procedures p f
-    f = typed.typed 0 p (subst (λ s. IsOuter (typed.procedures 0) s) nothing_given typed.outer)
+      p : KnownProcedure
+      p = record { parent = None; around = []; parameters = []; value = None }
 
-    own : IsUnit units u.name u.globals
-    own = record { number = i; unit = u; there = there; named = refl; has = refl }
+      f : (f : TypedProcedure) × (procedure_in u.procedures 0 ≡ Some f) × IsTypedProcedure greatest u.globals typed.procedures p f
+      f = typed.typed 0 p (subst (λ s. IsOuter (typed.procedures 0) s) nothing_given typed.outer)
 
-    tested : is_external f.0.parent && nat_eq f.0.parameters 0 ≡ true
-    tested = ap (λ o. is_external o && nat_eq f.0.parameters 0) f.2.parent ∙ eq-eqb f.0.parameters 0 f.2.parameters
+      own : IsUnit units i u.globals
+      own = record { unit = u; there = there; has = refl }
+
+      tested : is_external f.0.parent && nat_eq f.0.parameters 0 ≡ true
+      tested = ap (λ o. is_external o && nat_eq f.0.parameters 0) f.2.parent ∙ eq-eqb f.0.parameters 0 f.2.parameters
 
 pub always_meant : EveryRunIsMeant
 always_meant p typed steps =
-    let made = statics_there p.greatest p.units typed.units typed.names typed.linked typed.count typed.bytes in
-    subst (λ a. (x : Outcome) × (ran (and_then (answered a steps) (λ _ w left. unit_run p.greatest (calls p.greatest p.units (suc steps)) (suc steps) (slice_get p.units p.main) w left)) ≡ Some x)) (sym made.1)
+    let made = statics_there p.greatest p.units typed.units typed.linked typed.count typed.bytes in
+    subst (λ a. (x : Outcome) × (ran (unit_names p.units) (and_then (answered a steps) (λ _ w left. unit_run p.greatest (calls p.greatest p.units (suc steps)) (suc steps) p.main (slice_get p.units p.main) w left)) ≡ Some x))
+    (sym made.1)
     (by made.0 made.2 made.3 made.4 (slice_get p.units p.main) refl typed.main)
   where
-    by : (w : World) → HoldsValues w → w.activations ≡ [] → ((i : ℕ) (u : TypedUnit) → slice_get p.units i ≡ Some u → AreStatics u.name u.globals w)
+    by : (w : World) → HoldsValues w → w.activations ≡ [] → ((i : ℕ) (u : TypedUnit) → slice_get p.units i ≡ Some u → AreStatics i u.globals w)
         → (o : Option TypedUnit) → slice_get p.units p.main ≡ o → HasMain o
-        → (x : Outcome) × (ran (unit_run p.greatest (calls p.greatest p.units (suc steps)) (suc steps) o w steps) ≡ Some x)
+        → (x : Outcome) × (ran (unit_names p.units) (unit_run p.greatest (calls p.greatest p.units (suc steps)) (suc steps) p.main o w steps) ≡ Some x)
     by w values stack statics None e main = absurd main
     by w values stack statics (Some u) e main =
         main_means p.units p.greatest typed.units typed.linked p.main u e main steps w (record {
           values = values;
           stack = subst (λ all. AreShaped w [] all) (sym stack) tt;
+          of_units = tt;
           made = statics;
         })

@@ -1,16 +1,15 @@
 -- What well-typed statements mean.
 use Rattle.std.specs.Prelude.{◌≡◌, ◌≢◌, ℕ, zero, suc, nat_eq, Bool, true, false, ◌&&◌, ◌||◌, IsTrue, Option, Some, None}
-use Rattle.std.specs.Prelude.{List, [], ◌∷◌, ◌++◌, length, map, if◌then◌else◌, refl}
+use Rattle.std.specs.Prelude.{List, [], ◌∷◌, ◌++◌, length, map, slice_get, if◌then◌else◌, refl}
 use Rattle.std.specs.List.{list_any}
 use Rattle.std.proofs.Common.{arith, sym, ap, ◌∙◌, subst, inr, true≢false}
 use Rattle.std.proofs.lemmas.Bool.{eqb-true, eq-eqb}
-use Rattle.pli_base.specs.Name.{Name}
-use Rattle.pli_code.specs.declared.ending.Ending.TheVariants.{Ended, MachineFault}
+use Rattle.pli_code.specs.declared.ending.Ending.TheVariants as message
 use Rattle.pli_map.specs.Description.{Description}
 use Rattle.pli_world.specs.Activations.{nearest_of}
 use Rattle.pli_world.specs.Storage.{Place}
 use Rattle.pli_world.specs.World.{World, Answer, Yields, Raises, Wrong, entered, held, height, at_statement}
-use Rattle.pli_program.specs.Program.{Head}
+use Rattle.pli_world.specs.Activations.{Head}
 use Rattle.pli_type_tree.specs.Templates.{Template, variable_of}
 use Rattle.pli_type_tree.specs.TypedTree.{TypedExpression, BlockHead, TypedStatement, Statement, Form, Null, Assign}
 use Rattle.pli_type_tree.specs.TypedTree.{AssignAggregate, Put, If, Begin, Group, While, Iterate, Call, Goto, Return, ReturnValue, Stop, OtherWise, NoElse, Else}
@@ -30,18 +29,18 @@ use Rattle.pli_meaning_typed.proofs.ExpressionsMean.{CallsMean}
 use Rattle.pli_meaning_typed.proofs.FormsMean.{FlowIs, Fits, condition_means, assigns_means, aggregate_means, skips_means, call_means}
 use Rattle.pli_meaning_typed.proofs.FormsMean.{jump_means, return_means, value_returned}
 use Rattle.pli_meaning_typed.proofs.IterationsMean.{iterates_means}
-use Rattle.pli_meaning_typed.proofs.ContextLaws.{IsUnit, Known, Wider, AreKnown, Stand, near, stand_wider, stand_labels, same_self, shaped_length}
+use Rattle.pli_meaning_typed.proofs.ContextLaws.{IsUnit, Known, Wider, AreKnown, Stand, near, stand_wider, stand_labels, shaped_length}
 use Rattle.pli_meaning_typed.proofs.WorldLaws.{later_same, entered_answers, left_sound, left_later, statement_sound}
 
-ended_other : Ended ≢ MachineFault
+ended_other : message.Ended ≢ message.MachineFault
 ended_other e = absurd (cc)
 
 -- labels
-pub held_labels : (unit : Name) (statements : TypedStatements) (label : ℕ) → IsTrue (list_any (nat_eq label) (labels_of statements))
+pub held_labels : (unit : ℕ) (statements : TypedStatements) (label : ℕ) → IsTrue (list_any (nat_eq label) (labels_of statements))
     → labels_in unit statements (record { unit = unit; number = label }) ≡ true
 held_labels unit NoStatement label h = h
 held_labels unit (StatementThen (Statement number form) more) label h =
-    ap (λ b. b && nat_eq number label || labels_in unit more (record { unit = unit; number = label })) (same_self unit)
+    ap (λ b. b && nat_eq number label || labels_in unit more (record { unit = unit; number = label })) (eq-eqb unit unit refl)
     ∙ by (nat_eq label number) (nat_eq number label) refl refl h (held_labels unit more label)
   where
     by : (b c : Bool) → nat_eq label number ≡ b → nat_eq number label ≡ c → b || list_any (nat_eq label) (labels_of more) ≡ true
@@ -58,7 +57,7 @@ also_wide held height known h k t = by (nat_eq h height && held k)
     by true = refl
     by false = t
 
-also_new : (unit : Name) (statements : TypedStatements) (height : ℕ) (known : Known) → AreKnown unit (also (labels_in unit statements) height known) height (labels_of statements)
+also_new : (unit : ℕ) (statements : TypedStatements) (height : ℕ) (known : Known) → AreKnown unit (also (labels_in unit statements) height known) height (labels_of statements)
 also_new unit statements height known n h =
     let label : Label = record { unit = unit; number = n } in
     ap (λ b. if b && labels_in unit statements label then true else known height label) (eq-eqb height height refl)
@@ -72,11 +71,11 @@ also_below held height known below h k lt = by (nat_eq h height) refl
     by false e = below h k lt
 
 -- a list begins at its front or at a label of its own
-abbrev Starts : (unit : Name) → TypedStatements → Option Label → Type 0
+abbrev Starts : (unit : ℕ) → TypedStatements → Option Label → Type 0
 Starts unit statements None = Unit {0}
 Starts unit statements (Some label) = labels_in unit statements label ≡ true
 
-in_own_group : (units : List TypedUnit) (unit : Name) (known : Known) (x : Shape) (ss : List Shape) (s : TypingContext) (block : ℕ) (statements : TypedStatements) → Fits units unit known x ss s block
+in_own_group : (units : List TypedUnit) (unit : ℕ) (known : Known) (x : Shape) (ss : List Shape) (s : TypingContext) (block : ℕ) (statements : TypedStatements) → Fits units unit known x ss s block
     → Fits units unit (also (labels_in unit statements) (suc (length ss)) known) x ss (in_group statements s) block
 in_own_group units unit known x ss s block statements f =
     let more = also (labels_in unit statements) (suc (length ss)) known in record {
@@ -97,7 +96,7 @@ variables_described [] = refl
 variables_described (t ∷ ts) = ap (λ ds. t.description ∷ ds) (variables_described ts)
 
 -- a block's own statements
-pub in_own_block : (units : List TypedUnit) (unit : Name) (known : Known) (head : BlockHead) (parameters : List Description) (statements : TypedStatements) (link : ℕ) (ss : List Shape)
+pub in_own_block : (units : List TypedUnit) (unit : ℕ) (known : Known) (head : BlockHead) (parameters : List Description) (statements : TypedStatements) (link : ℕ) (ss : List Shape)
     (s : TypingContext) (around : List BlockAround) → s.blocks ≡ block_of head parameters statements ∷ around → IsUnit units unit s.globals → Stand unit known ss link around → IsBelow known (length ss)
     → Fits units unit (also (labels_in unit statements) (suc (length ss)) known)
     (record { unit = unit; block = head.number; link = link; slots = parameters ++ map (λ v. v.description) (map variable_of head.variables) }) ss s head.number
@@ -125,19 +124,20 @@ in_own_block units unit known head parameters statements link ss s around e own 
 -- an activation: it is entered, runs and is left
 pub activation_means : {A : Type 0} (units : List TypedUnit) (P : Flow → World → Type 0) (Q : A → World → Type 0) (n : ℕ) (known : Known)
     (ss : List Shape) (head : Head) (link : ℕ) (places : List Place) (parameters : List Description) (run : Doing Flow) (end : Flow → Doing A)
-    (w : World) (left : ℕ) → IsBelow known (length ss) → IsSound units ss w → AreGood w parameters places → AreMade head.variables
+    (w : World) (left : ℕ) → IsBelow known (length ss) → IsSound units ss w → ((u : TypedUnit) × (slice_get units head.unit ≡ Some u)) → AreGood w parameters places
+    → AreMade head.variables
     → ((v : World) (l : ℕ) → IsSound units (record { unit = head.unit; block = head.block; link = link; slots = parameters ++ map (λ v. v.description) head.variables } ∷ ss) v
     → Means units n l known (record { unit = head.unit; block = head.block; link = link; slots = parameters ++ map (λ v. v.description) head.variables } ∷ ss) v P (run v l))
     → ((x : Flow) (v : World) (l : ℕ) → P x v → IsSound units (record { unit = head.unit; block = head.block; link = link; slots = parameters ++ map (λ v. v.description) head.variables } ∷ ss) v
     → Means units n l known ss v Q (end x v l))
     → Means units n left known ss w Q (activation_of head link places run end w left)
-activation_means units P Q n known ss head link places parameters run end w left below sound good made f g =
-    by (entered head link places w) (entered_answers units head link places parameters ss w sound good made)
+activation_means units P Q n known ss head link places parameters run end w left below sound own good made f g =
+    by (entered head link places w) (entered_answers units head link places parameters ss w sound own good made)
   where
     y : Shape
     y = record { unit = head.unit; block = head.block; link = link; slots = parameters ++ map (λ v. v.description) head.variables }
 
-    by : (o : Answer (Unit {0})) → Answers (λ _ v. IsSound units (y ∷ ss) v × IsLater w v) o
+    by : (o : Answer (Unit {0})) → Answers units (λ _ v. IsSound units (y ∷ ss) v × IsLater w v) o
         → Means units n left known ss w Q (and_then (answered o left) (λ _ w left. leaving (run w left) end))
     by (Yields _ v) h =
         means_from units Q n left left known ss w v (leaving (run v left) end) (omega arith) h.1
@@ -145,7 +145,7 @@ activation_means units P Q n known ss head link places parameters run end w left
     by (Raises r v) h = h
     by Wrong h = h
 
-module _ (units : List TypedUnit) (greatest level : ℕ) (call : Calls) (unit : Name) where
+module _ (units : List TypedUnit) (greatest level : ℕ) (call : Calls) (unit : ℕ) where
   abbrev Here : {A : Type 0} → TypingContext → Known → Shape → List Shape → (left : ℕ) → World → (A → World → Type 0) → Effect A → Type 0
   Here s known x ss left u Is o = Means units level left known (x ∷ ss) u Is o
 
@@ -194,7 +194,7 @@ module _ (units : List TypedUnit) (greatest level : ℕ) (call : Calls) (unit : 
       (full_means units (Flows s) level left known x ss
       (activation_of (head_in unit head) n.link [] (does_list greatest call unit level head.number statements) block_end) w sound
       (activation_means units (Flows (in_begin head statements s)) (Flows s) level known (x ∷ ss) (head_in unit head) n.link [] []
-      (does_list greatest call unit level head.number statements) block_end w left fits.below sound tt made
+      (does_list greatest call unit level head.number statements) block_end w left fits.below sound (fits.inside.own.unit, fits.inside.own.there) tt made
       (λ v l sound. f (inner n.link) (in_own_block units unit known head [] statements n.link (x ∷ ss) (in_begin head statements s) s.blocks refl fits.inside.own n.stand fits.below) v l sound)
       (λ y v l is sound. ended (inner n.link) y v l is sound)))
     where

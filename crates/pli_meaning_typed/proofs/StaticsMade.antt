@@ -1,5 +1,5 @@
 -- The variables that are made before the program begins are there, where they have room.
-use Rattle.std.specs.Prelude.{◌≡◌, ℕ, zero, suc, ◌+◌, ◌≤◌, nat_eq, Bool, true, false, ◌&&◌, ◌||◌, Option, Some, None, List, [], ◌∷◌, ◌++◌}
+use Rattle.std.specs.Prelude.{◌≡◌, ℕ, zero, suc, ◌+◌, ◌≤◌, ◌<◌, nat_eq, Bool, true, false, ◌&&◌, ◌||◌, Option, Some, None, List, [], ◌∷◌, ◌++◌}
 use Rattle.std.specs.Prelude.{length, map, slice_get, if◌then◌else◌, refl}
 use Rattle.std.specs.Cmp.Lexicographic.{same_text}
 use Rattle.std.proofs.Common.{arith, sym, ap, ◌∙◌, subst, append_assoc, length-append}
@@ -17,9 +17,8 @@ use Rattle.pli_type_tree.specs.TypedTree.{Global, OwnVariable, ExternalVariable,
 use Rattle.pli_type_tree.specs.WellTyped.{AreMade}
 use Rattle.pli_meaning_tree.specs.TreeMeaning.{all_made}
 use Rattle.pli_meaning_typed.specs.SoundWorlds.{HoldsValues, StandsGood, AreStatics, IsLater}
-use Rattle.pli_meaning_typed.specs.TypedPrograms.{NoneIsNamed, AreNamedApart, all_globals, IsLinked, unless, made_for, bytes_of, AreTypedUnits}
-use Rattle.pli_meaning_typed.proofs.ContextLaws.{same_self}
-use Rattle.pli_meaning_typed.proofs.WorldLaws.{later_same, later_then, stands_later, new_generation, with_new, new_later, new_values, new_good, room_gives}
+use Rattle.pli_meaning_typed.specs.TypedPrograms.{all_globals, IsLinked, unless, made_for, bytes_of, AreTypedUnits}
+use Rattle.pli_meaning_typed.proofs.WorldLaws.{later_same, later_then, stands_later, small_near, new_generation, with_new, new_later, new_values, new_good, room_gives}
 
 none_some : {A : Type 0} {x : A} → None ≡ Some x → ⊥
 none_some e = absurd (cc)
@@ -27,9 +26,9 @@ none_some e = absurd (cc)
 some_same : {A : Type 0} {x y : A} → Some x ≡ Some y → x ≡ y
 some_same e = cc
 
-more_kept : (ss : List Static) (s : Static) (unit : Name) (k : ℕ) (p : Standing) → static_in ss unit k ≡ Some p → static_in (ss ++ s ∷ []) unit k ≡ Some p
+more_kept : (ss : List Static) (s : Static) (unit : ℕ) (k : ℕ) (p : Standing) → static_in ss unit k ≡ Some p → static_in (ss ++ s ∷ []) unit k ≡ Some p
 more_kept [] s unit k p h = absurd (none_some h)
-more_kept (t ∷ ss) s unit k p h = by (same_name t.unit unit && nat_eq t.number k) h (more_kept ss s unit k p)
+more_kept (t ∷ ss) s unit k p h = by (nat_eq t.unit unit && nat_eq t.number k) h (more_kept ss s unit k p)
   where
     by : (b : Bool) → (if b then Some t.standing else static_in ss unit k) ≡ Some p
         → (static_in ss unit k ≡ Some p → static_in (ss ++ s ∷ []) unit k ≡ Some p)
@@ -37,14 +36,14 @@ more_kept (t ∷ ss) s unit k p h = by (same_name t.unit unit && nat_eq t.number
     by true h rest = h
     by false h rest = rest h
 
-more_behind : (ss : List Static) (s : Static) (unit : Name) (k : ℕ) → static_in ss unit k ≡ None
-    → static_in (ss ++ s ∷ []) unit k ≡ (if same_name s.unit unit && nat_eq s.number k then Some s.standing else None)
+more_behind : (ss : List Static) (s : Static) (unit : ℕ) (k : ℕ) → static_in ss unit k ≡ None
+    → static_in (ss ++ s ∷ []) unit k ≡ (if nat_eq s.unit unit && nat_eq s.number k then Some s.standing else None)
 more_behind [] s unit k h = refl
-more_behind (t ∷ ss) s unit k h = by (same_name t.unit unit && nat_eq t.number k) h (more_behind ss s unit k)
+more_behind (t ∷ ss) s unit k h = by (nat_eq t.unit unit && nat_eq t.number k) h (more_behind ss s unit k)
   where
     by : (b : Bool) → (if b then Some t.standing else static_in ss unit k) ≡ None
-        → (static_in ss unit k ≡ None → static_in (ss ++ s ∷ []) unit k ≡ (if same_name s.unit unit && nat_eq s.number k then Some s.standing else None))
-        → (if b then Some t.standing else static_in (ss ++ s ∷ []) unit k) ≡ (if same_name s.unit unit && nat_eq s.number k then Some s.standing else None)
+        → (static_in ss unit k ≡ None → static_in (ss ++ s ∷ []) unit k ≡ (if nat_eq s.unit unit && nat_eq s.number k then Some s.standing else None))
+        → (if b then Some t.standing else static_in (ss ++ s ∷ []) unit k) ≡ (if nat_eq s.unit unit && nat_eq s.number k then Some s.standing else None)
     by true h rest = absurd (none_some (sym h))
     by false h rest = rest h
 
@@ -135,23 +134,23 @@ made_later all w v name false (Some p) later lists h = absurd h
 made_later all w v name false None later lists h = tt
 
 -- what making the variables of a unit, from a number on, leaves and adds
-record Grown (name : Name) (number : ℕ) (gs : List Global) (w v : World) : Type 0 where
+record Grown (unit number : ℕ) (gs : List Global) (w v : World) : Type 0 where
   later : IsLater w v
   lists : v.lists ≡ w.lists
-  kept : (unit : Name) (k : ℕ) (p : Standing) → static_in w.statics unit k ≡ Some p → static_in v.statics unit k ≡ Some p
-  apart : (unit : Name) (k : ℕ) → same_name name unit ≡ false → static_in w.statics unit k ≡ None → static_in v.statics unit k ≡ None
+  kept : (other k : ℕ) (p : Standing) → static_in w.statics other k ≡ Some p → static_in v.statics other k ≡ Some p
+  apart : (other k : ℕ) → nat_eq unit other ≡ false → static_in w.statics other k ≡ None → static_in v.statics other k ≡ None
   found :
-      ((k : ℕ) → number ≤ k → static_in w.statics name k ≡ None) → (i : ℕ) (d : Description) → description_of (slice_get gs i) ≡ Some d
-      → (p : Standing) × (static_in v.statics name (number + i) ≡ Some p) × StandsGood v d p
+      ((k : ℕ) → number ≤ k → static_in w.statics unit k ≡ None) → (i : ℕ) (d : Description) → description_of (slice_get gs i) ≡ Some d
+      → (p : Standing) × (static_in v.statics unit (number + i) ≡ Some p) × StandsGood v d p
 
 -- a static more, which stands as it should
-module _ (name : Name) (number : ℕ) (external : Option Name) (d : Description) (p : Standing) (w x : World) (same : x.statics ≡ w.statics) (lists : x.lists ≡ w.lists) (later : IsLater w x)
+module _ (unit number : ℕ) (external : Option Name) (d : Description) (p : Standing) (w x : World) (same : x.statics ≡ w.statics) (lists : x.lists ≡ w.lists) (later : IsLater w x)
     (good : StandsGood x d p) where
   abbrev with_one : World
-  with_one = with_static name number external p x
+  with_one = with_static unit number external p x
 
   abbrev new_one : Static
-  new_one = record { unit = name; number = number; external = external; standing = p }
+  new_one = record { unit = unit; number = number; external = external; standing = p }
 
   statics_are : with_one.statics ≡ w.statics ++ new_one ∷ []
   statics_are = ap (λ ss. ss ++ new_one ∷ []) same
@@ -162,13 +161,13 @@ module _ (name : Name) (number : ℕ) (external : Option Name) (d : Description)
   one_after : IsLater x with_one
   one_after = record { more = omega arith; lived = λ n g lt h. (g, h, refl) }
 
-  grown_more : (g : Global) (gs : List Global) (v : World) → description_of (Some g) ≡ Some d → Grown name (suc number) gs with_one v → Grown name number (g ∷ gs) w v
+  grown_more : (g : Global) (gs : List Global) (v : World) → description_of (Some g) ≡ Some d → Grown unit (suc number) gs with_one v → Grown unit number (g ∷ gs) w v
   grown_more g gs v is m = record {
     later = later_then w with_one v one_later m.later;
     lists = m.lists ∙ lists;
-    kept = λ unit k q h. m.kept unit k q (subst (λ ss. static_in ss unit k ≡ Some q) (sym statics_are) (more_kept w.statics new_one unit k q h));
-    apart = λ unit k e h. m.apart unit k e (subst (λ ss. static_in ss unit k ≡ None) (sym statics_are)
-        (more_behind w.statics new_one unit k h ∙ ap (λ b. if b && nat_eq number k then Some p else None) e));
+    kept = λ other k q h. m.kept other k q (subst (λ ss. static_in ss other k ≡ Some q) (sym statics_are) (more_kept w.statics new_one other k q h));
+    apart = λ other k e h. m.apart other k e (subst (λ ss. static_in ss other k ≡ None) (sym statics_are)
+        (more_behind w.statics new_one other k h ∙ ap (λ b. if b && nat_eq number k then Some p else None) e));
     found = found;
   }
     where
@@ -179,40 +178,40 @@ module _ (name : Name) (number : ℕ) (external : Option Name) (d : Description)
           by true e = absurd (omega (arith, eqb-true number k e, le))
           by false e = refl
 
-      found : ((k : ℕ) → number ≤ k → static_in w.statics name k ≡ None) → (i : ℕ) (c : Description) → description_of (slice_get (g ∷ gs) i) ≡ Some c
-          → (q : Standing) × (static_in v.statics name (number + i) ≡ Some q) × StandsGood v c q
+      found : ((k : ℕ) → number ≤ k → static_in w.statics unit k ≡ None) → (i : ℕ) (c : Description) → description_of (slice_get (g ∷ gs) i) ≡ Some c
+          → (q : Standing) × (static_in v.statics unit (number + i) ≡ Some q) × StandsGood v c q
       found fresh zero c e =
           let z : number ≡ number + 0 = omega arith in
-          let here : static_in with_one.statics name number ≡ Some p =
-          ap (λ ss. static_in ss name number) statics_are
-          ∙ more_behind w.statics new_one name number (fresh number (omega arith))
-          ∙ ap (λ b. if b && nat_eq number number then Some p else None) (same_self name)
+          let here : static_in with_one.statics unit number ≡ Some p =
+          ap (λ ss. static_in ss unit number) statics_are
+          ∙ more_behind w.statics new_one unit number (fresh number (omega arith))
+          ∙ ap (λ b. if b && nat_eq number number then Some p else None) (eq-eqb unit unit refl)
           ∙ ap (λ b. if b then Some p else None) (eq-eqb number number refl) in (
             p,
-            subst (λ n. static_in v.statics name n ≡ Some p) z (m.kept name number p here),
+            subst (λ n. static_in v.statics unit n ≡ Some p) z (m.kept unit number p here),
             subst (λ c. StandsGood v c p) (some_same (sym is ∙ e)) (stands_later x v d p (later_then x with_one v one_after m.later) m.lists good),
           )
       found fresh (suc i) c e =
           let z : suc number + i ≡ number + suc i = omega arith in
-          let q = m.found (λ k le. ap (λ ss. static_in ss name k) statics_are
-          ∙ more_behind w.statics new_one name k (fresh k (omega (arith, le)))
-          ∙ ap (λ b. if b && nat_eq number k then Some p else None) (same_self name)
+          let q = m.found (λ k le. ap (λ ss. static_in ss unit k) statics_are
+          ∙ more_behind w.statics new_one unit k (fresh k (omega (arith, le)))
+          ∙ ap (λ b. if b && nat_eq number k then Some p else None) (eq-eqb unit unit refl)
           ∙ ap (λ b. if b then Some p else None) (unlike k le)) i c e in
-          (q.0, subst (λ n. static_in v.statics name n ≡ Some q.0) z q.1, q.2)
+          (q.0, subst (λ n. static_in v.statics unit n ≡ Some q.0) z q.1, q.2)
 
   external_at : (other : Name) → external_in with_one.statics other ≡ first_of (external_in w.statics other) (if is_named other external then Some p else None)
   external_at other = ap (λ ss. external_in ss other) statics_are ∙ external_more w.statics new_one other
 
 -- the external variables stay, or one of a name is added
-own_externals : (all : List Global) (before : List Name) (name : Name) (number : ℕ) (d : Description) (p : Standing) (w x : World) (same : x.statics ≡ w.statics) (lists : x.lists ≡ w.lists)
-    (later : IsLater w x) (good : StandsGood x d p) → AreExternals all before w → AreExternals all before (with_static name number None p x)
-own_externals all before name number d p w x same lists later good h other =
-    subst (λ o. IsMade all (with_static name number None p x) other (is_among other before) o)
-    (sym (external_at name number None d p w x same lists later good other ∙ first_alone (external_in w.statics other)))
-    (made_later all w (with_static name number None p x) other (is_among other before) (external_in w.statics other) (one_later name number None d p w x same lists later good) lists (h other))
+own_externals : (all : List Global) (before : List Name) (unit number : ℕ) (d : Description) (p : Standing) (w x : World) (same : x.statics ≡ w.statics) (lists : x.lists ≡ w.lists)
+    (later : IsLater w x) (good : StandsGood x d p) → AreExternals all before w → AreExternals all before (with_static unit number None p x)
+own_externals all before unit number d p w x same lists later good h other =
+    subst (λ o. IsMade all (with_static unit number None p x) other (is_among other before) o)
+    (sym (external_at unit number None d p w x same lists later good other ∙ first_alone (external_in w.statics other)))
+    (made_later all w (with_static unit number None p x) other (is_among other before) (external_in w.statics other) (one_later unit number None d p w x same lists later good) lists (h other))
 
 named_externals : (all : List Global) → ((i j : ℕ) (name : Name) (one other : Template) → slice_get all i ≡ Some (ExternalVariable name one) → slice_get all j ≡ Some (ExternalVariable name other) → one ≡ other)
-    → (before : List Name) (unit : Name) (number : ℕ) (name : Name) (t : Template) (p : Standing) (w x : World) (same : x.statics ≡ w.statics) (lists : x.lists ≡ w.lists)
+    → (before : List Name) (unit number : ℕ) (name : Name) (t : Template) (p : Standing) (w x : World) (same : x.statics ≡ w.statics) (lists : x.lists ≡ w.lists)
     (later : IsLater w x) (good : StandsGood x t.description p) → Declared all name t → first_of (external_in w.statics name) (Some p) ≡ Some p
     → AreExternals all before w → AreExternals all (name ∷ before) (with_static unit number (Some name) p x)
 named_externals all alike before unit number name t p w x same lists later good declared now h other = by (same_name other name) refl
@@ -242,25 +241,25 @@ named_externals all alike before unit number name t p w x same lists later good 
 module _ (all : List Global)
     (alike : (i j : ℕ) (name : Name) (one other : Template) → slice_get all i ≡ Some (ExternalVariable name one) → slice_get all j ≡ Some (ExternalVariable name other) → one ≡ other) where
   -- what making the variables of a unit, from a number on, comes to
-  record MakesAll (name : Name) (number : ℕ) (before : List Name) (gs : List Global) (w v : World) : Type 0 where
+  record MakesAll (unit number : ℕ) (before : List Name) (gs : List Global) (w v : World) : Type 0 where
     values : HoldsValues v
     bytes : live_bytes v.storage ≡ live_bytes w.storage + bytes_of (made_for before gs)
     count : v.made ≡ w.made + length (made_for before gs)
     stack : v.activations ≡ w.activations
     externals : AreExternals all (named_after before gs) v
-    grown : Grown name number gs w v
+    grown : Grown unit number gs w v
 
-  abbrev Makes : (name : Name) (number : ℕ) → List Name → List Global → World → Answer Unit → Type 0
-  Makes name number before gs w a = (v : World) × (a ≡ Yields tt v) × MakesAll name number before gs w v
+  abbrev Makes : (unit number : ℕ) → List Name → List Global → World → Answer Unit → Type 0
+  Makes unit number before gs w a = (v : World) × (a ≡ Yields tt v) × MakesAll unit number before gs w v
 
   -- all globals of a unit are among all
   abbrev AreAmong : List Global → Type 0
   AreAmong gs = (i : ℕ) (g : Global) → slice_get gs i ≡ Some g → (k : ℕ) × (slice_get all k ≡ Some g)
 
-  makes_all : (gs : List Global) (name : Name) (number : ℕ) (before : List Name) (w : World) → HoldsValues w → AreExternals all before w → AreMade (map variable_of (templates_in gs)) → AreAmong gs
+  makes_all : (gs : List Global) (unit number : ℕ) (before : List Name) (w : World) → HoldsValues w → AreExternals all before w → AreMade (map variable_of (templates_in gs)) → AreAmong gs
       → w.made + length (made_for before gs) ≤ generation_limit → live_bytes w.storage + bytes_of (made_for before gs) ≤ byte_limit
-      → Makes name number before gs w (statics_made name number (map global_variable gs) w)
-  makes_all [] name number before w values externals made among few small = (
+      → Makes unit number before gs w (statics_made unit number (map global_variable gs) w)
+  makes_all [] unit number before w values externals made among few small = (
     w,
     refl,
     record {
@@ -269,11 +268,11 @@ module _ (all : List Global)
       count = omega arith;
       stack = refl;
       externals = externals;
-      grown = record { later = later_same w; lists = refl; kept = λ unit k p h. h; apart = λ unit k e h. h; found = λ fresh i d e. absurd (none_some e) };
+      grown = record { later = later_same w; lists = refl; kept = λ other k p h. h; apart = λ other k e h. h; found = λ fresh i d e. absurd (none_some e) };
     },
   )
-  makes_all (EntryPoint entry s ∷ gs) name number before w values externals made among few small =
-      let r = makes_all gs name (suc number) before w values externals made (λ i g e. among (suc i) g e) few small in
+  makes_all (EntryPoint entry s ∷ gs) unit number before w values externals made among few small =
+      let r = makes_all gs unit (suc number) before w values externals made (λ i g e. among (suc i) g e) few small in
       let m = r.2 in (
         r.0,
         r.1,
@@ -287,41 +286,41 @@ module _ (all : List Global)
         },
       )
     where
-      found : (v : World) → Grown name (suc number) gs w v → ((k : ℕ) → number ≤ k → static_in w.statics name k ≡ None) → (i : ℕ) (d : Description)
-          → description_of (slice_get (EntryPoint entry s ∷ gs) i) ≡ Some d → (p : Standing) × (static_in v.statics name (number + i) ≡ Some p) × StandsGood v d p
+      found : (v : World) → Grown unit (suc number) gs w v → ((k : ℕ) → number ≤ k → static_in w.statics unit k ≡ None) → (i : ℕ) (d : Description)
+          → description_of (slice_get (EntryPoint entry s ∷ gs) i) ≡ Some d → (p : Standing) × (static_in v.statics unit (number + i) ≡ Some p) × StandsGood v d p
       found v m fresh zero d e = absurd (none_some e)
       found v m fresh (suc i) d e =
           let z : suc number + i ≡ number + suc i = omega arith in
           let q = m.found (λ k le. fresh k (omega (arith, le))) i d e in
-          (q.0, subst (λ n. static_in v.statics name n ≡ Some q.0) z q.1, q.2)
-  makes_all (OwnVariable t ∷ gs) name number before w values externals made among few small =
+          (q.0, subst (λ n. static_in v.statics unit n ≡ Some q.0) z q.1, q.2)
+  makes_all (OwnVariable t ∷ gs) unit number before w values externals made among few small =
       let d = t.description in
       let vs = (variable_of t).initial in
       let x = with_new d AsStatic vs w in
       let p = whole w.made d in
-      let later = new_later d AsStatic vs w values made.0 in
-      let good = new_good d AsStatic vs w values made.0 in
+      let later = new_later d AsStatic vs w values made.0.1 in
+      let good = new_good d AsStatic vs w values made.0.1 (small_near d made.0.0) in
       let few2 : suc w.made + length (made_for before gs) ≤ generation_limit = omega (arith, few) in
       let small2 : live_bytes (w.storage ++ new_generation d AsStatic vs w ∷ []) + bytes_of (made_for before gs) ≤ byte_limit =
       omega (arith, small, live_more w.storage (new_generation d AsStatic vs w)) in
-      let r = makes_all gs name (suc number) before (with_static name number None (Lies p) x) (new_values d AsStatic vs w values made.0)
-      (own_externals all before name number d (Lies p) w x refl refl later good externals) made.1 (λ i g e. among (suc i) g e) few2 small2 in
+      let r = makes_all gs unit (suc number) before (with_static unit number None (Lies p) x) (new_values d AsStatic vs w values made.0.1)
+      (own_externals all before unit number d (Lies p) w x refl refl later good externals) made.1 (λ i g e. among (suc i) g e) few2 small2 in
       let m = r.2 in (
         r.0,
-        further_gives (made_once (variable_of t) None w) (λ s w. statics_made name (suc number) (map global_variable gs) (with_static name number None s w)) (Lies p) x r.0
-            (ap (λ a. further a (λ p w. Yields (Lies p) w)) (room_gives d AsStatic vs w values made.0 (omega (arith, few)) (omega (arith, small)))) r.1,
+        further_gives (made_once (variable_of t) None w) (λ s w. statics_made unit (suc number) (map global_variable gs) (with_static unit number None s w)) (Lies p) x r.0
+            (ap (λ a. further a (λ p w. Yields (Lies p) w)) (room_gives d AsStatic vs w values made.0.1 (omega (arith, few)) (omega (arith, small)))) r.1,
         record {
           values = m.values;
           bytes = omega (arith, m.bytes, live_more w.storage (new_generation d AsStatic vs w));
           count = omega (arith, m.count);
           stack = m.stack;
           externals = m.externals;
-          grown = grown_more name number None d (Lies p) w x refl refl later good (OwnVariable t) gs r.0 refl m.grown;
+          grown = grown_more unit number None d (Lies p) w x refl refl later good (OwnVariable t) gs r.0 refl m.grown;
         },
       )
-  makes_all (ExternalVariable own t ∷ gs) name number before w values externals made among few small =
+  makes_all (ExternalVariable own t ∷ gs) unit number before w values externals made among few small =
       by (is_among own before) (external_in w.statics own) refl refl (externals own) few small
-      (λ x v e f g. makes_all gs name (suc number) (own ∷ before) x v e made.1 (λ i g e. among (suc i) g e) f g)
+      (λ x v e f g. makes_all gs unit (suc number) (own ∷ before) x v e made.1 (λ i g e. among (suc i) g e) f g)
     where
       declared : Declared all own t
       declared = among 0 (ExternalVariable own t) refl
@@ -331,16 +330,16 @@ module _ (all : List Global)
           → live_bytes w.storage + bytes_of (unless b t ++ made_for (own ∷ before) gs) ≤ byte_limit
           → ((x : World) → HoldsValues x → AreExternals all (own ∷ before) x
           → x.made + length (made_for (own ∷ before) gs) ≤ generation_limit → live_bytes x.storage + bytes_of (made_for (own ∷ before) gs) ≤ byte_limit
-          → Makes name (suc number) (own ∷ before) gs x (statics_made name (suc number) (map global_variable gs) x))
-          → Makes name number before (ExternalVariable own t ∷ gs) w
-          (further (made_once (variable_of t) o w) (λ s w. statics_made name (suc number) (map global_variable gs) (with_static name number (Some own) s w)))
+          → Makes unit (suc number) (own ∷ before) gs x (statics_made unit (suc number) (map global_variable gs) x))
+          → Makes unit number before (ExternalVariable own t ∷ gs) w
+          (further (made_once (variable_of t) o w) (λ s w. statics_made unit (suc number) (map global_variable gs) (with_static unit number (Some own) s w)))
       by true None e f is few small rest = absurd is
       by false (Some p) e f is few small rest = absurd is
       by true (Some p) e f is few small rest =
           let later = later_same w in
           let good : StandsGood w t.description p = is t declared in
-          let r = rest (with_static name number (Some own) p w) values
-          (named_externals all alike before name number own t p w w refl refl later good declared (ap (λ o. first_of o (Some p)) f) externals) few small in
+          let r = rest (with_static unit number (Some own) p w) values
+          (named_externals all alike before unit number own t p w w refl refl later good declared (ap (λ o. first_of o (Some p)) f) externals) few small in
           let m = r.2 in (
             r.0,
             r.1,
@@ -350,56 +349,58 @@ module _ (all : List Global)
               count = m.count ∙ ap (λ b. w.made + length (unless b t ++ made_for (own ∷ before) gs)) (sym e);
               stack = m.stack;
               externals = m.externals;
-              grown = grown_more name number (Some own) t.description p w w refl refl later good (ExternalVariable own t) gs r.0 refl m.grown;
+              grown = grown_more unit number (Some own) t.description p w w refl refl later good (ExternalVariable own t) gs r.0 refl m.grown;
             },
           )
       by false None e f is few small rest =
           let x = with_new t.description AsStatic (variable_of t).initial w in
           let p = whole w.made t.description in
-          let later = new_later t.description AsStatic (variable_of t).initial w values made.0 in
-          let good = new_good t.description AsStatic (variable_of t).initial w values made.0 in
+          let later = new_later t.description AsStatic (variable_of t).initial w values made.0.1 in
+          let good = new_good t.description AsStatic (variable_of t).initial w values made.0.1 (small_near t.description made.0.0) in
           let bytes = live_more w.storage (new_generation t.description AsStatic (variable_of t).initial w) in
           let few2 : suc w.made + length (made_for (own ∷ before) gs) ≤ generation_limit = omega (arith, few) in
           let small2 : live_bytes (w.storage ++ new_generation t.description AsStatic (variable_of t).initial w ∷ []) + bytes_of (made_for (own ∷ before) gs) ≤ byte_limit =
           omega (arith, small, bytes) in
-          let r = rest (with_static name number (Some own) (Lies p) x) (new_values t.description AsStatic (variable_of t).initial w values made.0)
-          (named_externals all alike before name number own t (Lies p) w x refl refl later good declared (ap (λ o. first_of o (Some (Lies p))) f) externals) few2 small2 in
+          let r = rest (with_static unit number (Some own) (Lies p) x) (new_values t.description AsStatic (variable_of t).initial w values made.0.1)
+          (named_externals all alike before unit number own t (Lies p) w x refl refl later good declared (ap (λ o. first_of o (Some (Lies p))) f) externals) few2 small2 in
           let m = r.2 in
           let m_bytes : live_bytes r.0.storage ≡ live_bytes w.storage + bytes_of (t ∷ made_for (own ∷ before) gs) = omega (arith, m.bytes, bytes) in
           let m_count : r.0.made ≡ w.made + length (t ∷ made_for (own ∷ before) gs) = omega (arith, m.count) in (
             r.0,
             further_gives (made_once (variable_of t) None w)
-                (λ s w. statics_made name (suc number) (map global_variable gs) (with_static name number (Some own) s w)) (Lies p) x r.0
-                (ap (λ a. further a (λ p w. Yields (Lies p) w)) (room_gives t.description AsStatic (variable_of t).initial w values made.0 (omega (arith, few)) (omega (arith, small)))) r.1,
+                (λ s w. statics_made unit (suc number) (map global_variable gs) (with_static unit number (Some own) s w)) (Lies p) x r.0
+                (ap (λ a. further a (λ p w. Yields (Lies p) w)) (room_gives t.description AsStatic (variable_of t).initial w values made.0.1 (omega (arith, few)) (omega (arith, small)))) r.1,
             record {
               values = m.values;
               bytes = m_bytes ∙ ap (λ b. live_bytes w.storage + bytes_of (unless b t ++ made_for (own ∷ before) gs)) (sym e);
               count = m_count ∙ ap (λ b. w.made + length (unless b t ++ made_for (own ∷ before) gs)) (sym e);
               stack = m.stack;
               externals = m.externals;
-              grown = grown_more name number (Some own) t.description (Lies p) w x refl refl later good (ExternalVariable own t) gs r.0 refl m.grown;
+              grown = grown_more unit number (Some own) t.description (Lies p) w x refl refl later good (ExternalVariable own t) gs r.0 refl m.grown;
             },
           )
 
-  -- the variables of all units: those of a unit whose name no unit before has are there
-  record Made (us : List TypedUnit) (w v : World) : Type 0 where
+  -- the variables of all units, numbered from one on: they are there, where no such unit had any
+  record Made (from : ℕ) (us : List TypedUnit) (w v : World) : Type 0 where
     values : HoldsValues v
     later : IsLater w v
     lists : v.lists ≡ w.lists
     stack : v.activations ≡ w.activations
-    kept : (unit : Name) (k : ℕ) (p : Standing) → static_in w.statics unit k ≡ Some p → static_in v.statics unit k ≡ Some p
+    kept : (unit k : ℕ) (p : Standing) → static_in w.statics unit k ≡ Some p → static_in v.statics unit k ≡ Some p
     found :
-        (n : ℕ) (u : TypedUnit) → slice_get us n ≡ Some u
-        → ((other : TypedUnit) (i k : ℕ) → slice_get us i ≡ Some other → static_in w.statics other.name k ≡ None)
-        → AreStatics u.name u.globals v
+        ((unit k : ℕ) → from ≤ unit → static_in w.statics unit k ≡ None) → (n : ℕ) (u : TypedUnit) → slice_get us n ≡ Some u
+        → AreStatics (from + n) u.globals v
 
-  named_apart : (name : Name) (us : List TypedUnit) (i : ℕ) (u : TypedUnit) → NoneIsNamed name us → slice_get us i ≡ Some u → same_name name u.name ≡ false
-  named_apart name [] i u h e = absurd (none_some e)
-  named_apart name (v ∷ us) zero u h e = subst (λ v. same_name name v.name ≡ false) (some_same e) h.0
-  named_apart name (v ∷ us) (suc i) u h e = named_apart name us i u h.1 e
+  apart_from : (from other : ℕ) → from < other → nat_eq from other ≡ false
+  apart_from from other less = by (nat_eq from other) refl
+    where
+      by : (b : Bool) → nat_eq from other ≡ b → b ≡ false
+      by true e = absurd (omega (arith, eqb-true from other e, less))
+      by false e = refl
 
-  behind : (u : TypedUnit) (us : List TypedUnit) (before : List Name) (w x y : World) → NoneIsNamed u.name us → MakesAll u.name 0 before u.globals w x → Made us x y → Made (u ∷ us) w y
-  behind u us before w x y apart m r = record {
+  behind : (from : ℕ) (u : TypedUnit) (us : List TypedUnit) (before : List Name) (w x y : World) → MakesAll from 0 before u.globals w x → Made (suc from) us x y
+      → Made from (u ∷ us) w y
+  behind from u us before w x y m r = record {
     values = r.values;
     later = later_then w x y m.grown.later r.later;
     lists = r.lists ∙ m.grown.lists;
@@ -408,42 +409,45 @@ module _ (all : List Global)
     found = found;
   }
     where
-      found : (i : ℕ) (v : TypedUnit) → slice_get (u ∷ us) i ≡ Some v
-          → ((other : TypedUnit) (i k : ℕ) → slice_get (u ∷ us) i ≡ Some other → static_in w.statics other.name k ≡ None)
-          → AreStatics v.name v.globals y
-      found zero v e fresh =
-          subst (λ v. AreStatics v.name v.globals y) (some_same e)
-          (λ k d h. let p = m.grown.found (λ k le. fresh u 0 k refl) k d h in
+      found : ((unit k : ℕ) → from ≤ unit → static_in w.statics unit k ≡ None) → (i : ℕ) (v : TypedUnit) → slice_get (u ∷ us) i ≡ Some v
+          → AreStatics (from + i) v.globals y
+      found fresh zero v e =
+          let at : from ≡ from + 0 = omega arith in
+          subst (λ n. AreStatics n v.globals y) at
+          (subst (λ v. AreStatics from v.globals y) (some_same e)
+          (λ k d h. let p = m.grown.found (λ k le. fresh from k (omega arith)) k d h in
           let z : 0 + k ≡ k = omega arith in
-          (p.0, r.kept u.name k p.0 (subst (λ n. static_in x.statics u.name n ≡ Some p.0) z p.1), stands_later x y d p.0 r.later r.lists p.2))
-      found (suc i) v e fresh =
-          r.found i v e (λ other j k f. m.grown.apart other.name k (named_apart u.name us j other apart f) (fresh other (suc j) k f))
+          (p.0, r.kept from k p.0 (subst (λ n. static_in x.statics from n ≡ Some p.0) z p.1), stands_later x y d p.0 r.later r.lists p.2)))
+      found fresh (suc i) v e =
+          let at : suc from + i ≡ from + suc i = omega arith in
+          subst (λ n. AreStatics n v.globals y) at
+          (r.found (λ unit k le. m.grown.apart unit k (apart_from from unit (omega (arith, le))) (fresh unit k (omega (arith, le)))) i v e)
 
-  all_are_made : (n : ℕ) (us : List TypedUnit) (before : List Name) (w : World) → AreTypedUnits n us → AreNamedApart us → HoldsValues w → AreExternals all before w
+  all_are_made : (n from : ℕ) (us : List TypedUnit) (before : List Name) (w : World) → AreTypedUnits n us → HoldsValues w → AreExternals all before w
       → AreAmong (all_globals us) → w.made + length (made_for before (all_globals us)) ≤ generation_limit
       → live_bytes w.storage + bytes_of (made_for before (all_globals us)) ≤ byte_limit
-      → (v : World) × (all_made us w ≡ Yields tt v) × Made us w v
-  all_are_made n [] before w typed names values externals among few small =
-      (w, refl, record { values = values; later = later_same w; lists = refl; stack = refl; kept = λ unit k p h. h; found = λ i u e fresh. absurd (none_some e) })
-  all_are_made n (u ∷ us) before w typed names values externals among few small =
+      → (v : World) × (all_made from us w ≡ Yields tt v) × Made from us w v
+  all_are_made n from [] before w typed values externals among few small =
+      (w, refl, record { values = values; later = later_same w; lists = refl; stack = refl; kept = λ unit k p h. h; found = λ fresh i u e. absurd (none_some e) })
+  all_are_made n from (u ∷ us) before w typed values externals among few small =
       let few2 = subst (λ k. w.made + k ≤ generation_limit)
       (ap (λ ts. length ts) (made_in_parts before u.globals (all_globals us)) ∙ length-append (made_for before u.globals) (made_for (named_after before u.globals) (all_globals us))) few in
       let small2 = subst (λ k. live_bytes w.storage + k ≤ byte_limit)
       (ap (λ ts. bytes_of ts) (made_in_parts before u.globals (all_globals us)) ∙ bytes_in_parts (made_for before u.globals) (made_for (named_after before u.globals) (all_globals us))) small in
-      let first = makes_all u.globals u.name 0 before w values externals typed.0.made (λ i g e. among i g (among_front u.globals (all_globals us) i g e)) (omega (arith, few2)) (omega (arith, small2)) in
+      let first = makes_all u.globals from 0 before w values externals typed.0.made (λ i g e. among i g (among_front u.globals (all_globals us) i g e)) (omega (arith, few2)) (omega (arith, small2)) in
       let m = first.2 in
-      let rest = all_are_made n us (named_after before u.globals) first.0 typed.1 names.1 m.values m.externals (λ i g e. let b = among_behind u.globals (all_globals us) i g e in among b.0 g b.1)
+      let rest = all_are_made n (suc from) us (named_after before u.globals) first.0 typed.1 m.values m.externals (λ i g e. let b = among_behind u.globals (all_globals us) i g e in among b.0 g b.1)
       (omega (arith, few2, m.count)) (omega (arith, small2, m.bytes)) in (
         rest.0,
-        further_gives (statics_made u.name 0 (map global_variable u.globals) w) (λ _ w. all_made us w) tt first.0 rest.0 first.1 rest.1,
-        behind u us before w first.0 rest.0 names.0 m rest.2,
+        further_gives (statics_made from 0 (map global_variable u.globals) w) (λ _ w. all_made (suc from) us w) tt first.0 rest.0 first.1 rest.1,
+        behind from u us before w first.0 rest.0 m rest.2,
       )
 
-pub statics_there : (n : ℕ) (us : List TypedUnit) → AreTypedUnits n us → AreNamedApart us → IsLinked us → length (made_for [] (all_globals us)) ≤ generation_limit
+pub statics_there : (n : ℕ) (us : List TypedUnit) → AreTypedUnits n us → IsLinked us → length (made_for [] (all_globals us)) ≤ generation_limit
     → bytes_of (made_for [] (all_globals us)) ≤ byte_limit
-    → (v : World) × (all_made us nothing ≡ Yields tt v) × HoldsValues v × (v.activations ≡ [])
-    × ((i : ℕ) (u : TypedUnit) → slice_get us i ≡ Some u → AreStatics u.name u.globals v)
+    → (v : World) × (all_made 0 us nothing ≡ Yields tt v) × HoldsValues v × (v.activations ≡ [])
+    × ((i : ℕ) (u : TypedUnit) → slice_get us i ≡ Some u → AreStatics i u.globals v)
 unfolding nothing
-statics_there n us typed names linked few small =
-    let m = all_are_made (all_globals us) linked.variables n us [] nothing typed names (λ k g h. absurd (none_some h)) (λ name. tt) (λ i g e. (i, e)) (omega (arith, few)) (omega (arith, small)) in
-    (m.0, m.1, m.2.values, m.2.stack, λ i u e. m.2.found i u e (λ other j k f. refl))
+statics_there n us typed linked few small =
+    let m = all_are_made (all_globals us) linked.variables n 0 us [] nothing typed (λ k g h. absurd (none_some h)) (λ name. tt) (λ i g e. (i, e)) (omega (arith, few)) (omega (arith, small)) in
+    (m.0, m.1, m.2.values, m.2.stack, λ i u e. let z : 0 + i ≡ i = omega arith in subst (λ k. AreStatics k u.globals m.0) z (m.2.found (λ unit k le. refl) i u e))

@@ -1,34 +1,38 @@
 -- The operations keep worlds sound, and none is wrong where what it needs is there.
-use Rattle.std.specs.Prelude.{◌≡◌, ◌≢◌, ℕ, suc, ◌+◌, ◌≤◌, ◌<◌, nat_eq, nat_lt, nat_le, Bool, true, false, ◌&&◌, IsTrue, Option, Some, None}
-use Rattle.std.specs.Prelude.{List, [], ◌∷◌, ◌++◌, ◌⊎◌, map, slice_get, if◌then◌else◌, refl}
+use Rattle.std.specs.Prelude.{◌≡◌, ℕ, suc, ◌+◌, ◌≤◌, ◌<◌, nat_eq, nat_lt, nat_le, Bool, true, false, not}
+use Rattle.std.specs.Prelude.{◌&&◌, IsTrue, Option, Some, None, List, [], ◌∷◌, ◌++◌, ◌⊎◌, map, slice_get}
+use Rattle.std.specs.Prelude.{if◌then◌else◌, refl, option_map}
 use Rattle.std.proofs.Common.{arith, sym, ap, ◌∙◌, subst, inl, inr, append_assoc, append-nil, lt-ltb, le-leb}
 use Rattle.pli_base.specs.Name.{Name}
-use Rattle.pli_code.specs.declared.ending.Ending.TheVariants.{MachineFault}
+use Rattle.pli_code.specs.declared.ending.Ending.TheVariants as message
 use Rattle.pli_code.specs.declared.ending.RunError.{RunError}
 use Rattle.pli_code.specs.declared.ending.RunError.TheVariants.{DeadLocator, StorageLimit}
+use Rattle.std.proofs.lemmas.Option.{slice_get-map}
 use Rattle.pli_map.specs.Description.{Description}
 use Rattle.pli_map.specs.Same.{same}
 use Rattle.pli_map.specs.laws.SameLaws.{same_decides}
-use Rattle.pli_map.specs.Scalars.{first_scalar, is_scalar, scalars_in, scalars_of}
+use Rattle.pli_map.specs.Scalars.{first_scalar, is_area, is_scalar, scalars_in, scalars_of}
+use Rattle.pli_map.proofs.ScalarLawsHold.{whole_found, scalars_lie_within}
 use Rattle.pli_map.specs.Sizes.{size_of}
-use Rattle.pli_world.specs.Activations.{Activation, with_newest, without_newest}
+use Rattle.pli_world.specs.Activations.{Activation, Head, with_newest, without_newest}
+use Rattle.pli_world.specs.Ends.{error_told}
 use Rattle.pli_world.specs.Storage.{Generation, Made, Automatic, Dummy, Place, whole, generation_in, scalar_at, values_from, with_values_at}
-use Rattle.pli_world.specs.Storage.{with_values, without, live_bytes, generation_limit}
+use Rattle.pli_world.specs.Storage.{with_values, without, live_bytes, generation_limit, offset_limit}
 use Rattle.pli_map.specs.Variables.{byte_limit}
 use Rattle.pli_map.specs.Values.{holds, are_held}
 use Rattle.pli_world.specs.World.{Standing, Lies, Stacked, World, Answer, Yields, Raises, Wrong, further, known, made_of, unless_dead, parts_held}
 use Rattle.pli_world.specs.World.{parts_stored, single, held, stored, copied, in_newest, with_slot, made_all}
 use Rattle.pli_map.specs.Variables.{Variable}
-use Rattle.pli_program.specs.Program.{Head}
 use Rattle.pli_world.specs.World.{without_handed, begun_in, entered, ended_with, prepared_by, left_by, cleared, at_statement, stepped, dummy_of}
 use Rattle.pli_world.specs.World.{static_in, printed, line_ended, error_in, error_at}
 use Rattle.pli_value.specs.Value.{Value}
 use Rattle.pli_type_tree.specs.TypedTree.{TypedUnit}
 use Rattle.pli_type_tree.specs.WellTyped.{AreHeld, AreMade}
-use Rattle.pli_map.specs.Scalars.{scalars_of}
-use Rattle.pli_meaning_typed.specs.SoundWorlds.{IsPartAt, IsGood, AreGood, HoldsValues, Shape, AreShaped, EachGood, StandsGood, AreStatics}
-use Rattle.pli_meaning_typed.specs.SoundWorlds.{IsSound, IsLater, Answers}
-use Rattle.pli_meaning_typed.proofs.Parts.{part_held, part_stored, first_itself}
+use Rattle.pli_meaning_typed.specs.SoundWorlds.{IsPartAt, IsNear, IsGood, AreGood, HoldsValues, Shape, AreShaped, AreOfUnits, EachGood, StandsGood, AreStatics}
+use Rattle.pli_meaning_typed.specs.SoundWorlds.{IsSound, IsLater, IsTold, Answers}
+use Rattle.pli_meaning_tree.specs.TreeMeaning.{unit_names}
+use Rattle.pli_meaning_typed.proofs.Parts.{part_held, part_stored}
+use Rattle.pli_meaning_typed.proofs.PartsWithin.{scalar_first}
 use Rattle.pli_meaning_typed.proofs.StorageLemmas.{appended, replaced, lived_before}
 
 some_same : {A : Type 0} {x y : A} → Some x ≡ Some y → x ≡ y
@@ -53,6 +57,7 @@ good_later v w d p later g = record {
   was_made = omega (arith, g.was_made, later.more);
   outside = g.outside;
   described = g.described;
+  near = g.near;
   part = λ x h. let old = later.lived p.generation x g.was_made h in
       subst (λ e. IsPartAt e p.offset d) old.2 (g.part old.0 old.1);
 }
@@ -83,12 +88,12 @@ module _ (units : List TypedUnit) where
       (h.0, h.1, h.2, goods_later v w s.slots a.slots later h.3, shaped_later v w ss older later h.4)
 
   abbrev AllStatics : World → Type 0
-  AllStatics w = (i : ℕ) (u : TypedUnit) → slice_get units i ≡ Some u → AreStatics u.name u.globals w
+  AllStatics w = (i : ℕ) (u : TypedUnit) → slice_get units i ≡ Some u → AreStatics i u.globals w
 
   statics_later : (v w : World) → IsLater v w → w.statics ≡ v.statics → w.lists ≡ v.lists → AllStatics v → AllStatics w
   statics_later v w later e lists h i u f n d g =
       let s = h i u f n d g in
-      (s.0, subst (λ ss. static_in ss u.name n ≡ Some s.0) (sym e) s.1, stands_later v w d s.0 later lists s.2)
+      (s.0, subst (λ ss. static_in ss i n ≡ Some s.0) (sym e) s.1, stands_later v w d s.0 later lists s.2)
 
   -- the stack as it was
   pub same_stack : (ss : List Shape) (v w : World) → IsSound units ss v → IsLater v w → HoldsValues w
@@ -96,6 +101,7 @@ module _ (units : List TypedUnit) where
   same_stack ss v w s later values e f lists = record {
     values = values;
     stack = subst (λ stack. AreShaped w ss stack) (sym e) (shaped_later v w ss v.activations later s.stack);
+    of_units = s.of_units;
     made = statics_later v w later f lists s.made;
   }
 
@@ -103,31 +109,37 @@ module _ (units : List TypedUnit) where
   pub newest_later : (change : Activation → Activation) (w : World) → IsLater w (in_newest change w)
   newest_later change w = record { more = omega arith; lived = λ n g lt h. (g, h, refl) }
 
-  pub newest_sound : (change : Activation → Activation) (ss ts : List Shape) (w : World) → IsSound units ss w
+  pub newest_sound : (change : Activation → Activation) (ss ts : List Shape) (w : World) → IsSound units ss w → AreOfUnits units ts
       → AreShaped w ts (with_newest change w.activations) → IsSound units ts (in_newest change w)
-  newest_sound change ss ts w sound h = record {
+  newest_sound change ss ts w sound own h = record {
     values = sound.values;
+    of_units = own;
     stack = shaped_later w (in_newest change w) ts (with_newest change w.activations) (newest_later change w) h;
     made = statics_later w (in_newest change w) (newest_later change w) refl refl sound.made;
   }
 
-  -- an error names a statement
-  named : (s : Shape) (ss : List Shape) (w : World) (e : RunError) (stack : List Activation) → AreShaped w (s ∷ ss) stack
-      → error_in e stack ≢ MachineFault
-  named s ss w e [] h = absurd h
-  named s ss w e (a ∷ older) h = λ f. absurd (cc)
+  -- an error names a statement of a unit
+  no_fault : (e : RunError) (unit : Name) (statement : ℕ) → message.Error e unit statement ≡ message.MachineFault → ⊥
+  no_fault e unit statement f = absurd (cc)
 
-  pub error_named : (s : Shape) (ss : List Shape) (w : World) (e : RunError) → IsSound units (s ∷ ss) w
-      → error_at e w ≢ MachineFault
+  named : (s : Shape) (ss : List Shape) (w : World) (e : RunError) (stack : List Activation) → AreShaped w (s ∷ ss) stack
+      → AreOfUnits units (s ∷ ss) → IsTold units (error_in e stack)
+  named s ss w e [] h own = absurd h
+  named s ss w e (a ∷ older) h own =
+      let name : slice_get (unit_names units) a.unit ≡ Some own.0.0.name =
+      slice_get-map (λ (u : TypedUnit). u.name) units a.unit ∙ ap (option_map (λ (u : TypedUnit). u.name)) (ap (slice_get units) h.0 ∙ own.0.1) in
+      λ f. no_fault e own.0.0.name a.statement (sym (ap (λ o. error_told e o a.statement) name) ∙ f)
+
+  pub error_named : (s : Shape) (ss : List Shape) (w : World) (e : RunError) → IsSound units (s ∷ ss) w → IsTold units (error_at e w)
   unfolding error_at
-  error_named s ss w e h = named s ss w e w.activations h.stack
+  error_named s ss w e h = named s ss w e w.activations h.stack h.of_units
 
 -- one operation after another
-pub further_answers : {A B : Type 0} (P : A → World → Type 0) (Q : B → World → Type 0) (o : Answer A)
-    (go : A → World → Answer B) → Answers P o → ((x : A) (w : World) → P x w → Answers Q (go x w)) → Answers Q (further o go)
-further_answers P Q (Yields x w) go h f = f x w h
-further_answers P Q (Raises e w) go h f = h
-further_answers P Q Wrong go h f = absurd h
+pub further_answers : {A B : Type 0} (units : List TypedUnit) (P : A → World → Type 0) (Q : B → World → Type 0) (o : Answer A)
+    (go : A → World → Answer B) → Answers units P o → ((x : A) (w : World) → P x w → Answers units Q (go x w)) → Answers units Q (further o go)
+further_answers units P Q (Yields x w) go h f = f x w h
+further_answers units P Q (Raises e w) go h f = h
+further_answers units P Q Wrong go h f = absurd h
 
 -- a new generation: a value for each scalar is what the test asks for
 pub values_held : (ds : List Description) (vs : List Value) → AreHeld ds vs → are_held ds vs ≡ true
@@ -135,6 +147,14 @@ values_held [] [] h = refl
 values_held (d ∷ ds) (v ∷ vs) h = ap (λ b. b && are_held ds vs) h.0 ∙ values_held ds vs h.1
 values_held [] (v ∷ vs) h = absurd h
 values_held (d ∷ ds) [] h = absurd h
+
+-- the parts of a variable are near its beginning, and so is a scalar, which is the only part of itself
+pub small_near : (d : Description) → size_of d ≤ offset_limit → IsNear 0 d
+small_near d small more part k found =
+    let inside = (scalars_lie_within d more part k found).1 in omega (arith, inside, small)
+
+pub scalar_near : (d : Description) → is_scalar d ≡ true → IsNear 0 d
+scalar_near d one more part k found = let first = scalar_first d more part k one found in omega (arith, first)
 
 new_part : (d : Description) → IsPartAt d 0 d
 new_part d more e k h = let z : more ≡ 0 + more = omega arith in (k, subst (λ n. first_scalar d n e ≡ Some k) z h)
@@ -164,8 +184,8 @@ module _ (d : Description) (how : Made) (vs : List Value) (w : World) (old : Hol
       by (inl e) = let o = old n x e in (omega (arith, o.0), o.1)
       by (inr e) = (omega (arith, e.0), subst (λ x. AreHeld (scalars_of x.description) x.values) e.1 h)
 
-  pub new_good : IsGood (with_new d how vs w) d (whole w.made d)
-  new_good = record { was_made = omega arith; outside = refl; described = refl; part = λ x e. by x (appended w.storage g w.made x e) }
+  pub new_good : IsNear 0 d → IsGood (with_new d how vs w) d (whole w.made d)
+  new_good near = record { was_made = omega arith; outside = refl; described = refl; near = near; part = λ x e. by x (appended w.storage g w.made x e) }
     where
       by : (x : Generation) → (generation_in w.storage w.made ≡ Some x) ⊎ ((w.made ≡ w.made) × (g ≡ x)) → IsPartAt x.description 0 d
       by x (inl e) = absurd (omega (arith, (old w.made x e).0))
@@ -187,17 +207,17 @@ module _ (units : List TypedUnit) (s : Shape) (ss : List Shape) where
   abbrev MadeAt : World → Description → Place → World → Type 0
   MadeAt w d p v = IsGood v d p × Sound v × IsLater w v
 
-  pub made_answers : (d : Description) (how : Made) (vs : List Value) (w : World) → Sound w → AreHeld (scalars_of d) vs
-      → Answers (MadeAt w d) (made_of d how vs w)
+  pub made_answers : (d : Description) (how : Made) (vs : List Value) (w : World) → Sound w → IsNear 0 d → AreHeld (scalars_of d) vs
+      → Answers units (MadeAt w d) (made_of d how vs w)
   unfolding made_of
-  made_answers d how vs w sound h =
+  made_answers d how vs w sound near h =
       by (nat_lt w.made generation_limit && nat_le (live_bytes w.storage + size_of d) byte_limit)
     where
-      by : (b : Bool) → Answers (MadeAt w d) (if b then (if are_held (scalars_of d) vs then Yields (whole w.made d) (with_new d how vs w) else Wrong) else Raises StorageLimit w)
+      by : (b : Bool) → Answers units (MadeAt w d) (if b then (if are_held (scalars_of d) vs then Yields (whole w.made d) (with_new d how vs w) else Wrong) else Raises StorageLimit w)
       by true =
           let later = new_later d how vs w sound.values h in
-          subst (λ b. Answers (MadeAt w d) (if b then Yields (whole w.made d) (with_new d how vs w) else Wrong)) (sym (values_held (scalars_of d) vs h)) (
-            new_good d how vs w sound.values h,
+          subst (λ b. Answers units (MadeAt w d) (if b then Yields (whole w.made d) (with_new d how vs w) else Wrong)) (sym (values_held (scalars_of d) vs h)) (
+            new_good d how vs w sound.values h near,
             same_stack units (s ∷ ss) w (with_new d how vs w) sound later (new_values d how vs w sound.values h) refl refl refl,
             later,
           )
@@ -207,7 +227,7 @@ module _ (units : List TypedUnit) (s : Shape) (ss : List Shape) where
   first_there : (d : Description) (p : Place) (w : World) (g : Generation) → IsGood w d p → generation_in w.storage p.generation ≡ Some g
       → (k : ℕ) × (scalar_at g p ≡ Some k) × (first_scalar g.description p.offset d ≡ Some k)
   first_there d p w g good e =
-      let f = good.part g e 0 d 0 (first_itself d) in
+      let f = good.part g e 0 d 0 (whole_found d) in
       let z : p.offset + 0 ≡ p.offset = omega arith in
       let there : first_scalar g.description p.offset d ≡ Some f.0 = subst (λ n. first_scalar g.description n d ≡ Some f.0) z f.1 in (
         f.0,
@@ -220,17 +240,17 @@ module _ (units : List TypedUnit) (s : Shape) (ss : List Shape) where
   HeldAt w d vs v = AreHeld (scalars_of d) vs × Sound v × IsLater w v
 
   pub parts_held_answers : (d : Description) (p : Place) (w : World) → Sound w → IsGood w d p
-      → Answers (HeldAt w d) (parts_held p w)
+      → Answers units (HeldAt w d) (parts_held p w)
   unfolding parts_held
   parts_held_answers d p w sound good = by (generation_in w.storage p.generation) refl
     where
       by : (o : Option Generation) → generation_in w.storage p.generation ≡ o
-          → Answers (HeldAt w d)
+          → Answers units (HeldAt w d)
           (further (unless_dead o w) (λ g w. further (known (scalar_at g p) w) (λ k w. Yields (values_from k (scalars_in p.description) g.values) w)))
       by None e = error_named units s ss w DeadLocator sound
       by (Some g) e =
           let f = first_there d p w g good e in
-          subst (λ o. Answers (HeldAt w d) (further (known o w) (λ k w. Yields (values_from k (scalars_in p.description) g.values) w))) (sym f.1) (
+          subst (λ o. Answers units (HeldAt w d) (further (known o w) (λ k w. Yields (values_from k (scalars_in p.description) g.values) w))) (sym f.1) (
             subst (λ e. AreHeld (scalars_of d) (values_from f.0 (scalars_in e) g.values)) (sym good.described)
                 (part_held g.description p.offset d f.0 g.values f.2 (sound.values p.generation g e).1),
             sound,
@@ -242,7 +262,7 @@ module _ (units : List TypedUnit) (s : Shape) (ss : List Shape) where
   Kept w _ v = Sound v × IsLater w v
 
   pub parts_stored_answers : (d : Description) (p : Place) (vs : List Value) (w : World) → Sound w → IsGood w d p
-      → AreHeld (scalars_of d) vs → Answers (Kept w) (parts_stored p vs w)
+      → AreHeld (scalars_of d) vs → Answers units (Kept w) (parts_stored p vs w)
   unfolding parts_stored
   parts_stored_answers d p vs w sound good h = by (generation_in w.storage p.generation) refl
     where
@@ -250,7 +270,7 @@ module _ (units : List TypedUnit) (s : Shape) (ss : List Shape) where
       put g k w = Yields tt (record w { storage = with_values w.storage p.generation (with_values_at k vs g.values) })
 
       by : (o : Option Generation) → generation_in w.storage p.generation ≡ o
-          → Answers (Kept w) (further (unless_dead o w) (λ g w. further (known (scalar_at g p) w) (λ k w. Yields tt (record w { storage = with_values w.storage p.generation (with_values_at k vs g.values) }))))
+          → Answers units (Kept w) (further (unless_dead o w) (λ g w. further (known (scalar_at g p) w) (λ k w. Yields tt (record w { storage = with_values w.storage p.generation (with_values_at k vs g.values) }))))
       by None e = error_named units s ss w DeadLocator sound
       by (Some g) e =
           let f = first_there d p w g good e in
@@ -260,7 +280,7 @@ module _ (units : List TypedUnit) (s : Shape) (ss : List Shape) where
             more = omega arith;
             lived = λ n x lt e. let r = replaced w.storage p.generation xs n x e in (r.old, r.there, r.described);
           } in
-          subst (λ o. Answers (Kept w) (further (known o w) (λ k w. Yields tt (record w { storage = with_values w.storage p.generation (with_values_at k vs g.values) })))) (sym f.1)
+          subst (λ o. Answers units (Kept w) (further (known o w) (λ k w. Yields tt (record w { storage = with_values w.storage p.generation (with_values_at k vs g.values) })))) (sym f.1)
           (same_stack units (s ∷ ss) w new sound later (values g e f.0 f.2) refl refl refl, later)
         where
           values : (g : Generation) → generation_in w.storage p.generation ≡ Some g → (k : ℕ) → first_scalar g.description p.offset d ≡ Some k
@@ -283,7 +303,7 @@ module _ (units : List TypedUnit) (s : Shape) (ss : List Shape) where
 
   -- one scalar
   alone_held : (d : Description) (vs : List Value) (w v : World) → AreHeld (d ∷ []) vs → Sound v → IsLater w v
-      → Answers (λ x u. IsTrue (holds d x) × Sound u × IsLater w u) (single vs v)
+      → Answers units (λ x u. IsTrue (holds d x) × Sound u × IsLater w u) (single vs v)
   alone_held d [] w v h sound later = absurd h
   alone_held d (x ∷ []) w v h sound later = (h.0, sound, later)
   alone_held d (x ∷ y ∷ vs) w v h sound later = absurd h.1
@@ -292,56 +312,59 @@ module _ (units : List TypedUnit) (s : Shape) (ss : List Shape) where
   HeldBy w d x v = IsTrue (holds d x) × Sound v × IsLater w v
 
   pub held_answers : (d : Description) (p : Place) (w : World) → Sound w → IsGood w d p → is_scalar d ≡ true
-      → scalars_of d ≡ d ∷ [] → Answers (HeldBy w d) (held p w)
+      → scalars_of d ≡ d ∷ [] → Answers units (HeldBy w d) (held p w)
   unfolding held
   held_answers d p w sound good scalar one =
-      further_answers (HeldAt w d) (HeldBy w d) (parts_held p w) (λ vs w. if is_scalar p.description then single vs w else Wrong)
+      further_answers units (HeldAt w d) (HeldBy w d) (parts_held p w) (λ vs w. if is_scalar p.description then single vs w else Wrong)
       (parts_held_answers d p w sound good)
-      (λ vs v h. subst (λ b. Answers (HeldBy w d) (if b then single vs v else Wrong)) (sym (ap (λ d. is_scalar d) good.described ∙ scalar))
+      (λ vs v h. subst (λ b. Answers units (HeldBy w d) (if b then single vs v else Wrong)) (sym (ap (λ d. is_scalar d) good.described ∙ scalar))
       (alone_held d vs w v (subst (λ ds. AreHeld ds vs) one h.0) h.1 h.2))
 
   pub stored_answers : (d : Description) (p : Place) (x : Value) (w : World) → Sound w → IsGood w d p → IsTrue (holds d x)
-      → scalars_of d ≡ d ∷ [] → Answers (Kept w) (stored p x w)
+      → scalars_of d ≡ d ∷ [] → Answers units (Kept w) (stored p x w)
   unfolding stored
   stored_answers d p x w sound good h one = by (generation_in w.storage p.generation)
     where
-      put : Answers (Kept w) (parts_stored p (x ∷ []) w)
+      put : Answers units (Kept w) (parts_stored p (x ∷ []) w)
       put = parts_stored_answers d p (x ∷ []) w sound good (subst (λ ds. AreHeld ds (x ∷ [])) (sym one) (h, tt))
 
       by : (o : Option Generation)
-          → Answers (Kept w) (further (unless_dead o w) (λ g w. if holds p.description x then parts_stored p (x ∷ []) w else Wrong))
+          → Answers units (Kept w) (further (unless_dead o w) (λ g w. if holds p.description x then parts_stored p (x ∷ []) w else Wrong))
       by None = error_named units s ss w DeadLocator sound
       by (Some g) =
-          subst (λ b. Answers (Kept w) (if b then parts_stored p (x ∷ []) w else Wrong)) (sym (ap (λ d. holds d x) good.described ∙ h)) put
+          subst (λ b. Answers units (Kept w) (if b then parts_stored p (x ∷ []) w else Wrong)) (sym (ap (λ d. holds d x) good.described ∙ h)) put
 
-  pub copied_answers : (d : Description) (source target : Place) (w : World) → Sound w → IsGood w d source → IsGood w d target
-      → Answers (Kept w) (copied source target w)
+  pub copied_answers : (d : Description) (source target : Place) (w : World) → Sound w → is_area d ≡ false → IsGood w d source → IsGood w d target
+      → Answers units (Kept w) (copied source target w)
   unfolding copied
-  copied_answers d source target w sound from to =
+  copied_answers d source target w sound none from to =
       let alike : same source.description target.description ≡ true =
       (same_decides source.description target.description).1 (from.described ∙ sym to.described) in
-      subst (λ b. Answers (Kept w) (if b then further (parts_held source w) (λ vs w. parts_stored target vs w) else Wrong)) (sym alike)
-      (further_answers (HeldAt w d) (Kept w) (parts_held source w) (λ vs w. parts_stored target vs w)
+      let both : not (is_area source.description) && same source.description target.description ≡ true =
+      ap (λ e. not (is_area e) && same source.description target.description) from.described
+      ∙ ap (λ b. not b && same source.description target.description) none ∙ alike in
+      subst (λ b. Answers units (Kept w) (if b then further (parts_held source w) (λ vs w. parts_stored target vs w) else Wrong)) (sym both)
+      (further_answers units (HeldAt w d) (Kept w) (parts_held source w) (λ vs w. parts_stored target vs w)
       (parts_held_answers d source w sound from) (λ vs v h. put vs v h))
     where
-      weaken : (v : World) (a : Answer Unit) → IsLater w v → Answers (Kept v) a → Answers (Kept w) a
+      weaken : (v : World) (a : Answer Unit) → IsLater w v → Answers units (Kept v) a → Answers units (Kept w) a
       weaken v (Yields x u) later h = (h.0, later_then w v u later h.1)
       weaken v (Raises e u) later h = h
       weaken v Wrong later h = h
 
-      put : (vs : List Value) (v : World) → HeldAt w d vs v → Answers (Kept w) (parts_stored target vs v)
+      put : (vs : List Value) (v : World) → HeldAt w d vs v → Answers units (Kept w) (parts_stored target vs v)
       put vs v h =
           weaken v (parts_stored target vs v) h.2
           (parts_stored_answers d target vs v h.1 (good_later w v d target h.2 to) h.0)
 
   -- a dummy argument
-  pub dummy_answers : (d : Description) (x : Value) (w : World) → Sound w → IsTrue (holds d x) → scalars_of d ≡ d ∷ []
-      → Answers (MadeAt w d) (dummy_of d x w)
+  pub dummy_answers : (d : Description) (x : Value) (w : World) → Sound w → IsTrue (holds d x) → is_scalar d ≡ true → scalars_of d ≡ d ∷ []
+      → Answers units (MadeAt w d) (dummy_of d x w)
   unfolding dummy_of
-  dummy_answers d x w sound h one =
-      subst (λ b. Answers (MadeAt w d) (if b then further (made_of d Dummy (x ∷ []) w) (λ p w. Yields p (in_newest (λ a. record a { pending = a.pending ++ p.generation ∷ [] }) w)) else Wrong)) (sym h)
-      (further_answers (MadeAt w d) (MadeAt w d) (made_of d Dummy (x ∷ []) w) (λ p w. Yields p (in_newest (λ a. record a { pending = a.pending ++ p.generation ∷ [] }) w))
-      (made_answers d Dummy (x ∷ []) w sound (subst (λ ds. AreHeld ds (x ∷ [])) (sym one) (h, tt)))
+  dummy_answers d x w sound h scalar one =
+      subst (λ b. Answers units (MadeAt w d) (if b then further (made_of d Dummy (x ∷ []) w) (λ p w. Yields p (in_newest (λ a. record a { pending = a.pending ++ p.generation ∷ [] }) w)) else Wrong)) (sym h)
+      (further_answers units (MadeAt w d) (MadeAt w d) (made_of d Dummy (x ∷ []) w) (λ p w. Yields p (in_newest (λ a. record a { pending = a.pending ++ p.generation ∷ [] }) w))
+      (made_answers d Dummy (x ∷ []) w sound (scalar_near d scalar) (subst (λ ds. AreHeld ds (x ∷ [])) (sym one) (h, tt)))
       (λ p v m. pending p v m.0 m.1 m.2))
     where
       change : Place → Activation → Activation
@@ -357,7 +380,7 @@ module _ (units : List TypedUnit) (s : Shape) (ss : List Shape) where
       pending p v good sound later =
           let after : IsLater v (in_newest (change p) v) = newest_later units (change p) v in (
             good_later v (in_newest (change p) v) d p after good,
-            newest_sound units (change p) (s ∷ ss) (s ∷ ss) v sound (shaped p v v.activations sound.stack),
+            newest_sound units (change p) (s ∷ ss) (s ∷ ss) v sound sound.of_units (shaped p v v.activations sound.stack),
             later_then w v (in_newest (change p) v) later after,
           )
 
@@ -372,10 +395,10 @@ module _ (units : List TypedUnit) where
   goods_more w (e ∷ es) [] d p h g = absurd h
   goods_more w (e ∷ es) (q ∷ qs) d p h g = (h.0, goods_more w es qs d p h.1 g)
 
-  abbrev shape : (unit : Name) (block link : ℕ) → List Description → Shape
+  abbrev shape : (unit block link : ℕ) → List Description → Shape
   shape unit block link slots = record { unit = unit; block = block; link = link; slots = slots }
 
-  slotted : (unit : Name) (block link : ℕ) (slots : List Description) (ss : List Shape) (w : World) (d : Description) (p : Place) (stack : List Activation)
+  slotted : (unit block link : ℕ) (slots : List Description) (ss : List Shape) (w : World) (d : Description) (p : Place) (stack : List Activation)
       → AreShaped w (shape unit block link slots ∷ ss) stack → IsGood w d p
       → AreShaped w (shape unit block link (slots ++ d ∷ []) ∷ ss) (with_newest (with_slot p) stack)
   slotted unit block link slots ss w d p [] h g = absurd h
@@ -384,29 +407,29 @@ module _ (units : List TypedUnit) where
   abbrev Entered : World → List Shape → Unit {0} → World → Type 0
   Entered w ss _ v = IsSound units ss v × IsLater w v
 
-  weaken : (ss : List Shape) (w v : World) (a : Answer Unit) → IsLater w v → Answers (Entered v ss) a → Answers (Entered w ss) a
+  weaken : (ss : List Shape) (w v : World) (a : Answer Unit) → IsLater w v → Answers units (Entered v ss) a → Answers units (Entered w ss) a
   weaken ss w v (Yields x u) later h = (h.0, later_then w v u later h.1)
   weaken ss w v (Raises e u) later h = h
   weaken ss w v Wrong later h = h
 
-  made_all_answers : (vs : List Variable) (unit : Name) (block link : ℕ) (slots : List Description) (ss : List Shape) (w : World)
+  made_all_answers : (vs : List Variable) (unit block link : ℕ) (slots : List Description) (ss : List Shape) (w : World)
       → IsSound units (shape unit block link slots ∷ ss) w → AreMade vs
-      → Answers (Entered w (shape unit block link (slots ++ map (λ v. v.description) vs) ∷ ss)) (made_all vs w)
+      → Answers units (Entered w (shape unit block link (slots ++ map (λ v. v.description) vs) ∷ ss)) (made_all vs w)
   made_all_answers [] unit block link slots ss w sound h =
       (subst (λ ds. IsSound units (shape unit block link ds ∷ ss) w) (sym (append-nil slots)) sound, later_same w)
   made_all_answers (x ∷ vs) unit block link slots ss w sound h =
       let top = shape unit block link slots in
       let rest = map (λ v. v.description) vs in
-      further_answers (MadeAt units top ss w x.description)
+      further_answers units (MadeAt units top ss w x.description)
       (Entered w (shape unit block link (slots ++ map (λ v. v.description) (x ∷ vs)) ∷ ss))
       (made_of x.description Automatic x.initial w) (λ p w. made_all vs (in_newest (with_slot p) w))
-      (made_answers units top ss x.description Automatic x.initial w sound h.0)
+      (made_answers units top ss x.description Automatic x.initial w sound (small_near x.description h.0.0) h.0.1)
       (λ p v m. let u = in_newest (with_slot p) v in
-      subst (λ ds. Answers (Entered w (shape unit block link ds ∷ ss)) (made_all vs u)) (append_assoc slots (x.description ∷ []) rest)
+      subst (λ ds. Answers units (Entered w (shape unit block link ds ∷ ss)) (made_all vs u)) (append_assoc slots (x.description ∷ []) rest)
       (weaken (shape unit block link ((slots ++ x.description ∷ []) ++ rest) ∷ ss) w u (made_all vs u)
       (later_then w v u m.2 (newest_later units (with_slot p) v))
       (made_all_answers vs unit block link (slots ++ x.description ∷ []) ss u
-      (newest_sound units (with_slot p) (top ∷ ss) (shape unit block link (slots ++ x.description ∷ []) ∷ ss) v m.1
+      (newest_sound units (with_slot p) (top ∷ ss) (shape unit block link (slots ++ x.description ∷ []) ∷ ss) v m.1 m.1.of_units
       (slotted unit block link slots ss v x.description p v.activations m.1.stack m.0)) h.1)))
 
   handed_shaped : (ss : List Shape) (w : World) (given : List Place) (stack : List Activation) → AreShaped w ss stack
@@ -417,10 +440,10 @@ module _ (units : List TypedUnit) where
   handed_shaped (s ∷ ss) w given (a ∷ older) h = h
 
   pub entered_answers : (head : Head) (link : ℕ) (given : List Place) (parameters : List Description) (ss : List Shape) (w : World)
-      → IsSound units ss w → AreGood w parameters given → AreMade head.variables
-      → Answers (Entered w (shape head.unit head.block link (parameters ++ map (λ v. v.description) head.variables) ∷ ss)) (entered head link given w)
+      → IsSound units ss w → ((u : TypedUnit) × (slice_get units head.unit ≡ Some u)) → AreGood w parameters given → AreMade head.variables
+      → Answers units (Entered w (shape head.unit head.block link (parameters ++ map (λ v. v.description) head.variables) ∷ ss)) (entered head link given w)
   unfolding entered
-  entered_answers head link given parameters ss w sound good h =
+  entered_answers head link given parameters ss w sound own good h =
       let u = begun_in head link given w in
       let later : IsLater w u = record { more = omega arith; lived = λ n g lt h. (g, h, refl) } in
       weaken (shape head.unit head.block link (parameters ++ map (λ v. v.description) head.variables) ∷ ss) w u (made_all head.variables u) later
@@ -433,6 +456,7 @@ module _ (units : List TypedUnit) where
           goods_later w u parameters given later good,
           shaped_later units w u ss _ later (handed_shaped ss w given w.activations sound.stack),
         );
+        of_units = (own, sound.of_units);
         made = statics_later units w u later refl refl sound.made;
       }) h)
 
@@ -458,6 +482,7 @@ module _ (units : List TypedUnit) where
       let later = ended_later (ended_with w.activations) w (left_by w) refl refl in record {
         values = λ n g h. sound.values n g (lived_before (ended_with w.activations) w.storage n g h);
         stack = shaped_later units w (left_by w) ss (without_newest w.activations) later (older_shaped s ss w w.activations sound.stack);
+        of_units = sound.of_units.1;
         made = statics_later units w (left_by w) later refl refl sound.made;
       }
 
@@ -479,6 +504,7 @@ module _ (units : List TypedUnit) where
       let later = ended_later (prepared_by w.activations) w (cleared w) refl refl in record {
         values = λ n g h. sound.values n g (lived_before (prepared_by w.activations) w.storage n g h);
         stack = shaped_later units w (cleared w) ss _ later (cleared_shaped ss w w.activations sound.stack);
+        of_units = sound.of_units;
         made = statics_later units w (cleared w) later refl refl sound.made;
       }
 
@@ -494,7 +520,7 @@ module _ (units : List TypedUnit) where
       → IsSound units ss (at_statement n w) × IsLater w (at_statement n w)
   unfolding at_statement
   statement_sound ss n w sound = (
-    newest_sound units (λ a. record a { statement = n }) ss ss w sound (statement_shaped ss w n w.activations sound.stack),
+    newest_sound units (λ a. record a { statement = n }) ss ss w sound sound.of_units (statement_shaped ss w n w.activations sound.stack),
     newest_later units (λ a. record a { statement = n }) w,
   )
 

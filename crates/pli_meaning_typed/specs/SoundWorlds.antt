@@ -1,16 +1,17 @@
 -- Sound worlds (own): what the operations keep, and what they need so that none asks for what is not there.
 use Rattle.std.specs.Prelude.{◌≡◌, ◌≢◌, ℕ, ◌+◌, ◌≤◌, ◌<◌, Some, List, [], ◌∷◌, slice_get}
-use Rattle.pli_base.specs.Name.{Name}
-use Rattle.pli_code.specs.declared.ending.Ending.TheVariants.{MachineFault}
+use Rattle.pli_code.specs.declared.ending.Ending.TheVariants as message
 use Rattle.pli_map.specs.Description.{Description}
 use Rattle.pli_map.specs.Scalars.{first_scalar}
 use Rattle.pli_world.specs.Activations.{Activation}
-use Rattle.pli_world.specs.Storage.{Generation, Place, generation_in}
+use Rattle.pli_world.specs.Ends.{RunEnd, told}
+use Rattle.pli_world.specs.Storage.{Generation, Place, generation_in, offset_limit}
 use Rattle.pli_world.specs.World.{Standing, Lies, Stacked, World, Answer, Yields, Raises, Wrong}
 use Rattle.pli_world.specs.World.{static_in, error_at}
 use Rattle.pli_type_tree.specs.Globals.{description_of}
 use Rattle.pli_type_tree.specs.TypedTree.{Global, TypedUnit}
 use Rattle.pli_type_tree.specs.WellTyped.{AreHeld}
+use Rattle.pli_meaning_tree.specs.TreeMeaning.{unit_names}
 use Rattle.pli_map.specs.Scalars.{scalars_of}
 
 -- each part of one description is a part of another, so many bytes further
@@ -19,11 +20,18 @@ IsPartAt whole offset part =
     (more : ℕ) (d : Description) (k : ℕ) → first_scalar part more d ≡ Some k
     → (j : ℕ) × (first_scalar whole (offset + more) d ≡ Some j)
 
--- a place of a description: its generation was made and, if it lives, has such a part there
+-- each part of a description that stands so many bytes behind the beginning is where references lead
+abbrev pub IsNear : (offset : ℕ) → Description → Type 0
+IsNear offset whole =
+    (more : ℕ) (d : Description) (k : ℕ) → first_scalar whole more d ≡ Some k → offset + more ≤ offset_limit
+
+-- a place of a description: its generation was made and, if it lives, has such a part there, each part of which
+-- is where references lead
 pub record IsGood (w : World) (d : Description) (p : Place) : Type 0 where
   pub was_made : p.generation < w.made
   pub outside : p.position ≡ 0
   pub described : p.description ≡ d
+  pub near : IsNear p.offset d
   pub part :
       (g : Generation) → generation_in w.storage p.generation ≡ Some g → IsPartAt g.description p.offset d
 
@@ -42,7 +50,7 @@ HoldsValues w =
 -- what stays of an activation while it runs: its unit and block, its static link, and the descriptions of its
 -- slots
 pub record Shape : Type 0 where
-  pub unit : Name
+  pub unit : ℕ
   pub block : ℕ
   pub link : ℕ
   pub slots : List Description
@@ -55,6 +63,11 @@ AreShaped w (s ∷ ss) (a ∷ older) =
     × AreShaped w ss older
 AreShaped w ss stack = ⊥
 
+-- they are of units of a program
+abbrev pub AreOfUnits : List TypedUnit → List Shape → Type 0
+AreOfUnits units [] = Unit {0}
+AreOfUnits units (s ∷ ss) = ((u : TypedUnit) × (slice_get units s.unit ≡ Some u)) × AreOfUnits units ss
+
 -- places of one description
 abbrev pub EachGood : World → Description → List Place → Type 0
 EachGood w d [] = Unit {0}
@@ -65,8 +78,8 @@ abbrev pub StandsGood : World → Description → Standing → Type 0
 StandsGood w d (Lies p) = IsGood w d p
 StandsGood w d (Stacked list) = (ps : List Place) × (slice_get w.lists list ≡ Some ps) × EachGood w d ps
 
--- the variables among a unit's globals, which were there before the program began
-abbrev pub AreStatics : (unit : Name) → List Global → World → Type 0
+-- the variables among the globals of the unit of a number, which were there before the program began
+abbrev pub AreStatics : (unit : ℕ) → List Global → World → Type 0
 AreStatics unit globals w =
     (number : ℕ) (d : Description) → description_of (slice_get globals number) ≡ Some d
     → (s : Standing) × (static_in w.statics unit number ≡ Some s) × StandsGood w d s
@@ -75,7 +88,8 @@ AreStatics unit globals w =
 pub record IsSound (units : List TypedUnit) (shapes : List Shape) (w : World) : Type 0 where
   pub values : HoldsValues w
   pub stack : AreShaped w shapes w.activations
-  pub made : (i : ℕ) (u : TypedUnit) → slice_get units i ≡ Some u → AreStatics u.name u.globals w
+  pub of_units : AreOfUnits units shapes
+  pub made : (i : ℕ) (u : TypedUnit) → slice_get units i ≡ Some u → AreStatics i u.globals w
 
 -- a later world: what lives there and was made before lived before, and is of the same description
 pub record IsLater (before after : World) : Type 0 where
@@ -85,8 +99,12 @@ pub record IsLater (before after : World) : Type 0 where
       → (old : Generation) × (generation_in before.storage number ≡ Some old)
       × (old.description ≡ g.description)
 
--- an operation gives what it should, or an error that names a statement; it is not wrong
-abbrev pub Answers : {A : Type 0} → (A → World → Type 0) → Answer A → Type 0
-Answers Is (Yields x w) = Is x w
-Answers Is (Raises e w) = error_at e w ≢ MachineFault
-Answers Is Wrong = ⊥
+-- an end is told as one that the language has
+abbrev pub IsTold : List TypedUnit → RunEnd → Type 0
+IsTold units e = told (unit_names units) e ≢ message.MachineFault
+
+-- an operation gives what it should, or an error that names a statement of a unit; it is not wrong
+abbrev pub Answers : {A : Type 0} → List TypedUnit → (A → World → Type 0) → Answer A → Type 0
+Answers units Is (Yields x w) = Is x w
+Answers units Is (Raises e w) = IsTold units (error_at e w)
+Answers units Is Wrong = ⊥

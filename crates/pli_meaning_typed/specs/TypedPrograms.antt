@@ -1,10 +1,10 @@
 -- Well-typed programs: each procedure of each unit is, the units are linked, and the variables that are made
 -- before the program begins have room.
-use Rattle.std.specs.Prelude.{◌≡◌, ℕ, ◌+◌, ◌≤◌, Bool, true, false, IsFalse, Option, Some, None}
+use Rattle.std.specs.Prelude.{◌≡◌, ℕ, ◌+◌, ◌≤◌, Bool, true, false, Option, Some, None}
 use Rattle.std.specs.Prelude.{List, [], ◌∷◌, ◌++◌, length, map, slice_get}
 use Rattle.std.specs.List.{flat_map}
 use Rattle.pli_base.specs.Name.{Name}
-use Rattle.pli_base.specs.Words.{same_name, is_among}
+use Rattle.pli_base.specs.Words.{is_among}
 use Rattle.pli_map.specs.Description.{Description}
 use Rattle.pli_map.specs.Sizes.{size_of}
 use Rattle.pli_machine_step.specs.Runs.{Outcome}
@@ -64,16 +64,6 @@ abbrev pub AreTypedUnits : (greatest : ℕ) → List TypedUnit → Type 0
 AreTypedUnits n [] = Unit {0}
 AreTypedUnits n (u ∷ us) = IsTypedUnit n u × AreTypedUnits n us
 
--- no unit has this name
-abbrev pub NoneIsNamed : Name → List TypedUnit → Type 0
-NoneIsNamed name [] = Unit {0}
-NoneIsNamed name (u ∷ us) = IsFalse (same_name name u.name) × NoneIsNamed name us
-
--- no two units have one name
-abbrev pub AreNamedApart : List TypedUnit → Type 0
-AreNamedApart [] = Unit {0}
-AreNamedApart (u ∷ us) = NoneIsNamed u.name us × AreNamedApart us
-
 -- all globals, in the order of the units
 abbrev pub all_globals : List TypedUnit → List Global
 all_globals us = flat_map (λ u. u.globals) us
@@ -84,7 +74,8 @@ pub record IsLinked (units : List TypedUnit) : Type 0 where
   pub entries :
       (i : ℕ) (name : Name) (signature : Signature)
       → slice_get (all_globals units) i ≡ Some (EntryPoint name signature)
-      → (u : TypedUnit) × (unit_named units name ≡ Some u) × (u.signature ≡ signature)
+      → (number : ℕ) × (unit_named units name ≡ Some number)
+      × ((u : TypedUnit) × (slice_get units number ≡ Some u) × (u.signature ≡ signature))
   pub variables :
       (i j : ℕ) (name : Name) (one other : Template)
       → slice_get (all_globals units) i ≡ Some (ExternalVariable name one)
@@ -114,11 +105,10 @@ abbrev pub HasMain : Option TypedUnit → Type 0
 HasMain None = ⊥
 HasMain (Some u) = u.signature ≡ record { parameters = []; result = None }
 
--- each unit is well typed, names are apart and linked, what is made before the program begins has room, and
--- the main unit can begin
+-- each unit is well typed, they are linked, what is made before the program begins has room, and the main unit
+-- can begin
 pub record WellTyped (p : TypedProgram) : Type 0 where
   pub units : AreTypedUnits p.greatest p.units
-  pub names : AreNamedApart p.units
   pub linked : IsLinked p.units
   pub bytes : bytes_of (made_for [] (all_globals p.units)) ≤ byte_limit
   pub count : length (made_for [] (all_globals p.units)) ≤ generation_limit

@@ -1,6 +1,6 @@
 -- The operations of expressions (X3.74, limits own): prefix and infix operators, built-in functions of
 -- values, and conversions.
-use Rattle.std.specs.Prelude.{ℕ, nat_le, Bool, true, false, ℤ, pos, neg_ℤ}
+use Rattle.std.specs.Prelude.{ℕ, nat_le, Bool, true, false, not, ℤ, pos, neg_ℤ}
 use Rattle.std.specs.Prelude.{◌+ℤ◌, ◌-ℤ◌, ◌*ℤ◌, int_le, unsigned_abs, Result, Ok, Err, Option, Some}
 use Rattle.std.specs.Prelude.{None}
 use Rattle.std.specs.Prelude.{List, [], ◌∷◌, length, take, if◌then◌else◌}
@@ -14,7 +14,10 @@ use Rattle.pli_value.specs.Numbers.{within, quotient, remainder, sign_of, greate
 use Rattle.pli_value.specs.Strings.{order_of, conjunction, disjunction, negation, concatenation, substring}
 use Rattle.pli_value.specs.Strings.{substring_from, fitted, index_of}
 pub use Rattle.pli_value.specs.Strings.{is_true}
-use Rattle.pli_value.specs.Value.{Value, Number, Characters, Bits}
+use Rattle.pli_value.specs.Locators.{same_locator}
+use Rattle.pli_value.specs.Value.{Value, Number, Characters, Bits, Located}
+use Rattle.pli_value.specs.declared.locator.Locator.{Locator}
+use Rattle.pli_value.specs.declared.locator.Locator.TheVariants as locators
 use Rattle.pli_value.specs.declared.number.Raised.{Raised}
 
 -- what a comparison asks
@@ -100,6 +103,20 @@ stands AtLeast orders.Greater = true
 stands AtLeast orders.Equal = true
 stands relation order = false
 
+-- two pointers, or two offsets
+abbrev pub are_comparable : (left right : Locator) → Bool
+are_comparable (locators.Offset k) (locators.Offset l) = true
+are_comparable (locators.Offset k) right = false
+are_comparable left (locators.Offset l) = false
+are_comparable left right = true
+
+-- what `=` or `^=` of two locators comes to; no other comparison is theirs
+abbrev pub compared : Relation → (left right : Locator) → Calculation
+compared Equal left right = if are_comparable left right then as_bit (same_locator left right) else Misfits
+compared Unequal left right =
+    if are_comparable left right then as_bit (not (same_locator left right)) else Misfits
+compared relation left right = Misfits
+
 -- a number has not passed a limit: it is at most the limit where the step is not negative, else at least
 abbrev pub is_within_limit : (x limit step : ℤ) → Bool
 is_within_limit x limit step = if int_le (pos 0) step then int_le x limit else int_le limit x
@@ -145,6 +162,7 @@ calculated_with n (Compare relation) (Characters s) (Characters t) =
     as_bit (stands relation (order_of 32 nat_cmp s t))
 calculated_with n (Compare relation) (Bits s) (Bits t) =
     as_bit (stands relation (order_of false bool_cmp s t))
+calculated_with n (Compare relation) (Located l) (Located r) = compared relation l r
 calculated_with n Concatenate (Characters s) (Characters t) = as_characters (concatenation s t)
 calculated_with n Concatenate (Bits s) (Bits t) = as_bits (concatenation s t)
 calculated_with n And (Bits s) (Bits t) = Calculates (Bits (conjunction s t))

@@ -1,7 +1,7 @@
 -- What copying from place to place answers.
 use Rattle.std.proofs.Common.{◌≡◌, true, false, ℕ, List, Err, refl, ap, ◌∙◌}
 use Rattle.pli_map.specs.Same.{same}
-use Rattle.pli_map.specs.Scalars.{scalars_in}
+use Rattle.pli_map.specs.Scalars.{is_area, scalars_in}
 use Rattle.pli_world.specs.Storage.{Generation, Place, values_from}
 use Rattle.pli_world.specs.World.{World, Yields, Wrong, copied, parts_held, parts_stored}
 use Rattle.pli_store.specs.answers.Answered.{Answered}
@@ -13,20 +13,27 @@ use Rattle.pli_store.specs.declared.fault.StoreFault.TheVariants.{Raised, NoRule
 use Rattle.pli_store.specs.declared.part.GenerationPart.{GenerationPart}
 use Rattle.pli_store.proofs.PartAnswers.{put_there, parts_held_there, parts_stored_there}
 
-pub copied_other : (source target : Place) (w : World) → same source.description target.description ≡ false → copied source target w ≡ Wrong
+pub copied_area : (source target : Place) (w : World) → is_area source.description ≡ true → copied source target w ≡ Wrong
 unfolding copied
-copied_other source target w e = rw e refl
+copied_area source target w e = rw e refl
 
-pub copied_from_none : {T : Type 0} (view : T → Unit {0}) (source target : Place) (w after : World) (fault : StoreFault) → same source.description target.description ≡ true → Leads w.storage source (Err fault) → Answered view (Err fault) w after (copied source target w)
+pub copied_other : (source target : Place) (w : World) → is_area source.description ≡ false → same source.description target.description ≡ false
+    → copied source target w ≡ Wrong
+unfolding copied
+copied_other source target w n e = rw (n, e) refl
+
+pub copied_from_none : {T : Type 0} (view : T → Unit {0}) (source target : Place) (w after : World) (fault : StoreFault) → is_area source.description ≡ false
+    → same source.description target.description ≡ true → Leads w.storage source (Err fault) → Answered view (Err fault) w after (copied source target w)
 unfolding copied parts_held
-copied_from_none view source target w after (Raised e) s l = rw s (rw (l.1, l.0) refl)
-copied_from_none view source target w after NoRule s l = rw s (rw l.found (rw l.nowhere refl))
-copied_from_none view source target w after OutOfMemory s l = tt
+copied_from_none view source target w after (Raised e) n s l = rw (n, s) (rw (l.1, l.0) refl)
+copied_from_none view source target w after NoRule n s l = rw (n, s) (rw l.found (rw l.nowhere refl))
+copied_from_none view source target w after OutOfMemory n s l = tt
 
-module _ (source target : Place) (w : World) (s : same source.description target.description ≡ true) (from : GenerationPart) (l : LeadsTo w.storage source from) where
+module _ (source target : Place) (w : World) (n : is_area source.description ≡ false) (s : same source.description target.description ≡ true) (from : GenerationPart)
+    (l : LeadsTo w.storage source from) where
   copied_on : copied source target w ≡ parts_stored target (values_from l.there.scalar (scalars_in source.description) l.there.generation.values) w
   unfolding copied
-  copied_on = rw s (rw (parts_held_there source w from l) refl)
+  copied_on = rw (n, s) (rw (parts_held_there source w from l) refl)
 
   pub copied_to_none : {T : Type 0} (view : T → Unit {0}) (after : World) (fault : StoreFault) → Leads w.storage target (Err fault) → Answered view (Err fault) w after (copied source target w)
   unfolding parts_stored

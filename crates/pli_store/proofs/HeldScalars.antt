@@ -13,18 +13,20 @@ one_scalar (Varying n) e = refl
 one_scalar (Bit n) e = refl
 one_scalar Pointer e = refl
 one_scalar Offset e = refl
-one_scalar (Area n) e = refl
+one_scalar (Area n) e = cc
 one_scalar (Array bs d) e = cc
 one_scalar (Structure ds) e = cc
 
 -- a description that may hold a value
 pub scalar_of_held : (d : Description) (v : Value) → holds d v ≡ true → is_scalar d ≡ true
+scalar_of_held (Area n) v e = absurd (true≢false (sym e))
 scalar_of_held (Array bs d) v e = absurd (true≢false (sym e))
 scalar_of_held (Structure ds) v e = absurd (true≢false (sym e))
 scalar_of_held d v e = refl
 
 -- a description under which bytes hold characters
 pub scalar_of_text : (d : Description) (bytes text : List ℕ) → value_of d bytes ≡ Characters text → is_scalar d ≡ true
+scalar_of_text (Area n) bytes text e = cc
 scalar_of_text (Array bs d) bytes text e = cc
 scalar_of_text (Structure ds) bytes text e = cc
 scalar_of_text d bytes text e = refl

@@ -1,26 +1,14 @@
 -- Where places lead.
-use Rattle.std.proofs.Common.{◌≡◌, ℕ, ◌<◌, ◌≤◌, true, false, List, length, map, Option, Some, None, slice_get, refl, sym, ◌∙◌, arith}
+use Rattle.std.proofs.Common.{◌≡◌, ℕ, ◌<◌, true, false, List, length, map, Option, Some, None, slice_get, refl, sym, ◌∙◌, arith}
 use Rattle.std.specs.Option.{is_some}
 use Rattle.std.proofs.lemmas.Option.{slice_get_within}
 use Rattle.std.proofs.lemmas.List.{length-map}
-use Rattle.pli_map.specs.Description.{Description}
 use Rattle.pli_map.specs.Scalars.{first_scalar}
-use Rattle.pli_map.specs.Sizes.{size_of}
-use Rattle.pli_map.proofs.ScalarLawsHold.{scalars_lie_within}
-use Rattle.pli_world.specs.Storage.{Place, generation_in, live_bytes}
+use Rattle.pli_world.specs.Storage.{Place, generation_in}
 use Rattle.pli_store.specs.answers.Found.{StandsAt, LeadsTo, LeadsNowhere}
 use Rattle.pli_store.specs.declared.generation.Generation.{Generation}
 use Rattle.pli_store.specs.views.GenerationView.{generation_view}
-use Rattle.pli_store.proofs.RisingNumbers.{size_at}
 use Rattle.pli_store.proofs.Searches.{stands_in_view}
-
--- no part stands behind the whole
-pub too_far : (whole : Description) (offset : ℕ) (part : Description) → size_of whole < offset → first_scalar whole offset part ≡ None
-too_far whole offset part far = by (first_scalar whole offset part) refl
-  where
-    by : (o : Option ℕ) → first_scalar whole offset part ≡ o → o ≡ None
-    by None e = refl
-    by (Some k) e = let inside = (scalars_lie_within whole offset part k e).1 in absurd (omega (arith, inside, far))
 
 pub within_store : (items : List Generation) (number at : ℕ) → StandsAt (map generation_view items) number at → at < length items
 within_store items number at s =
@@ -31,16 +19,6 @@ within_store items number at s =
 -- the generation that stands in the store
 pub stored_one : (items : List Generation) (number at : ℕ) (g : Generation) → StandsAt (map generation_view items) number at → slice_get items at ≡ Some g → generation_in (map generation_view items) number ≡ Some (generation_view g)
 stored_one items number at g s h = s.found ∙ sym s.stands ∙ stands_in_view items at g h
-
--- an offset that has no 32 bits leads nowhere
-pub leads_too_far : (items : List Generation) (p : Place) (at : ℕ) → StandsAt (map generation_view items) p.generation at → live_bytes (map generation_view items) ≤ 16777216 → p.position ≡ 0 → 4294967296 ≤ p.offset → LeadsNowhere (map generation_view items) p
-leads_too_far items p at s small whole far =
-    let inside = size_at (map generation_view items) at s.generation s.stands in
-    record {
-      generation = s.generation;
-      found = s.found;
-      nowhere = rw whole (too_far s.generation.description p.offset p.description (omega (arith, inside, small, far)));
-    }
 
 nothing_found : (o : Option ℕ) → is_some o ≡ false → o ≡ None
 nothing_found None e = refl

@@ -12,9 +12,9 @@ pub enum Made {
     Automatic,
     /// Before the program begins; it never ends.
     Static,
-    /// By ALLOCATE of a CONTROLLED variable; none is yet.
+    /// By ALLOCATE of a CONTROLLED variable.
     Controlled,
-    /// By ALLOCATE of a BASED variable; none is yet.
+    /// By ALLOCATE of a BASED variable.
     Based,
     /// For an argument that is not passed by reference.
     Dummy,

@@ -1,13 +1,15 @@
 //! Storage, as the machine keeps it: the generations that live, each as its bytes, in which every scalar of its description
 //! lies at its offset.
 //!
-//! `place` says where references lead, `part` which bytes of a generation stand there; `storage` reads, puts, copies, makes
-//! and ends, by `putting` and `copying`, which change bytes; `spare` keeps memory for generations to come.
+//! `place` says where references lead, `part` which bytes of a generation stand there, `living` what the number of a
+//! generation finds; `storage` reads, puts, copies, makes and ends, by `putting` and `copying`, which change bytes; `spare`
+//! keeps memory for generations to come.
 #![tactic(auto)]
 
 mod copying;
 mod fault;
 mod generation;
+mod living;
 mod part;
 mod place;
 mod putting;
@@ -16,5 +18,6 @@ mod storage;
 
 pub use fault::StoreFault;
 pub use generation::Made;
+pub use living::LivingGeneration;
 pub use place::Place;
 pub use storage::Storage;

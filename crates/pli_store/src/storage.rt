@@ -19,13 +19,14 @@ ghost use Rattle.pli_store.specs.views.GenerationView.{generation_view, made_vie
 use crate::copying::copy_part;
 use crate::fault::StoreFault;
 use crate::generation::{Generation, Made};
+use crate::living::LivingGeneration;
 use crate::part::{GenerationPart, greatest_length, is_number_of, is_part, number_precision};
 use crate::place::Place;
 use crate::putting::{holds_number, lengthen, put_number, put_value};
 use crate::spare::SpareBytes;
 use pli_bytes::{number_at, put_value_at, text_at, value_at};
 use pli_code::RunError;
-use pli_map::{Description, far_size, holds, is_scalar};
+use pli_map::{Description, far_size, holds, is_area, is_scalar};
 use pli_value::Value;
 use std::alloc::{AllocError, Global};
 
@@ -51,6 +52,7 @@ pub struct Storage<'m> {
 }
 
 impl<'m> Storage<'m> {
+    ghost use Rattle.pli_store.specs.answers.Living.{IsLiving};
     ghost use Rattle.pli_store.specs.views.StorageView.{place_view, storage_view, made_count, with_storage, NumberPut, Appended, RoomFor, SameStorage};
 
     /// Storage in which nothing lives, before anything was made.
@@ -80,6 +82,26 @@ impl<'m> Storage<'m> {
             .ok()
     }
 
+    /// The generation of a number; `None` where it has ended, or none was ever made.
+    pub fn living(&self, number: u32) -> Option<LivingGeneration<'m>>
+        ensures { MatchOption result (generation_in (storage_view self.now) number ≡ None)
+            (IsLiving (storage_view self.now) number) }
+    {
+        let last = self.generations.len().saturating_sub(1);
+        let at = self.find(number, last)?;
+        let generation = &self.generations[at];
+        let place = Place {
+            generation: number,
+            offset: 0,
+            description: generation.description,
+            hint: at,
+        };
+        Some(LivingGeneration {
+            place,
+            made: generation.made,
+        })
+    }
+
     /// The generation and the part of it to which a place leads. `DeadLocator` where the generation has ended, `NoRule` where
     /// no such part stands there.
     #[inline(always)]
@@ -89,15 +111,16 @@ impl<'m> Storage<'m> {
         let Some(at) = self.find(place.generation, place.hint) else {
             return Err(StoreFault::Raised(RunError::DeadLocator));
         };
-        let Ok(offset) = u32::try_from(place.offset) else {
-            return Err(StoreFault::NoRule);
-        };
-        if !is_part(self.generations[at].description, offset, place.description) {
+        if !is_part(
+            self.generations[at].description,
+            place.offset,
+            place.description,
+        ) {
             return Err(StoreFault::NoRule);
         }
         Ok(GenerationPart {
             at,
-            offset: offset as usize,
+            offset: place.offset as usize,
         })
     }
 
@@ -262,6 +285,9 @@ impl<'m> Storage<'m> {
             (copied (place_view source.entry) (place_view target.entry) (with_storage self.old w)) }
         ensures err { OnErr result (SameStorage self.old self.new) }
     {
+        if is_area(source.description) {
+            return Err(StoreFault::NoRule);
+        }
         if !source.description.equals(target.description) {
             return Err(StoreFault::NoRule);
         }

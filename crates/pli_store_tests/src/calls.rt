@@ -29,7 +29,7 @@ impl Spot {
         }
     }
 
-    /// How many bytes it stands behind the beginning, fewer than 2^64.
+    /// How many bytes it stands behind the beginning; the greatest number of 64 bits where they are no fewer.
     pub(crate) fn offset(&self) -> u64 {
         let passed = u64::from(self.subscript.abs_diff(self.low));
         passed
@@ -52,6 +52,8 @@ pub(crate) enum Answer {
     Limit,
     /// No rule gives an answer.
     Wrong,
+    /// A place would lie too far behind the beginning.
+    Far,
     /// A value, or the number of the generation that was made.
     Gives(Item),
 }

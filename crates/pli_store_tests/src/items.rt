@@ -1,8 +1,8 @@
 //! Values of scalars, as a test writes and compares them.
 
 use pli_map::Description;
-use pli_value::Value;
 use pli_value::bit::Bits;
+use pli_value::{Locator, Value};
 use std::alloc::Global;
 use std::process::Abort;
 
@@ -70,6 +70,7 @@ pub(crate) enum Item {
     Number(i64),
     Characters(Text),
     Bits(Text),
+    Locator(Locator),
 }
 
 impl Item {
@@ -88,6 +89,7 @@ impl Item {
                 }
                 Value::Bits(bits)
             }
+            Item::Locator(locator) => Value::Locator(locator),
         }
     }
 
@@ -106,13 +108,18 @@ impl Item {
                 }
                 Item::Bits(digits)
             }
+            Value::Locator(locator) => Item::Locator(*locator),
         }
     }
 
-    /// The value that a word is: `-7`, `'AB'` or `'101'B`.
+    /// The value that a word is: `-7`, `'AB'`, `'101'B`, `null`, `2^8` for a pointer to position 8 of generation 2, or `^8`
+    /// for an offset.
     pub(crate) fn read(rt: &impl Abort, word: &str) -> Item {
         let Some((_, quoted)) = word.split_once('\'') else {
-            return Item::Number(word.parse().expect(rt, "a number"));
+            return match Item::locator(rt, word) {
+                Some(locator) => Item::Locator(locator),
+                None => Item::Number(word.parse().expect(rt, "a number")),
+            };
         };
         let (text, behind) = quoted.split_once('\'').expect(rt, "a quote");
         let text = Text::of(rt, text.as_bytes());
@@ -123,19 +130,37 @@ impl Item {
         }
     }
 
-    /// The value with which a scalar begins; a locator has none.
+    /// The locator that a word is, if it is one.
+    fn locator(rt: &impl Abort, word: &str) -> Option<Locator> {
+        if word == "null" {
+            return Some(Locator::Null);
+        }
+        let (generation, position) = word.split_once('^')?;
+        let position = position.parse().expect(rt, "a position");
+        if generation.is_empty() {
+            return Some(Locator::Offset(position));
+        }
+        Some(Locator::Pointer {
+            generation: generation.parse().expect(rt, "a generation"),
+            position,
+        })
+    }
+
+    /// The value with which a scalar begins; what is no scalar has none.
     pub(crate) fn first(description: &Description) -> Option<Item> {
         match description {
             Description::FixedBinary(_) => Some(Item::Number(0)),
             Description::Character(length) => Some(Item::Characters(Text::filled(*length, b' '))),
             Description::Varying(_) => Some(Item::Characters(Text::filled(0, b' '))),
             Description::Bit(length) => Some(Item::Bits(Text::filled(*length, b'0'))),
+            Description::Pointer => Some(Item::Locator(Locator::Null)),
+            Description::Offset => Some(Item::Locator(Locator::Offset(0))),
             _ => None,
         }
     }
 
     /// Whether a scalar may hold the value: a number of no more binary digits, as many characters or bits, or no more
-    /// characters where they vary.
+    /// characters where they vary; a pointer that is null or leads to a generation below 4,294,967,295; any offset.
     pub(crate) fn fits(self, description: &Description) -> bool {
         match (description, self) {
             (Description::FixedBinary(precision), Item::Number(number)) => {
@@ -148,6 +173,11 @@ impl Item {
             (Description::Character(length), Item::Characters(text)) => text.length == *length,
             (Description::Varying(length), Item::Characters(text)) => text.length <= *length,
             (Description::Bit(length), Item::Bits(digits)) => digits.length == *length,
+            (Description::Pointer, Item::Locator(Locator::Null)) => true,
+            (Description::Pointer, Item::Locator(Locator::Pointer { generation, .. })) => {
+                generation < u32::MAX
+            }
+            (Description::Offset, Item::Locator(Locator::Offset(_))) => true,
             _ => false,
         }
     }

@@ -3,7 +3,7 @@
 use crate::calls::{Answer, Spot};
 use crate::items::{Item, Text};
 use crate::shapes::{Part, Shape};
-use pli_map::{Description, is_scalar};
+use pli_map::{Description, is_area, is_scalar};
 use std::alloc::Global;
 use std::process::Abort;
 
@@ -166,9 +166,10 @@ impl<'m> Model<'m> {
         Answer::of(is_short && self.store(rt, spot, Item::Characters(both)) == Answer::Done)
     }
 
-    /// Puts what one place holds at another.
+    /// Puts what one place, which is no area's, holds at another.
     pub(crate) fn copy(&mut self, rt: &impl Abort, source: Spot, target: Spot) -> Answer {
-        if source.shape != target.shape {
+        let is_area = is_area(&self.shape(rt, source.shape).description);
+        if is_area || source.shape != target.shape {
             return Answer::Wrong;
         }
         match (self.find(rt, source), self.find(rt, target)) {

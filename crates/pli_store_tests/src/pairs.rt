@@ -15,6 +15,9 @@ use pli_value::Value;
 use std::alloc::Global;
 use std::process::Abort;
 
+/// How many bytes behind the beginning of a generation a place lies at most.
+const OFFSET_LIMIT: u64 = 1_000_000;
+
 /// Storage and its model. A call on both fails where their answers differ.
 #[derive(Drop)]
 pub(crate) struct Pair<'m> {
@@ -68,13 +71,16 @@ fn initial_bytes(
 {
     let size = size(description).expect(rt, "a size");
     let mut bytes = vec![in alloc; b'?'; size as usize].expect(rt, "memory");
-    let is_laid = if items.is_empty() {
-        lay_first(description, &mut bytes)
+    if items.is_empty() {
+        lay_first(description, &mut bytes);
+        return Some(bytes);
+    }
+    let values = values_of(rt, alloc, items);
+    if lay(description, &values, &mut bytes) {
+        Some(bytes)
     } else {
-        let values = values_of(rt, alloc, items);
-        lay(description, &values, &mut bytes)
-    };
-    if is_laid { Some(bytes) } else { None }
+        None
+    }
 }
 
 impl<'m> Pair<'m> {
@@ -99,8 +105,8 @@ impl<'m> Pair<'m> {
             .description
     }
 
-    /// A place.
-    fn place(&self, rt: &impl Abort, spot: Spot) -> Place<'m> {
+    /// The place to which calls lead, if none of those on the way lies too far behind the beginning.
+    fn led_to(&self, rt: &impl Abort, spot: Spot) -> Option<Place<'m>> {
         let whole = *self
             .places
             .get(spot.generation as usize)
@@ -112,12 +118,16 @@ impl<'m> Pair<'m> {
             .description;
         assert!(rt; spot.low <= spot.subscript);
         whole
-            .field(spot.first, twin)
-            .expect(rt, "an offset")
-            .element(spot.low, spot.multiplier, spot.subscript)
-            .expect(rt, "an offset")
+            .field(spot.first, twin)?
+            .element(spot.low, spot.multiplier, spot.subscript)?
             .field(spot.second, twin)
-            .expect(rt, "an offset")
+    }
+
+    /// A place, where it lies near enough behind the beginning.
+    fn place(&self, rt: &impl Abort, spot: Spot) -> Option<Place<'m>> {
+        let place = self.led_to(rt, spot);
+        assert!(rt; place.is_some() == (spot.offset() <= OFFSET_LIMIT));
+        place
     }
 
     /// Notes the place of a generation that was made, if the model says so.
@@ -186,7 +196,10 @@ impl<'m> Pair<'m> {
 
     /// What a scalar holds.
     pub(crate) fn held(&self, rt: &impl Abort, alloc: Global, spot: Spot) -> Answer {
-        let answer = match self.storage.held(alloc, self.place(rt, spot)) {
+        let Some(place) = self.place(rt, spot) else {
+            return Answer::Far;
+        };
+        let answer = match self.storage.held(alloc, place) {
             Ok(value) => Answer::Gives(Item::of(rt, &value)),
             Err(fault) => fault_answer(rt, fault),
         };
@@ -196,7 +209,10 @@ impl<'m> Pair<'m> {
 
     /// The same, where it is a number.
     pub(crate) fn number(&self, rt: &impl Abort, spot: Spot) -> Answer {
-        let answer = match self.storage.number_at(self.place(rt, spot)) {
+        let Some(place) = self.place(rt, spot) else {
+            return Answer::Far;
+        };
+        let answer = match self.storage.number_at(place) {
             Some(number) => Answer::Gives(Item::Number(number)),
             None => Answer::Nothing,
         };
@@ -210,7 +226,10 @@ impl<'m> Pair<'m> {
 
     /// The same, where it is characters.
     pub(crate) fn text(&self, rt: &impl Abort, spot: Spot) -> Answer {
-        let answer = match self.storage.text_at(self.place(rt, spot)) {
+        let Some(place) = self.place(rt, spot) else {
+            return Answer::Far;
+        };
+        let answer = match self.storage.text_at(place) {
             Some(text) => Answer::Gives(Item::Characters(Text::of(rt, text))),
             None => Answer::Nothing,
         };
@@ -230,7 +249,9 @@ impl<'m> Pair<'m> {
         spot: Spot,
         item: Item,
     ) -> Answer {
-        let place = self.place(rt, spot);
+        let Some(place) = self.place(rt, spot) else {
+            return Answer::Far;
+        };
         let answer = done(rt, self.storage.stored(place, item.value(rt, alloc)));
         assert!(rt; answer == self.model.store(rt, spot, item));
         answer
@@ -238,7 +259,9 @@ impl<'m> Pair<'m> {
 
     /// Puts a number.
     pub(crate) fn put(&mut self, rt: &impl Abort, spot: Spot, number: i64) -> Answer {
-        let place = self.place(rt, spot);
+        let Some(place) = self.place(rt, spot) else {
+            return Answer::Far;
+        };
         let is_put = self.storage.put_number(place, number);
         let wanted = self.model.store(rt, spot, Item::Number(number));
         assert!(rt; is_put == (wanted == Answer::Done));
@@ -253,7 +276,9 @@ impl<'m> Pair<'m> {
         more: Text,
         room: usize,
     ) -> Answer {
-        let place = self.place(rt, spot);
+        let Some(place) = self.place(rt, spot) else {
+            return Answer::Far;
+        };
         let answer = Answer::of(self.storage.append(place, more.characters(rt), room));
         assert!(rt; answer == self.model.append(rt, spot, more, room));
         answer
@@ -261,7 +286,9 @@ impl<'m> Pair<'m> {
 
     /// Puts what the first place holds at the second.
     pub(crate) fn copy(&mut self, rt: &impl Abort, source: Spot, target: Spot) -> Answer {
-        let (from, to) = (self.place(rt, source), self.place(rt, target));
+        let (Some(from), Some(to)) = (self.place(rt, source), self.place(rt, target)) else {
+            return Answer::Far;
+        };
         let answer = done(rt, self.storage.copied(from, to));
         assert!(rt; answer == self.model.copy(rt, source, target));
         answer

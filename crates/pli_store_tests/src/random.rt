@@ -6,6 +6,7 @@ use crate::items::{Item, Text};
 use crate::pairs::Pair;
 use crate::shapes::{Shape, all_shapes};
 use pli_map::Description;
+use pli_value::Locator;
 use std::alloc::Global;
 use std::process::Abort;
 use std::test::*;
@@ -63,6 +64,23 @@ impl Numbers {
         }
     }
 
+    /// A locator: mostly a pointer.
+    fn locator(&mut self) -> Locator {
+        let (generation, position) = (self.any(), self.any());
+        match self.up_to(7) {
+            0 => Locator::Offset(position),
+            1 => Locator::Null,
+            2 => Locator::Pointer {
+                generation: u32::MAX,
+                position,
+            },
+            _ => Locator::Pointer {
+                generation,
+                position,
+            },
+        }
+    }
+
     /// A value of a scalar: mostly one that it may hold.
     fn item(&mut self, rt: &impl Abort, description: &Description) -> Item {
         let more = u16::from(self.up_to(31) == 0);
@@ -80,6 +98,8 @@ impl Numbers {
                 let count = length.saturating_add(more);
                 Item::Bits(self.characters(rt, count, b'0', 1))
             }
+            Description::Offset if self.up_to(7) > 0 => Item::Locator(Locator::Offset(self.any())),
+            Description::Pointer | Description::Offset => Item::Locator(self.locator()),
             _ => Item::Number(0),
         }
     }
@@ -110,7 +130,7 @@ impl Numbers {
         let parts = &shapes.get(shape).expect(rt, "a description").parts;
         let part = parts.get(self.index(parts.len())).expect(rt, "a part");
         let offset = match self.up_to(31) {
-            0 => self.any(),
+            0 => self.up_to(2_000_000),
             1 => self.up_to(100),
             _ => u32::try_from(part.offset).expect(rt, "an offset"),
         };
@@ -176,7 +196,7 @@ fn use_place(rt: &impl Abort, alloc: Global, numbers: &mut Numbers, pair: &mut P
         3 | 4 => match item {
             Item::Number(number) => pair.put(rt, spot, number),
             Item::Characters(more) => pair.append(rt, spot, more, numbers.index(20)),
-            Item::Bits(_) => pair.store(rt, alloc, spot, item),
+            Item::Bits(_) | Item::Locator(_) => pair.store(rt, alloc, spot, item),
         },
         5 => copy(rt, numbers, pair, spot),
         _ => pair.store(rt, alloc, spot, item),

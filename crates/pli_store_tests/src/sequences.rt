@@ -4,11 +4,12 @@ use crate::steps::run;
 use std::test::*;
 
 /// Sequences of calls with every answer, in the form that `run` reads; where none is written, it is `done`.
-/// `make pair 'A' 7 => 2` makes generation 2 with these values for its scalars; without values it begins with zeros, blanks
-/// and empty strings. `held 2+2:n15` is what the number holds that stands 2 bytes behind its beginning, and so are `number`
-/// and `text`, which give nothing but numbers and characters. `store` puts a value, `put` a number, `append` characters
-/// behind others where both are no more than so many, and `copy` what the first place holds at the second. `room` asks
-/// whether there is room for a generation. `dead` says that a generation has ended, `wrong` that no rule gives an answer.
+/// `make pair 'A' 7 => 2` makes generation 2 with these values for its scalars; without values it begins with zeros, blanks,
+/// empty strings and null locators. `held 2+2:n15` is what the number holds that stands 2 bytes behind its beginning, and so
+/// are `number` and `text`, which give nothing but numbers and characters. `store` puts a value, `put` a number, `append`
+/// characters behind others where both are no more than so many, and `copy` what the first place holds at the second. `room`
+/// asks whether there is room for a generation. `dead` says that a generation has ended, `wrong` that no rule gives an
+/// answer, and `far` that a place would lie more than 1,000,000 bytes behind the beginning.
 static SEQUENCES: &str = "\
 // generations are numbered from 0, in the order in which they are made
 make n15 => 0; make c4 => 1; make pairs => 2; make empty => 3; dummy n15 5 => 4; held 4 => 5; held 0 => 0
@@ -55,10 +56,27 @@ held 1+6:n15 => 2; held 1+8:c1 => 'C'; held 1+10:n15 => 3
 make n15 32768 => wrong; make pair 'AB' 1 => wrong; make pair 1 'A' => wrong; make pair 'A' => wrong
 make pair 'A' 1 2 => wrong; make pair 'A' 40000 => wrong; make v3 'ABCD' => wrong; make c3 'AB' => wrong
 make b9 '1'B => wrong; make row 1 2 => wrong; make row 1 2 'C' => wrong; make n15 7 => 0; held 0 => 7
-// locators have no values
-make p => wrong; make address => wrong; make address 1 2 => wrong; make n31 5 => 0; held 0+0:p => wrong
-number 0+0:p => none; text 0+0:p => none; store 0+0:p 0 => wrong; put 0+0:p 0 => no; copy 0+0:p 0+0:p => wrong
-held 0 => 5; room p => yes; room address => yes
+// a pointer is null, or has a generation and a position
+make p => 0; held 0 => null; store 0 2^8; held 0 => 2^8; store 0 0^0; held 0 => 0^0; store 0 4294967294^4294967295
+held 0 => 4294967294^4294967295; store 0 4294967295^0 => wrong; store 0 ^8 => wrong; store 0 8 => wrong
+put 0 0 => no; append 0 'A' 9 => no; number 0 => none; text 0 => none; held 0 => 4294967294^4294967295
+store 0 null; held 0 => null; dummy p 3^0 => 1; held 1 => 3^0; copy 1 0; held 0 => 3^0; dummy p ^0 => wrong
+// an offset has a position, 0 where it is null
+make o => 0; held 0 => ^0; store 0 ^40; held 0 => ^40; store 0 ^4294967295; held 0 => ^4294967295
+store 0 null => wrong; store 0 2^8 => wrong; store 0 8 => wrong; put 0 0 => no; number 0 => none; text 0 => none
+held 0 => ^4294967295; dummy o ^8 => 1; copy 1 0; held 0 => ^8; make p => 2; copy 2 0 => wrong; copy 0 2 => wrong
+dummy o null => wrong; make n31 5 => 3; held 3+0:o => wrong; copy 3 0 => wrong; held 0 => ^8
+// locators beside others
+make address => 0; held 0+0:n31 => 0; held 0+4:p => null; store 0+4:p 1^0; held 0+0:n31 => 0; put 0+0:n31 -1 => yes
+held 0+4:p => 1^0; make links ^8 2^4 7 => 1; held 1+0:o => ^8; held 1+4:p => 2^4; held 1+12:n15 => 7
+copy 0+4:p 1+4:p; held 1+4:p => 1^0; held 1+0:o => ^8; held 1+12:n15 => 7; make links => 2; held 2+4:p => null
+copy 1 2; held 2+0:o => ^8; held 2+4:p => 1^0; make address 1 2 => wrong; make address 7 ^2 => wrong
+make links 2^4 ^8 7 => wrong; held 0+0:p => wrong; room p => yes; room address => yes
+// an area is no value, and has none
+make a16 => 0; held 0 => wrong; number 0 => none; text 0 => none; store 0 0 => wrong; put 0 0 => no; copy 0 0 => wrong
+make a16 1 => wrong; dummy a16 0 => wrong; make yard => 1; held 1+0:c1 => ' '; held 1+8:a16 => wrong
+held 1+24:n15 => 0; make yard 'A' 7 => 2; copy 2 1; held 1+0:c1 => 'A'; held 1+24:n15 => 7; copy 1+8:a16 0 => wrong
+make yard 'A' 1 7 => wrong; make yard 'A' => wrong; end 0; held 0 => dead; store 0 0 => dead; copy 0 0 => wrong
 // numbers of two bytes
 make n1 => 0; put 0 1 => yes; held 0 => 1; put 0 -1 => yes; held 0 => -1; put 0 2 => no; put 0 -2 => no
 store 0 2 => wrong; held 0 => -1; make n15 => 1; put 1 32767 => yes; number 1 => 32767; put 1 -32767 => yes
@@ -191,12 +209,14 @@ held 1+764:n31 => 6; held 1+768:n31 => 7; held 1+796:n31 => 8; held 1+260:n31 =>
 make pairs => 0; put 0+10:n15 7 => yes; held 0+0+3@1*4+2:n15 => 7; held 0+8+1@0*2:n15 => 7; held 0+2+2@0*4:n15 => 7
 held 0+4+0@-6*1:n15 => 7; held 0+0+10@0*1:n15 => 7; held 0+0+100@90*1:n15 => 7; held 0+0+5@0*2:n15 => 7
 held 0+9+0@0*99+1:n15 => 7; put 0+0+2@0*4+2:n15 8 => yes; held 0+10:n15 => 8
-// offsets far behind the end lead nowhere, also where their last 32 bits are those of a part
-make n15 7 => 0; held 0+4294967295:n15 => wrong; held 0+4294967295+1@0*1:n15 => wrong
-number 0+4294967295+1@0*1:n15 => none; put 0+4294967295+1@0*1:n15 1 => no; store 0+4294967295+1@0*1:n15 1 => wrong
-held 0+0+2147483647@-2147483648*4294967295:n15 => wrong; copy 0+4294967295+1@0*1:n15 0 => wrong
-held 0+4294967295+2147483647@-2147483648*4294967295+4294967295:n15 => wrong; held 0 => 7; end 0
-held 0+4294967295+1@0*1:n15 => dead
+// offsets behind the end lead nowhere, and no place lies more than 1,000,000 bytes behind the beginning
+make n15 7 => 0; held 0+1000000:n15 => wrong; held 0+1000001:n15 => far; held 0+4294967295:n15 => far
+held 0+999999+1@0*1:n15 => wrong; number 0+999999+2@0*1:n15 => far; put 0+999999+1@0*1+1:n15 1 => far
+number 0+999998+1@0*1+1:n15 => none; put 0+999998+1@0*1+1:n15 1 => no; store 0+4294967295+1@0*1:n15 1 => far
+held 0+0+2147483647@-2147483648*4294967295:n15 => far; text 0+1000001:n15 => far; append 0+1000001:v3 'A' 9 => far
+held 0+4294967295+2147483647@-2147483648*4294967295+4294967295:n15 => far; copy 0+1000001:n15 0 => far
+copy 0 0+1000001:n15 => far; copy 0+1000000:n15 0 => wrong; held 0 => 7; end 0; held 0+1000000:n15 => dead
+held 0+1000001:n15 => far
 // 16,777,216 bytes may live, and no byte more; where there is no room, nothing changes
 make hall => 0; make hall => 1; make hall => 2; make hall => 3; make hall => 4; make hall => 5; make hall => 6
 make hall => 7; make hall => 8; make hall => 9; make hall => 10; make hall => 11; make hall => 12; make hall => 13
@@ -210,7 +230,7 @@ make hall => 0; make hall => 1; make hall => 2; make hall => 3; make hall => 4; 
 make hall => 7; make hall => 8; make hall => 9; make hall => 10; make hall => 11; make hall => 12; make hall => 13
 make hall => 14; make hall => 15; make hall => 16; make c32767 => 17; make c32767 => 18; make c512 => 19
 make n15 'A' => limit; make p => limit; room p => no; make pair 1 => limit; dummy n15 'A' => wrong
-dummy n15 1 => limit; make empty 1 => wrong; make empty => 20; end 19; make p => wrong; dummy n15 1 => 21
+dummy n15 1 => limit; make empty 1 => wrong; make empty => 20; end 19; make p 1 => wrong; dummy n15 1 => 21
 // what has ended gives its bytes back, once
 make hall => 0; make hall => 1; make hall => 2; make hall => 3; make hall => 4; make hall => 5; make hall => 6
 make hall => 7; make hall => 8; make hall => 9; make hall => 10; make hall => 11; make hall => 12; make hall => 13

@@ -1,14 +1,16 @@
 //! Descriptions of storage by their names, and where their parts stand.
 
-use pli_map::{Bounds, Description, alignment, size};
+use pli_map::{Bounds, Description, alignment, is_scalar, size};
 use std::alloc::Global;
 use std::process::Abort;
 
 /// The descriptions, each made of those before it. `n15` is FIXED BINARY(15), `c4` CHARACTER(4), `v3` CHARACTER(3)
-/// VARYING, `b9` BIT(9), and `p` POINTER. `pair = c1 n15` is a structure, `pairs = 1:3 of pair` an array.
+/// VARYING, `b9` BIT(9), `p` POINTER, `o` OFFSET, and `a16` AREA(16). `pair = c1 n15` is a structure, `pairs = 1:3 of pair`
+/// an array.
 static SHAPES: &str = "\
-n1; n15; n16; n31; n32; n63; c1; c3; c4; v1; v3; v9; b1; b8; b9; b12; p
+n1; n15; n16; n31; n32; n63; c1; c3; c4; v1; v3; v9; b1; b8; b9; b12; p; o; a16
 lone = n31; pair = c1 n15; gap = c1 n63; nest = pair n15 pair; record = v3 b9 n63 c1; address = n31 p
+links = o p n15; yard = c1 a16 n15
 empty = 1:0 of n15; row = -1:1 of n31; letters = 1:5 of c1; words = 0:3 of v3; flags = 1:4 of b12
 grid = 0:1 2:4 of n15; rows = 5:6 of row; lones = 1:2 of lone; pairs = 1:3 of pair; records = 1:2 of record
 strip = 1:200 of n31; c512; c32767; hall = 1:30 of c32767";
@@ -76,10 +78,13 @@ fn shape_of<'a>(rt: &impl Abort, shapes: &'a [Shape], name: &str) -> &'a Shape {
     shapes.get(number).expect(rt, "a description")
 }
 
-/// The description of a scalar, by the letter of its name and the number behind it.
-fn scalar(rt: &impl Abort, name: &str) -> Description {
+/// The description of a scalar or an area, by the letter of its name and the number behind it.
+fn elementary(rt: &impl Abort, name: &str) -> Description {
     if name == "p" {
         return Description::Pointer;
+    }
+    if name == "o" {
+        return Description::Offset;
     }
     let (letter, digits) = name.split_at_checked(1).expect(rt, "a letter");
     let length: u16 = digits.parse().expect(rt, "a length");
@@ -87,6 +92,7 @@ fn scalar(rt: &impl Abort, name: &str) -> Description {
         "n" => Description::FixedBinary(u8::try_from(length).expect(rt, "a precision")),
         "c" => Description::Character(length),
         "v" => Description::Varying(length),
+        "a" => Description::Area(u32::from(length)),
         _ => Description::Bit(length),
     }
 }
@@ -163,8 +169,11 @@ fn description_of(
     whole: &mut Shape,
 ) -> Description {
     if parts.is_empty() {
-        whole.count = 1;
-        return scalar(rt, whole.name);
+        let description = elementary(rt, whole.name);
+        let is_scalar = is_scalar(&description);
+        whole.parts.get_mut(0).expect(rt, "itself").is_scalar = is_scalar;
+        whole.count = usize::from(is_scalar);
+        return description;
     }
     match parts.split_once(" of ") {
         Some((dimensions, element)) => {
@@ -182,7 +191,7 @@ fn shape_of_entry(rt: &impl Abort, alloc: Global, shapes: &[Shape], entry: &'sta
         offset: 0,
         first: 0,
         shape: shapes.len(),
-        is_scalar: parts.is_empty(),
+        is_scalar: false,
     };
     let mut shape = Shape {
         name,

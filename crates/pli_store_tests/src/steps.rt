@@ -136,6 +136,7 @@ fn answer_of(rt: &impl Abort, text: &str) -> Answer {
         "dead" => Answer::Dead,
         "limit" => Answer::Limit,
         "wrong" => Answer::Wrong,
+        "far" => Answer::Far,
         _ => Answer::Gives(Item::read(rt, text)),
     }
 }

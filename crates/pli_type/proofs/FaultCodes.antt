@@ -201,8 +201,8 @@ only_assigned : (n : Naming) (at equals : ℕ) (d : Denoted) (e : Expression)
     → Only (statements.assigned n at equals d e)
 only_assigned n at equals (DenotesVariable target) e =
     only_if _ _ _
-    (only_then _ _ (only_value_of n e) (λ v. only_then _ _ (only_or CannotAssign equals _ refl) (λ x. fine _)))
     (only_then _ _ (only_then _ _ (only_denoted n AsArgument e) (λ d. fine _)) (λ m. only_aggregate equals target m))
+    (only_then _ _ (only_value_of n e) (λ v. only_then _ _ (only_or CannotAssign equals _ refl) (λ x. fine _)))
 only_assigned n at equals (DenotesResult value) e = told _ _ refl
 
 only_items : (n : Naming) (es : List Expression) → Only (statements.items n es)

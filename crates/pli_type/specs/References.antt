@@ -1,5 +1,5 @@
 -- References: which part of which variable is meant, and where the first fault stands.
-use Rattle.std.specs.Prelude.{ℕ, ◌+◌, ◌*◌, nat_eq, Bool, true, false, not, ◌&&◌, Option, Some, None}
+use Rattle.std.specs.Prelude.{ℕ, ◌+◌, ◌*◌, nat_eq, Bool, true, false, ◌&&◌, Option, Some, None}
 use Rattle.std.specs.Prelude.{option_map}
 use Rattle.std.specs.Prelude.{option_and_then, List, [], ◌∷◌, ◌++◌, length, Result, Ok, if◌then◌else◌}
 use Rattle.pli_base.specs.Reading.{at_fault}
@@ -8,7 +8,7 @@ use Rattle.pli_base.specs.declared.code.Code.TheVariants.{LocatorMissingOrNotAll
 use Rattle.pli_base.specs.declared.token.Fault.{Fault}
 use Rattle.pli_map.specs.Description.{Description, Array, Structure}
 use Rattle.pli_map.specs.Parts.{member_behind}
-use Rattle.pli_map.specs.Scalars.{is_scalar}
+use Rattle.pli_map.specs.Scalars.{is_aggregate}
 use Rattle.pli_map.specs.Sizes.{count_of, stride_of}
 use Rattle.pli_map.specs.declared.description.Bounds.{Bounds}
 use Rattle.pli_type.specs.Names.{NamedVariable}
@@ -101,7 +101,7 @@ pub record Referent : Type 0 where
 -- T2 where no aggregate may stand, T10 behind a locator, since no variable is BASED so far
 abbrev pub permitted : Role → (located : Bool) → (at : ℕ) → Referent → Result Referent Fault
 permitted role located at r =
-    if wants_scalar role && not (is_scalar r.description) then at_fault AggregateNotAllowedHere at
+    if wants_scalar role && is_aggregate r.description then at_fault AggregateNotAllowedHere at
     else if located then at_fault LocatorMissingOrNotAllowed at
     else Ok r
 

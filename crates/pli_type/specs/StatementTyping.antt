@@ -16,7 +16,7 @@ use Rattle.pli_base.specs.declared.syntax.Identifier.{Identifier}
 use Rattle.pli_base.specs.declared.token.Fault.{Fault}
 use Rattle.pli_map.specs.Description.{Description, FixedBinary}
 use Rattle.pli_map.specs.Same.{same}
-use Rattle.pli_map.specs.Scalars.{is_scalar}
+use Rattle.pli_map.specs.Scalars.{is_aggregate}
 use Rattle.pli_type.specs.ExpressionTypes.{TypedValue, conversions, converted, precision_of, printed}
 use Rattle.pli_type.specs.FunctionCalls.{Denoted, DenotesVariable, DenotesResult, Meant, OneValue}
 use Rattle.pli_type.specs.FunctionCalls.{WholeAggregate, Argument}
@@ -55,8 +55,8 @@ scalar_assigned n equals target d e = do
 -- by what the target denotes; a function's result is none
 abbrev pub assigned : Naming → (at equals : ℕ) → Denoted → Expression → Result Form Fault
 assigned n at equals (DenotesVariable target) e =
-    if is_scalar target.description then scalar_assigned n equals target.reference target.description e
-    else (meant n AsArgument e >>= aggregate_assigned equals target)
+    if is_aggregate target.description then (meant n AsArgument e >>= aggregate_assigned equals target)
+    else scalar_assigned n equals target.reference target.description e
 assigned n at equals (DenotesResult value) e = at_fault NotAVariable at
 
 -- the target, then the expression, then `=`

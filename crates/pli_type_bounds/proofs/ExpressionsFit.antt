@@ -1,5 +1,5 @@
 -- Expressions and references are within the limits: by induction on the source tree.
-use Rattle.std.specs.Prelude.{◌≡◌, ℕ, suc, ◌≤◌, nat_eq, nat_le, Bool, true, false, not, ◌&&◌, Option, Some, None, option_map, option_and_then}
+use Rattle.std.specs.Prelude.{◌≡◌, ℕ, suc, ◌≤◌, nat_eq, nat_le, Bool, true, false, ◌&&◌, Option, Some, None, option_map, option_and_then}
 use Rattle.std.specs.Prelude.{List, [], ◌∷◌, length, Result, refl, if◌then◌else◌}
 use Rattle.std.specs.List.{AllByRecursion}
 use Rattle.std.proofs.Common.{arith, subst, ap, sym}
@@ -12,7 +12,7 @@ use Rattle.pli_gen_emit.specs.TreeTranslation.{argument_count}
 use Rattle.pli_map.specs.Description as described
 use Rattle.pli_map.specs.Description.{Description}
 use Rattle.pli_map.specs.Same.{same}
-use Rattle.pli_map.specs.Scalars.{is_scalar}
+use Rattle.pli_map.specs.Scalars.{is_aggregate}
 use Rattle.pli_map.specs.Sizes.{size_of}
 use Rattle.pli_type.specs.ExpressionTypes.{TypedValue, precision_of, prefix_value, infix_value, converted}
 use Rattle.pli_type.specs.FunctionCalls.{Denoted, DenotesVariable, DenotesResult, Meant, OneValue, WholeAggregate, meant_as, Argument}
@@ -54,7 +54,7 @@ module _ (t : TypedUnit) where
 
   allowed : (role : Role) (located : Bool) (at : ℕ) (r : Referent) → IsReferent t r → OnRead (IsReferent t) (permitted role located at r)
   allowed role located at r h =
-      read_if (IsReferent t) (wants_scalar role && not (is_scalar r.description)) _ _ tt (read_if (IsReferent t) located _ _ tt h)
+      read_if (IsReferent t) (wants_scalar role && is_aggregate r.description) _ _ tt (read_if (IsReferent t) located _ _ tt h)
 
   module _ (role : Role) (located : Bool) (at : ℕ) (v : NamedVariable) (known : IsVariable t v) (xs : List TypedExpression)
       (given : AllByRecursion (IsExpression t) xs) where

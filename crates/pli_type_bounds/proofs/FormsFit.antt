@@ -11,7 +11,7 @@ use Rattle.pli_base.specs.declared.code.Code.TheVariants.{WrongOperandType, Cann
 use Rattle.pli_base.specs.declared.syntax.Identifier.{Identifier}
 use Rattle.pli_map.specs.Description.{Description}
 use Rattle.pli_map.specs.Same.{same}
-use Rattle.pli_map.specs.Scalars.{is_scalar}
+use Rattle.pli_map.specs.Scalars.{is_aggregate}
 use Rattle.pli_type.specs.ExpressionTypes.{TypedValue, precision_of, converted, conversions, printed}
 use Rattle.pli_type.specs.FunctionCalls.{Denoted, DenotesVariable, DenotesResult, Meant, OneValue, WholeAggregate, Argument}
 use Rattle.pli_type.specs.Names.{NamedAs, AProcedure, ALabel, NamedProcedure, Naming}
@@ -99,10 +99,10 @@ module _ (t : TypedUnit) (meaning : ℕ → NamedAs) (known : (at : ℕ) → IsM
 
   assigned_fits : (at equals : ℕ) (d : Denoted) → IsDenoted t d → (e : Expression) → IsSource e → OnRead (IsForm t) (assigned M at equals d e)
   assigned_fits at equals (DenotesVariable target) h e l =
-      read_if (IsForm t) (is_scalar target.description) _ _
-      (scalar_fits equals target.reference target.description h.reference h.described e l)
+      read_if (IsForm t) (is_aggregate target.description) _ _
       (read_then (IsMeant t) (IsForm t) (meant M AsArgument e) (aggregate_assigned equals target)
       (meant_fits t meaning known AsArgument e l) (aggregate_fits t equals target h))
+      (scalar_fits equals target.reference target.description h.reference h.described e l)
   assigned_fits at equals (DenotesResult v) h e l = tt
 
   pub assignment_fits : (at : ℕ) (target : Reference) (equals : ℕ) (e : Expression) → IsSourceReference target → IsSource e

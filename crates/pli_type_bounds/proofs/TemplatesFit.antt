@@ -1,23 +1,30 @@
 -- What variables are made from is within the limits: their descriptions, and each initial value with its scalar.
-use Rattle.std.specs.Prelude.{◌≡◌, ℕ, zero, suc, ◌+◌, ◌-◌, ◌^◌, ◌<◌, ◌≤◌, nat_le, Bool, true, false, IsTrue, ℤ, pos, unsigned_abs}
-use Rattle.std.specs.Prelude.{Some, List, [], ◌∷◌, ◌++◌, length, map, take, replicate, slice_get, if◌then◌else◌, refl}
+use Rattle.std.specs.Prelude.{◌≡◌, ℕ, zero, suc, ◌+◌, ◌-◌, ◌^◌, ◌<◌, ◌≤◌, nat_le, nat_lt, Bool, true, false, IsTrue, ℤ, pos, unsigned_abs}
+use Rattle.std.specs.Prelude.{Some, List, [], ◌∷◌, ◌++◌, length, map, take, replicate, if◌then◌else◌, refl}
+use Rattle.std.specs.Int.{div_ceil, next_multiple_of}
 use Rattle.std.specs.List.{flat_map, AllByRecursion}
 use Rattle.std.proofs.Common.{sym, ◌∙◌, ap, subst, arith, pow_pos, append_assoc, append-nil, length-append, length-take, eq-eqb, le-leb}
 use Rattle.std.proofs.Math.Pow.{pow_mono}
 use Rattle.std.proofs.lemmas.Bool.{and_parts, lt-ltb, leb-true, ltb-true}
-use Rattle.std.proofs.lemmas.List.{length-replicate}
+use Rattle.std.proofs.lemmas.List.{length-replicate, map-append}
 use Rattle.std.proofs.lemmas.List.Elements.{All-from_recursion, recursion_from_All}
 use Rattle.std.proofs.lemmas.List.Sorted.{All-permutation}
 use Rattle.pli_base.specs.Name.{Name}
 use Rattle.pli_declare_attributes.specs.declared.completed.ScopeAttribute.{ScopeAttribute}
 use Rattle.pli_declare_attributes.specs.declared.completed.ScopeAttribute.TheVariants as scopes
 use Rattle.pli_map.specs.Description.{Description, FixedBinary, Character, Varying, Bit, Array, Structure, Members, NoMembers, MemberThen}
-use Rattle.pli_map.specs.Scalars.{is_scalar, scalars_in}
-use Rattle.pli_map.specs.Sizes.{count_of, size_of}
+use Rattle.pli_bytes.specs.Contents.{scalar_on, spread, scalars_at, scalars_behind}
+use Rattle.pli_bytes.proofs.Rising.{Rise, rises}
+use Rattle.pli_bytes.proofs.Scalars.{scalar_moved}
+use Rattle.pli_bytes.proofs.ScalarsOn.{on_itself}
+use Rattle.pli_bytes.proofs.Split.{moved_twice, not_moved}
+use Rattle.pli_map.specs.Parts.{PlacedPart, moved}
+use Rattle.pli_map.specs.Scalars.{is_scalar}
+use Rattle.pli_map.specs.Sizes.{alignment_of, count_of, size_of, stride_of}
 use Rattle.pli_map.specs.Values.{holds}
 use Rattle.pli_resolve.specs.Symbols.{Symbol, SymbolKind, Variable, Member, Label, Procedure, Entry, BuiltIn}
 use Rattle.pli_resolve.specs.declared.symbol.StorageClass.{StorageClass}
-use Rattle.pli_type.specs.InitialScalars.{NumberedScalar, counted_from, scalars_on, scalars_in_member, as_held, each_with, values_written, InitialItem, initial_scalars, template_of}
+use Rattle.pli_type.specs.InitialScalars.{counted_from, scalars_on, scalars_in_member, as_held, each_with, values_written, InitialItem, initial_scalars, template_of}
 use Rattle.pli_type.specs.NamedUnits.{is_plain, all_plain, is_stored, is_static, member_items, template_at, templates_from}
 use Rattle.pli_type.specs.NamedUnits.{global_of, global_with, globals_from, globals_of, all_globals}
 use Rattle.pli_type.specs.NamedUnits.{PlacedGlobal, placed, block_globals}
@@ -27,11 +34,10 @@ use Rattle.pli_type_name_laws.proofs.PlainDescriptions.{plain_element, plain_mem
 use Rattle.pli_type_name_laws.proofs.RootsStand.{static_stored}
 use Rattle.pli_type_tree.specs.Templates.{Template}
 use Rattle.pli_type_tree.specs.TypedTree.{Global}
-use Rattle.pli_map.specs.Scalars.{scalars_of, scalars_of_members}
 use Rattle.pli_value.specs.Numbers.{has_digits}
 use Rattle.pli_value.specs.Strings.{fitted}
-use Rattle.pli_value.specs.Value.{Value, Number, Characters, Bits}
-use Rattle.pli_type_name_laws.proofs.InitialHeld.{scalar_count, all_behind}
+use Rattle.pli_value.specs.Value.{Value, Number, Characters, Bits, Located}
+use Rattle.pli_type_name_laws.proofs.InitialHeld.{all_behind}
 use Rattle.pli_resolve_bounds.specs.SymbolBounds.{IsLimited}
 use Rattle.pli_initial_laws.specs.InitialCounts.{HasFewInitial, HaveFewInitial}
 use Rattle.pli_deck_laws.specs.Limits.{IsDescription, IsConstant, IsInitial, IsMade, IsTemplate, IsGlobal, word_limit}
@@ -91,99 +97,156 @@ kept_is : (d : Description) (v : Value) → is_plain 31 d ≡ true → is_scalar
 kept_is (FixedBinary p) (Number x) plain one = number_kept p x (leb-true p 31 plain) (has_digits p x) refl
 kept_is (FixedBinary p) (Characters s) plain one = (zero_held p, omega arith)
 kept_is (FixedBinary p) (Bits s) plain one = (zero_held p, omega arith)
+kept_is (FixedBinary p) (Located l) plain one = (zero_held p, omega arith)
 kept_is (Character k) (Characters s) plain one =
     string_kept k (fitted 32 k s) (few k plain) (fitted_length 32 k s)
 kept_is (Character k) (Number x) plain one = string_kept k (replicate k 32) (few k plain) (length-replicate k 32)
 kept_is (Character k) (Bits s) plain one = string_kept k (replicate k 32) (few k plain) (length-replicate k 32)
+kept_is (Character k) (Located l) plain one = string_kept k (replicate k 32) (few k plain) (length-replicate k 32)
 kept_is (Varying k) (Characters s) plain one = varying_kept k (take k s) (few k plain) (cut_length k s)
 kept_is (Varying k) (Number x) plain one = varying_kept k [] (few k plain) (omega arith)
 kept_is (Varying k) (Bits s) plain one = varying_kept k [] (few k plain) (omega arith)
+kept_is (Varying k) (Located l) plain one = varying_kept k [] (few k plain) (omega arith)
 kept_is (Bit k) (Bits s) plain one = bits_kept k (fitted false k s) (few k plain) (fitted_length false k s)
 kept_is (Bit k) (Number x) plain one = bits_kept k (replicate k false) (few k plain) (length-replicate k false)
 kept_is (Bit k) (Characters s) plain one = bits_kept k (replicate k false) (few k plain) (length-replicate k false)
+kept_is (Bit k) (Located l) plain one = bits_kept k (replicate k false) (few k plain) (length-replicate k false)
 kept_is (Array bs e) v plain one = absurd (not_true one)
 kept_is (Structure ds) v plain one = absurd (not_true one)
 kept_is d v plain one = absurd (not_true plain)
 
 -- ---- which scalars an item has
 
--- a numbered scalar is the one of that number, and plain
-abbrev Suits : List Description → NumberedScalar → Type 0
-Suits whole s =
-    (slice_get whole s.scalar ≡ Some s.description) × (is_plain 31 s.description ≡ true) × (is_scalar s.description ≡ true)
+packed_byte : (k : ℕ) → 0 < k → 0 < div_ceil k 8
+packed_byte k some = omega (arith, some)
 
-stands_behind : (front back : List Description) (d : Description) → slice_get (front ++ (d ∷ back)) (length front) ≡ Some d
-stands_behind [] back d = refl
-stands_behind (x ∷ front) back d = stands_behind front back d
+-- a plain scalar takes a byte
+plain_byte : (d : Description) → is_plain 31 d ≡ true → is_scalar d ≡ true → 0 < size_of d
+plain_byte (FixedBinary p) plain one = number_byte (nat_le p 15) (nat_le p 31)
+  where
+    number_byte : (a b : Bool) → 0 < (if a then 2 else (if b then 4 else 8))
+    number_byte true b = omega arith
+    number_byte false true = omega arith
+    number_byte false false = omega arith
+plain_byte (Character k) plain one = ltb-true 0 k (and_parts (nat_lt 0 k) (nat_le k 32767) plain).0
+plain_byte (Varying k) plain one = omega arith
+plain_byte (Bit k) plain one =
+    let some = ltb-true 0 k (and_parts (nat_lt 0 k) (nat_le k 32767) plain).0 in
+    packed_byte k some
+plain_byte (Array bs e) plain one = absurd (not_true one)
+plain_byte (Structure ds) plain one = absurd (not_true one)
+plain_byte d plain one = absurd (not_true plain)
 
-one_scalar : (whole front back : List Description) (d : Description) (first : ℕ) → is_plain 31 d ≡ true → is_scalar d ≡ true
-    → whole ≡ front ++ (d ∷ back) → length front ≡ first → AllByRecursion (Suits whole) (record { scalar = first; description = d } ∷ [])
-one_scalar whole front back d first plain one split at =
-    ((ap (λ ds. slice_get ds first) split ∙ sym (ap (slice_get (front ++ (d ∷ back))) at) ∙ stands_behind front back d, plain, one), tt)
+-- a scalar of a whole, which is plain
+record Suits (whole : List PlacedPart) (s : PlacedPart) : Type 0 where
+  front : List PlacedPart
+  back : List PlacedPart
+  there : whole ≡ front ++ s ∷ back
+  plain : is_plain 31 s.description ≡ true
+  one : is_scalar s.description ≡ true
+
+one_scalar : (whole front back : List PlacedPart) (d : Description) (at : ℕ) → is_plain 31 d ≡ true → is_scalar d ≡ true
+    → whole ≡ front ++ (map (moved at) (scalars_at d) ++ back) → AllByRecursion (Suits whole) (record { offset = at; description = d } ∷ [])
+one_scalar whole front back d at plain one split = (
+  record {
+    front = front;
+    back = back;
+    there = split ∙ ap (λ ss. front ++ (ss ++ back)) (scalar_moved at d one);
+    plain = plain;
+    one = one;
+  },
+  tt,
+)
 
 -- the scalars of elements, of each one what it has
-in_elements : (whole ds : List Description) (f : ℕ → List NumberedScalar) (size : ℕ) → length ds ≡ size
-    → ((front back : List Description) (first : ℕ) → whole ≡ front ++ (ds ++ back) → length front ≡ first → AllByRecursion (Suits whole) (f first))
-    → (k : ℕ) (front back : List Description) (first : ℕ) → whole ≡ front ++ (flat_map (λ xs. xs) (replicate k ds) ++ back) → length front ≡ first
-    → AllByRecursion (Suits whole) (flat_map f (counted_from first size k))
-in_elements whole ds f size is each zero front back first split at = tt
-in_elements whole ds f size is each (suc k) front back first split at =
-    let rest : List Description = flat_map (λ xs. xs) (replicate k ds) in
-    let here : whole ≡ front ++ (ds ++ (rest ++ back)) = split ∙ ap (λ xs. front ++ xs) (append_assoc ds rest back) in
-    all_behind (Suits whole) (f first) (flat_map f (counted_from (first + size) size k)) (each front (rest ++ back) first here at)
-    (in_elements whole ds f size is each k (front ++ ds) back (first + size) (here ∙ sym (append_assoc front ds (rest ++ back)))
-    (omega (arith, length-append front ds, is, at)))
+in_elements : (whole ss : List PlacedPart) (f : ℕ → List PlacedPart) (stride : ℕ)
+    → ((front back : List PlacedPart) (at : ℕ) → whole ≡ front ++ (map (moved at) ss ++ back) → AllByRecursion (Suits whole) (f at))
+    → (k : ℕ) (front back : List PlacedPart) (at : ℕ) → whole ≡ front ++ (spread at stride k ss ++ back)
+    → AllByRecursion (Suits whole) (flat_map f (counted_from at stride k))
+in_elements whole ss f stride each zero front back at split = tt
+in_elements whole ss f stride each (suc k) front back at split =
+    let one = map (moved at) ss in
+    let rest = spread (at + stride) stride k ss in
+    let here : whole ≡ front ++ (one ++ (rest ++ back)) = split ∙ ap (λ xs. front ++ xs) (append_assoc one rest back) in
+    all_behind (Suits whole) (f at) (flat_map f (counted_from (at + stride) stride k)) (each front (rest ++ back) at here)
+    (in_elements whole ss f stride each k (front ++ one) back (at + stride) (here ∙ sym (append_assoc front one (rest ++ back))))
+
+-- those of an array that stands at a byte, and of the members of a structure
+spread_from : (m at stride count : ℕ) (ss : List PlacedPart) → map (moved m) (spread at stride count ss) ≡ spread (m + at) stride count ss
+spread_from m at stride zero ss = refl
+spread_from m at stride (suc n) ss =
+    let next : m + (at + stride) ≡ m + at + stride = omega arith in
+    map-append (moved m) (map (moved at) ss) (spread (at + stride) stride n ss)
+    ∙ ap (λ xs. xs ++ map (moved m) (spread (at + stride) stride n ss)) (moved_twice m at ss)
+    ∙ ap (λ xs. map (moved (m + at)) ss ++ xs) (spread_from m (at + stride) stride n ss ∙ ap (λ k. spread k stride n ss) next)
+
+spread_moved : (at stride count : ℕ) (ss : List PlacedPart) → map (moved at) (spread 0 stride count ss) ≡ spread at stride count ss
+spread_moved at stride count ss = let same : at + 0 ≡ at = omega arith in spread_from at 0 stride count ss ∙ ap (λ k. spread k stride count ss) same
+
+abbrev behind_first : Description → Members → (ended : ℕ) → List PlacedPart
+behind_first d ds ended = scalars_behind (next_multiple_of ended (alignment_of d) + size_of d) ds
+
+members_split : (d : Description) (ds : Members) (front back : List PlacedPart) (at ended : ℕ)
+    → front ++ (map (moved at) (scalars_behind ended (MemberThen d ds)) ++ back)
+    ≡ front ++ (map (moved (at + next_multiple_of ended (alignment_of d))) (scalars_at d) ++ (map (moved at) (behind_first d ds ended) ++ back))
+members_split d ds front back at ended =
+    let start = next_multiple_of ended (alignment_of d) in
+    let others = map (moved at) (behind_first d ds ended) in
+    ap (λ ss. front ++ (ss ++ back)) (map-append (moved at) (map (moved start) (scalars_at d)) (behind_first d ds ended) ∙ ap (λ ss. ss ++ others) (moved_twice at start (scalars_at d)))
+    ∙ ap (λ ss. front ++ ss) (append_assoc (map (moved (at + start)) (scalars_at d)) others back)
 
 mutual
-  item_scalars : (whole : List Description) (d : Description) (path : List ℕ) (front back : List Description) (first : ℕ)
-      → is_plain 31 d ≡ true → whole ≡ front ++ (scalars_of d ++ back) → length front ≡ first
-      → AllByRecursion (Suits whole) (scalars_on d path first)
-  item_scalars whole (Array bs e) path front back first plain split at =
-      in_elements whole (scalars_of e) (λ k. scalars_on e path k) (scalars_in e) (scalar_count e)
-      (λ front back first split at. item_scalars whole e path front back first (plain_element 31 bs e plain) split at)
-      (count_of bs) front back first split at
-  item_scalars whole (Structure ds) [] front back first plain split at = tt
-  item_scalars whole (Structure ds) (i ∷ path) front back first plain split at =
-      member_scalars whole ds i path front back first (plain_members 31 ds plain) split at
-  item_scalars whole (FixedBinary p) path front back first plain split at = one_scalar whole front back (FixedBinary p) first plain refl split at
-  item_scalars whole (Character k) path front back first plain split at = one_scalar whole front back (Character k) first plain refl split at
-  item_scalars whole (Varying k) path front back first plain split at = one_scalar whole front back (Varying k) first plain refl split at
-  item_scalars whole (Bit k) path front back first plain split at = one_scalar whole front back (Bit k) first plain refl split at
-  item_scalars whole d path front back first plain split at = absurd (not_true plain)
+  item_scalars : (whole : List PlacedPart) (d : Description) (path : List ℕ) (front back : List PlacedPart) (at : ℕ)
+      → is_plain 31 d ≡ true → whole ≡ front ++ (map (moved at) (scalars_at d) ++ back)
+      → AllByRecursion (Suits whole) (scalars_on d path at)
+  item_scalars whole (Array bs e) path front back at plain split =
+      in_elements whole (scalars_at e) (λ k. scalars_on e path k) (stride_of e)
+      (λ front back at split. item_scalars whole e path front back at (plain_element 31 bs e plain) split)
+      (count_of bs) front back at (split ∙ ap (λ ss. front ++ (ss ++ back)) (spread_moved at (stride_of e) (count_of bs) (scalars_at e)))
+  item_scalars whole (Structure ds) [] front back at plain split = tt
+  item_scalars whole (Structure ds) (i ∷ path) front back at plain split =
+      member_scalars whole ds i path front back at 0 (plain_members 31 ds plain) split
+  item_scalars whole (FixedBinary p) path front back at plain split = one_scalar whole front back (FixedBinary p) at plain refl split
+  item_scalars whole (Character k) path front back at plain split = one_scalar whole front back (Character k) at plain refl split
+  item_scalars whole (Varying k) path front back at plain split = one_scalar whole front back (Varying k) at plain refl split
+  item_scalars whole (Bit k) path front back at plain split = one_scalar whole front back (Bit k) at plain refl split
+  item_scalars whole d path front back at plain split = absurd (not_true plain)
 
-  member_scalars : (whole : List Description) (ds : Members) (i : ℕ) (path : List ℕ) (front back : List Description) (first : ℕ)
-      → all_plain 31 ds ≡ true → whole ≡ front ++ (scalars_of_members ds ++ back) → length front ≡ first
-      → AllByRecursion (Suits whole) (scalars_in_member ds i path first)
-  member_scalars whole NoMembers i path front back first plain split at = tt
-  member_scalars whole (MemberThen d ds) zero path front back first plain split at =
-      item_scalars whole d path front (scalars_of_members ds ++ back) first (and_parts (is_plain 31 d) (all_plain 31 ds) plain).0
-      (split ∙ ap (λ xs. front ++ xs) (append_assoc (scalars_of d) (scalars_of_members ds) back)) at
-  member_scalars whole (MemberThen d ds) (suc i) path front back first plain split at =
-      member_scalars whole ds i path (front ++ scalars_of d) back (first + scalars_in d)
+  member_scalars : (whole : List PlacedPart) (ds : Members) (i : ℕ) (path : List ℕ) (front back : List PlacedPart) (at ended : ℕ)
+      → all_plain 31 ds ≡ true → whole ≡ front ++ (map (moved at) (scalars_behind ended ds) ++ back)
+      → AllByRecursion (Suits whole) (scalars_in_member ds i path at ended)
+  member_scalars whole NoMembers i path front back at ended plain split = tt
+  member_scalars whole (MemberThen d ds) zero path front back at ended plain split =
+      item_scalars whole d path front (map (moved at) (behind_first d ds ended) ++ back) (at + next_multiple_of ended (alignment_of d))
+      (and_parts (is_plain 31 d) (all_plain 31 ds) plain).0 (split ∙ members_split d ds front back at ended)
+  member_scalars whole (MemberThen d ds) (suc i) path front back at ended plain split =
+      let own = map (moved (at + next_multiple_of ended (alignment_of d))) (scalars_at d) in
+      member_scalars whole ds i path (front ++ own) back at (next_multiple_of ended (alignment_of d) + size_of d)
       (and_parts (is_plain 31 d) (all_plain 31 ds) plain).1
-      (
-      split ∙ ap (λ xs. front ++ xs) (append_assoc (scalars_of d) (scalars_of_members ds) back)
-      ∙ sym (append_assoc front (scalars_of d) (scalars_of_members ds ++ back))
-      )
-      (omega (arith, length-append front (scalars_of d), scalar_count d, at))
+      (split ∙ members_split d ds front back at ended ∙ sym (append_assoc front own (map (moved at) (behind_first d ds ended) ++ back)))
 
 -- ---- initial values
 
-each_fits : (whole : List Description) (ss : List NumberedScalar) (vs : List Value) → AllByRecursion (Suits whole) ss
-    → AllByRecursion (IsInitial whole) (each_with ss vs)
-each_fits whole [] vs h = tt
-each_fits whole (s ∷ ss) [] h = tt
-each_fits whole (s ∷ ss) (v ∷ vs) h =
-    let kept = kept_is s.description v h.0.1 h.0.2 in
-    (((s.description, h.0.0, kept.0), kept.1), each_fits whole ss vs h.1)
+each_fits : (d : Description) (ss : List PlacedPart) (vs : List Value) → AllByRecursion (Suits (scalars_at d)) ss
+    → AllByRecursion (IsInitial d) (each_with ss vs)
+each_fits d [] vs h = tt
+each_fits d (s ∷ ss) [] h = tt
+each_fits d (s ∷ ss) (v ∷ vs) h =
+    let u = h.0 in
+    let kept = kept_is s.description v u.plain u.one in
+    let found : scalar_on s.offset (scalars_at d) ≡ Some s =
+    ap (scalar_on s.offset) u.there
+    ∙ on_itself 0 u.front u.back s (size_of d) (subst (λ xs. Rise 0 xs (size_of d)) u.there (rises d)) (plain_byte s.description u.plain u.one) in
+    (((s, found, kept.0), kept.1), each_fits d ss vs h.1)
 
 items_fit : (d : Description) (items : List InitialItem) → is_plain 31 d ≡ true
-    → AllByRecursion (IsInitial (scalars_of d)) (flat_map (initial_scalars d) items)
+    → AllByRecursion (IsInitial d) (flat_map (initial_scalars d) items)
 items_fit d [] plain = tt
 items_fit d (i ∷ is) plain =
-    all_behind (IsInitial (scalars_of d)) (initial_scalars d i) (flat_map (initial_scalars d) is)
-    (each_fits (scalars_of d) (scalars_on d i.path 0) (values_written i.values)
-    (item_scalars (scalars_of d) d i.path [] [] 0 plain (sym (append-nil (scalars_of d))) refl))
+    let whole : map (moved 0) (scalars_at d) ++ [] ≡ scalars_at d = append-nil (map (moved 0) (scalars_at d)) ∙ not_moved (scalars_at d) in
+    all_behind (IsInitial d) (initial_scalars d i) (flat_map (initial_scalars d) is)
+    (each_fits d (scalars_on d i.path 0) (values_written i.values)
+    (item_scalars (scalars_at d) d i.path [] [] 0 plain (sym whole)))
     (items_fit d is plain)
 
 -- ---- templates

@@ -1,7 +1,4 @@
 //! Where references may stand.
-ghost use Rattle.std.specs.Prelude.{◌≡◌};
-ghost use Rattle.pli_map.specs.Scalars.{is_scalar};
-ghost use Rattle.pli_map.specs.views.DescriptionView.{description_view};
 ghost use Rattle.pli_type.specs.References as spec;
 ghost use Rattle.pli_base.specs.answers.FailureAnswers.{Gives};
 ghost use Rattle.pli_type_expression.specs.views.TypingView.{referent_view, role_view};
@@ -10,17 +7,7 @@ use crate::answer::TypeError;
 use crate::meaning::Referent;
 use crate::role::Role;
 use pli_base::{Code, fault};
-use pli_map::Description;
-
-/// Whether a description is no array and no structure.
-fn is_scalar(description: &Description) -> bool
-    ensures { result ≡ is_scalar (description_view description.now) }
-{
-    !matches!(
-        description,
-        Description::Array { .. } | Description::Structure(_)
-    )
-}
+use pli_map::is_aggregate;
 
 /// A reference as it is, where it may stand: T2 at its name where no aggregate may, T10 there behind a locator, since
 /// no variable is BASED so far (own).
@@ -32,7 +19,7 @@ pub(crate) fn permitted<'a>(
 ) -> Result<Referent<'a>, TypeError>
     ensures { Gives referent_view result (spec.permitted (role_view role) located at (referent_view referent.entry)) }
 {
-    if role.wants_scalar() && !is_scalar(referent.description) {
+    if role.wants_scalar() && is_aggregate(referent.description) {
         Err(fault(Code::AggregateNotAllowedHere, at))
     } else if located {
         Err(fault(Code::LocatorMissingOrNotAllowed, at))

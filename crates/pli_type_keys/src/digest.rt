@@ -1,67 +1,14 @@
 //! Digests by which tables are searched (own).
 ghost use Rattle.std.specs.Prelude.{◌≡◌, map};
-ghost use Rattle.pli_map.specs.views.DescriptionView.{description_view, members_view};
 ghost use Rattle.pli_value.specs.Value.{value_view};
 ghost use Rattle.pli_type_tree.specs.views.TemplateView.{initial_view};
-ghost use Rattle.pli_type_keys.specs.answers.Digests.{mixed, digest_of_bounds, digest_of, digest_of_members};
-ghost use Rattle.pli_type_keys.specs.answers.Digests.{digest_of_characters, digest_of_bits, digest_of_value};
-ghost use Rattle.pli_type_keys.specs.answers.Digests.{digest_of_initial};
+ghost use Rattle.pli_type_keys.specs.answers.Digests.{digest_of_characters, digest_of_bits, digest_of_locator};
+ghost use Rattle.pli_type_keys.specs.answers.Digests.{digest_of_value, digest_of_initial};
 
-use pli_map::{Bounds, Description};
+use pli_map::digest::mixed;
 use pli_type_tree::InitialScalar;
-use pli_value::Value;
 use pli_value::bit::Bits;
-
-/// A digest with a number more.
-fn mixed(digest: u64, number: u64) -> u64
-    ensures { result ≡ mixed digest number }
-{
-    digest.wrapping_mul(1_099_511_628_211).wrapping_add(number)
-}
-
-/// A digest with the bounds of an array more.
-fn digest_of_bounds(digest: u64, bounds: &[Bounds]) -> u64
-    ensures { result ≡ digest_of_bounds digest bounds.now }
-{
-    let mut whole = digest;
-    for dimension in bounds {
-        whole = mixed(whole, u64::from(dimension.low.unsigned_abs()));
-        whole = mixed(whole, u64::from(dimension.high.unsigned_abs()));
-    }
-    whole
-}
-
-/// The digest of a description.
-#[cycle(digest)]
-pub(crate) fn digest_of(description: &Description) -> u64
-    ensures { result ≡ digest_of (description_view description.now) }
-{
-    match description {
-        Description::FixedBinary(precision) => mixed(1, u64::from(*precision)),
-        Description::Character(length) => mixed(2, u64::from(*length)),
-        Description::Varying(length) => mixed(3, u64::from(*length)),
-        Description::Bit(length) => mixed(4, u64::from(*length)),
-        Description::Pointer => 5,
-        Description::Offset => 6,
-        Description::Area(bytes) => mixed(7, u64::from(*bytes).next_multiple_of(8)),
-        Description::Array { bounds, element } => {
-            mixed(digest_of_bounds(8, bounds), digest_of(element))
-        }
-        Description::Structure(members) => digest_of_members(members),
-    }
-}
-
-/// The digest of a structure.
-#[cycle(digest)]
-fn digest_of_members(members: &[Description]) -> u64
-    ensures { result ≡ digest_of_members 9 (members_view members.now) }
-{
-    let mut whole = 9;
-    for member in members {
-        whole = mixed(whole, digest_of(member));
-    }
-    whole
-}
+use pli_value::{Locator, Value};
 
 /// The digest of characters.
 fn digest_of_characters(characters: &[u8]) -> u64
@@ -85,6 +32,20 @@ fn digest_of_bits(bits: &Bits) -> u64
     whole
 }
 
+/// The digest of a locator.
+fn digest_of_locator(locator: Locator) -> u64
+    ensures { result ≡ digest_of_locator locator }
+{
+    match locator {
+        Locator::Null => 3,
+        Locator::Pointer {
+            generation,
+            position,
+        } => mixed(u64::from(generation), u64::from(position)),
+        Locator::Offset(position) => mixed(4, u64::from(position)),
+    }
+}
+
 /// The digest of a value.
 pub(crate) fn digest_of_value(value: &Value) -> u64
     ensures { result ≡ digest_of_value (value_view value.now) }
@@ -93,6 +54,7 @@ pub(crate) fn digest_of_value(value: &Value) -> u64
         Value::Number(number) => number.unsigned_abs(),
         Value::Characters(characters) => digest_of_characters(characters),
         Value::Bits(bits) => digest_of_bits(bits),
+        Value::Locator(locator) => digest_of_locator(*locator),
     }
 }
 
@@ -102,7 +64,7 @@ pub(crate) fn digest_of_initial(digest: u64, scalars: &[InitialScalar]) -> u64
 {
     let mut whole = digest;
     for first in scalars {
-        whole = mixed(whole, u64::from(first.scalar));
+        whole = mixed(whole, u64::from(first.offset));
         whole = mixed(whole, digest_of_value(&first.value));
     }
     whole

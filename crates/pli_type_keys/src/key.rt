@@ -13,11 +13,13 @@ ghost use Rattle.std.specs.Cmp.Lexicographic.{pointwise};
 ghost use Rattle.pli_type_keys.specs.Same.{same_value, same_initial, same_template};
 ghost use Rattle.pli_type_keys.specs.laws.KeyLaws.{value_decides, template_decides};
 ghost use Rattle.pli_type_keys.specs.laws.KeyLaws.{same_value_equivalence, same_template_equivalence};
-ghost use Rattle.pli_type_keys.specs.answers.Digests.{digest_of, digest_of_template, digest_of_value};
+ghost use Rattle.pli_map.specs.Digests.{digest_of};
+ghost use Rattle.pli_type_keys.specs.answers.Digests.{digest_of_template, digest_of_value};
 ghost use Rattle.pli_type_keys.specs.views.KeyView.{described, templated, valued};
 
-use crate::digest::{digest_of, digest_of_initial, digest_of_value};
+use crate::digest::{digest_of_initial, digest_of_value};
 use pli_map::Description;
+use pli_map::digest::digest_of;
 use pli_type_tree::InitialScalar;
 use pli_value::Value;
 use pli_value::bit::Bits;
@@ -83,6 +85,7 @@ fn are_same_values(left: &Value, right: &Value) -> bool
         (Value::Number(left), Value::Number(right)) => left == right,
         (Value::Characters(left), Value::Characters(right)) => left == right,
         (Value::Bits(left), Value::Bits(right)) => are_same_bits(left, right),
+        (Value::Locator(left), Value::Locator(right)) => left.equals(*right),
         _ => false,
     }
 }
@@ -91,7 +94,7 @@ fn are_same_values(left: &Value, right: &Value) -> bool
 fn is_same_initial(left: &InitialScalar, right: &InitialScalar) -> bool
     ensures { result ≡ same_initial (initial_view left.now) (initial_view right.now) }
 {
-    left.scalar == right.scalar && are_same_values(&left.value, &right.value)
+    left.offset == right.offset && are_same_values(&left.value, &right.value)
 }
 
 /// Whether initial values are equal.

@@ -3,6 +3,7 @@ use Rattle.std.specs.Prelude.{◌≡◌, ℕ, Bool, true, false, Option, Some, N
 use Rattle.std.specs.Prelude.{Result, Ok, Err, refl, if◌then◌else◌}
 use Rattle.std.specs.List.{list_any}
 use Rattle.std.proofs.Common.{sym, subst, ◌∙◌}
+use Rattle.std.proofs.lemmas.Bool.{false≢true}
 use Rattle.pli_base.specs.Reading.{at_fault}
 use Rattle.pli_base.specs.Statements as tree
 use Rattle.pli_base.specs.Statements.{Range}
@@ -10,10 +11,10 @@ use Rattle.pli_base.specs.Syntax.{Expression, Referred, Reference, Arguments, Ab
 use Rattle.pli_base.specs.declared.code.Code.TheVariants.{WrongOperandType, CannotAssign, CannotPrint, WrongReturn, NotYetBuilt}
 use Rattle.pli_base.specs.declared.syntax.Identifier.{Identifier}
 use Rattle.pli_base.specs.declared.token.Fault.{Fault}
-use Rattle.pli_map.specs.Description.{Description}
+use Rattle.pli_map.specs.Description.{Description, Array, Structure}
 use Rattle.pli_map.specs.Same.{same}
 use Rattle.pli_map.specs.laws.SameLaws.{same_decides}
-use Rattle.pli_map.specs.Scalars.{is_scalar}
+use Rattle.pli_map.specs.Scalars.{is_aggregate, is_area}
 use Rattle.pli_operation.specs.Operations.{Operation}
 use Rattle.pli_type.specs.ExpressionTypes.{TypedValue, precision_of, converted, conversions, printed}
 use Rattle.pli_type.specs.FunctionCalls.{Denoted, DenotesVariable, DenotesResult, Meant, OneValue, WholeAggregate, Argument}
@@ -58,10 +59,15 @@ module _ (s : TypingContext) where
   printed_typed (Some x) h = (h.0, (h.1.0, h.1.1, h.1.2))
   printed_typed None h = tt
 
-  aggregate_typed : (equals : ℕ) (target : Referent) → IsReferent s target → (m : Meant) → IsMeant s m
+  no_area : (d : Description) → is_aggregate d ≡ true → is_area d ≡ false
+  no_area (Array bs d) e = refl
+  no_area (Structure ds) e = refl
+  no_area d e = absurd (false≢true e)
+
+  aggregate_typed : (equals : ℕ) (target : Referent) → is_aggregate target.description ≡ true → IsReferent s target → (m : Meant) → IsMeant s m
       → OnRead (IsTypedForm 31 s) (aggregate_assigned equals target m)
-  aggregate_typed equals target h (OneValue v) k = tt
-  aggregate_typed equals target h (WholeAggregate source) k = by (same target.description source.description) refl
+  aggregate_typed equals target aggregate h (OneValue v) k = tt
+  aggregate_typed equals target aggregate h (WholeAggregate source) k = by (same target.description source.description) refl
     where
       by : (b : Bool) → same target.description source.description ≡ b
           → OnRead (IsTypedForm 31 s)
@@ -72,6 +78,7 @@ module _ (s : TypingContext) where
         h.0,
         subst (IsPlaced 31 s source.reference)
             (sym ((same_decides target.description source.description).0 e)) k.0,
+        no_area target.description aggregate,
       )
       by false e = tt
 
@@ -111,18 +118,18 @@ module _ (is_later : ℕ → Bool) (meaning : ℕ → NamedAs) (s : TypingContex
       (read_option (IsValueFor 31 s d) CannotAssign equals (converted 31 d v) (conversion_held s d v h))
       (λ x k. (d, placed, k)))
 
-  choice : (b : Bool) (r q : Result Form Fault) → OnRead (IsTypedForm 31 s) r → OnRead (IsTypedForm 31 s) q
+  choice : (b : Bool) (r q : Result Form Fault) → (b ≡ true → OnRead (IsTypedForm 31 s) r) → OnRead (IsTypedForm 31 s) q
       → OnRead (IsTypedForm 31 s) (if b then r else q)
-  choice true r q a b = a
+  choice true r q a b = a refl
   choice false r q a b = b
 
   assigned_typed : (at equals : ℕ) (d : Denoted) → IsDenoted s d → (e : Expression) → later_expression L e ≡ false
       → OnRead (IsTypedForm 31 s) (assigned M at equals d e)
   assigned_typed at equals (DenotesVariable target) h e l =
-      choice (is_scalar target.description) _ _
+      choice (is_aggregate target.description) _ _
+      (λ aggregate. read_then (IsMeant s) (IsTypedForm 31 s) (meant M AsArgument e) (aggregate_assigned equals target)
+      (meant_typed is_later meaning s known AsArgument e l) (aggregate_typed s equals target aggregate h))
       (scalar_typed equals target.reference target.description h.0 e l)
-      (read_then (IsMeant s) (IsTypedForm 31 s) (meant M AsArgument e) (aggregate_assigned equals target)
-      (meant_typed is_later meaning s known AsArgument e l) (aggregate_typed s equals target h))
   assigned_typed at equals (DenotesResult v) h e l = tt
 
   pub assignment_typed : (at : ℕ) (target : Reference) (equals : ℕ) (e : Expression) → later_reference L target ≡ false

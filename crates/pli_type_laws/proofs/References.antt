@@ -1,9 +1,9 @@
 -- References lead to the parts that they are typed as.
-use Rattle.std.specs.Prelude.{◌≡◌, ℕ, Bool, true, false, not, ◌&&◌, IsTrue, Option, Some, None, option_and_then, List, [], ◌∷◌, ◌++◌, length, Result, Ok, Err, refl, if◌then◌else◌}
+use Rattle.std.specs.Prelude.{◌≡◌, ℕ, Bool, true, false, ◌&&◌, IsTrue, Option, Some, None, option_and_then, List, [], ◌∷◌, ◌++◌, length, Result, Ok, Err, refl, if◌then◌else◌}
 use Rattle.std.proofs.Common.{sym, ap, ◌∙◌, subst}
 use Rattle.pli_base.specs.Results.{◌>>=◌}
 use Rattle.pli_base.specs.declared.token.Fault.{Fault}
-use Rattle.pli_map.specs.Scalars.{is_scalar}
+use Rattle.pli_map.specs.Scalars.{is_aggregate}
 use Rattle.pli_type.specs.NamedUnits.{is_plain}
 use Rattle.pli_type.specs.Names.{NamedVariable}
 use Rattle.pli_type.specs.References.{Role, wants_scalar, StridedPart, part_of, with_subscripts, subscripts_at, reference_to, Referent}
@@ -67,7 +67,7 @@ module _ (s : TypingContext) where
   allowed : (role : Role) (located : Bool) (at : ℕ) (r : Referent) → IsReferent s r
       → OnRead (IsReferent s) (permitted role located at r)
   allowed role located at r h =
-      read_if (IsReferent s) (wants_scalar role && not (is_scalar r.description)) _ _ tt
+      read_if (IsReferent s) (wants_scalar role && is_aggregate r.description) _ _ tt
       (read_if (IsReferent s) located _ _ tt h)
 
   module _ (role : Role) (located : Bool) (at : ℕ) (v : NamedVariable) (known : IsKnown s v) (xs : List TypedExpression)

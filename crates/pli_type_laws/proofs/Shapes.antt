@@ -11,7 +11,7 @@ use Rattle.pli_base.specs.declared.syntax.Identifier.{Identifier}
 use Rattle.pli_base.specs.declared.token.Fault.{Fault}
 use Rattle.pli_map.specs.Description.{Description}
 use Rattle.pli_map.specs.Same.{same}
-use Rattle.pli_map.specs.Scalars.{is_scalar}
+use Rattle.pli_map.specs.Scalars.{is_aggregate}
 use Rattle.pli_type.specs.ExpressionTypes.{TypedValue, converted, conversions}
 use Rattle.pli_type.specs.FunctionCalls.{Denoted, DenotesVariable, DenotesResult, Meant, OneValue, WholeAggregate, Argument}
 use Rattle.pli_type.specs.Names.{NamedAs, AVariable, AFunction, AProcedure, ALabel, Untyped, Naming}
@@ -55,10 +55,10 @@ simple_aggregate equals target (WholeAggregate r) = read_if IsSimple (same targe
 
 simple_assigned : (n : Naming) (at equals : ℕ) (d : Denoted) (e : Expression) → OnRead IsSimple (assigned n at equals d e)
 simple_assigned n at equals (DenotesVariable target) e =
-    read_if IsSimple (is_scalar target.description) _ _
+    read_if IsSimple (is_aggregate target.description) _ _
+    (read_any IsSimple (meant n AsArgument e) _ (λ m. simple_aggregate equals target m))
     (read_any IsSimple (value_of n e) _
     (λ v. read_any IsSimple (or_fault CannotAssign equals (converted n.greatest target.description v)) _ (λ x. tt)))
-    (read_any IsSimple (meant n AsArgument e) _ (λ m. simple_aggregate equals target m))
 simple_assigned n at equals (DenotesResult v) e = tt
 
 pub simple_assignment : (n : Naming) (at : ℕ) (target : Reference) (equals : ℕ) (e : Expression)

@@ -149,7 +149,7 @@ module _ (r : ResolvedUnit) where
       procedures = λ blocks at p h. procedure_facts blocks p (procedure_named_so 31 r blocks p (meaning_at r at) h);
       begins = λ number b there kind. without number (begin_numbers number b there kind (slice_get r.blocks number) refl);
       automatic = λ block.
-          all_made 31 (is_automatic 31) (λ class d h. stored_plain 31 d (automatic_stored 31 class d h)) (block_symbols r block) 0
+          all_made 31 (is_automatic 31) (automatic_stored 31) (block_symbols r block) 0
           (block_symbols r block);
-      globals = globals_behind 31 (λ class d h. stored_plain 31 d (static_stored 31 class d h)) (all_symbols r);
+      globals = globals_behind 31 (static_stored 31) (all_symbols r);
     }

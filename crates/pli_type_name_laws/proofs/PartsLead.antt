@@ -1,6 +1,6 @@
 -- Subscripts within their bounds lead to parts: of an array to its elements, of a structure to its members.
-use Rattle.std.specs.Prelude.{◌≡◌, ℕ, zero, suc, ◌+◌, ◌*◌, ◌<◌, ◌≤◌, int_le, ℤ, ◌-ℤ◌, unsigned_abs, IsTrue, Some, List, [], ◌∷◌, ◌++◌, length, refl}
-use Rattle.std.proofs.Common.{sym, ◌∙◌, ap, subst, arith}
+use Rattle.std.specs.Prelude.{◌≡◌, ◌⊎◌, ℕ, zero, suc, ◌+◌, ◌*◌, ◌<◌, ◌≤◌, int_le, ℤ, ◌-ℤ◌, unsigned_abs, Bool, true, false, IsTrue, Some, List, [], ◌∷◌, ◌++◌, length, if◌then◌else◌, refl}
+use Rattle.std.proofs.Common.{sym, ◌∙◌, ap, subst, arith, inl, inr, eq-zero-or-pos, mul-zero}
 use Rattle.std.proofs.lemmas.Option.{same_Some, none-some}
 use Rattle.std.proofs.Math.Nat.{mul-le-mul_right}
 use Rattle.pli_map.specs.Description.{Description, Array, Structure, Members, NoMembers, MemberThen}
@@ -16,11 +16,12 @@ use Rattle.pli_type.specs.References.{strides_of, subscripts_at}
 use Rattle.pli_type_tree.specs.TypedTree.{Stride, TypedExpression}
 use Rattle.pli_type_tree.specs.WellTyped.{LeadTo}
 
--- numbers within the bounds, one for each stride, lead to a part of this description
+-- numbers within the bounds, one for each stride, lead to a part of this description; there are such numbers
 abbrev pub Leads : (whole : Description) → (offset : ℕ) → List Stride → (part : Description) → Type 0
 Leads w o [] d = (k : ℕ) × (first_scalar w o d ≡ Some k)
 Leads w o (s ∷ ss) d =
-    (x : ℤ) → IsTrue (int_le s.low x) → IsTrue (int_le x s.high) → Leads w (o + unsigned_abs (x -ℤ s.low) * s.multiplier) ss d
+    IsTrue (int_le s.low s.high)
+    × ((x : ℤ) → IsTrue (int_le s.low x) → IsTrue (int_le x s.high) → Leads w (o + unsigned_abs (x -ℤ s.low) * s.multiplier) ss d)
 
 -- so do subscripts, one for each stride
 pub leads_at : (w : Description) (o : ℕ) (ss : List Stride) (d : Description) (xs : List TypedExpression) → length ss ≡ length xs
@@ -28,7 +29,8 @@ pub leads_at : (w : Description) (o : ℕ) (ss : List Stride) (d : Description) 
 leads_at w o [] d [] e h = h
 leads_at w o [] d (x ∷ xs) e h = absurd (omega (arith, e))
 leads_at w o (s ∷ ss) d [] e h = absurd (omega (arith, e))
-leads_at w o (s ∷ ss) d (x ∷ xs) e h = λ y low high. leads_at w (o + unsigned_abs (y -ℤ s.low) * s.multiplier) ss d xs (omega (arith, e)) (h y low high)
+leads_at w o (s ∷ ss) d (x ∷ xs) e h =
+    (h.0, λ y low high. leads_at w (o + unsigned_abs (y -ℤ s.low) * s.multiplier) ss d xs (omega (arith, e)) (h.1 y low high))
 
 -- ---- members
 
@@ -56,11 +58,13 @@ leads_member w o [] ds i m sized e h =
       h.0 + f.0,
       joined w o (Structure ds) h.0 m.offset m.description f.0 sized h.1 (structure_finds ds m.offset m.description f.0 f.1),
     )
-leads_member w o (s ∷ ss) ds i m sized e h =
-    λ y low high.
-    let passed : ℕ = unsigned_abs (y -ℤ s.low) * s.multiplier in
-    subst (λ n. Leads w n ss m.description) (swapped o passed m.offset)
-    (leads_member w (o + passed) ss ds i m sized e (h y low high))
+leads_member w o (s ∷ ss) ds i m sized e h = (
+  h.0,
+  λ y low high.
+      let passed : ℕ = unsigned_abs (y -ℤ s.low) * s.multiplier in
+      subst (λ n. Leads w n ss m.description) (swapped o passed m.offset)
+      (leads_member w (o + passed) ss ds i m sized e (h.1 y low high)),
+)
 
 -- ---- elements
 
@@ -77,23 +81,40 @@ within_total b d e c t below all =
     let product = mul-le-mul_right c one in
     omega (arith, product, all)
 
+-- where there are elements, each dimension has a subscript, and so have those behind it
+some_subscript : (b : Bounds) (bs : List Bounds) → 0 < count_of (b ∷ bs) → int_le b.low b.high ≡ true
+some_subscript b bs some = by (int_le b.low b.high) refl some
+  where
+    by : (c : Bool) → int_le b.low b.high ≡ c → 0 < (if c then unsigned_abs (b.high -ℤ b.low) + 1 else 0) * count_of bs → int_le b.low b.high ≡ true
+    by true e h = e
+    by false e h = absurd (omega (arith, h))
+
+some_behind : (b : Bounds) (bs : List Bounds) → 0 < count_of (b ∷ bs) → 0 < count_of bs
+some_behind b bs some = by (eq-zero-or-pos (count_of bs))
+  where
+    by : (count_of bs ≡ 0) ⊎ (0 < count_of bs) → 0 < count_of bs
+    by (inl e) = let none : count_of (b ∷ bs) ≡ 0 = ap (λ n. extent_of b * n) e ∙ mul-zero (extent_of b) in absurd (omega (arith, some, none))
+    by (inr h) = h
+
 -- where each of the elements stands, subscripts within the bounds lead to one
 elements : (w : Description) (o total : ℕ) (e : Description) → ((i : ℕ) → i < total → (k : ℕ) × (first_scalar w (o + i * stride_of e) e ≡ Some k))
-    → (bs : List Bounds) (before : ℕ) → before + count_of bs ≤ total → Leads w (o + before * stride_of e) (strides_of bs e) e
-elements w o total e all [] before h = all before (omega (arith, h))
-elements w o total e all (b ∷ bs) before h =
-    λ x low high.
-    let d : ℕ = unsigned_abs (x -ℤ b.low) in
-    subst (λ n. Leads w n (strides_of bs e) e) (further o before d (count_of bs) (stride_of e))
-    (elements w o total e all bs (before + d * count_of bs)
-    (within_total before d (extent_of b) (count_of bs) total (within_distance b x low high) h))
+    → (bs : List Bounds) (before : ℕ) → 0 < count_of bs → before + count_of bs ≤ total → Leads w (o + before * stride_of e) (strides_of bs e) e
+elements w o total e all [] before some h = all before (omega (arith, h))
+elements w o total e all (b ∷ bs) before some h = (
+  some_subscript b bs some,
+  λ x low high.
+      let d : ℕ = unsigned_abs (x -ℤ b.low) in
+      subst (λ n. Leads w n (strides_of bs e) e) (further o before d (count_of bs) (stride_of e))
+      (elements w o total e all bs (before + d * count_of bs) (some_behind b bs some)
+      (within_total before d (extent_of b) (count_of bs) total (within_distance b x low high) h)),
+)
 
 none_before : (o s : ℕ) → o + 0 * s ≡ o
 none_before o s = omega arith
 
-pub leads_element : (w : Description) (o : ℕ) (ss : List Stride) (bs : List Bounds) (e : Description) → 0 < size_of e
+pub leads_element : (w : Description) (o : ℕ) (ss : List Stride) (bs : List Bounds) (e : Description) → 0 < size_of e → 0 < count_of bs
     → Leads w o ss (Array bs e) → Leads w o (ss ++ strides_of bs e) e
-leads_element w o [] bs e sized h =
+leads_element w o [] bs e sized some h =
     let there : (i : ℕ) → i < count_of bs → (k : ℕ) × (first_scalar w (o + i * stride_of e) e ≡ Some k) =
     λ i below.
     let at : i * stride_of e + 0 ≡ i * stride_of e = omega arith in
@@ -104,5 +125,6 @@ leads_element w o [] bs e sized h =
     )
     in
     subst (λ n. Leads w n (strides_of bs e) e) (none_before o (stride_of e))
-    (elements w o (count_of bs) e there bs 0 (omega arith))
-leads_element w o (s ∷ ss) bs e sized h = λ y low high. leads_element w (o + unsigned_abs (y -ℤ s.low) * s.multiplier) ss bs e sized (h y low high)
+    (elements w o (count_of bs) e there bs 0 some (omega arith))
+leads_element w o (s ∷ ss) bs e sized some h =
+    (h.0, λ y low high. leads_element w (o + unsigned_abs (y -ℤ s.low) * s.multiplier) ss bs e sized some (h.1 y low high))

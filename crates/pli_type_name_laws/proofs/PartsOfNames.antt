@@ -13,7 +13,7 @@ use Rattle.pli_type.specs.References.{StridedPart, strides_of, element_of, membe
 use Rattle.pli_type_tree.specs.TypedTree.{Stride, TypedExpression}
 use Rattle.pli_type_tree.specs.WellTyped.{LeadTo}
 use Rattle.pli_type_name_laws.proofs.PartsLead.{Leads, leads_at, leads_member, leads_element}
-use Rattle.pli_type_name_laws.proofs.PlainDescriptions.{plain_takes, plain_element, plain_dimension, plain_members, plain_member}
+use Rattle.pli_type_name_laws.proofs.PlainDescriptions.{plain_takes, plain_element, plain_elements, plain_dimension, plain_members, plain_member}
 
 abbrev strided : (offset : ℕ) → Description → List Stride → StridedPart
 strided o d ss = record { offset = o; description = d; strides = ss }
@@ -27,7 +27,7 @@ module _ (n : ℕ) (w : Description) where
   element_stands : (o : ℕ) (d : Description) (ss : List Stride) → Stands n w (strided o d ss) → Stands n w (element_of (strided o d ss))
   element_stands o (Array bs e) ss h =
       let plain = plain_element n bs e h.plain in
-      record { plain = plain; leads = leads_element w o ss bs e (plain_takes n e plain) h.leads }
+      record { plain = plain; leads = leads_element w o ss bs e (plain_takes n e plain) (plain_elements n bs e h.plain) h.leads }
   element_stands o d ss h = h
 
   of_member : (o : ℕ) (ss : List Stride) (ds : Members) (i : ℕ) (q : StridedPart) (m : Option PlacedPart)

@@ -2,7 +2,7 @@
 use Rattle.std.specs.Prelude.{◌≡◌, ℕ, zero, suc, ◌+◌, ◌<◌, nat_lt, nat_le, Bool, true, false, ◌&&◌, Some, List, [], ◌∷◌, refl}
 use Rattle.std.proofs.Common.{sym, ◌∙◌, ap, arith}
 use Rattle.std.specs.Int.{next_multiple_of}
-use Rattle.std.proofs.lemmas.Bool.{and_parts}
+use Rattle.std.proofs.lemmas.Bool.{and_parts, ltb-true}
 use Rattle.std.proofs.lemmas.Option.{same_Some, none-some}
 use Rattle.pli_map.specs.Description.{Description, FixedBinary, Character, Varying, Bit, Pointer, Offset, Area, Array, Structure, Members, NoMembers, MemberThen}
 use Rattle.pli_map.specs.Parts.{PlacedPart, member_behind}
@@ -46,6 +46,11 @@ mutual
   all_filled n (MemberThen d ds) h =
       let p = and_parts (is_plain n d) (all_plain n ds) h in
       both _ _ (plain_filled n d p.0) (all_filled n ds p.1)
+
+-- there is an element at least
+pub plain_elements : (n : ℕ) (bs : List Bounds) (e : Description) → is_plain n (Array bs e) ≡ true → 0 < count_of bs
+plain_elements n [] e h = absurd (not_true h)
+plain_elements n (b ∷ bs) e h = ltb-true 0 (count_of (b ∷ bs)) (plain_count n b bs e h)
 
 pub plain_takes : (n : ℕ) (d : Description) → is_plain n d ≡ true → 0 < size_of d
 plain_takes n d h = (takes_bytes d (plain_filled n d h)).0

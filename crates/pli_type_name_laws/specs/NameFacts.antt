@@ -62,8 +62,8 @@ pub record ProcedureFacts (u : NamedUnit) (blocks : List ℕ) (p : NamedProcedur
   pub called : IsCalled u blocks p p.callee
   pub plain : (d : Description) → p.returned ≡ Some d → IsTrue (is_plain 31 d)
 
--- what names mean is there, in all blocks; variables begin with values of their scalars; and BEGIN blocks
--- have no parameters
+-- what names mean is there, in all blocks; variables take no more bytes than they may, and begin with values
+-- of their scalars; and BEGIN blocks have no parameters
 pub record NameFacts (u : NamedUnit) : Type 0 where
   pub variables :
       (blocks : List ℕ) (at : ℕ) (v : NamedVariable) → (u.naming blocks).meaning at ≡ AVariable v

@@ -10,7 +10,7 @@ ghost use Rattle.pli_type_tree.specs.views.TypedView.{form_view};
 
 use pli_base::syntax::{Expression, Reference};
 use pli_base::{Code, fault};
-use pli_map::is_scalar;
+use pli_map::is_aggregate;
 use pli_type::converted;
 use pli_type_expression::{
     Denoted, ExpressionMeaning, Referent, Role, TypeError, meant, referred, value_of,
@@ -89,11 +89,11 @@ fn assigned<'a>(
         return Err(fault(Code::NotAVariable, at));
     };
     let target = Box::new(alloc, target)?;
-    if is_scalar(target.description) {
-        scalar_assigned(alloc, naming, equals, target, value)
-    } else {
+    if is_aggregate(target.description) {
         let source = meant(alloc, naming, Role::Argument, value)?;
         aggregate_assigned(equals, target, source)
+    } else {
+        scalar_assigned(alloc, naming, equals, target, value)
     }
 }
 

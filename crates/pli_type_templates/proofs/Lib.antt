@@ -2,7 +2,7 @@ pub mod GroupsMade
 pub mod ItemsShared
 pub mod MembersFound
 pub mod NamesNoted
-pub mod NumbersMade
+pub mod OffsetsMade
 pub mod PlansMade
 pub mod RunsMade
 pub mod ScalarsPlanned

@@ -1,9 +1,10 @@
 -- Plans that are put together member by member, and their members.
 use Rattle.std.proofs.Common.{◌≡◌, ℕ, zero, suc, Some, None, List, [], ◌∷◌, ◌++◌, Vec, refl, ap, sym, ◌∙◌}
 use Rattle.std.specs.Prelude.{slice_get}
-use Rattle.std.specs.Global.{Global}
+use Rattle.std.specs.Global.{Global, Box}
 use Rattle.std.proofs.lemmas.Option.{same_Some, none-some}
-use Rattle.pli_type_templates.specs.Plans.{Plan, OfStructure, Plans, NoPlans, PlanThen, leaf_in, leaf_in_member, levels_in, levels_in_member}
+use Rattle.pli_type_templates.specs.Plans.{Plan, OfArray, OfStructure, Plans, NoPlans, PlanThen, leaf_in, leaf_in_member, levels_in, levels_in_member}
+use Rattle.pli_type_templates.specs.declared.plan.ArrayLevel.{ArrayLevel}
 use Rattle.pli_type_templates.specs.declared.plan.Plan as program
 use Rattle.pli_type_templates.specs.declared.plan.Plan.TheVariants as made
 use Rattle.pli_type_templates.specs.declared.plan.Plan.TheFolds as folds
@@ -22,6 +23,11 @@ before_more (q ∷ ps) p others = ap (λ x. PlanThen q x) (before_more ps p othe
 pub before_none : (ps : List Plan) → before ps NoPlans ≡ plans_of ps
 before_none [] = refl
 before_none (p ∷ ps) = ap (λ x. PlanThen p x) (before_none ps)
+
+-- the plan of an array
+pub array_view : (p : program.Plan) (level : ArrayLevel) (element : Box program.Plan) → p ≡ made.Array level element
+    → view.plan_view p ≡ OfArray level (view.plan_view element.value)
+array_view p level element e = ap view.plan_view (e ∙ sym (made.rolls-Array level element)) ∙ folds.fold-roll-Plan Plan view.level_view (program.Plan-F.Array level element)
 
 -- the plan of a structure
 pub structure_view : (p : program.Plan) (v : Vec program.Plan Global) → p ≡ made.Structure v → view.plan_view p ≡ OfStructure (view.plans_view v.items)

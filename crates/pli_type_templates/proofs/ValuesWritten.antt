@@ -1,14 +1,17 @@
 -- The values that stand in INITIAL, one value after another.
 use Rattle.std.proofs.Common.{◌≡◌, ℕ, zero, suc, ◌+◌, ◌-◌, min, arith, Some, None, List, [], ◌∷◌, ◌++◌, length, replicate, take, drop, refl, ap, sym, ◌∙◌}
+use Rattle.std.specs.Option.{unwrap_or}
 use Rattle.std.proofs.lemmas.List.{append-nil, length-append, length-replicate, take_all, take_min, drop_min, drop-drop, length-drop}
 use Rattle.pli_base.specs.declared.declaration.InitialValue.{InitialValue}
 use Rattle.pli_base.specs.declared.declaration.InitialValue.TheVariants as initial
-use Rattle.pli_map.specs.Description.{Description}
+use Rattle.pli_map.specs.Description.{Description, FixedBinary}
+use Rattle.pli_map.specs.Values.{first_value}
 use Rattle.pli_type.specs.InitialScalars.{as_held, each_with, values_written}
 use Rattle.pli_type_templates.specs.Items.{all_with, elements_of, value_of}
-use Rattle.pli_type_templates.specs.Plans.{numbered_as}
+use Rattle.pli_type_templates.specs.Plans.{placed_as}
 use Rattle.pli_value.specs.Strings.{fitted}
-use Rattle.pli_value.specs.Value.{Value}
+use Rattle.pli_value.specs.Value.{Value, Located}
+use Rattle.pli_value.specs.declared.locator.Locator.{Locator}
 
 -- what stands first says its value for as many elements as it stands for
 pub written_first : (x : InitialValue) (more : List InitialValue)
@@ -31,30 +34,35 @@ fitted_whole extension s =
     let none : length s - length s ≡ 0 = omega arith in
     ap (λ n. take (length s) s ++ replicate n extension) none ∙ append-nil (take (length s) s) ∙ take_all (length s) s (omega arith)
 
+-- null leaves the value with which a scalar begins
+pub null_is_first : (d : Description) (l : Locator) → as_held d (Located l) ≡ unwrap_or (first_value d) (Located l)
+null_is_first (FixedBinary p) l = refl
+null_is_first d l = refl
+
 -- no scalars without values without values
-pub no_values : (d : Description) (ns : List ℕ) → each_with (numbered_as d ns) [] ≡ []
+pub no_values : (d : Description) (ns : List ℕ) → each_with (placed_as d ns) [] ≡ []
 no_values d [] = refl
 no_values d (n ∷ ns) = refl
 
 -- a value for so many elements goes to as many of the scalars, if there are as many
 pub copies_first : (d : Description) (v : Value) (count : ℕ) (ns : List ℕ) (vs : List Value)
-    → each_with (numbered_as d ns) (replicate count v ++ vs) ≡ all_with (as_held d v) (take count ns) ++ each_with (numbered_as d (drop count ns)) vs
+    → each_with (placed_as d ns) (replicate count v ++ vs) ≡ all_with (as_held d v) (take count ns) ++ each_with (placed_as d (drop count ns)) vs
 copies_first d v zero ns vs = refl
 copies_first d v (suc count) [] vs = refl
-copies_first d v (suc count) (n ∷ ns) vs = ap (λ is. record { scalar = n; value = as_held d v } ∷ is) (copies_first d v count ns vs)
+copies_first d v (suc count) (n ∷ ns) vs = ap (λ is. record { offset = n; value = as_held d v } ∷ is) (copies_first d v count ns vs)
 
 -- more scalars than values need not be made
 pub wanted_are_enough : (d : Description) (ns : List ℕ) (vs : List Value)
-    → each_with (numbered_as d (take (length vs) ns)) vs ≡ each_with (numbered_as d ns) vs
+    → each_with (placed_as d (take (length vs) ns)) vs ≡ each_with (placed_as d ns) vs
 wanted_are_enough d ns [] = sym (no_values d ns)
 wanted_are_enough d [] (v ∷ vs) = refl
-wanted_are_enough d (n ∷ ns) (v ∷ vs) = ap (λ is. record { scalar = n; value = as_held d v } ∷ is) (wanted_are_enough d ns vs)
+wanted_are_enough d (n ∷ ns) (v ∷ vs) = ap (λ is. record { offset = n; value = as_held d v } ∷ is) (wanted_are_enough d ns vs)
 
--- the value that stands next, for as many of the numbers that are left as it goes to
+-- the value that stands next, for as many of the scalars that are left as it goes to
 pub value_given : (d : Description) (x : InitialValue) (more : List InitialValue) (ns : List ℕ) (used count : ℕ)
     → count ≡ min (elements_of x) (length ns - used)
-    → each_with (numbered_as d (drop used ns)) (values_written (x ∷ more))
-    ≡ all_with (as_held d (value_of x)) (take count (drop used ns)) ++ each_with (numbered_as d (drop (used + count) ns)) (values_written more)
+    → each_with (placed_as d (drop used ns)) (values_written (x ∷ more))
+    ≡ all_with (as_held d (value_of x)) (take count (drop used ns)) ++ each_with (placed_as d (drop (used + count) ns)) (values_written more)
 value_given d x more ns used count is =
     let left = drop used ns in
     let v = as_held d (value_of x) in
@@ -62,7 +70,7 @@ value_given d x more ns used count is =
     let sized = is ∙ ap (λ n. min (elements_of x) n) (sym (length-drop used ns)) in
     let taken = ap (λ n. take n left) sized ∙ take_min (elements_of x) left in
     let dropped = ap (λ n. drop n left) sized ∙ drop_min (elements_of x) left in
-    ap (each_with (numbered_as d left)) (written_first x more)
+    ap (each_with (placed_as d left)) (written_first x more)
     ∙ copies_first d (value_of x) (elements_of x) left vs
-    ∙ ap (λ ms. all_with v ms ++ each_with (numbered_as d (drop (elements_of x) left)) vs) (sym taken)
-    ∙ ap (λ ms. all_with v (take count left) ++ each_with (numbered_as d ms) vs) (sym dropped ∙ drop-drop count used ns)
+    ∙ ap (λ ms. all_with v ms ++ each_with (placed_as d (drop (elements_of x) left)) vs) (sym taken)
+    ∙ ap (λ ms. all_with v (take count left) ++ each_with (placed_as d ms) vs) (sym dropped ∙ drop-drop count used ns)

@@ -1,19 +1,20 @@
 -- Plans: where the scalars of a description stand, so that those of a member are found without a look at the
 -- members before it.
 use Rattle.std.specs.Prelude.{ℕ, zero, suc, ◌+◌, Option, Some, None, List, [], ◌∷◌, map}
+use Rattle.std.specs.Int.{next_multiple_of}
 use Rattle.std.specs.List.{flat_map}
-use Rattle.pli_map.specs.Description.{Description, Array, Structure, Members, NoMembers, MemberThen}
-use Rattle.pli_map.specs.Scalars.{scalars_in}
-use Rattle.pli_map.specs.Sizes.{count_of}
-use Rattle.pli_type.specs.InitialScalars.{NumberedScalar, counted_from}
+use Rattle.pli_map.specs.Description.{Description, Area, Array, Structure, Members, NoMembers, MemberThen}
+use Rattle.pli_map.specs.Parts.{PlacedPart}
+use Rattle.pli_map.specs.Sizes.{alignment_of, count_of, size_of, stride_of}
+use Rattle.pli_type.specs.InitialScalars.{counted_from}
 use Rattle.pli_type_templates.specs.declared.plan.ArrayLevel.{ArrayLevel}
 
--- a scalar, and its number where all subscripts above it are the lowest
+-- a scalar, and the byte on which it begins where all subscripts above it are the lowest
 pub record Leaf : Type 0 where
   pub first : ℕ
   pub description : Description
 
--- a scalar; an array, by how many elements it has and how many scalars each of them; a structure
+-- a scalar; an array, by how many elements it has and how many bytes from one to the next; a structure
 mutual
   pub data Plan : Type 0 where
     OfScalar : (leaf : Leaf) → Plan
@@ -25,18 +26,22 @@ mutual
     NoPlans : Plans
     PlanThen : (first : Plan) (others : Plans) → Plans
 
--- the plan of a description whose first scalar has this number
+-- the plan of a description that begins on this byte; an area has none
 abbrev mutual
   pub plan_from : (first : ℕ) → Description → Plan
   plan_from first (Array bounds element) =
-      OfArray (record { count = count_of bounds; distance = scalars_in element }) (plan_from first element)
-  plan_from first (Structure ds) = OfStructure (plans_from first ds)
+      OfArray (record { count = count_of bounds; distance = stride_of element }) (plan_from first element)
+  plan_from first (Structure ds) = OfStructure (plans_from first 0 ds)
+  plan_from first (Area bytes) = OfStructure NoPlans
   plan_from first scalar = OfScalar (record { first = first; description = scalar })
 
-  -- the plans of members, the first scalar of the first having this number
-  pub plans_from : (first : ℕ) → Members → Plans
-  plans_from first NoMembers = NoPlans
-  plans_from first (MemberThen d ds) = PlanThen (plan_from first d) (plans_from (first + scalars_in d) ds)
+  -- the plans of members of a structure that begins on this byte, where those before them end so far behind
+  -- it
+  pub plans_from : (first ended : ℕ) → Members → Plans
+  plans_from first ended NoMembers = NoPlans
+  plans_from first ended (MemberThen d ds) =
+      PlanThen (plan_from (first + next_multiple_of ended (alignment_of d)) d)
+      (plans_from first (next_multiple_of ended (alignment_of d) + size_of d) ds)
 
 -- what the members on a way lead to, if to a scalar or to an array of scalars
 abbrev mutual
@@ -66,20 +71,20 @@ abbrev mutual
   levels_in_member (PlanThen p ps) zero path = levels_in p path
   levels_in_member (PlanThen p ps) (suc i) path = levels_in_member ps i path
 
--- the number of a scalar for each element of the arrays above it, in row-major order
+-- the byte on which a scalar begins for each element of the arrays above it, in row-major order
 abbrev pub spread : List ArrayLevel → (first : ℕ) → List ℕ
 spread [] first = first ∷ []
 spread (l ∷ ls) first = flat_map (spread ls) (counted_from first l.distance l.count)
 
--- scalars of these numbers, each of this description
-abbrev pub numbered_as : Description → List ℕ → List NumberedScalar
-numbered_as d ns = map (λ n. record { scalar = n; description = d }) ns
+-- scalars on these bytes, each of this description
+abbrev pub placed_as : Description → List ℕ → List PlacedPart
+placed_as d ns = map (λ n. record { offset = n; description = d }) ns
 
--- the scalars of a leaf under these arrays, the numbers of all being so much greater
-abbrev pub numbered : Option Leaf → List ArrayLevel → (base : ℕ) → List NumberedScalar
-numbered None levels base = []
-numbered (Some leaf) levels base = numbered_as leaf.description (spread levels (base + leaf.first))
+-- the scalars of a leaf under these arrays, all so many bytes further
+abbrev pub placed : Option Leaf → List ArrayLevel → (base : ℕ) → List PlacedPart
+placed None levels base = []
+placed (Some leaf) levels base = placed_as leaf.description (spread levels (base + leaf.first))
 
 -- the scalars of an item on this way
-abbrev pub scalars_planned : Plan → (path : List ℕ) → List NumberedScalar
-scalars_planned p path = numbered (leaf_in p path) (levels_in p path) 0
+abbrev pub scalars_planned : Plan → (path : List ℕ) → List PlacedPart
+scalars_planned p path = placed (leaf_in p path) (levels_in p path) 0

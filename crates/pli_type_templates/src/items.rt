@@ -3,13 +3,13 @@ ghost use Rattle.std.specs.Prelude.{◌≡◌, ◌++◌, IfOk, map};
 ghost use Rattle.pli_map.specs.views.DescriptionView.{description_view};
 ghost use Rattle.pli_type.specs.InitialScalars.{as_held, each_with, values_written};
 ghost use Rattle.pli_type_templates.specs.Items.{all_with, item_scalars, value_of};
-ghost use Rattle.pli_type_templates.specs.Plans.{numbered_as};
+ghost use Rattle.pli_type_templates.specs.Plans.{placed_as};
 ghost use Rattle.pli_type_templates.specs.views.ItemView.{item_view};
 ghost use Rattle.pli_type_templates.specs.views.PlanView.{plan_view};
 ghost use Rattle.pli_type_tree.specs.views.TemplateView.{initial_view};
 ghost use Rattle.pli_value.specs.Value.{value_view};
 
-use crate::numbers::put_numbers;
+use crate::offsets::put_offsets;
 use crate::plan::{Plan, find_leaf};
 use crate::values::{elements, elements_written, held};
 use pli_base::declaration::InitialValue;
@@ -25,69 +25,69 @@ pub(crate) struct ValuedItem<'a> {
     pub values: &'a [InitialValue],
 }
 
-/// Puts the same value for scalars of these numbers.
+/// Puts the same value for scalars on these bytes.
 fn put_copies(
     alloc: Global,
     value: &Value,
-    numbers: &[u32],
+    offsets: &[u32],
     scalars: &mut Vec<InitialScalar>,
 ) -> Result<(), AllocError>
     ensures { IfOk result (λ _. map initial_view scalars.new.items
-        ≡ map initial_view scalars.old.items ++ all_with (value_view value.now) numbers.now) }
+        ≡ map initial_view scalars.old.items ++ all_with (value_view value.now) offsets.now) }
 {
-    for scalar in numbers {
+    for offset in offsets {
         let value = value.copy(alloc)?;
         scalars.push(InitialScalar {
-            scalar: *scalar,
+            offset: *offset,
             value,
         })?;
     }
     Ok(())
 }
 
-/// Puts a value in INITIAL for scalars of these numbers and of one description. It is fitted once, if there are any.
+/// Puts a value in INITIAL for scalars of one description on these bytes. It is fitted once, if there are any.
 fn put_value(
     alloc: Global,
     description: &Description,
     written: &InitialValue,
-    numbers: &[u32],
+    offsets: &[u32],
     scalars: &mut Vec<InitialScalar>,
 ) -> Result<(), AllocError>
     ensures { IfOk result (λ _. map initial_view scalars.new.items
         ≡ map initial_view scalars.old.items
-        ++ all_with (as_held (description_view description.now) (value_of written.now)) numbers.now) }
+        ++ all_with (as_held (description_view description.now) (value_of written.now)) offsets.now) }
 {
-    if numbers.is_empty() {
+    if offsets.is_empty() {
         return Ok(());
     }
     let value = held(alloc, description, written)?;
-    put_copies(alloc, &value, numbers, scalars)?;
+    put_copies(alloc, &value, offsets, scalars)?;
     Ok(())
 }
 
-/// Puts values for scalars of these numbers and of one description, as long as there are both.
+/// Puts values for scalars of one description on these bytes, as long as there are both.
 fn put_values(
     alloc: Global,
     description: &Description,
-    numbers: &[u32],
+    offsets: &[u32],
     values: &[InitialValue],
     scalars: &mut Vec<InitialScalar>,
 ) -> Result<(), AllocError>
     ensures { IfOk result (λ _. map initial_view scalars.new.items
         ≡ map initial_view scalars.old.items
-        ++ each_with (numbered_as (description_view description.now) numbers.now) (values_written values.now)) }
+        ++ each_with (placed_as (description_view description.now) offsets.now) (values_written values.now)) }
 {
     let mut used = 0;
     for written in values {
-        let count = (elements(written) as usize).min(numbers.len() - used);
-        let given = &numbers[used..used + count];
+        let count = (elements(written) as usize).min(offsets.len() - used);
+        let given = &offsets[used..used + count];
         put_value(alloc, description, written, given, scalars)?;
         used += count;
     }
     Ok(())
 }
 
-/// Puts the initial values of an item. No more numbers of scalars are made than values are written.
+/// Puts the initial values of an item. No more bytes of scalars are told than values are written.
 pub(crate) fn put_item(
     alloc: Global,
     plan: &Plan<'_>,
@@ -102,8 +102,8 @@ pub(crate) fn put_item(
     let Some(found) = find_leaf(plan, item.path, &mut levels)? else {
         return Ok(());
     };
-    let mut numbers = Vec::new(alloc);
-    put_numbers(&levels, found.first, wanted, &mut numbers)?;
-    put_values(alloc, found.description, &numbers, item.values, scalars)?;
+    let mut offsets = Vec::new(alloc);
+    put_offsets(&levels, found.first, wanted, &mut offsets)?;
+    put_values(alloc, found.description, &offsets, item.values, scalars)?;
     Ok(())
 }

@@ -9,7 +9,7 @@ mod item_number;
 mod item_numbers;
 mod items;
 mod members;
-mod numbers;
+mod offsets;
 mod placed_globals;
 mod plan;
 mod unit_templates;

@@ -1,25 +1,24 @@
 //! Plans: where the scalars of a description stand, laid out once, so that those of a member are found without a look
 //! at the members before it.
+ghost use Rattle.std.specs.Int.{next_multiple_of};
 ghost use Rattle.std.specs.Prelude.{◌≡◌, ◌+◌, ◌*◌, ◌++◌, IfOk, option_map, slice_get};
-ghost use Rattle.pli_map.specs.Scalars.{scalars_in, scalars_among};
-ghost use Rattle.pli_map.specs.Sizes.{count_of};
+ghost use Rattle.pli_map.specs.Sizes.{alignment_of, count_of, end_behind, size_of, stride_of};
 ghost use Rattle.pli_map.specs.views.DescriptionView.{description_view, members_view};
 ghost use Rattle.pli_type_templates.specs.Plans as planned;
 ghost use Rattle.pli_type_templates.specs.Plans.{plan_from, plans_from, leaf_in, levels_in};
 ghost use Rattle.pli_type_templates.specs.views.PlanView.{leaf_view, plan_view};
 
-use pli_map::{Bounds, Description};
+use pli_map::{Bounds, Description, alignment, far_size};
 use std::alloc::{AllocError, Global};
 
-/// An array above a scalar: how many elements it has, and how many scalars each of them.
+/// An array above a scalar: how many elements it has, and how many bytes each of them leads on.
 #[derive(Clone, Copy)]
 pub(crate) struct ArrayLevel {
     pub count: u32,
     pub distance: u32,
 }
 
-/// A scalar, and its number where all subscripts above it are the lowest. The scalars of a variable are counted from 0,
-/// those of an array in row-major order.
+/// A scalar, and the byte on which it begins where all subscripts above it are the lowest.
 #[derive(Clone, Copy)]
 pub(crate) struct Leaf<'a> {
     pub first: u32,
@@ -37,11 +36,49 @@ pub(crate) enum Plan<'a> {
     Structure(Vec<Plan<'a>>),
 }
 
-/// A plan, and the number behind that of its last scalar.
+/// A plan, and the byte behind the last of its description.
 #[derive(Drop)]
 pub(crate) struct Planned<'a> {
     pub plan: Plan<'a>,
     pub end: u32,
+}
+
+/// A number of bytes, which is no offset where it is over `u32::MAX`.
+fn offset_of(bytes: u64) -> Result<u32, AllocError>
+    ensures { IfOk result (λ offset. offset ≡ bytes) }
+{
+    if bytes > u64::from(u32::MAX) {
+        return Err(AllocError);
+    }
+    Ok(bytes as u32)
+}
+
+/// Where a description stands behind so many bytes.
+fn aligned(ended: u32, description: &Description) -> Result<u32, AllocError>
+    ensures { IfOk result (λ start. start ≡ next_multiple_of ended (alignment_of (description_view description.now))) }
+{
+    offset_of(u64::from(ended).next_multiple_of(u64::from(alignment(description))))
+}
+
+/// So many bytes behind a byte.
+fn behind(first: u32, bytes: u32) -> Result<u32, AllocError>
+    ensures { IfOk result (λ at. at ≡ first + bytes) }
+{
+    offset_of(u64::from(first) + u64::from(bytes))
+}
+
+/// The byte behind a description that begins on this byte.
+fn end_of(first: u32, description: &Description) -> Result<u32, AllocError>
+    ensures { IfOk result (λ end. end ≡ first + size_of (description_view description.now)) }
+{
+    offset_of(u64::from(first) + far_size(description))
+}
+
+/// The plan of an area, which has no scalars.
+fn no_scalars<'a>(alloc: Global) -> Plan<'a>
+    ensures { plan_view result ≡ planned.OfStructure planned.NoPlans }
+{
+    Plan::Structure(Vec::new(alloc))
 }
 
 /// How many elements an array of these bounds has. Want of memory where they are more than `u32::MAX`.
@@ -55,8 +92,8 @@ fn count_of(bounds: &[Bounds]) -> Result<u32, AllocError>
     Ok(count)
 }
 
-/// The plan of a description whose first scalar has this number. Want of memory where there are more than `u32::MAX`
-/// scalars, which no variable of 1,000,000 bytes has.
+/// The plan of a description that begins on this byte. Want of memory where a byte is over `u32::MAX`, which none of a
+/// variable of 1,000,000 bytes is.
 #[cycle(plan_from)]
 pub(crate) fn plan_from<'a>(
     alloc: Global,
@@ -64,13 +101,18 @@ pub(crate) fn plan_from<'a>(
     first: u32,
 ) -> Result<Planned<'a>, AllocError>
     ensures { IfOk result (λ made. (plan_view made.plan ≡ plan_from first (description_view description.now))
-        × (made.end ≡ first + scalars_in (description_view description.now))) }
+        × (made.end ≡ first + size_of (description_view description.now))) }
 {
     match description {
         Description::Array { bounds, element } => array_from(alloc, bounds, element, first),
         Description::Structure(members) => members_from(alloc, members, first),
+        Description::Area(_) => {
+            let end = end_of(first, description)?;
+            let plan = no_scalars(alloc);
+            Ok(Planned { plan, end })
+        }
         _ => {
-            let end = first.checked_add(1).ok_or(AllocError)?;
+            let end = end_of(first, description)?;
             Ok(Planned {
                 plan: Plan::Scalar(Leaf { first, description }),
                 end,
@@ -87,15 +129,15 @@ fn array_from<'a>(
     first: u32,
 ) -> Result<Planned<'a>, AllocError>
     ensures { IfOk result (λ made. (plan_view made.plan
-        ≡ planned.OfArray (record { count = count_of bounds.now; distance = scalars_in (description_view element.now) }) (plan_from first (description_view element.now)))
-        × (made.end ≡ first + count_of bounds.now * scalars_in (description_view element.now))) }
+        ≡ planned.OfArray (record { count = count_of bounds.now; distance = stride_of (description_view element.now) }) (plan_from first (description_view element.now)))
+        × (made.end ≡ first + count_of bounds.now * stride_of (description_view element.now))) }
 {
     let count = count_of(bounds)?;
     let planned = plan_from(alloc, element, first)?;
-    let distance = planned.end - first;
+    let distance = aligned(planned.end - first, element)?;
     let element = Box::new(alloc, planned.plan)?;
-    let scalars = count.checked_mul(distance).ok_or(AllocError)?;
-    let end = first.checked_add(scalars).ok_or(AllocError)?;
+    let bytes = count.checked_mul(distance).ok_or(AllocError)?;
+    let end = behind(first, bytes)?;
     let level = ArrayLevel { count, distance };
     Ok(Planned {
         plan: Plan::Array { level, element },
@@ -109,13 +151,15 @@ fn members_from<'a>(
     members: &'a [Description],
     first: u32,
 ) -> Result<Planned<'a>, AllocError>
-    ensures { IfOk result (λ made. (plan_view made.plan ≡ planned.OfStructure (plans_from first (members_view members.now)))
-        × (made.end ≡ first + scalars_among (members_view members.now))) }
+    ensures { IfOk result (λ made. (plan_view made.plan ≡ planned.OfStructure (plans_from first 0 (members_view members.now)))
+        × (made.end ≡ first + end_behind 0 (members_view members.now))) }
 {
     let mut plans = Vec::with_capacity(alloc, members.len())?;
     let mut end = first;
     for member in members {
-        let planned = plan_from(alloc, member, end)?;
+        let start = aligned(end - first, member)?;
+        let at = behind(first, start)?;
+        let planned = plan_from(alloc, member, at)?;
         plans.push(planned.plan)?;
         end = planned.end;
     }

@@ -6,26 +6,26 @@ ghost use Rattle.pli_map.specs.views.DescriptionView.{description_view};
 ghost use Rattle.pli_type.specs.InitialScalars.{as_held, values_written};
 ghost use Rattle.pli_type_templates.specs.Items.{elements_of, value_of};
 ghost use Rattle.pli_value.specs.Strings.{fitted};
+ghost use Rattle.pli_value.specs.declared.locator.Locator.TheVariants.{Null};
 ghost use Rattle.pli_value.specs.Value as plain;
 ghost use Rattle.pli_value.specs.Value.{value_view};
 
 use pli_base::declaration::InitialValue;
 use pli_map::{Description, holds};
 use pli_value::bit::Bits;
-use pli_value::{Value, character};
+use pli_value::{Locator, Value, character};
 use std::alloc::{AllocError, Global};
 
 /// How many bits a string has at most.
 const BIT_LIMIT: usize = 32_767;
 
-/// For how many elements a value in INITIAL stands; null stands for none.
+/// For how many elements a value in INITIAL stands.
 pub(crate) fn elements(written: &InitialValue) -> u32
     ensures { result ≡ elements_of written.now }
 {
     match written {
         InitialValue::Integer { factor, .. } => factor.unwrap_or(1),
-        InitialValue::Characters(_) | InitialValue::Bits(_) => 1,
-        InitialValue::Null => 0,
+        InitialValue::Characters(_) | InitialValue::Bits(_) | InitialValue::Null => 1,
     }
 }
 
@@ -73,7 +73,7 @@ fn whole_bits(alloc: Global, bits: &[bool]) -> Result<Value, AllocError>
     Ok(Value::Bits(copied))
 }
 
-/// The value with which a scalar begins that has no initial value: zero, blanks, the empty string, or zero bits (own).
+/// The value with which a scalar begins that has no initial value: zero, blanks, the empty string, zero bits, or null (own).
 fn first_value(alloc: Global, description: &Description) -> Result<Option<Value>, AllocError>
     ensures { IfOk result (λ value. option_map value_view value ≡ first_value (description_view description.now)) }
 {
@@ -88,6 +88,8 @@ fn first_value(alloc: Global, description: &Description) -> Result<Option<Value>
             let zeros = fit_bits(alloc, &[], usize::from(*length))?;
             Ok(Some(Value::Bits(zeros)))
         }
+        Description::Pointer => Ok(Some(Value::Locator(Locator::Null))),
+        Description::Offset => Ok(Some(Value::Locator(Locator::Offset(0)))),
         _ => Ok(None),
     }
 }
@@ -155,6 +157,14 @@ fn held_bits(alloc: Global, description: &Description, bits: &[bool]) -> Result<
     }
 }
 
+/// Null as a scalar holds it: the value with which it begins.
+#[tactic(auto, using(crate::proofs::ValuesWritten::null_is_first))]
+fn held_null(alloc: Global, description: &Description) -> Result<Value, AllocError>
+    ensures { IfOk result (λ held. value_view held ≡ as_held (description_view description.now) (plain.Located Null)) }
+{
+    unsuited(alloc, description, Value::Locator(Locator::Null))
+}
+
 /// A value in INITIAL as a scalar of this description holds it. A value that does not suit the scalar leaves the one
 /// with which it begins.
 pub(crate) fn held(
@@ -168,6 +178,6 @@ pub(crate) fn held(
         InitialValue::Integer { value, .. } => held_number(alloc, description, value.number()),
         InitialValue::Characters(text) => held_characters(alloc, description, text.bytes()),
         InitialValue::Bits(bits) => held_bits(alloc, description, bits.bits()),
-        InitialValue::Null => held_number(alloc, description, 0),
+        InitialValue::Null => held_null(alloc, description),
     }
 }

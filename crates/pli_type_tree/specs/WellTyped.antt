@@ -1,15 +1,13 @@
 -- Well-typed trees: what a type checker promises, so that a run never asks for what is not there. A typing
 -- context says what is known at a place of the text: the blocks around it, the innermost first, each with the
 -- descriptions of its slots and the labels that a GOTO may lead to.
-use Rattle.std.specs.Prelude.{◌≡◌, ℕ, suc, ◌+◌, ◌*◌, nat_eq, ℤ, ◌-ℤ◌, int_le, unsigned_abs, IsTrue}
-use Rattle.std.specs.Prelude.{Option, Some, None}
+use Rattle.std.specs.Prelude.{◌≡◌, ℕ, suc, ◌+◌, ◌*◌, nat_eq, false, ℤ, ◌-ℤ◌, int_le, unsigned_abs, IsTrue}
+use Rattle.std.specs.Prelude.{◌≤◌, Option, Some, None}
 use Rattle.std.specs.Prelude.{List, [], ◌∷◌, ◌++◌, map, slice_get, if◌then◌else◌}
 use Rattle.std.specs.List.{list_any}
-use Rattle.std.specs.List.{flat_map}
-use Rattle.std.specs.Prelude.{replicate}
-use Rattle.pli_map.specs.Description.{Description, Array, Structure, Members, NoMembers, MemberThen}
-use Rattle.pli_map.specs.Scalars.{first_scalar, scalars_of}
-use Rattle.pli_map.specs.Sizes.{count_of}
+use Rattle.pli_map.specs.Description.{Description}
+use Rattle.pli_map.specs.Scalars.{first_scalar, is_area, scalars_of}
+use Rattle.pli_map.specs.Sizes.{size_of}
 use Rattle.pli_map.specs.Values.{holds}
 use Rattle.pli_operation.specs.Operations.{Operation}
 use Rattle.pli_map.specs.Variables.{Variable}
@@ -38,10 +36,18 @@ AreHeld [] [] = Unit {0}
 AreHeld (d ∷ ds) (v ∷ vs) = IsTrue (holds d v) × AreHeld ds vs
 AreHeld ds vs = ⊥
 
--- a variable begins with values of its scalars
+-- how many bytes a variable takes at most (own)
+abbrev pub variable_limit : ℕ
+variable_limit = 1000000
+
+-- a variable takes no more bytes than it may, and begins with values of its scalars
+abbrev pub IsMade : Variable → Type 0
+IsMade v = (size_of v.description ≤ variable_limit) × AreHeld (scalars_of v.description) v.initial
+
+-- each of these
 abbrev pub AreMade : List Variable → Type 0
 AreMade [] = Unit {0}
-AreMade (v ∷ vs) = AreHeld (scalars_of v.description) v.initial × AreMade vs
+AreMade (v ∷ vs) = IsMade v × AreMade vs
 
 -- a block around: its number, its slots, and the labels of its lists
 pub record BlockAround : Type 0 where
@@ -78,12 +84,14 @@ abbrev pub root_of : TypingContext → Root → Option Description
 root_of s (InSlot outward slot) = slot_of (slice_get s.blocks outward) slot
 root_of s (OfProgram number) = description_of (slice_get s.globals number)
 
--- the subscripts, where they are within their bounds, lead to a part of this description
+-- the subscripts, where they are within their bounds, lead to a part of this description; and each bounds are
+-- those of some subscript
 abbrev pub LeadTo : (whole : Description) → (offset : ℕ) → Subscripts → (part : Description) → Type 0
 LeadTo whole offset NoSubscript part = (k : ℕ) × (first_scalar whole offset part ≡ Some k)
 LeadTo whole offset (SubscriptThen stride e more) part =
-    (x : ℤ) → IsTrue (int_le stride.low x) → IsTrue (int_le x stride.high)
-    → LeadTo whole (offset + unsigned_abs (x -ℤ stride.low) * stride.multiplier) more part
+    IsTrue (int_le stride.low stride.high)
+    × ((x : ℤ) → IsTrue (int_le stride.low x) → IsTrue (int_le x stride.high)
+    → LeadTo whole (offset + unsigned_abs (x -ℤ stride.low) * stride.multiplier) more part)
 
 -- calls
 
@@ -260,7 +268,7 @@ abbrev mutual
   IsTypedForm n s Null = Unit {0}
   IsTypedForm n s (Assign target e) = (d : Description) × IsPlaced n s target d × IsValueFor n s d e
   IsTypedForm n s (AssignAggregate target source) =
-      (d : Description) × IsPlaced n s target d × IsPlaced n s source d
+      (d : Description) × IsPlaced n s target d × IsPlaced n s source d × (is_area d ≡ false)
   IsTypedForm n s (Put skip items) = AreItems n s items
   IsTypedForm n s (If condition consequence alternative) =
       IsString n s OfBits condition × IsTypedStatement n s consequence × IsTypedElse n s alternative

@@ -2,11 +2,10 @@
 use pli_map::Description;
 use pli_value::Value;
 
-/// An initial value, fitted to the scalar that has it. The scalars of a description are counted from 0, those of an
-/// array in row-major order (X3.74).
+/// An initial value, fitted to the scalar that has it, and the byte of the variable on which that scalar begins.
 #[derive(Drop)]
 pub struct InitialScalar {
-    pub scalar: u32,
+    pub offset: u32,
     pub value: Value,
 }
 

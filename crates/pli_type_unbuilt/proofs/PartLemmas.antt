@@ -1,5 +1,5 @@
 -- References, lists and units, by their parts.
-use Rattle.std.proofs.Common.{◌≡◌, ℕ, Bool, true, false, ◌||◌, List, [], ◌∷◌, Option, Some, None, map, option_map, Vec, Global, refl, ap, sym, ◌∙◌}
+use Rattle.std.proofs.Common.{◌≡◌, ℕ, Bool, true, false, ◌||◌, List, [], ◌∷◌, Option, Some, map, option_map, Vec, Global, refl, ap, ◌∙◌}
 use Rattle.std.specs.List.{list_any}
 use Rattle.pli_base.specs.declared.syntax.Expression.{Expression}
 use Rattle.pli_base.specs.declared.syntax.Reference.{Reference, out-Reference}

@@ -45,16 +45,27 @@ pub struct CodedSignature {
     pub result: Option<u16>,
 }
 
+/// How generations come of a variable that is there for the whole program (X3.74).
+#[derive(Clone, Copy, Debug, PartialEq, Eq)]
+pub enum VariableKind {
+    /// One is made before the program begins.
+    Static,
+    /// A program stacks them.
+    Controlled,
+}
+
 /// What a unit names that is there for the whole program.
 #[derive(Drop)]
 pub enum CodedGlobal {
     /// A variable of the unit's own, by the number of its template.
     OwnVariable {
+        kind: VariableKind,
         template: u16,
     },
     /// A variable that all units which have one of its name share.
     ExternalVariable {
         name: Name,
+        kind: VariableKind,
         template: u16,
     },
     /// The external procedure of a name.
@@ -77,6 +88,14 @@ pub struct Code {
     /// Numbered from 0 in the order of the text.
     pub blocks: Vec<Block>,
     pub instructions: Vec<Instruction>,
+}
+
+/// A deck: the name of a unit's external procedure, whether that is a main one, and the code of the unit.
+#[derive(Drop)]
+pub struct Deck {
+    pub name: Name,
+    pub is_main: bool,
+    pub code: Code,
 }
 
 /// A unit of a module.

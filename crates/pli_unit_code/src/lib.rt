@@ -5,6 +5,7 @@ mod code;
 mod instruction;
 
 pub use code::{
-    Block, BlockKind, Code, CodedGlobal, CodedSignature, CodedTemplate, LinkedUnit, Module,
+    Block, BlockKind, Code, CodedGlobal, CodedSignature, CodedTemplate, Deck, LinkedUnit, Module,
+    VariableKind,
 };
 pub use instruction::Instruction;

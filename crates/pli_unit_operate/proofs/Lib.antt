@@ -1,3 +1,4 @@
+pub mod LocatorLemmas
 pub mod QuotientLemmas
 pub mod StackLemmas
 pub mod WidthLemmas

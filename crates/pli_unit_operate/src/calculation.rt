@@ -2,7 +2,7 @@
 ghost use Rattle.std.specs.Prelude.{◌≡◌, ◌∷◌, [], pos, Result, IfOk, None, Some};
 ghost use Rattle.pli_map.specs.views.DescriptionView.{description_view};
 ghost use Rattle.pli_operation.specs.Operations as calculate;
-ghost use Rattle.pli_operation.specs.Operations.{calculated_from, calculated_with, calculated_by, as_number, stands, fitted_to};
+ghost use Rattle.pli_operation.specs.Operations.{calculated_from, calculated_with, calculated_by, are_comparable, as_number, compared, stands, fitted_to};
 ghost use Rattle.pli_operation.specs.views.OperationView.{relation_view};
 ghost use Rattle.std.specs.Option.{option_copied};
 ghost use Rattle.pli_value.specs.Numbers.{within, quotient};
@@ -12,10 +12,10 @@ ghost use Rattle.pli_unit_operate.specs.views.CalculationView.{calculation_view,
 
 use pli_map::Description;
 use pli_operation::Relation;
-use pli_value::Value;
 use pli_value::bit::{self, Bits};
 use pli_value::character::{self, STRING_LIMIT};
 use pli_value::number::{self, Raised};
+use pli_value::{Locator, Value};
 use std::alloc::{AllocError, Global};
 use std::cmp::Ordering;
 
@@ -248,6 +248,21 @@ fn of_characters(operation: Prefix, text: &Vec<u8>) -> Calculation
     }
 }
 
+/// An operation on a locator: there is none of one alone.
+fn of_locator(operation: Prefix, _locator: Locator) -> Calculation
+    ensures { calculation_view result ≡ calculated_from (prefix_view operation) (plain.Located _locator) }
+{
+    match operation {
+        Prefix::Negate => Calculation::Misfits,
+        Prefix::Absolute => Calculation::Misfits,
+        Prefix::Sign => Calculation::Misfits,
+        Prefix::Not => Calculation::Misfits,
+        Prefix::LengthOf => Calculation::Misfits,
+        Prefix::FromBits => Calculation::Misfits,
+        Prefix::ToCharacters { .. } => Calculation::Misfits,
+    }
+}
+
 /// An operation on one value. Want of memory is answered also where a number has more than 64 bits.
 pub fn calculate_from(
     alloc: Global,
@@ -260,6 +275,7 @@ pub fn calculate_from(
         Value::Number(number) => of_number(alloc, operation, *number),
         Value::Characters(text) => Ok(of_characters(operation, text)),
         Value::Bits(bits) => of_bits(alloc, operation, bits),
+        Value::Locator(locator) => Ok(of_locator(operation, *locator)),
     }
 }
 
@@ -311,6 +327,7 @@ fn fit_bits(
 }
 
 /// A value fitted to a description. Want of memory is answered also where it has more than 32,767 bits.
+#[tactic(auto, using(crate::proofs::LocatorLemmas::none_fitted))]
 pub fn fit(
     alloc: Global,
     description: &Description,
@@ -322,6 +339,7 @@ pub fn fit(
         Value::Number(number) => Ok(as_calculation(fit_number(description, number))),
         Value::Characters(text) => fit_text(description, text),
         Value::Bits(bits) => fit_bits(alloc, description, &bits),
+        Value::Locator(_) => Ok(Calculation::Misfits),
     }
 }
 
@@ -468,6 +486,54 @@ fn with_bits(
     }
 }
 
+/// Whether both are pointers, or both are offsets.
+fn are_comparable(left: Locator, right: Locator) -> bool
+    ensures { result ≡ are_comparable left right }
+{
+    match (left, right) {
+        (Locator::Offset(_), Locator::Offset(_)) => true,
+        (Locator::Offset(_), Locator::Null) => false,
+        (Locator::Offset(_), Locator::Pointer { .. }) => false,
+        (Locator::Null, Locator::Offset(_)) => false,
+        (Locator::Null, Locator::Null) => true,
+        (Locator::Null, Locator::Pointer { .. }) => true,
+        (Locator::Pointer { .. }, Locator::Offset(_)) => false,
+        (Locator::Pointer { .. }, Locator::Null) => true,
+        (Locator::Pointer { .. }, Locator::Pointer { .. }) => true,
+    }
+}
+
+/// A comparison of two locators.
+#[tactic(auto, using(crate::proofs::LocatorLemmas::none_compared))]
+fn compare_locators(relation: Relation, left: Locator, right: Locator) -> Calculation
+    ensures { calculation_view result ≡ compared (relation_view relation) left right }
+{
+    if !are_comparable(left, right) {
+        return Calculation::Misfits;
+    }
+    match relation {
+        Relation::Equal => Calculation::GivesBit(left.equals(right)),
+        Relation::Unequal => Calculation::GivesBit(!left.equals(right)),
+        Relation::Less => Calculation::Misfits,
+        Relation::AtMost => Calculation::Misfits,
+        Relation::Greater => Calculation::Misfits,
+        Relation::AtLeast => Calculation::Misfits,
+    }
+}
+
+/// An operation on a locator and another value.
+fn with_locator(operation: Infix, left: Locator, right: &Value) -> Calculation
+    ensures { calculation_view result
+        ≡ calculated_with 31 (infix_view operation) (plain.Located left) (value_view right.now) }
+{
+    match (operation, right) {
+        (Infix::Compare(relation), Value::Locator(right)) => {
+            compare_locators(relation, left, *right)
+        }
+        _ => Calculation::Misfits,
+    }
+}
+
 /// An operation on two values; the left one is extended where it may be. Want of memory is answered also where a number
 /// has more than 64 bits.
 pub fn calculate_with(
@@ -486,6 +552,7 @@ pub fn calculate_with(
         },
         Value::Characters(left) => with_text(alloc, operation, left, right),
         Value::Bits(left) => with_bits(alloc, operation, &left, right),
+        Value::Locator(left) => Ok(with_locator(operation, left, right)),
     }
 }
 
@@ -504,6 +571,7 @@ fn substring(
     };
     match string {
         Value::Number(_) => Ok(Calculation::Misfits),
+        Value::Locator(_) => Ok(Calculation::Misfits),
         Value::Characters(text) => as_characters(alloc, character::substr(text, *first, *count)),
         Value::Bits(bits) => match bit::substr(alloc, bits, *first, *count)? {
             Some(part) => Ok(Calculation::Gives(Value::Bits(part))),

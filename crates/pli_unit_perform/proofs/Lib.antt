@@ -12,7 +12,6 @@ pub mod LinkedUnits
 pub mod LinkLemmas
 pub mod MadeVariables
 pub mod OperationLemmas
-pub mod PutInitial
 pub mod InstructionsDo
 pub mod SlotPlaces
 pub mod StateLemmas

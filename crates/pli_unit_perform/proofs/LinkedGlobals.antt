@@ -21,6 +21,7 @@ use Rattle.pli_machine_step.specs.Runs.{all_statics_made}
 use Rattle.pli_unit_code.specs.Modules.{LinkedUnit, unit_of}
 use Rattle.pli_unit_code.specs.declared.code.CodedGlobal as rust_global
 use Rattle.pli_unit_code.specs.declared.code.LinkedUnit as rust
+use Rattle.pli_unit_code.specs.declared.code.VariableKind.TheVariants as kinds
 use Rattle.pli_unit_code.specs.views.CodeView.{code_view, global_view, unit_view}
 use Rattle.pli_unit_perform.specs.declared.linked.LinkedGlobal.{LinkedGlobal}
 use Rattle.pli_unit_perform.specs.declared.linked.LinkedGlobal.TheVariants as linked
@@ -30,7 +31,7 @@ use Rattle.pli_unit_perform.specs.views.TableView.{standing_view, statics_from, 
 use Rattle.pli_unit_perform.proofs.MadeVariables.{further_ends}
 
 -- one table behind another
-pub statics_more : (unit : Name) (first : ℕ) (xs ys : List LinkedGlobal)
+pub statics_more : (unit first : ℕ) (xs ys : List LinkedGlobal)
     → statics_from unit first (xs ++ ys) ≡ statics_from unit first xs ++ statics_from unit (first + length xs) ys
 statics_more unit first [] ys = ap (λ n. statics_from unit n ys) (omega arith)
 statics_more unit first (linked.OwnVariable p ∷ xs) ys =
@@ -39,6 +40,8 @@ statics_more unit first (linked.OwnVariable p ∷ xs) ys =
 statics_more unit first (linked.ExternalVariable name p ∷ xs) ys =
     ap (λ ss. record { unit = unit; number = first; external = Some name.now; standing = standing_view p } ∷ ss)
     (statics_more unit (suc first) xs ys ∙ ap (λ n. statics_from unit (suc first) xs ++ statics_from unit n ys) (omega arith))
+statics_more unit first (linked.ControlledVariable ∷ xs) ys =
+    statics_more unit (suc first) xs ys ∙ ap (λ n. statics_from unit (suc first) xs ++ statics_from unit n ys) (omega arith)
 statics_more unit first (linked.EntryPoint other ∷ xs) ys =
     statics_more unit (suc first) xs ys ∙ ap (λ n. statics_from unit (suc first) xs ++ statics_from unit n ys) (omega arith)
 
@@ -63,7 +66,7 @@ or_none None = refl
 or_none (Some x) = refl
 
 -- an own variable more
-known_own : (old new : Shared) (statics : List Static) (unit : Name) (number : ℕ) (p : Standing) → AreKnown old statics → new.externals ≡ old.externals
+known_own : (old new : Shared) (statics : List Static) (unit number : ℕ) (p : Standing) → AreKnown old statics → new.externals ≡ old.externals
     → AreKnown new (statics ++ record { unit = unit; number = number; external = None; standing = p } ∷ [])
 known_own old new statics unit number p known same = λ name.
     external_more statics (record { unit = unit; number = number; external = None; standing = p }) name ∙ or_none (external_in statics name) ∙ known name
@@ -73,7 +76,7 @@ pub known_same : (old new : Shared) (statics : List Static) → AreKnown old sta
 known_same old new statics known same = λ name. known name ∙ ap (λ m. option_map standing_view (get same_name m name)) (sym same)
 
 -- an external one that is known already
-pub known_again : (old : Shared) (statics : List Static) (unit name : Name) (number : ℕ) (p : Place) → AreKnown old statics → get same_name old.externals name ≡ Some p
+pub known_again : (old : Shared) (statics : List Static) (unit : ℕ) (name : Name) (number : ℕ) (p : Place) → AreKnown old statics → get same_name old.externals name ≡ Some p
     → AreKnown old (statics ++ record { unit = unit; number = number; external = Some name; standing = standing_view p } ∷ [])
 known_again old statics unit name number p known found = λ other.
     external_more statics (record { unit = unit; number = number; external = Some name; standing = standing_view p }) other
@@ -88,7 +91,7 @@ known_again old statics unit name number p known found = λ other.
         ap (λ o. or_else o (Some (standing_view p))) one ∙ sym one ∙ known other
 
 -- one that is new
-pub known_new : (old new : Shared) (statics : List Static) (unit name : Name) (number : ℕ) (p : Place) → AreKnown old statics → get same_name old.externals name ≡ None
+pub known_new : (old new : Shared) (statics : List Static) (unit : ℕ) (name : Name) (number : ℕ) (p : Place) → AreKnown old statics → get same_name old.externals name ≡ None
     → IsNoted name p old new → AreKnown new (statics ++ record { unit = unit; number = number; external = Some name; standing = standing_view p } ∷ [])
 known_new old new statics unit name number p known none noted = λ other.
     external_more statics (record { unit = unit; number = number; external = Some name; standing = standing_view p }) other
@@ -150,7 +153,7 @@ again_placed v name p r s statics known found is = subst (λ r. PlacedKnown v na
 pub ends_for : {A : Type 0} (f : StoreFault) (a b : Answer A) (w : World) → a ≡ b → EndsAs f b w → EndsAs f a w
 ends_for f a b w is ends = subst (λ x. EndsAs f x w) (sym is) ends
 
-module _ (c : Code) (unit : Name) (number : ℕ) (statics : List Static) (more : List CodedGlobal) (entries : List ℕ) (old new : Shared) where
+module _ (c : Code) (unit number : ℕ) (statics : List Static) (more : List CodedGlobal) (entries : List ℕ) (old new : Shared) where
   abbrev rest : List GlobalCode
   rest = globals_linked c more entries
 
@@ -163,11 +166,11 @@ module _ (c : Code) (unit : Name) (number : ℕ) (statics : List Static) (more :
   -- a variable of the unit's own
   pub own_goes : (t : ℕ) (p : Place) → AreKnown old statics → new.externals ≡ old.externals
       → Placed (variable_at c t) None old.storage new.storage statics (Ok (Some p))
-      → NextLinked c unit number statics (coded.OwnVariable t ∷ more) more entries entries old new (Some (linked.OwnVariable p))
+      → NextLinked c unit number statics (coded.OwnVariable kinds.Static t ∷ more) more entries entries old new (Some (linked.OwnVariable p))
   own_goes t p known same placed = by (variable_at c t) refl placed
     where
       by : (v : Option Variable) → variable_at c t ≡ v → Placed v None old.storage new.storage statics (Ok (Some p))
-          → NextLinked c unit number statics (coded.OwnVariable t ∷ more) more entries entries old new (Some (linked.OwnVariable p))
+          → NextLinked c unit number statics (coded.OwnVariable kinds.Static t ∷ more) more entries entries old new (Some (linked.OwnVariable p))
       by None is none = absurd none
       by (Some v) is made = record {
         made = ap (linked_as op.OwnVariable) is ∙ ap (λ a. further a (going None)) made;
@@ -177,11 +180,11 @@ module _ (c : Code) (unit : Name) (number : ℕ) (statics : List Static) (more :
 
   pub own_none : (t : ℕ) → AreKnown old statics → new.externals ≡ old.externals
       → Placed (variable_at c t) None old.storage new.storage statics (Ok None)
-      → NextLinked c unit number statics (coded.OwnVariable t ∷ more) more entries entries old new None
+      → NextLinked c unit number statics (coded.OwnVariable kinds.Static t ∷ more) more entries entries old new None
   own_none t known same placed = by (variable_at c t) refl placed
     where
       by : (v : Option Variable) → variable_at c t ≡ v → Placed v None old.storage new.storage statics (Ok None)
-          → NextLinked c unit number statics (coded.OwnVariable t ∷ more) more entries entries old new None
+          → NextLinked c unit number statics (coded.OwnVariable kinds.Static t ∷ more) more entries entries old new None
       by (Some v) is none = absurd none
       by None is made = record {
         made =
@@ -192,11 +195,11 @@ module _ (c : Code) (unit : Name) (number : ℕ) (statics : List Static) (more :
       }
 
   pub own_fails : (t : ℕ) (f : StoreFault) → Placed (variable_at c t) None old.storage new.storage statics (Err f)
-      → Links c unit number statics (coded.OwnVariable t ∷ more) more entries entries old new (Err f)
+      → Links c unit number statics (coded.OwnVariable kinds.Static t ∷ more) more entries entries old new (Err f)
   own_fails t f placed = by (variable_at c t) refl placed
     where
       by : (v : Option Variable) → variable_at c t ≡ v → Placed v None old.storage new.storage statics (Err f)
-          → Links c unit number statics (coded.OwnVariable t ∷ more) more entries entries old new (Err f)
+          → Links c unit number statics (coded.OwnVariable kinds.Static t ∷ more) more entries entries old new (Err f)
       by None is none = absurd none
       by (Some v) is ends =
           ends_for f _ (linked_as op.OwnVariable (Some v)) (first_world new.storage statics) (ap (linked_as op.OwnVariable) is)
@@ -206,11 +209,11 @@ module _ (c : Code) (unit : Name) (number : ℕ) (statics : List Static) (more :
   pub external_goes : (t : ℕ) (name : Name) (g : LinkedGlobal) (p : Place)
       → statics_from unit number (g ∷ []) ≡ record { unit = unit; number = number; external = Some name; standing = standing_view p } ∷ [] → entry_of g ≡ None
       → PlacedKnown (variable_at c t) name old new statics (Ok (Some p))
-      → NextLinked c unit number statics (coded.ExternalVariable name t ∷ more) more entries entries old new (Some g)
+      → NextLinked c unit number statics (coded.ExternalVariable name kinds.Static t ∷ more) more entries entries old new (Some g)
   external_goes t name g p view entry placed = by (variable_at c t) refl placed.placed
     where
       by : (v : Option Variable) → variable_at c t ≡ v → Placed v (Some name) old.storage new.storage statics (Ok (Some p))
-          → NextLinked c unit number statics (coded.ExternalVariable name t ∷ more) more entries entries old new (Some g)
+          → NextLinked c unit number statics (coded.ExternalVariable name kinds.Static t ∷ more) more entries entries old new (Some g)
       by None is none = absurd none
       by (Some v) is made = record {
         made =
@@ -223,11 +226,11 @@ module _ (c : Code) (unit : Name) (number : ℕ) (statics : List Static) (more :
       }
 
   pub external_none : (t : ℕ) (name : Name) → PlacedKnown (variable_at c t) name old new statics (Ok None)
-      → NextLinked c unit number statics (coded.ExternalVariable name t ∷ more) more entries entries old new None
+      → NextLinked c unit number statics (coded.ExternalVariable name kinds.Static t ∷ more) more entries entries old new None
   external_none t name placed = by (variable_at c t) refl placed.placed
     where
       by : (v : Option Variable) → variable_at c t ≡ v → Placed v (Some name) old.storage new.storage statics (Ok None)
-          → NextLinked c unit number statics (coded.ExternalVariable name t ∷ more) more entries entries old new None
+          → NextLinked c unit number statics (coded.ExternalVariable name kinds.Static t ∷ more) more entries entries old new None
       by (Some v) is none = absurd none
       by None is made = record {
         made =
@@ -238,18 +241,18 @@ module _ (c : Code) (unit : Name) (number : ℕ) (statics : List Static) (more :
       }
 
   pub external_fails : (t : ℕ) (name : Name) (f : StoreFault) → PlacedKnown (variable_at c t) name old new statics (Err f)
-      → Links c unit number statics (coded.ExternalVariable name t ∷ more) more entries entries old new (Err f)
+      → Links c unit number statics (coded.ExternalVariable name kinds.Static t ∷ more) more entries entries old new (Err f)
   external_fails t name f placed = by (variable_at c t) refl placed.placed
     where
       by : (v : Option Variable) → variable_at c t ≡ v → Placed v (Some name) old.storage new.storage statics (Err f)
-          → Links c unit number statics (coded.ExternalVariable name t ∷ more) more entries entries old new (Err f)
+          → Links c unit number statics (coded.ExternalVariable name kinds.Static t ∷ more) more entries entries old new (Err f)
       by None is none = absurd none
       by (Some v) is ends =
           ends_for f _ (linked_as (op.ExternalVariable name) (Some v)) (first_world new.storage statics) (ap (linked_as (op.ExternalVariable name)) is)
           (further_ends f (made_once v (made_before (Some name) statics) (first_world old.storage statics)) (going (Some name)) (first_world new.storage statics) ends)
 
 -- an entry
-module _ (c : Code) (unit : Name) (number : ℕ) (statics : List Static) (more : List CodedGlobal) (entries : List ℕ) (shared : Shared) (before behind : ℕ) where
+module _ (c : Code) (unit number : ℕ) (statics : List Static) (more : List CodedGlobal) (entries : List ℕ) (shared : Shared) (before behind : ℕ) where
   pub entry_links : (name : Name) (s : CodedSignature) (g : Option LinkedGlobal) → AreKnown shared statics → EntryTaken entries before behind g
       → NextLinked c unit number statics (coded.EntryPoint name s ∷ more) more (drop before entries) (drop behind entries) shared shared g
   entry_links name s None known taken =
@@ -275,9 +278,22 @@ module _ (c : Code) (unit : Name) (number : ℕ) (statics : List Static) (more :
       }
   entry_links name s (Some (linked.OwnVariable p)) known taken = absurd taken
   entry_links name s (Some (linked.ExternalVariable other p)) known taken = absurd taken
+  entry_links name s (Some linked.ControlledVariable) known taken = absurd taken
+
+-- a CONTROLLED variable, which is not made
+module _ (c : Code) (unit number : ℕ) (statics : List Static) (entries : List ℕ) (shared : Shared) where
+  pub controlled_links : (g : CodedGlobal) (more : List CodedGlobal) → globals_linked c (g ∷ more) entries ≡ op.ControlledVariable ∷ globals_linked c more entries → AreKnown shared statics
+      → NextLinked c unit number statics (g ∷ more) more entries entries shared shared (Some linked.ControlledVariable)
+  controlled_links g more is known = record {
+    made =
+        ap (λ gs. statics_made unit number (map global_variable gs) (first_world shared.storage statics)) is
+        ∙ ap (λ ss. statics_made unit (suc number) (map global_variable (globals_linked c more entries)) (first_world shared.storage ss)) (sym (append-nil statics));
+    same = ap (map entry_in) is;
+    known = subst (AreKnown shared) (sym (append-nil statics)) known;
+  }
 
 -- globals so far, of a unit
-pub record SoFar (c : Code) (unit : Name) (globals left : List CodedGlobal) (entries rest : List ℕ) (statics : List Static) (old now : Shared) (table : List LinkedGlobal)
+pub record SoFar (c : Code) (unit : ℕ) (globals left : List CodedGlobal) (entries rest : List ℕ) (statics : List Static) (old now : Shared) (table : List LinkedGlobal)
     : Type 0 where
   pub made :
       statics_made unit 0 (map global_variable (globals_linked c globals entries)) (first_world old.storage statics)
@@ -285,7 +301,7 @@ pub record SoFar (c : Code) (unit : Name) (globals left : List CodedGlobal) (ent
   pub same : map entry_in (globals_linked c globals entries) ≡ map entry_of table ++ map entry_in (globals_linked c left rest)
   pub known : AreKnown now (statics ++ statics_from unit 0 table)
 
-pub none_so_far : (c : Code) (unit : Name) (globals : List CodedGlobal) (entries : List ℕ) (statics : List Static) (old : Shared) (table : List LinkedGlobal) → table ≡ [] → AreKnown old statics
+pub none_so_far : (c : Code) (unit : ℕ) (globals : List CodedGlobal) (entries : List ℕ) (statics : List Static) (old : Shared) (table : List LinkedGlobal) → table ≡ [] → AreKnown old statics
     → SoFar c unit globals globals entries entries statics old old table
 none_so_far c unit globals entries statics old table none known = subst (SoFar c unit globals globals entries entries statics old old) (sym none) (record {
   made = ap (λ ss. statics_made unit 0 (map global_variable (globals_linked c globals entries)) (first_world old.storage ss)) (sym (append-nil statics));
@@ -297,7 +313,7 @@ length_there : (table : List LinkedGlobal) (g : Option LinkedGlobal) → number_
 length_there table None = ap length (sym (append-nil table))
 length_there table (Some g) = omega (arith, length-append table (g ∷ []))
 
-module _ (c : Code) (unit : Name) (globals left more : List CodedGlobal) (entries rest less : List ℕ) (statics : List Static) (old now new : Shared) (table last : List LinkedGlobal)
+module _ (c : Code) (unit : ℕ) (globals left more : List CodedGlobal) (entries rest less : List ℕ) (statics : List Static) (old now new : Shared) (table last : List LinkedGlobal)
     (g : Option LinkedGlobal) (is : last ≡ table ++ there g) (so : SoFar c unit globals left entries rest statics old now table) where
   joined_statics : (statics ++ statics_from unit 0 table) ++ statics_from unit (length table) (there g) ≡ statics ++ statics_from unit 0 last
   joined_statics =
@@ -332,15 +348,15 @@ left_at f items xs i x same within is =
 pub none_left : {A B : Type 0} (f : A → B) (items xs : List A) (i : ℕ) → xs ≡ items → length xs ≤ i → drop i (map f items) ≡ []
 none_left f items xs i same past = drop_all i (map f items) (omega (arith, past, ap length same, length-map items f))
 
--- the globals of a unit so far, behind which this one is the next
-abbrev pub GlobalsSoFar : rust.LinkedUnit → (left : List CodedGlobal) → (taken : ℕ) → List Static
+-- the globals of the unit of a number so far, behind which this one is the next
+abbrev pub GlobalsSoFar : rust.LinkedUnit → (unit : ℕ) → (left : List CodedGlobal) → (taken : ℕ) → List Static
     → (old now : Shared) → List LinkedGlobal → Type 0
-GlobalsSoFar u left taken statics old now table =
-    SoFar (code_view u.code) u.unit (map global_view u.code.globals.items) left u.entries.items
+GlobalsSoFar u unit left taken statics old now table =
+    SoFar (code_view u.code) unit (map global_view u.code.globals.items) left u.entries.items
     (drop taken u.entries.items) statics old now table
 
 -- none is left
-pub so_far_all : (c : Code) (unit : Name) (globals : List CodedGlobal) (entries unused : List ℕ) (statics : List Static) (old now : Shared) (table : List LinkedGlobal)
+pub so_far_all : (c : Code) (unit : ℕ) (globals : List CodedGlobal) (entries unused : List ℕ) (statics : List Static) (old now : Shared) (table : List LinkedGlobal)
     → SoFar c unit globals [] entries unused statics old now table → UnitLinked unit (globals_linked c globals entries) statics old now table
 so_far_all c unit globals entries _ statics old now table so = record {
   made = so.made;
@@ -349,7 +365,7 @@ so_far_all c unit globals entries _ statics old now table so = record {
 }
 
 -- it ends so
-pub so_far_ends : (c : Code) (unit : Name) (globals left more : List CodedGlobal) (entries unused less : List ℕ) (statics : List Static) (old now new : Shared) (table : List LinkedGlobal)
+pub so_far_ends : (c : Code) (unit : ℕ) (globals left more : List CodedGlobal) (entries unused less : List ℕ) (statics : List Static) (old now new : Shared) (table : List LinkedGlobal)
     (f : StoreFault) → SoFar c unit globals left entries unused statics old now table
     → Links c unit (length table) (statics ++ statics_from unit 0 table) left more unused less now new (Err f)
     → LinksUnit unit (globals_linked c globals entries) statics old new table (Err f)
@@ -357,33 +373,33 @@ so_far_ends c unit globals left more entries _ less statics old now new table f 
     ends_for f _ _ (first_world new.storage (statics ++ statics_from unit 0 table)) so.made ends
 
 -- this one is the next
-module _ (u : rust.LinkedUnit) (xs : List rust_global.CodedGlobal) (i : ℕ) (x : rust_global.CodedGlobal)
+module _ (u : rust.LinkedUnit) (unit : ℕ) (xs : List rust_global.CodedGlobal) (i : ℕ) (x : rust_global.CodedGlobal)
     (taken : ℕ) (statics : List Static) (old now new : Shared) (table : List LinkedGlobal)
     (same : xs ≡ u.code.globals.items) (within : i < length xs) (is : x ≡ get_or xs i x)
-    (so : GlobalsSoFar u (drop i (map global_view u.code.globals.items)) taken statics old now table) where
+    (so : GlobalsSoFar u unit (drop i (map global_view u.code.globals.items)) taken statics old now table) where
   abbrev behind : List CodedGlobal
   behind = drop (i + 1) (map global_view u.code.globals.items)
 
-  next_so_far : GlobalsSoFar u (global_view x ∷ behind) taken statics old now table
+  next_so_far : GlobalsSoFar u unit (global_view x ∷ behind) taken statics old now table
   next_so_far =
-      subst (λ gs. GlobalsSoFar u gs taken statics old now table)
+      subst (λ gs. GlobalsSoFar u unit gs taken statics old now table)
       (left_at global_view u.code.globals.items xs i x same within is) so
 
   pub global_more : (less : ℕ) (last : List LinkedGlobal) (g : Option LinkedGlobal) → last ≡ table ++ there g
-      → NextLinked (code_view u.code) u.unit (length table) (statics ++ statics_from u.unit 0 table)
+      → NextLinked (code_view u.code) unit (length table) (statics ++ statics_from unit 0 table)
       (global_view x ∷ behind) behind (drop taken u.entries.items) (drop less u.entries.items) now new g
-      → GlobalsSoFar u behind less statics old new last
+      → GlobalsSoFar u unit behind less statics old new last
   global_more less last g more next =
-      so_far_more (code_view u.code) u.unit (map global_view u.code.globals.items) (global_view x ∷ behind)
+      so_far_more (code_view u.code) unit (map global_view u.code.globals.items) (global_view x ∷ behind)
       behind u.entries.items (drop taken u.entries.items) (drop less u.entries.items)
       statics old now new table last g more next_so_far next
 
   pub global_ends : (less : ℕ) (f : StoreFault)
-      → Links (code_view u.code) u.unit (length table) (statics ++ statics_from u.unit 0 table)
+      → Links (code_view u.code) unit (length table) (statics ++ statics_from unit 0 table)
       (global_view x ∷ behind) behind (drop taken u.entries.items) (drop less u.entries.items) now new (Err f)
-      → LinksUnit u.unit (unit_of (unit_view u)).globals statics old new table (Err f)
+      → LinksUnit unit (unit_of (unit_view u)).globals statics old new table (Err f)
   global_ends less f ends =
-      so_far_ends (code_view u.code) u.unit (map global_view u.code.globals.items) (global_view x ∷ behind)
+      so_far_ends (code_view u.code) unit (map global_view u.code.globals.items) (global_view x ∷ behind)
       behind u.entries.items (drop taken u.entries.items) (drop less u.entries.items)
       statics old now new table f next_so_far ends
 
@@ -395,25 +411,12 @@ unit_here items xs i x same within is =
     ∙ ap (option_map unit_view) (ap (λ ys. slice_get ys i) (sym same) ∙ slice_get-get_or xs i x within ∙ ap Some (sym is))
 
 -- one table more
-all_more : (names : List Name) (tables : List (List LinkedGlobal)) (n : Name) (t : List LinkedGlobal) → slice_get names (length tables) ≡ Some n
-    → all_statics names (tables ++ t ∷ []) ≡ all_statics names tables ++ statics_from n 0 t
-all_more (m ∷ names) [] n t is = append-nil-of (statics_from m 0 t) (all_statics names []) (none names) ∙ ap (λ k. statics_from k 0 t) (one m n is)
-  where
-    one : (m n : Name) → Some m ≡ Some n → m ≡ n
-    one m n is = cc
-
-    none : (names : List Name) → all_statics names [] ≡ []
-    none [] = refl
-    none (x ∷ xs) = refl
-
-    append-nil-of : (xs ys : List Static) → ys ≡ [] → xs ++ ys ≡ xs
-    append-nil-of xs ys is = ap (λ zs. xs ++ zs) is ∙ append-nil xs
-all_more (m ∷ names) (s ∷ tables) n t is =
-    ap (λ ss. statics_from m 0 s ++ ss) (all_more names tables n t is) ∙ sym (append_assoc (statics_from m 0 s) (all_statics names tables) (statics_from n 0 t))
-all_more [] tables n t is = absurd (none n is)
-  where
-    none : (n : Name) → None ≡ Some n → ⊥
-    none n is = cc
+all_more : (from : ℕ) (tables : List (List LinkedGlobal)) (t : List LinkedGlobal)
+    → all_statics from (tables ++ t ∷ []) ≡ all_statics from tables ++ statics_from (from + length tables) 0 t
+all_more from [] t = append-nil (statics_from from 0 t) ∙ ap (λ k. statics_from k 0 t) (omega arith)
+all_more from (s ∷ tables) t =
+    ap (λ ss. statics_from from 0 s ++ ss) (all_more (suc from) tables t ∙ ap (λ k. all_statics (suc from) tables ++ statics_from k 0 t) (omega arith))
+    ∙ sym (append_assoc (statics_from from 0 s) (all_statics (suc from) tables) (statics_from (from + length (s ∷ tables)) 0 t))
 
 -- units so far, of a module
 abbrev pub entries_in : LinkedUnit → List (Option ℕ)
@@ -421,32 +424,25 @@ entries_in u = map entry_in (unit_of u).globals
 
 pub record UnitsSoFar (us : List LinkedUnit) (i : ℕ) (old now : Shared) (tables : List (List LinkedGlobal)) : Type 0 where
   pub made :
-      all_statics_made (map unit_of us) (first_world old.storage [])
-      ≡ all_statics_made (map unit_of (drop i us)) (first_world now.storage (all_statics (map (λ u. u.unit) us) tables))
-  pub known : AreKnown now (all_statics (map (λ u. u.unit) us) tables)
+      all_statics_made 0 (map unit_of us) (first_world old.storage [])
+      ≡ all_statics_made i (map unit_of (drop i us)) (first_world now.storage (all_statics 0 tables))
+  pub known : AreKnown now (all_statics 0 tables)
   pub same : map entries_in (take i us) ≡ map (map entry_of) tables
   pub count : length tables ≡ i
 
-no_statics : (names : List Name) → all_statics names [] ≡ []
-no_statics [] = refl
-no_statics (x ∷ xs) = refl
-
 pub units_none : (us : List LinkedUnit) (old : Shared) (tables : List (List LinkedGlobal)) → tables ≡ [] → AreKnown old [] → UnitsSoFar us 0 old old tables
 units_none us old tables none known =
-    let empty : all_statics (map (λ u. u.unit) us) tables ≡ [] = ap (all_statics (map (λ u. u.unit) us)) none ∙ no_statics (map (λ u. u.unit) us) in
+    let empty : all_statics 0 tables ≡ [] = ap (all_statics 0) none in
     record {
-      made = ap (λ ss. all_statics_made (map unit_of us) (first_world old.storage ss)) (sym empty);
+      made = ap (λ ss. all_statics_made 0 (map unit_of us) (first_world old.storage ss)) (sym empty);
       known = subst (AreKnown old) (sym empty) known;
       same = ap (map (map entry_of)) (sym none);
       count = ap length none;
     }
 
 module _ (us : List LinkedUnit) (u : LinkedUnit) (i : ℕ) (old now new : Shared) (tables : List (List LinkedGlobal)) (t : List LinkedGlobal) where
-  abbrev names : List Name
-  names = map (λ (u : LinkedUnit). u.unit) us
-
   abbrev before : List Static
-  before = all_statics names tables
+  before = all_statics 0 tables
 
   next_unit : slice_get us i ≡ Some u → drop i us ≡ u ∷ drop (i + 1) us
   next_unit is =
@@ -454,26 +450,27 @@ module _ (us : List LinkedUnit) (u : LinkedUnit) (i : ℕ) (old now new : Shared
 
   -- what the globals of this unit come to
   units_as : (a : Answer Unit) → slice_get us i ≡ Some u → UnitsSoFar us i old now tables
-      → statics_made u.unit 0 (map global_variable (unit_of u).globals) (first_world now.storage before) ≡ a
-      → all_statics_made (map unit_of us) (first_world old.storage [])
-      ≡ further a (λ _ w. all_statics_made (map unit_of (drop (i + 1) us)) w)
+      → statics_made i 0 (map global_variable (unit_of u).globals) (first_world now.storage before) ≡ a
+      → all_statics_made 0 (map unit_of us) (first_world old.storage [])
+      ≡ further a (λ _ w. all_statics_made (suc i) (map unit_of (drop (i + 1) us)) w)
   units_as a here so comes =
       so.made
-      ∙ ap (λ vs. all_statics_made (map unit_of vs) (first_world now.storage before)) (next_unit here)
-      ∙ ap (λ a. further a (λ _ w. all_statics_made (map unit_of (drop (i + 1) us)) w)) comes
+      ∙ ap (λ vs. all_statics_made i (map unit_of vs) (first_world now.storage before)) (next_unit here)
+      ∙ ap (λ a. further a (λ _ w. all_statics_made (suc i) (map unit_of (drop (i + 1) us)) w)) comes
 
   pub units_more : (last : List (List LinkedGlobal)) → last ≡ tables ++ t ∷ [] → slice_get us i ≡ Some u → UnitsSoFar us i old now tables
-      → UnitLinked u.unit (unit_of u).globals before now new t → UnitsSoFar us (i + 1) old new last
+      → UnitLinked i (unit_of u).globals before now new t → UnitsSoFar us (i + 1) old new last
   units_more last is here so one =
       let within = slice_get_within us i u here in
-      let joined : all_statics names last ≡ before ++ statics_from u.unit 0 t =
-      ap (all_statics names) is
-      ∙ all_more names tables u.unit t
-      (ap (slice_get names) so.count ∙ slice_get-map (λ (u : LinkedUnit). u.unit) us i ∙ ap (option_map (λ (u : LinkedUnit). u.unit)) here) in
+      let at : 0 + length tables ≡ i = omega (arith, so.count) in
+      let joined : all_statics 0 last ≡ before ++ statics_from i 0 t =
+      ap (all_statics 0) is ∙ all_more 0 tables t ∙ ap (λ k. before ++ statics_from k 0 t) at in
+      let next : suc i ≡ i + 1 = omega arith in
       record {
         made =
-            units_as (Yields tt (first_world new.storage (before ++ statics_from u.unit 0 t))) here so one.made
-            ∙ ap (λ ss. all_statics_made (map unit_of (drop (i + 1) us)) (first_world new.storage ss)) (sym joined);
+            units_as (Yields tt (first_world new.storage (before ++ statics_from i 0 t))) here so one.made
+            ∙ ap (λ ss. all_statics_made (suc i) (map unit_of (drop (i + 1) us)) (first_world new.storage ss)) (sym joined)
+            ∙ ap (λ k. all_statics_made k (map unit_of (drop (i + 1) us)) (first_world new.storage (all_statics 0 last))) next;
         known = subst (AreKnown new) (sym joined) one.known;
         same =
             ap (map entries_in) (take_more us i u within ∙ ap (λ v. take i us ++ v ∷ []) (get_or_from_slice_get us i u u here))
@@ -483,17 +480,17 @@ module _ (us : List LinkedUnit) (u : LinkedUnit) (i : ℕ) (old now new : Shared
       }
 
   pub units_end : (f : StoreFault) → slice_get us i ≡ Some u → UnitsSoFar us i old now tables
-      → LinksUnit u.unit (unit_of u).globals before now new t (Err f) → EndsEarlier f (all_statics_made (map unit_of us) (first_world old.storage []))
+      → LinksUnit i (unit_of u).globals before now new t (Err f) → EndsEarlier f (all_statics_made 0 (map unit_of us) (first_world old.storage []))
   units_end (fault.Raised e) here so ends = record {
     storage = new.storage;
-    statics = before ++ statics_from u.unit 0 t;
-    ends = units_as (Raises e (first_world new.storage (before ++ statics_from u.unit 0 t))) here so ends;
+    statics = before ++ statics_from i 0 t;
+    ends = units_as (Raises e (first_world new.storage (before ++ statics_from i 0 t))) here so ends;
   }
   units_end fault.NoRule here so ends = units_as Wrong here so ends
   units_end fault.OutOfMemory here so ends = tt
 
 pub units_all : (us : List LinkedUnit) (i : ℕ) (old now : Shared) (tables : List (List LinkedGlobal)) → length us ≤ i → UnitsSoFar us i old now tables → AllLinked us old now tables
 units_all us i old now tables past so = record {
-  made = so.made ∙ ap (λ vs. all_statics_made (map unit_of vs) (first_world now.storage (all_statics (map (λ u. u.unit) us) tables))) (drop_all i us past);
+  made = so.made ∙ ap (λ vs. all_statics_made i (map unit_of vs) (first_world now.storage (all_statics 0 tables))) (drop_all i us past);
   same = ap (map entries_in) (sym (take_all i us past)) ∙ so.same;
 }

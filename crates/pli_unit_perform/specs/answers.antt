@@ -1,5 +1,4 @@
 pub mod Activated
 pub mod Begun
-pub mod Initial
 pub mod LaidTemplates
 pub mod Making

@@ -1,9 +1,8 @@
 //! Beginnings of activations.
 ghost use Rattle.std.specs.Prelude.{◌≡◌, ◌<◌, ℕ, List, [], ◌∷◌, map, length, replicate, None, IfOk, OnOk};
-ghost use Rattle.pli_unit_perform.specs.views.Image.{Image, name_at, unit_with};
+ghost use Rattle.pli_unit_perform.specs.views.Image.{Image};
 ghost use Rattle.pli_store.specs.views.StorageView.{place_view};
 ghost use Rattle.pli_machine_step.specs.Machine.{enters, fresh};
-ghost use Rattle.pli_program.specs.Program.{head_of};
 ghost use Rattle.pli_unit_code.specs.CodeTables.{block_looked_up};
 ghost use Rattle.pli_unit_code.specs.views.CodeView.{code_view, block_view};
 ghost use Rattle.pli_unit_perform.specs.answers.Activated.{HasBegun};
@@ -49,8 +48,8 @@ pub fn activation<'m>(
     requires pending { room.pending.items ≡ [] }
     requires temporaries { room.temporaries.items ≡ [] }
     ensures { IfOk result (λ a. (frame_view a ≡ record { unit = unit; next = block.now.entry; operands = []; locals = fresh block.now.temporaries })
-        × ((image : Image) → activation_view image a ≡ record {
-          unit = name_at image.linked unit;
+        × (activation_view a ≡ record {
+          unit = unit;
           block = number;
           statement = block.now.statement;
           link = link;
@@ -122,9 +121,9 @@ pub fn enter<'m>(
     places: Vec<Place<'m>>,
 ) -> Result<Option<Stop>, AllocError>
     requires { length machine.old.waiting.items < 1000 }
-    ensures { IfOk result (λ stop. (image : Image) (entries : List ℕ) → Moves image
-        (λ here frames w. enters (head_of (unit_with image.linked unit (code_view ready.now.code.now) entries) number (block_looked_up (code_view ready.now.code.now) (block_view block.now)))
-        unit (block_looked_up (code_view ready.now.code.now) (block_view block.now)) link (map place_view places.entry.items) (here ∷ frames) w) machine.old machine.new stop) }
+    ensures { IfOk result (λ stop. (image : Image) → Moves image
+        (λ here frames w. enters unit number (block_looked_up (code_view ready.now.code.now) (block_view block.now)) link (map place_view places.entry.items) (here ∷ frames) w)
+        machine.old machine.new stop) }
 {
     begin_block(alloc, machine, unit, number, block, link, places)?;
     match make_variables(alloc, ready, machine, &block.variables) {

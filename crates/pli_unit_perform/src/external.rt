@@ -1,10 +1,9 @@
 //! Calls of other units.
-ghost use Rattle.std.specs.Prelude.{List, slice_get, IfOk};
+ghost use Rattle.std.specs.Prelude.{slice_get, IfOk};
 ghost use Rattle.pli_machine_step.specs.Machine.{called_entry, called_unit};
-ghost use Rattle.pli_world.specs.World.{Static};
 ghost use Rattle.pli_unit_code.specs.Modules.{unit_of, program_of};
 ghost use Rattle.pli_unit_code.specs.views.CodeView.{module_view, unit_view};
-ghost use Rattle.pli_unit_perform.specs.views.Image.{image_with};
+ghost use Rattle.pli_unit_perform.specs.views.Image.{Image};
 ghost use Rattle.pli_unit_perform.specs.views.ImageView.{image_of};
 ghost use Rattle.pli_unit_perform.specs.views.MachineView.{Moves};
 
@@ -25,9 +24,8 @@ fn call_unit<'m>(
     number: u16,
     arguments: u8,
 ) -> Result<Option<Stop>, AllocError>
-    ensures { IfOk result (λ stop. (statics : List Static) → Moves (image_with (module_view loaded.now.«module».now) statics)
-        (λ here frames w. called_unit number (slice_get (program_of (module_view loaded.now.«module».now)).units number) arguments here frames w)
-        machine.old machine.new stop) }
+    ensures { IfOk result (λ stop. (image : Image) → Moves image
+        (called_unit number (slice_get (program_of (module_view loaded.now.«module».now)).units number) arguments) machine.old machine.new stop) }
 {
     match linked_at(loaded.module, number as usize) {
         Some(linked) => {
@@ -50,8 +48,8 @@ pub fn call_entry<'m>(
     arguments: u8,
 ) -> Result<Option<Stop>, AllocError>
     ensures { IfOk result (Moves (image_of unit.now.loaded.now)
-        (λ here frames w. called_entry (program_of (image_of unit.now.loaded.now).linked).units arguments
-        (slice_get (unit_of (unit_view unit.now.linked.now)).globals global) here frames w) machine.old machine.new) }
+        (called_entry (program_of (image_of unit.now.loaded.now).linked).units arguments
+        (slice_get (unit_of (unit_view unit.now.linked.now)).globals global)) machine.old machine.new) }
 {
     match entry_at(unit, global) {
         Some(number) => call_unit(alloc, unit.loaded, machine, number, arguments),

@@ -1,17 +1,15 @@
 //! What the globals of a unit lead to.
-ghost use Rattle.std.specs.Prelude.{◌≡◌, None, option_map, map, slice_get, MatchOption};
-ghost use Rattle.pli_base.specs.Name.{Name};
+ghost use Rattle.std.specs.Prelude.{◌≡◌, None, option_map, slice_get, MatchOption};
 ghost use Rattle.pli_world.specs.World.{static_in};
 ghost use Rattle.pli_unit_code.specs.Modules.{unit_of};
 ghost use Rattle.pli_unit_code.specs.views.CodeView.{unit_view};
 ghost use Rattle.pli_unit_perform.specs.views.ImageView.{image_of};
-ghost use Rattle.pli_unit_perform.specs.views.TableView.{standing_view, standing_of, standing_in, entry_at, entry_found};
+ghost use Rattle.pli_unit_perform.specs.views.TableView.{standing_view, standing_of, entry_at, entry_found};
 
 use crate::linked::LinkedGlobal;
 use crate::loaded::Loaded;
 use crate::numbered::{laid_at, linked_at, table_at};
 use crate::unit::ActiveUnit;
-use pli_base::Name;
 use pli_store::Place;
 
 /// The unit of a number.
@@ -40,45 +38,18 @@ fn place_at<'m>(globals: &[LinkedGlobal<'m>], number: usize) -> Option<Place<'m>
     match globals.get(number) {
         Some(LinkedGlobal::OwnVariable(place)) => Some(*place),
         Some(LinkedGlobal::ExternalVariable { place, .. }) => Some(*place),
+        Some(LinkedGlobal::ControlledVariable) => None,
         Some(LinkedGlobal::EntryPoint(_)) => None,
         None => None,
     }
 }
 
-/// The place of the variable of a number of a unit.
-fn place_in<'m>(loaded: &Loaded<'m>, unit: usize, number: usize) -> Option<Place<'m>>
-    ensures { option_map standing_view result
-        ≡ standing_in (slice_get (map (λ t. t.items) loaded.now.globals.items) unit) number }
-{
-    match table_at(loaded, unit) {
-        Some(globals) => place_at(globals, number),
-        None => None,
-    }
-}
-
-/// The place of the variable of a number of the first unit of a name that has one.
-fn first_place<'m>(loaded: &Loaded<'m>, name: &Name, number: usize) -> Option<Place<'m>>
-    ensures { static_in (image_of loaded.now).statics name.now number ≡ option_map standing_view result }
-{
-    for (unit, linked) in loaded.module.units.iter().enumerate() {
-        if linked.unit == *name {
-            if let Some(place) = place_in(loaded, unit, number) {
-                return Some(place);
-            }
-        }
-    }
-    None
-}
-
 /// The place of the variable of a number among the globals of a unit.
 #[inline]
 pub fn static_place<'m>(unit: &ActiveUnit<'_, 'm>, number: usize) -> Option<Place<'m>>
-    ensures { static_in (image_of unit.now.loaded.now).statics unit.now.linked.now.unit number ≡ option_map standing_view result }
+    ensures { static_in (image_of unit.now.loaded.now).statics unit.now.number number ≡ option_map standing_view result }
 {
-    if unit.loaded.distinct {
-        return place_at(unit.globals, number);
-    }
-    first_place(unit.loaded, &unit.linked.unit, number)
+    place_at(unit.globals, number)
 }
 
 /// The unit of the entry of a number.
@@ -89,6 +60,7 @@ fn entry_in(globals: &[LinkedGlobal<'_>], number: usize) -> Option<u16>
         Some(LinkedGlobal::EntryPoint(other)) => Some(*other),
         Some(LinkedGlobal::OwnVariable(_)) => None,
         Some(LinkedGlobal::ExternalVariable { .. }) => None,
+        Some(LinkedGlobal::ControlledVariable) => None,
         None => None,
     }
 }

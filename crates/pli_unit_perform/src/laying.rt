@@ -32,7 +32,8 @@ fn lay_template(
             if scalars.is_empty() || far_size(description) > left.min(TEMPLATE_BYTES) as u64 {
                 return Ok(None);
             }
-            initial_bytes(alloc, description, scalars)
+            let bytes = initial_bytes(alloc, description, scalars)?;
+            Ok(Some(bytes))
         }
         None => Ok(None),
     }

@@ -10,6 +10,8 @@ pub enum LinkedGlobal<'m> {
     OwnVariable(Place<'m>),
     /// A variable that all units share which have one of this name.
     ExternalVariable { name: &'m Name, place: Place<'m> },
+    /// A CONTROLLED variable, which is not made yet.
+    ControlledVariable,
     /// The external procedure of the unit of this number.
     EntryPoint(u16),
 }

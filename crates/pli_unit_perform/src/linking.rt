@@ -1,12 +1,12 @@
 //! Globals of units, made before the program begins.
 ghost use Rattle.std.specs.Prelude.{◌≡◌, ◌∷◌, ◌++◌, ℕ, List, [], true, None, Some, option_map, map, drop, IfOk, OnOk};
 ghost use Rattle.std.specs.HashMap.{get};
-ghost use Rattle.pli_base.specs.Name.{Name};
 ghost use Rattle.pli_base.specs.Words.{same_name};
 ghost use Rattle.pli_world.specs.World.{Static};
 ghost use Rattle.pli_unit_code.specs.CodeTables as plain;
 ghost use Rattle.pli_unit_code.specs.CodeTables.{there, variable_at};
 ghost use Rattle.pli_unit_code.specs.Modules.{unit_of};
+ghost use Rattle.pli_unit_code.specs.declared.code.VariableKind.TheVariants as kinds;
 ghost use Rattle.pli_unit_code.specs.views.CodeView.{code_view, global_view, unit_view};
 ghost use Rattle.pli_unit_perform.specs.answers.Making.{Placed, PlacedKnown, IsNoted, EntryTaken, AreKnown, Links, LinksUnit, LinksAll};
 
@@ -16,7 +16,7 @@ use crate::shared::Shared;
 use crate::variables::template_of;
 use pli_base::Name;
 use pli_store::{Made, Place, StoreFault};
-use pli_unit_code::{Code, CodedGlobal, LinkedUnit, Module};
+use pli_unit_code::{Code, CodedGlobal, LinkedUnit, Module, VariableKind};
 use std::alloc::{AllocError, Global};
 use std::collections::HashMap;
 
@@ -130,15 +130,15 @@ fn next_entry<'m>(entries: &[u16], taken: &mut usize) -> Option<LinkedGlobal<'m>
     }
 }
 
-/// Makes a variable of a unit's own.
-fn link_own<'m>(
+/// Makes a STATIC variable of a unit's own.
+fn link_own_static<'m>(
     alloc: Global,
     code: &'m Code,
     shared: &mut Shared<'m>,
     template: u16,
 ) -> Result<Option<LinkedGlobal<'m>>, StoreFault>
-    ensures { (more : List plain.CodedGlobal) (unit : Name) (number : ℕ) (statics : List Static) (entries : List ℕ) → AreKnown shared.old statics →
-        Links (code_view code.now) unit number statics (plain.OwnVariable template ∷ more) more entries entries shared.old shared.new result }
+    ensures { (more : List plain.CodedGlobal) (unit number : ℕ) (statics : List Static) (entries : List ℕ) → AreKnown shared.old statics →
+        Links (code_view code.now) unit number statics (plain.OwnVariable kinds.Static template ∷ more) more entries entries shared.old shared.new result }
 {
     match make_static(alloc, code, shared, template) {
         Ok(Some(place)) => Ok(Some(LinkedGlobal::OwnVariable(place))),
@@ -147,16 +147,33 @@ fn link_own<'m>(
     }
 }
 
-/// Makes an external variable, unless it was made before.
-fn link_external<'m>(
+/// Makes a variable of a unit's own; a CONTROLLED one is not made yet.
+fn link_own<'m>(
+    alloc: Global,
+    code: &'m Code,
+    shared: &mut Shared<'m>,
+    kind: VariableKind,
+    template: u16,
+) -> Result<Option<LinkedGlobal<'m>>, StoreFault>
+    ensures { (more : List plain.CodedGlobal) (unit number : ℕ) (statics : List Static) (entries : List ℕ) → AreKnown shared.old statics →
+        Links (code_view code.now) unit number statics (plain.OwnVariable kind template ∷ more) more entries entries shared.old shared.new result }
+{
+    match kind {
+        VariableKind::Static => link_own_static(alloc, code, shared, template),
+        VariableKind::Controlled => Ok(Some(LinkedGlobal::ControlledVariable)),
+    }
+}
+
+/// Makes a STATIC EXTERNAL variable, unless it was made before.
+fn link_external_static<'m>(
     alloc: Global,
     code: &'m Code,
     shared: &mut Shared<'m>,
     name: &'m Name,
     template: u16,
 ) -> Result<Option<LinkedGlobal<'m>>, StoreFault>
-    ensures { (more : List plain.CodedGlobal) (unit : Name) (number : ℕ) (statics : List Static) (entries : List ℕ) → AreKnown shared.old statics →
-        Links (code_view code.now) unit number statics (plain.ExternalVariable name.now template ∷ more) more entries entries shared.old shared.new result }
+    ensures { (more : List plain.CodedGlobal) (unit number : ℕ) (statics : List Static) (entries : List ℕ) → AreKnown shared.old statics →
+        Links (code_view code.now) unit number statics (plain.ExternalVariable name.now kinds.Static template ∷ more) more entries entries shared.old shared.new result }
 {
     match place_external(alloc, code, shared, name, template) {
         Ok(Some(place)) => Ok(Some(LinkedGlobal::ExternalVariable { name, place })),
@@ -165,7 +182,26 @@ fn link_external<'m>(
     }
 }
 
-/// Makes the next global of a unit, of whose entries so many are taken. None where the tables have not what it names.
+/// Makes an external variable, unless it was made before; a CONTROLLED one is not made yet.
+fn link_external<'m>(
+    alloc: Global,
+    code: &'m Code,
+    shared: &mut Shared<'m>,
+    name: &'m Name,
+    kind: VariableKind,
+    template: u16,
+) -> Result<Option<LinkedGlobal<'m>>, StoreFault>
+    ensures { (more : List plain.CodedGlobal) (unit number : ℕ) (statics : List Static) (entries : List ℕ) → AreKnown shared.old statics →
+        Links (code_view code.now) unit number statics (plain.ExternalVariable name.now kind template ∷ more) more entries entries shared.old shared.new result }
+{
+    match kind {
+        VariableKind::Static => link_external_static(alloc, code, shared, name, template),
+        VariableKind::Controlled => Ok(Some(LinkedGlobal::ControlledVariable)),
+    }
+}
+
+/// Makes the next global of a unit, of whose entries so many are taken; a CONTROLLED variable is not made yet. None where
+/// the tables have not what it names.
 fn link_global<'m>(
     alloc: Global,
     unit: &'m LinkedUnit,
@@ -173,15 +209,19 @@ fn link_global<'m>(
     taken: &mut usize,
     global: &'m CodedGlobal,
 ) -> Result<Option<LinkedGlobal<'m>>, StoreFault>
-    ensures { (more : List plain.CodedGlobal) (name : Name) (number : ℕ) (statics : List Static) → AreKnown shared.old statics →
-        Links (code_view unit.now.code) name number statics (global_view global.now ∷ more) more
+    ensures { (more : List plain.CodedGlobal) (own number : ℕ) (statics : List Static) → AreKnown shared.old statics →
+        Links (code_view unit.now.code) own number statics (global_view global.now ∷ more) more
         (drop taken.old unit.now.entries.items) (drop taken.new unit.now.entries.items) shared.old shared.new result }
 {
     match global {
-        CodedGlobal::OwnVariable { template } => link_own(alloc, &unit.code, shared, *template),
-        CodedGlobal::ExternalVariable { name, template } => {
-            link_external(alloc, &unit.code, shared, name, *template)
+        CodedGlobal::OwnVariable { kind, template } => {
+            link_own(alloc, &unit.code, shared, *kind, *template)
         }
+        CodedGlobal::ExternalVariable {
+            name,
+            kind,
+            template,
+        } => link_external(alloc, &unit.code, shared, name, *kind, *template),
         CodedGlobal::EntryPoint { .. } => Ok(next_entry(&unit.entries, taken)),
     }
 }
@@ -207,8 +247,8 @@ fn link_unit<'m>(
     table: &mut Vec<LinkedGlobal<'m>>,
 ) -> Result<(), StoreFault>
     requires { table.old.items ≡ [] }
-    ensures { (statics : List Static) → AreKnown shared.old statics →
-        LinksUnit unit.now.unit (unit_of (unit_view unit.now)).globals statics shared.old shared.new table.new.items result }
+    ensures { (number : ℕ) (statics : List Static) → AreKnown shared.old statics →
+        LinksUnit number (unit_of (unit_view unit.now)).globals statics shared.old shared.new table.new.items result }
 {
     let mut taken = 0;
     for global in &unit.code.globals {

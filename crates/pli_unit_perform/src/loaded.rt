@@ -1,9 +1,9 @@
 //! Modules whose programs may begin.
-ghost use Rattle.std.specs.Prelude.{◌≡◌, true, map};
+ghost use Rattle.std.specs.Prelude.{map};
 ghost use Rattle.std.proofs.Props.{props};
 ghost use Rattle.pli_unit_code.specs.views.CodeView.{module_view};
 ghost use Rattle.pli_unit_perform.specs.answers.LaidTemplates.{UnitsLaid};
-ghost use Rattle.pli_unit_perform.specs.views.TableView.{AreLinked, Differ};
+ghost use Rattle.pli_unit_perform.specs.views.TableView.{AreLinked};
 
 use crate::linked::LinkedGlobal;
 use pli_unit_code::Module;
@@ -16,9 +16,6 @@ pub struct Loaded<'m> {
     pub globals: Vec<Vec<LinkedGlobal<'m>>>,
     /// For each unit, what is laid for its templates.
     pub(crate) laid: Vec<Vec<Option<Vec<u8>>>>,
-    /// Whether no two units have one name.
-    pub distinct: bool,
     ghost are_laid: { UnitsLaid «module».now.units.items laid.items } by { Prim.hlevel props },
     ghost linked: { AreLinked (module_view «module».now).units (map (λ t. t.items) globals.items) },
-    ghost differ: { distinct ≡ true → Differ (map (λ u. u.unit) (module_view «module».now).units) },
 }

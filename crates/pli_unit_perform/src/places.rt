@@ -10,7 +10,7 @@ use pli_map::Description;
 use pli_unit_operate::{Operand, pop_number, pop_place, push};
 use std::alloc::AllocError;
 
-/// Leads a place on to a part. Want of memory is answered where the part would begin at 2^64 bytes or behind.
+/// Leads a place on to a part; no rule fits where that is more than 1,000,000 bytes behind the beginning.
 #[inline]
 pub fn field<'m>(
     operands: &mut Vec<Operand<'m>>,
@@ -27,7 +27,7 @@ pub fn field<'m>(
             push(operands, Operand::AtPlace(part))?;
             Ok(None)
         }
-        None => Err(AllocError),
+        None => Ok(Some(Stop::Fault)),
     }
 }
 
@@ -44,8 +44,8 @@ pub fn bounded(low: i32, high: i32, subscript: i64) -> Option<i32>
     }
 }
 
-/// Takes a number, tests it and leads a place on by so many bytes for each number over the low one. Want of memory is
-/// answered where the element would begin at 2^64 bytes or behind.
+/// Takes a number, tests it and leads a place on by so many bytes for each number over the low one; no rule fits where
+/// that is more than 1,000,000 bytes behind the beginning.
 #[inline]
 pub fn subscript(
     operands: &mut Vec<Operand>,
@@ -69,6 +69,6 @@ pub fn subscript(
             push(operands, Operand::AtPlace(part))?;
             Ok(None)
         }
-        None => Err(AllocError),
+        None => Ok(Some(Stop::Fault)),
     }
 }

@@ -36,8 +36,7 @@ pub fn template_of(code: &Code, number: u16) -> Option<(&Description, &[InitialS
 
 /// Gives an activation the next slot, for a variable that ends with it.
 fn add_slot<'m>(here: &mut Activation<'m>, place: Place<'m>) -> Result<(), AllocError>
-    ensures slot { OnOk result ((image : Image) →
-        activation_view image here.new ≡ with_slot (place_view place.entry) (activation_view image here.old)) }
+    ensures slot { OnOk result (activation_view here.new ≡ with_slot (place_view place.entry) (activation_view here.old)) }
     ensures frame { frame_view here.new ≡ frame_view here.old }
     ensures statement { here.new.statement ≡ here.old.statement }
 {

@@ -1,4 +1,5 @@
 //! Laws and worked examples of the operations on values.
+ghost use Rattle.pli_value.specs.Locators.{SameLocatorIsEqual};
 ghost use Rattle.pli_value.specs.examples.NumberExamples.{GreatestNumbers, Quotients, Remainders, SignsAndOrders};
 ghost use Rattle.pli_value.specs.Numbers.{RemaindersAreLeast};
 ghost use Rattle.pli_value.specs.examples.StringExamples.{CharacterOrders, BitOrders, Places, Parts, Assigned, BitOperations, Converted, Conditions, Packed};
@@ -12,6 +13,12 @@ pub fn remainders_are_least()
 /// A law: INDEX is the first place, from 1 on, at which a string stands in another, and 0 where it stands nowhere.
 pub fn index_is_the_first_place()
     ensures { IndexIsTheFirstPlace }
+{}
+
+/// A law: the test for equality of locators holds exactly of equal ones.
+#[tactic(auto, using(crate::specs::laws::LocatorLaws::locator_decides))]
+pub fn same_locator_is_equal()
+    ensures { SameLocatorIsEqual }
 {}
 
 /// Worked examples of numbers.

@@ -1,12 +1,17 @@
-//! Values of the language and the operations on them: numbers, and strings of characters and of bits.
+//! Values of the language and the operations on them: numbers, strings of characters and of bits, and locators.
 #![tactic(auto)]
 
 pub mod bit;
 pub mod character;
 mod laws;
+mod locator;
 pub mod number;
 pub mod part;
 mod value;
 
-pub use laws::{index_is_the_first_place, number_examples, remainders_are_least, string_examples};
+pub use laws::{
+    index_is_the_first_place, number_examples, remainders_are_least, same_locator_is_equal,
+    string_examples,
+};
+pub use locator::Locator;
 pub use value::Value;

@@ -3,9 +3,10 @@ ghost use Rattle.std.specs.Prelude.{◌≡◌, IfOk};
 ghost use Rattle.pli_value.specs.Value.{value_view};
 
 use crate::bit::Bits;
+use crate::locator::Locator;
 use std::alloc::{AllocError, Global};
 
-/// A value of a scalar variable or of an expression (X3.74).
+/// A value of a scalar variable or of an expression (X3.74). An area is none: what it holds is storage.
 #[derive(Drop)]
 pub enum Value {
     /// FIXED BINARY.
@@ -14,6 +15,8 @@ pub enum Value {
     Characters(Vec<u8>),
     /// BIT.
     Bits(Bits),
+    /// POINTER and OFFSET.
+    Locator(Locator),
 }
 
 impl Value {
@@ -27,6 +30,7 @@ impl Value {
                 alloc, characters,
             )?)),
             Value::Bits(bits) => Ok(Value::Bits(bits.copy(alloc)?)),
+            Value::Locator(locator) => Ok(Value::Locator(*locator)),
         }
     }
 }

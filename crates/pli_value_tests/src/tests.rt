@@ -8,8 +8,12 @@ mod operations;
 mod regions;
 mod scopes;
 mod stored;
+mod tables;
 
-use pli_value::{index_is_the_first_place, number_examples, remainders_are_least, string_examples};
+use pli_value::{
+    index_is_the_first_place, number_examples, remainders_are_least, same_locator_is_equal,
+    string_examples,
+};
 use std::process::Abort;
 
 /// Fails with the number of a row of a table, unless it is as it should be.
@@ -24,4 +28,5 @@ fn laws_of_values() {
     string_examples();
     remainders_are_least();
     index_is_the_first_place();
+    same_locator_is_equal();
 }

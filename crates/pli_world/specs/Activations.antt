@@ -2,16 +2,23 @@
 -- when it is the newest.
 use Rattle.std.specs.Prelude.{ℕ, zero, suc, nat_eq, Bool, ◌&&◌, Option, Some, None, List, [], ◌∷◌, length}
 use Rattle.std.specs.Prelude.{if◌then◌else◌}
-use Rattle.pli_base.specs.Name.{Name}
-use Rattle.pli_base.specs.Words.{same_name}
+use Rattle.pli_map.specs.Variables.{Variable}
 use Rattle.pli_world.specs.Storage.{Place}
+
+-- what an activation of a block begins with: the number of the unit in the program and that of the block, its
+-- statement, and its AUTOMATIC variables in the order of the text
+pub record Head : Type 0 where
+  pub unit : ℕ
+  pub block : ℕ
+  pub statement : ℕ
+  pub variables : List Variable
 
 -- an activation of a block of a unit, at a statement. Outer names mean the activation whose height is the
 -- static link, 0 for none. A slot is a parameter or an AUTOMATIC variable. Pending are the dummy arguments of
 -- calls that are being prepared; owned are the generations that end with it, those of its variables and the
 -- dummy arguments that it received.
 pub record Activation : Type 0 where
-  pub unit : Name
+  pub unit : ℕ
   pub block : ℕ
   pub statement : ℕ
   pub link : ℕ
@@ -39,11 +46,11 @@ outward_from (a ∷ older) height (suc outward) =
     else outward_from older height (suc outward)
 
 -- an activation is one of a block of a unit
-abbrev pub is_of : (unit : Name) (block : ℕ) → Activation → Bool
-is_of unit block a = same_name a.unit unit && nat_eq a.block block
+abbrev pub is_of : (unit block : ℕ) → Activation → Bool
+is_of unit block a = nat_eq a.unit unit && nat_eq a.block block
 
 -- the height of the nearest activation of a block, outward from the one of a height along static links
-abbrev pub nearest_of : (unit : Name) (block : ℕ) → List Activation → (height : ℕ) → Option ℕ
+abbrev pub nearest_of : (unit block : ℕ) → List Activation → (height : ℕ) → Option ℕ
 nearest_of unit block [] height = None
 nearest_of unit block (a ∷ older) height =
     if nat_eq height (suc (length older))

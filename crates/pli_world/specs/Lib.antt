@@ -1,4 +1,5 @@
 pub mod Activations
+pub mod Ends
 pub mod Storage
 pub mod World
 pub mod examples

@@ -82,3 +82,7 @@ live_bytes (g ∷ gs) = size_of g.description + live_bytes gs
 -- how many generations may ever be made (own)
 abbrev pub generation_limit : ℕ
 generation_limit = 4294967294
+
+-- how many bytes behind the beginning a reference leads at most (own)
+abbrev pub offset_limit : ℕ
+offset_limit = 1000000

@@ -9,28 +9,26 @@ use Rattle.std.specs.List.{filter, list_any}
 use Rattle.pli_base.specs.Name.{Name}
 use Rattle.pli_base.specs.Words.{same_name}
 use Rattle.pli_code.specs.Print.{print}
-use Rattle.pli_code.specs.declared.ending.Ending.{Ending}
-use Rattle.pli_code.specs.declared.ending.Ending.TheVariants.{Error, MachineFault}
 use Rattle.pli_code.specs.declared.ending.RunError.{RunError}
 use Rattle.pli_code.specs.declared.ending.RunError.TheVariants.{SubscriptRange, StringRange, DeadLocator}
 use Rattle.pli_code.specs.declared.ending.RunError.TheVariants.{NoGeneration}
 use Rattle.pli_code.specs.declared.ending.RunError.TheVariants.{FixedOverflow, ZeroDivide, StorageLimit}
 use Rattle.pli_map.specs.Description.{Description}
 use Rattle.pli_map.specs.Same.{same}
-use Rattle.pli_map.specs.Scalars.{is_scalar, scalars_in, scalars_of}
+use Rattle.pli_map.specs.Scalars.{is_area, is_scalar, scalars_in, scalars_of}
 use Rattle.pli_map.specs.Sizes.{size_of}
 use Rattle.pli_value.specs.Value.{Value}
 use Rattle.pli_value.specs.declared.number.Raised.TheVariants as raised
 use Rattle.pli_operation.specs.Operations.{Calculation, Calculates, RaisesCondition, OutOfString, Misfits}
 use Rattle.pli_world.specs.Activations.{Activation, outward_from, with_newest, without_newest}
-use Rattle.pli_world.specs.Activations.{activation_at}
+use Rattle.pli_world.specs.Activations.{activation_at, Head}
+use Rattle.pli_world.specs.Ends.{RunEnd, Error, MachineFault}
 use Rattle.pli_world.specs.Storage.{Generation, Made, Automatic, Static as AsStatic, Dummy, Place, whole}
 use Rattle.pli_world.specs.Storage.{field_of, generation_in, scalar_at, values_from, with_values_at}
-use Rattle.pli_world.specs.Storage.{with_values, without, live_bytes, generation_limit}
+use Rattle.pli_world.specs.Storage.{with_values, without, live_bytes, generation_limit, offset_limit}
 use Rattle.pli_map.specs.Variables.{byte_limit}
 use Rattle.pli_map.specs.Values.{holds, are_held}
 use Rattle.pli_map.specs.Variables.{Variable, GlobalVariable}
-use Rattle.pli_program.specs.Program.{Head}
 
 -- where a variable stands that is there before the program begins: it lies at a place; or its generations are
 -- stacked, as those of a CONTROLLED variable, in the list of places of a number
@@ -38,10 +36,10 @@ pub data Standing : Type 0 where
   Lies : (place : Place) → Standing
   Stacked : (list : ℕ) → Standing
 
--- a variable that is there before the program begins, as a unit has it: the unit and the number among its
--- globals; its name, if it is external; and where it stands, the same in all units that declare the name
+-- a variable that is there before the program begins, as a unit has it: the unit's number and the number among
+-- its globals; its name, if it is external; and where it stands, the same in all units that declare the name
 pub record Static : Type 0 where
-  pub unit : Name
+  pub unit : ℕ
   pub number : ℕ
   pub external : Option Name
   pub standing : Standing
@@ -148,19 +146,26 @@ unfoldable pub stored : Place → Value → World → Answer Unit
 stored p v w =
     further (living p w) (λ g w. if holds p.description v then parts_stored p (v ∷ []) w else Wrong)
 
--- what one place holds put at another of an equal description: the source is looked at first
+-- what one place holds put at another of an equal description, which is no area's: the source is looked at
+-- first
 unfoldable pub copied : (source target : Place) → World → Answer Unit
 copied source target w =
-    if same source.description target.description
+    if not (is_area source.description) && same source.description target.description
     then further (parts_held source w) (λ vs w. parts_stored target vs w)
     else Wrong
+
+-- a place is led on by so many bytes, to a part of this description; it is wrong where that is too far behind
+-- the beginning
+abbrev pub led_on : (offset : ℕ) → Description → Place → World → Answer Place
+led_on offset description p w =
+    if nat_le (p.offset + offset) offset_limit then Yields (field_of offset description p) w else Wrong
 
 -- a subscript of a place: it is within the bounds, and leads on by so many bytes for each number over the
 -- low one; the description stays, as the field before has it
 abbrev pub subscripted : (low high : ℤ) (multiplier : ℕ) → ℤ → Place → World → Answer Place
 subscripted low high multiplier x p w =
     if int_le low x && int_le x high
-    then Yields (field_of (unsigned_abs (x -ℤ low) * multiplier) p.description p) w
+    then led_on (unsigned_abs (x -ℤ low) * multiplier) p.description p w
     else Raises SubscriptRange w
 
 -- what an operation comes to
@@ -279,10 +284,10 @@ dummy_of d v w =
 -- variables that are made before the program begins
 
 -- where the one of a number of a unit stands
-abbrev pub static_in : List Static → (unit : Name) (number : ℕ) → Option Standing
+abbrev pub static_in : List Static → (unit number : ℕ) → Option Standing
 static_in [] unit number = None
 static_in (s ∷ ss) unit number =
-    if same_name s.unit unit && nat_eq s.number number then Some s.standing else static_in ss unit number
+    if nat_eq s.unit unit && nat_eq s.number number then Some s.standing else static_in ss unit number
 
 -- the newest place of a list; it is an error to ask for it where there is none
 abbrev pub newest_in : List Place → World → Answer Place
@@ -295,7 +300,7 @@ place_standing (Lies p) w = Yields p w
 place_standing (Stacked list) w = further (known (slice_get w.lists list) w) newest_in
 
 -- the unit of the newest activation
-abbrev pub newest_unit : List Activation → Option Name
+abbrev pub newest_unit : List Activation → Option ℕ
 newest_unit [] = None
 newest_unit (a ∷ older) = Some a.unit
 
@@ -326,13 +331,13 @@ made_once v (Some s) w = Yields s w
 made_once v None w = further (made_of v.description AsStatic v.initial w) (λ p w. Yields (Lies p) w)
 
 -- a unit has such a variable, which stands so
-abbrev pub with_static : (unit : Name) (number : ℕ) (external : Option Name) → Standing → World → World
+abbrev pub with_static : (unit number : ℕ) (external : Option Name) → Standing → World → World
 with_static unit number external s w = record w {
   statics = w.statics ++ record { unit = unit; number = number; external = external; standing = s } ∷ [];
 }
 
 -- those among the globals of a unit are made, one after another, from a number on
-abbrev pub statics_made : (unit : Name) (number : ℕ) → List (Option GlobalVariable) → World → Answer Unit
+abbrev pub statics_made : (unit number : ℕ) → List (Option GlobalVariable) → World → Answer Unit
 statics_made unit number [] w = Yields tt w
 statics_made unit number (None ∷ gs) w = statics_made unit (suc number) gs w
 statics_made unit number (Some g ∷ gs) w =
@@ -352,10 +357,10 @@ line_ended w = record w { output = w.output ++ 10 ∷ []; column = 1 }
 -- ends
 
 -- the end by an error, at the newest's statement
-abbrev pub error_in : RunError → List Activation → Ending
+abbrev pub error_in : RunError → List Activation → RunEnd
 error_in e [] = MachineFault
 error_in e (a ∷ older) = Error e a.unit a.statement
 
 -- an error at the statement that is being executed
-unfoldable pub error_at : RunError → World → Ending
+unfoldable pub error_at : RunError → World → RunEnd
 error_at e w = error_in e w.activations

@@ -3,11 +3,11 @@ ghost use Rattle.pli_world.specs.laws.Operations.{MakingKeeps, LoadingKeeps, Sto
 ghost use Rattle.pli_world.specs.laws.Operations.{SlotKeeps, DummyKeeps, EnteringAdds, LeavingTakes};
 ghost use Rattle.pli_world.specs.laws.Operations.{ClearingKeeps, StatementKeeps, PrintingKeeps, SteppingCounts};
 ghost use Rattle.pli_world.specs.laws.Operations.{PartsHeldKeep, PartsStoredKeep, CopyingKeeps, SubscriptKeeps};
-ghost use Rattle.pli_world.specs.laws.Operations.{CalculatingKeeps, StaticKeeps, StaticsKeep, LineKeeps};
+ghost use Rattle.pli_world.specs.laws.Operations.{CalculatingKeeps, StaticKeeps, StaticsKeep, LineKeeps, LeadingKeeps};
 ghost use Rattle.pli_world.specs.examples.StorageExamples.{OuterVariable, DummyNumber, DummyEnds, TooLong};
 ghost use Rattle.pli_world.specs.examples.StorageExamples.{DummyDead, PartStored, PartHeld, ElementCopied};
 ghost use Rattle.pli_world.specs.examples.StorageExamples.{AggregateHeld, NoElement, NoPart, StaticStays};
-ghost use Rattle.pli_world.specs.examples.StorageExamples.{StaticOfOther, NewestOfList, ExternalIsShared};
+ghost use Rattle.pli_world.specs.examples.StorageExamples.{StaticOfOther, NewestOfList, ExternalIsShared, TooFar};
 
 /// A law: no operation takes a step or prints over what was printed, and each leaves as many activations as it
 /// should.
@@ -18,6 +18,7 @@ pub fn operations_keep()
     ensures parts_held { PartsHeldKeep }
     ensures parts_stored { PartsStoredKeep }
     ensures copying { CopyingKeeps }
+    ensures leading { LeadingKeeps }
     ensures subscript { SubscriptKeeps }
     ensures calculating { CalculatingKeeps }
     ensures walking { WalkingKeeps }
@@ -34,8 +35,8 @@ pub fn operations_keep()
     ensures stepping { SteppingCounts }
 {}
 
-/// Worked examples: static links, dummy arguments, what ends with an activation, parts of aggregates, variables that
-/// are made once, one whose generations are stacked, one that two units share.
+/// Worked examples: static links, dummy arguments, what ends with an activation, parts of aggregates, how far places
+/// are led on, variables that are made once, one whose generations are stacked, one that two units share.
 pub fn worked_examples()
     ensures outer_variable { OuterVariable }
     ensures dummy_number { DummyNumber }
@@ -47,6 +48,7 @@ pub fn worked_examples()
     ensures element_copied { ElementCopied }
     ensures aggregate_held { AggregateHeld }
     ensures no_element { NoElement }
+    ensures too_far { TooFar }
     ensures no_part { NoPart }
     ensures static_stays { StaticStays }
     ensures static_of_other { StaticOfOther }

@@ -7,7 +7,7 @@ use pli_operation::Relation;
 use pli_type_tree::InitialScalar;
 use pli_unit_code::{
     Block, BlockKind, Code, CodedGlobal, CodedSignature, CodedTemplate, Instruction, LinkedUnit,
-    Module,
+    Module, VariableKind,
 };
 use pli_value::Value;
 use pli_value::bit::Bits;
@@ -133,15 +133,15 @@ fn initial(rt: &impl Abort, alloc: Global) -> Vec<InitialScalar> {
     let bits = Bits::unpack(alloc, &[129, 128], 9).expect(rt, "memory");
     let values = [
         InitialScalar {
-            scalar: 2,
+            offset: 8,
             value: Value::Number(-2_147_483_647),
         },
         InitialScalar {
-            scalar: 0,
+            offset: 0,
             value: Value::Characters(text),
         },
         InitialScalar {
-            scalar: 3,
+            offset: 12,
             value: Value::Bits(bits),
         },
     ];
@@ -187,9 +187,13 @@ fn templates(rt: &impl Abort, alloc: Global) -> Vec<CodedTemplate> {
 /// A global of each kind.
 fn globals(rt: &impl Abort, alloc: Global, shared: Name, called: Name) -> Vec<CodedGlobal> {
     let globals = [
-        CodedGlobal::OwnVariable { template: 1 },
+        CodedGlobal::OwnVariable {
+            kind: VariableKind::Static,
+            template: 1,
+        },
         CodedGlobal::ExternalVariable {
             name: shared,
+            kind: VariableKind::Static,
             template: 0,
         },
         CodedGlobal::EntryPoint {

@@ -32,8 +32,8 @@ fn show_compiled(shown: &mut Shown, compiled: &Compiled) {
         shown.put_number("@", u64::from(fault.at));
         shown.put(";");
     }
-    if let Some(unit) = compiled.unit() {
-        shown.put_bytes(unit.procedure.bytes());
+    if let Some(deck) = compiled.deck() {
+        shown.put_bytes(deck.name.bytes());
     }
 }
 
@@ -68,7 +68,7 @@ fn faults(rt: HostRuntime) -> Result<(), Fail> {
 fn unit_of<'a>(rt: &impl Abort, unit: &str, compiled: &'a Compiled) -> NamedUnit<'a> {
     NamedUnit {
         unit: named(rt, unit),
-        compiled: compiled.unit().expect(rt, "a unit"),
+        deck: compiled.deck().expect(rt, "a deck"),
     }
 }
 

@@ -2,10 +2,12 @@
 use crate::tests::named;
 use pli_base::Name;
 use pli_deck_code::Linked;
-use pli_link::{CompiledUnit, LinkError, LinkFault, LinkedName, NamedUnit, link};
+use pli_link::{LinkError, LinkFault, LinkedName, NamedUnit, link};
 use pli_map::{Bounds, Description};
 use pli_text_tests::Shown;
-use pli_unit_code::{Code, CodedGlobal, CodedSignature, CodedTemplate, Instruction};
+use pli_unit_code::{
+    Code, CodedGlobal, CodedSignature, CodedTemplate, Deck, Instruction, VariableKind,
+};
 use std::alloc::Global;
 use std::process::Abort;
 use std::test::*;
@@ -87,7 +89,7 @@ fn code_of(rt: &impl Abort, alloc: Global, statement: u32) -> Code {
 #[derive(Drop)]
 struct Kept {
     unit: Name,
-    compiled: CompiledUnit,
+    deck: Deck,
 }
 
 /// A unit of one step, whose number is the place of the unit.
@@ -95,8 +97,8 @@ fn compiled(rt: &impl Abort, alloc: Global, row: Row, place: usize) -> Kept {
     let statement = u32::try_from(place).ok().expect(rt, "a place");
     Kept {
         unit: named(rt, row.0),
-        compiled: CompiledUnit {
-            procedure: named(rt, row.1),
+        deck: Deck {
+            name: named(rt, row.1),
             is_main: row.2,
             code: code_of(rt, alloc, statement),
         },
@@ -155,7 +157,7 @@ fn lent<'a>(rt: &impl Abort, alloc: Global, units: &'a [Kept]) -> Vec<NamedUnit<
     for unit in units {
         let named = NamedUnit {
             unit: unit.unit,
-            compiled: &unit.compiled,
+            deck: &unit.deck,
         };
         if lent.push(named).is_err() {
             panic!(rt; "memory");
@@ -206,6 +208,7 @@ fn add_template(rt: &impl Abort, alloc: Global, code: &mut Code, description: De
 fn add_global(rt: &impl Abort, alloc: Global, code: &mut Code, rows: i16, columns: i16) {
     let array = array_of(rt, alloc, rows, columns);
     let global = CodedGlobal::OwnVariable {
+        kind: VariableKind::Static,
         template: add_template(rt, alloc, code, array),
     };
     code.globals.push(global).expect(rt, "memory");
@@ -216,7 +219,7 @@ fn compiled_with(rt: &impl Abort, alloc: Global, row: Row, place: usize, sizes: 
     let mut unit = compiled(rt, alloc, row, place);
     for &(count, rows, columns) in sizes {
         for _ in 0..count {
-            add_global(rt, alloc, &mut unit.compiled.code, rows, columns);
+            add_global(rt, alloc, &mut unit.deck.code, rows, columns);
         }
     }
     unit
@@ -276,6 +279,7 @@ fn shared_as(
     match shared {
         Shared::Characters(length) => CodedGlobal::ExternalVariable {
             name,
+            kind: VariableKind::Static,
             template: add_template(rt, alloc, code, Description::Character(length)),
         },
         Shared::Entry => CodedGlobal::EntryPoint {
@@ -345,8 +349,8 @@ static SHARED: [(&[SharedRow], &str); 4] = [
 fn sharing(rt: &impl Abort, alloc: Global, row: SharedRow, place: usize) -> Kept {
     let mut unit = compiled(rt, alloc, row.0, place);
     for &(name, shared) in row.1 {
-        let global = shared_as(rt, alloc, &mut unit.compiled.code, name, shared);
-        unit.compiled.code.globals.push(global).expect(rt, "memory");
+        let global = shared_as(rt, alloc, &mut unit.deck.code, name, shared);
+        unit.deck.code.globals.push(global).expect(rt, "memory");
     }
     unit
 }

@@ -60,7 +60,10 @@ enum Spelled {
 fn again(alloc: Global, kind: Kind, bytes: &[u8]) -> Result<Vec<u8>, ReadError> {
     match kind {
         Kind::Deck => Ok(write_deck(alloc, &read_deck(alloc, bytes)?)?),
-        Kind::Module => Ok(write_module(alloc, &read_module(alloc, bytes)?)?),
+        Kind::Module => {
+            let module = read_module(alloc, bytes)?;
+            Ok(write_module(alloc, &module.lent(alloc)?)?)
+        }
     }
 }
 
@@ -170,8 +173,8 @@ fn modules(rt: HostRuntime) {
 fn compiled_bytes(rt: &impl Abort, alloc: Global, text: &str) -> Option<Vec<u8>> {
     let tokens = tokens_of(alloc, text).expect(rt, "memory");
     let compiled = Compiler::new(alloc).compile(&tokens).expect(rt, "memory");
-    let deck = compiled.deck(alloc).expect(rt, "memory")?;
-    Some(write_deck(alloc, &deck).expect(rt, "memory"))
+    let deck = compiled.deck()?;
+    Some(write_deck(alloc, deck).expect(rt, "memory"))
 }
 
 #[test]

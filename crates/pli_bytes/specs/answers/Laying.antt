@@ -1,12 +1,12 @@
 -- What is kept where values are laid down one behind the other.
-use Rattle.std.specs.Prelude.{◌≡◌, ◌<◌, ℕ, ◌+◌, ◌==◌, Bool, true, false, ◌&&◌, List, ◌++◌, map, length}
+use Rattle.std.specs.Prelude.{◌≡◌, ℕ, ◌+◌, ◌==◌, Bool, true, false, ◌&&◌, List, ◌++◌, map, length}
 use Rattle.std.specs.Prelude.{take, drop}
-use Rattle.pli_map.specs.Description.{Description, FixedBinary, Character, Varying, Bit, Array, Structure}
-use Rattle.pli_map.specs.Description.{Members, NoMembers, MemberThen}
+use Rattle.pli_map.specs.Description.{Description, FixedBinary, Character, Varying, Bit, Pointer, Offset}
+use Rattle.pli_map.specs.Description.{Area, Array, Structure, Members, NoMembers, MemberThen}
 use Rattle.pli_map.specs.Parts.{PlacedPart, moved}
 use Rattle.pli_map.specs.Scalars.{scalars_of}
 use Rattle.pli_map.specs.Sizes.{size_of}
-use Rattle.pli_map.specs.Values.{are_held, first_values}
+use Rattle.pli_map.specs.Values.{are_held}
 use Rattle.pli_value.specs.Value.{Value}
 use Rattle.pli_bytes.specs.Contents.{scalars_at, value_in}
 
@@ -38,12 +38,6 @@ pub record LaidFront (at : ℕ) (d : Description) (vs rest : List Value) (old ne
   pub taken : Taken (scalars_of d) vs rest
   pub laid : LaidAt at d taken.used old new
 
--- there its scalars hold the values now with which they begin, or some have none
-abbrev pub FirstLaid : Bool → (at : ℕ) (d : Description) (old new : List ℕ) → Type 0
-FirstLaid true at d old new =
-    (length (first_values d) ≡ length (scalars_of d)) × LaidAt at d (first_values d) old new
-FirstLaid false at d old new = length (first_values d) < length (scalars_of d)
-
 -- each scalar begins with the value that it holds where all of its bytes are this one
 abbrev mutual
   pub begins_with : (byte : ℕ) → Description → Bool
@@ -51,9 +45,11 @@ abbrev mutual
   begins_with byte (Character n) = byte == 32
   begins_with byte (Varying n) = byte == 0
   begins_with byte (Bit n) = byte == 0
+  begins_with byte Pointer = byte == 0
+  begins_with byte Offset = byte == 0
+  begins_with byte (Area n) = true
   begins_with byte (Array bounds element) = begins_with byte element
   begins_with byte (Structure members) = all_begin_with byte members
-  begins_with byte d = false
 
   -- so do those of these members
   pub all_begin_with : (byte : ℕ) → Members → Bool

@@ -1,7 +1,9 @@
 -- What the values of a description's scalars and those of its parts have to do with bytes.
-use Rattle.std.specs.Prelude.{◌≡◌, ℕ, ◌+◌, Some, List, ◌++◌, map, length, take, drop}
+use Rattle.std.specs.Prelude.{◌≡◌, ℕ, ◌+◌, true, Some, List, ◌++◌, map, length, take, drop, slice_get}
 use Rattle.pli_map.specs.Description.{Description}
-use Rattle.pli_map.specs.Scalars.{scalars_in, scalars_of, first_scalar}
+use Rattle.pli_map.specs.Parts.{PathStep, PlacedPart, place_of}
+use Rattle.pli_map.specs.ScalarPaths.{scalars_before}
+use Rattle.pli_map.specs.Scalars.{is_scalar, scalars_in, scalars_of, first_scalar}
 use Rattle.pli_map.specs.Sizes.{size_of}
 use Rattle.pli_bytes.specs.Contents.{scalars_at, bytes_from, values_of, with_bytes_at}
 
@@ -12,6 +14,13 @@ Counted = (d : Description) → length (scalars_at d) ≡ scalars_in d
 -- and at these stand its scalars, in their order
 abbrev pub Described : Type 0
 Described = (d : Description) → map (λ s. s.description) (scalars_at d) ≡ scalars_of d
+
+-- a scalar that a path leads to lies where the path says: its number is how many scalars stand before it
+abbrev pub OnPaths : Type 0
+OnPaths =
+    (whole : Description) (path : List PathStep) (part : PlacedPart) (k : ℕ)
+    → is_scalar part.description ≡ true → place_of whole path ≡ Some part
+    → scalars_before whole path ≡ Some k → slice_get (scalars_at whole) k ≡ Some part
 
 -- the values of a part are those of its own bytes
 abbrev pub PartValues : Type 0

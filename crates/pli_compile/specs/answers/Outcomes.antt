@@ -4,11 +4,11 @@ use Rattle.std.specs.Global.{Vec}
 use Rattle.pli_base.specs.declared.token.Fault as fault
 use Rattle.pli_base.specs.declared.failure.Failure.{Failure}
 use Rattle.pli_base.specs.declared.failure.Failure.TheVariants as failures
-use Rattle.pli_link.specs.Units as link
 use Rattle.pli_gen_tree.specs.declared.generating.GenerateError.{GenerateError}
 use Rattle.pli_gen_tree.specs.declared.generating.GenerateError.TheVariants as generating
-use Rattle.pli_link.specs.views.UnitView.{compiled_unit_view}
-use Rattle.pli_link.specs.declared.units.CompiledUnit.{CompiledUnit}
+use Rattle.pli_unit_code.specs.CodeTables as plain
+use Rattle.pli_unit_code.specs.views.CodeView.{deck_view}
+use Rattle.pli_unit_code.specs.declared.code.Deck.{Deck}
 use Rattle.pli_meaning.specs.Scratch.{too_long}
 use Rattle.pli_compile.specs.declared.passes.CompileError.{CompileError}
 use Rattle.pli_compile.specs.declared.passes.CompileError.TheVariants.{Fault, Faults, OutOfMemory}
@@ -30,9 +30,9 @@ abbrev pub of_generating : GenerateError → CompileError
 of_generating generating.TooLong = Fault too_long
 of_generating generating.OutOfMemory = OutOfMemory
 
--- the unit compiled, or its faults, unless memory runs out
-abbrev pub Compiles : Result CompiledUnit CompileError → Result link.CompiledUnit (List fault.Fault) → Type 0
-Compiles (Ok c) compiled = compiled ≡ Ok (compiled_unit_view c)
+-- the deck of the unit, or its faults, unless memory runs out
+abbrev pub Compiles : Result Deck CompileError → Result plain.Deck (List fault.Fault) → Type 0
+Compiles (Ok d) compiled = compiled ≡ Ok (deck_view d)
 Compiles (Err (Fault f)) compiled = compiled ≡ Err (f ∷ [])
 Compiles (Err (Faults fs)) compiled = compiled ≡ Err fs.items
 Compiles (Err OutOfMemory) compiled = Unit {0}

@@ -6,18 +6,19 @@ use Rattle.pli_map.specs.Description.{Bit}
 use Rattle.pli_operation.specs.declared.operation.Relation.TheVariants as relations
 use Rattle.pli_deck.specs.declared.fault.DeckFault.TheVariants.{BadMagic, Truncated, Trailing, OutOfRange}
 use Rattle.pli_program.specs.Program.{Procedure}
-use Rattle.pli_unit_code.specs.CodeTables.{CodedBlock}
+use Rattle.pli_unit_code.specs.CodeTables.{CodedTemplate, CodedBlock, CodedSignature, Code, Deck}
+use Rattle.pli_unit_code.specs.CodeTables.{ExternalVariable, EntryPoint}
 use Rattle.pli_unit_code.specs.declared.instruction.Instruction.TheVariants as op
-use Rattle.pli_deck.specs.Decks.{DeckTemplate, DeckSignature, ExternalStatic, ExternalEntry, Deck}
 use Rattle.pli_deck.specs.Instructions.{instruction}
 use Rattle.pli_deck.specs.Spelling.{deck_bytes, deck_read}
+use Rattle.pli_unit_code.specs.declared.code.VariableKind.TheVariants.{Static}
 
 -- no parameters and no result
-abbrev pub without_parameters : DeckSignature
+abbrev pub without_parameters : CodedSignature
 without_parameters = record { parameters = []; result = None }
 
 -- one parameter, of the first description
-abbrev pub with_parameter : DeckSignature
+abbrev pub with_parameter : CodedSignature
 with_parameter = record { parameters = 0 ∷ []; result = None }
 
 -- the block of an external procedure that declares no AUTOMATIC variable
@@ -33,10 +34,8 @@ outermost n = record {
 }
 
 -- M: PROC OPTIONS(MAIN); END;
-abbrev pub smallest : Deck
-smallest = record {
-  name = 77 ∷ [];
-  is_main = true;
+abbrev pub smallest_code : Code
+smallest_code = record {
   signature = without_parameters;
   descriptions = [];
   templates = [];
@@ -46,6 +45,10 @@ smallest = record {
   instructions = op.Return 0 ∷ [];
 }
 
+-- its deck
+abbrev pub smallest : Deck
+smallest = record { name = 77 ∷ []; is_main = true; code = smallest_code }
+
 -- its bytes
 abbrev pub smallest_bytes : List ℕ
 smallest_bytes =
@@ -53,22 +56,24 @@ smallest_bytes =
     255 ∷ 255 ∷ 0 ∷ 0 ∷ 0 ∷ 0 ∷ 0 ∷ 0 ∷ 0 ∷ 0 ∷ 0 ∷ 0 ∷ 1 ∷ 0 ∷ 1 ∷ 9 ∷ 0 ∷ []
 
 -- what a BIT variable is made from
-abbrev pub bit_template : DeckTemplate
+abbrev pub bit_template : CodedTemplate
 bit_template = record { description = 0; initial = [] }
 
 -- M: PROC OPTIONS(MAIN); DCL X BIT EXT, Q ENTRY(BIT); CALL Q(X); END;
-abbrev pub calling : Deck
-calling = record {
-  name = 77 ∷ [];
-  is_main = true;
+abbrev pub calling_code : Code
+calling_code = record {
   signature = without_parameters;
   descriptions = Bit 1 ∷ [];
   templates = bit_template ∷ [];
   values = [];
-  globals = ExternalStatic (88 ∷ []) 0 ∷ ExternalEntry (81 ∷ []) with_parameter ∷ [];
+  globals = ExternalVariable (88 ∷ []) Static 0 ∷ EntryPoint (81 ∷ []) with_parameter ∷ [];
   blocks = outermost 0 ∷ [];
   instructions = op.Step 3 ∷ op.Global 0 ∷ op.CallExternal 1 1 ∷ op.Return 0 ∷ [];
 }
+
+-- its deck
+abbrev pub calling : Deck
+calling = record { name = 77 ∷ []; is_main = true; code = calling_code }
 
 -- its bytes
 abbrev pub calling_bytes : List ℕ
@@ -79,19 +84,21 @@ calling_bytes =
     9 ∷ 0 ∷ []
 
 -- Q: PROC(P); DCL P BIT, X BIT EXT; X = P; END;
-abbrev pub called : Deck
-called = record {
-  name = 81 ∷ [];
-  is_main = false;
+abbrev pub called_code : Code
+called_code = record {
   signature = with_parameter;
   descriptions = Bit 1 ∷ [];
   templates = bit_template ∷ [];
   values = [];
-  globals = ExternalStatic (88 ∷ []) 0 ∷ [];
+  globals = ExternalVariable (88 ∷ []) Static 0 ∷ [];
   blocks = outermost 1 ∷ [];
   instructions =
       op.Step 3 ∷ op.Global 0 ∷ op.Local 0 0 ∷ op.Load ∷ op.Fit 0 ∷ op.Store ∷ op.Return 0 ∷ [];
 }
+
+-- its deck
+abbrev pub called : Deck
+called = record { name = 81 ∷ []; is_main = false; code = called_code }
 
 -- its bytes
 abbrev pub called_bytes : List ℕ

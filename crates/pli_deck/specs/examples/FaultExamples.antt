@@ -5,30 +5,33 @@ use Rattle.pli_map.specs.Description.{Description, Character, Array, FixedBinary
 use Rattle.pli_deck.specs.declared.fault.DeckFault.TheVariants.{BadJump, BadNumber, OverLimit}
 use Rattle.pli_unit_code.specs.declared.instruction.Instruction.{Instruction}
 use Rattle.pli_unit_code.specs.declared.instruction.Instruction.TheVariants as op
-use Rattle.pli_deck.specs.Decks.{DeckTemplate, Number, NullPointer, Constant, Deck}
+use Rattle.pli_unit_code.specs.CodeTables.{CodedTemplate, Deck}
+use Rattle.pli_value.specs.Value.{Value, Number, Located}
+use Rattle.pli_value.specs.declared.locator.Locator.TheVariants as locators
 use Rattle.pli_deck.specs.DeckFaults.{fault_of}
-use Rattle.pli_deck.specs.examples.DeckExamples.{smallest}
+use Rattle.pli_deck.specs.examples.DeckExamples.{smallest, smallest_code}
 
 -- the smallest deck with other instructions
 abbrev pub with_code : List Instruction → Deck
-with_code code = record smallest { instructions = code }
+with_code code = record smallest { code = record smallest_code { instructions = code } }
 
 -- the smallest deck with a variable of a description
-abbrev pub with_variable : Description → DeckTemplate → Deck
-with_variable d t = record smallest { descriptions = d ∷ []; templates = t ∷ [] }
+abbrev pub with_variable : Description → CodedTemplate → Deck
+with_variable d t =
+    record smallest { code = record smallest_code { descriptions = d ∷ []; templates = t ∷ [] } }
 
 -- -32,767 to 32,767
 abbrev pub widest : Bounds
 widest = record { low = negsuc 32766; high = pos 32767 }
 
 -- a template without initial values
-abbrev pub plain : DeckTemplate
+abbrev pub plain : CodedTemplate
 plain = record { description = 0; initial = [] }
 
 -- a template with one initial value, on this byte
-abbrev pub begins_as : (offset : ℕ) → Constant → DeckTemplate
-begins_as offset c =
-    record { description = 0; initial = record { offset = offset; value = c } ∷ [] }
+abbrev pub begins_as : (offset : ℕ) → Value → CodedTemplate
+begins_as offset v =
+    record { description = 0; initial = record { offset = offset; value = v } ∷ [] }
 
 -- an array of two numbers
 abbrev pub pair_of_numbers : Description
@@ -46,4 +49,4 @@ DeckFaultsAre =
     × (fault_of (with_variable pair_of_numbers (begins_as 1 (Number (pos 5)))) ≡ Some OverLimit)
     × (fault_of (with_variable pair_of_numbers (begins_as 4 (Number (pos 5)))) ≡ Some OverLimit)
     × (fault_of (with_variable pair_of_numbers (begins_as 2 (Number (pos 32768)))) ≡ Some OverLimit)
-    × (fault_of (with_variable pair_of_numbers (begins_as 0 NullPointer)) ≡ Some OverLimit)
+    × (fault_of (with_variable pair_of_numbers (begins_as 0 (Located locators.Null))) ≡ Some OverLimit)

@@ -53,7 +53,7 @@ external = record {
     number = 0;
     statement = 1;
     variables =
-        record { description = small; initial = record { scalar = 0; value = Number (pos 7) } ∷ [] } ∷ [];
+        record { description = small; initial = record { offset = 0; value = Number (pos 7) } ∷ [] } ∷ [];
     temporaries = 3;
   };
   parent = None;
@@ -77,8 +77,8 @@ abbrev pub names : Template
 names = record {
   description = Array (record { low = pos 1; high = pos 2 } ∷ []) (Character 3);
   initial =
-      record { scalar = 0; value = Characters (codes "ABC") }
-      ∷ record { scalar = 1; value = Characters (codes "DEF") }
+      record { offset = 0; value = Characters (codes "ABC") }
+      ∷ record { offset = 3; value = Characters (codes "DEF") }
       ∷ [];
 }
 

@@ -18,6 +18,7 @@ use Rattle.pli_type_tree.specs.TypedTree.{OfBlock, OfEntry, TypedArguments, OwnV
 use Rattle.pli_type_tree.specs.TypedTree.{EntryPoint, TypedUnit, TypedProcedure}
 use Rattle.pli_unit_code.specs.CodeTables as tables
 use Rattle.pli_unit_code.specs.declared.instruction.Instruction.TheVariants as coded
+use Rattle.pli_unit_code.specs.declared.code.VariableKind.TheVariants.{Static}
 use Rattle.pli_gen_tree.specs.Encoding.{code_of}
 use Rattle.pli_gen_tree.specs.Limits.{is_too_long}
 use Rattle.pli_gen_tree.specs.WellNumbered.{IsWellNumbered}
@@ -272,7 +273,7 @@ InstructionsNumbered = (code_of printing_unit).instructions
 
 -- its code with so many globals
 abbrev with_globals : ℕ → tables.Code
-with_globals n = record (code_of printing_unit) { globals = replicate n (tables.OwnVariable 0) }
+with_globals n = record (code_of printing_unit) { globals = replicate n (tables.OwnVariable Static 0) }
 
 -- its code with a RETURN that leads so many activations outward
 abbrev with_outward : ℕ → tables.Code
@@ -324,9 +325,9 @@ GlobalsNumbered =
     × ((code_of calling_unit).templates
     ≡ record { description = 1; initial = [] } ∷ record { description = 0; initial = [] } ∷ [])
     × ((code_of calling_unit).globals
-    ≡ tables.ExternalVariable (codes "N") 0
+    ≡ tables.ExternalVariable (codes "N") Static 0
     ∷ tables.EntryPoint (codes "F") (record { parameters = 0 ∷ []; result = Some 2 })
-    ∷ tables.OwnVariable 1 ∷ tables.EntryPoint (codes "G") (record { parameters = 0 ∷ []; result = None })
+    ∷ tables.OwnVariable Static 1 ∷ tables.EntryPoint (codes "G") (record { parameters = 0 ∷ []; result = None })
     ∷ [])
 
 -- an entry is called by its number among them

@@ -10,6 +10,7 @@ use Rattle.pli_link.specs.declared.linking.LinkFault.TheVariants.{ModuleTooLarge
 use Rattle.pli_link.specs.declared.units.LinkedName.{LinkedName}
 use Rattle.pli_unit_code.specs.CodeTables.{Code, CodedGlobal, CodedSignature, OwnVariable, ExternalVariable}
 use Rattle.pli_unit_code.specs.CodeTables.{EntryPoint}
+use Rattle.pli_unit_code.specs.declared.code.VariableKind.TheVariants.{Static, Controlled}
 use Rattle.pli_unit_code.specs.Modules.{LinkedUnit}
 use Rattle.pli_unit_code.specs.declared.instruction.Instruction.TheVariants as op
 
@@ -36,7 +37,7 @@ plain = code_with nothing [] []
 -- a compiled unit
 abbrev pub unit : Name → (procedure : Name) → Bool → Code → Compiled
 unit n procedure is_main code =
-    record { unit = n; procedure = procedure; is_main = is_main; code = code }
+    record { unit = n; deck = record { name = procedure; is_main = is_main; code = code } }
 
 -- a name with its unit
 abbrev pub named : Name → (unit : Name) → LinkedName
@@ -79,7 +80,7 @@ entry name = EntryPoint name nothing
 -- M calls Q, and shares a variable Z of four characters
 abbrev pub calling : Code
 calling =
-    code_with nothing (Character 4 ∷ []) (ExternalVariable (codes "Z") 0 ∷ entry (codes "Q") ∷ [])
+    code_with nothing (Character 4 ∷ []) (ExternalVariable (codes "Z") Static 0 ∷ entry (codes "Q") ∷ [])
 
 -- there is no Q
 abbrev pub NoneCalled : Type 0
@@ -89,7 +90,7 @@ NoneCalled =
 
 -- Q has a variable Z of this description
 abbrev pub sharing : Description → Code
-sharing d = code_with nothing (d ∷ []) (ExternalVariable (codes "Z") 0 ∷ [])
+sharing d = code_with nothing (d ∷ []) (ExternalVariable (codes "Z") Static 0 ∷ [])
 
 -- where it is a number, it is unlike that of M
 abbrev pub OtherShared : Type 0
@@ -110,6 +111,13 @@ SameShared =
       main = 0;
     })
 
+-- a CONTROLLED external variable is not resolved
+abbrev pub ControlledShared : Type 0
+ControlledShared =
+    link_of (unit (codes "M") (codes "M") true
+    (code_with nothing (Bit 1 ∷ []) (ExternalVariable (codes "Z") Controlled 0 ∷ [])) ∷ [])
+    ≡ Err (Unresolved (named (codes "Z") (codes "M")) ∷ [])
+
 -- a procedure that takes a bit
 abbrev pub taking : Code
 taking = code_with (record { parameters = 0 ∷ []; result = None }) (Bit 1 ∷ []) []
@@ -126,9 +134,9 @@ abbrev pub EntryAndVariables : Type 0
 EntryAndVariables =
     link_of (unit (codes "M") (codes "M") true (code_with nothing [] (entry (codes "X") ∷ []))
     ∷ unit (codes "Q") (codes "Q") false
-    (code_with nothing (Bit 1 ∷ []) (ExternalVariable (codes "X") 0 ∷ []))
+    (code_with nothing (Bit 1 ∷ []) (ExternalVariable (codes "X") Static 0 ∷ []))
     ∷ unit (codes "R") (codes "R") false
-    (code_with nothing (Bit 2 ∷ []) (ExternalVariable (codes "X") 0 ∷ [])) ∷ [])
+    (code_with nothing (Bit 2 ∷ []) (ExternalVariable (codes "X") Static 0 ∷ [])) ∷ [])
     ≡ Err (Unresolved (named (codes "X") (codes "M")) ∷ Mismatch (named (codes "X") (codes "R")) ∷ [])
 
 -- a unit declares Z in three ways, of which the second and the third are unlike the first, and a variable of
@@ -137,8 +145,9 @@ abbrev pub ToldOnce : Type 0
 ToldOnce =
     link_of (unit (codes "M") (codes "M") true
     (code_with nothing (Bit 1 ∷ FixedBinary 15 ∷ [])
-    (ExternalVariable (codes "Z") 0 ∷ ExternalVariable (codes "Z") 1 ∷ ExternalVariable (codes "Z") 1
-    ∷ ExternalVariable (codes "M") 0 ∷ ExternalVariable (codes "M") 0 ∷ [])) ∷ [])
+    (ExternalVariable (codes "Z") Static 0 ∷ ExternalVariable (codes "Z") Static 1
+    ∷ ExternalVariable (codes "Z") Static 1 ∷ ExternalVariable (codes "M") Static 0
+    ∷ ExternalVariable (codes "M") Static 0 ∷ [])) ∷ [])
     ≡ Err (Mismatch (named (codes "M") (codes "M")) ∷ Mismatch (named (codes "Z") (codes "M")) ∷ [])
 
 -- variables of 1,000,000 bytes each
@@ -151,30 +160,30 @@ with_strings globals = unit (codes "M") (codes "M") true (code_with nothing (str
 
 -- 17 of a unit's own have more bytes than may live
 abbrev pub TooLarge : Type 0
-TooLarge = link_of (with_strings (replicate 17 (OwnVariable 0)) ∷ []) ≡ Err (ModuleTooLarge ∷ [])
+TooLarge = link_of (with_strings (replicate 17 (OwnVariable Static 0)) ∷ []) ≡ Err (ModuleTooLarge ∷ [])
 
 -- 16 of them
 abbrev pub many : List CodedGlobal
-many = replicate 16 (OwnVariable 0)
+many = replicate 16 (OwnVariable Static 0)
 
 -- they have not
 abbrev pub NotTooLarge : Type 0
 NotTooLarge =
     link_of (with_strings many ∷ [])
     ≡ Ok (record {
-      units = linked (codes "M") (codes "M") (with_strings many).code [] ∷ [];
+      units = linked (codes "M") (codes "M") (with_strings many).deck.code [] ∷ [];
       main = 0;
     })
 
 -- one variable declared 17 times
 abbrev pub shared : List CodedGlobal
-shared = replicate 17 (ExternalVariable (codes "Z") 0)
+shared = replicate 17 (ExternalVariable (codes "Z") Static 0)
 
 -- a variable that several units share, or one unit declares several times, counts once
 abbrev pub SharedOnce : Type 0
 SharedOnce =
     link_of (with_strings shared ∷ [])
     ≡ Ok (record {
-      units = linked (codes "M") (codes "M") (with_strings shared).code [] ∷ [];
+      units = linked (codes "M") (codes "M") (with_strings shared).deck.code [] ∷ [];
       main = 0;
     })

@@ -1,6 +1,7 @@
 -- Worked examples: small programs, each with what its run gives after so many instructions.
 use Rattle.std.specs.Prelude.{◌≡◌, ℕ, zero, suc, true, false, pos, Option, Some, None, List, [], ◌∷◌, ◌++◌}
 use Rattle.std.specs.Prelude.{codes}
+use Rattle.pli_base.specs.Name.{Name}
 use Rattle.pli_code.specs.declared.ending.Ending.{Ending}
 use Rattle.pli_code.specs.declared.ending.Ending.TheVariants.{Ended, OutOfSteps, Error, MachineFault}
 use Rattle.pli_code.specs.declared.ending.RunError.TheVariants.{TooManyActivations, SubscriptRange}
@@ -18,20 +19,20 @@ use Rattle.pli_program.specs.Program.{Load, Store, Operate, Put, Skip}
 use Rattle.pli_program.specs.Program.{BlockKind, Procedure, BeginBlock, Block, GlobalCode, OwnVariable}
 use Rattle.pli_program.specs.Program.{ExternalVariable, EntryPoint, UnitCode, Program}
 use Rattle.pli_machine_step.specs.Machine.{State, At, Over, iterate}
-use Rattle.pli_machine_step.specs.Runs.{Outcome, outcome_of, start, ProgramRunsTo}
+use Rattle.pli_machine_step.specs.Runs.{Outcome, outcome_of, names_of, start, ProgramRunsTo}
 
 -- what is printed, how it ends, and the next column
 abbrev pub gives : List ℕ → Ending → ℕ → Outcome
 gives output ending column = record { output = output; ending = ending; column = column }
 
--- what a run has given, if it is over
-abbrev pub outcome_at : State → Option Outcome
-outcome_at (At here frames w left) = None
-outcome_at (Over ending w) = Some (outcome_of ending w)
+-- what a run has given, if it is over, where the units have these names
+abbrev pub outcome_at : List Name → State → Option Outcome
+outcome_at names (At here frames w left) = None
+outcome_at names (Over ending w) = Some (outcome_of names ending w)
 
 -- what a run with so many steps has given after so many instructions, if it is over
 abbrev pub after : Program → (steps instructions : ℕ) → Option Outcome
-after p steps instructions = outcome_at (iterate p instructions (start p steps))
+after p steps instructions = outcome_at (names_of p) (iterate p instructions (start p steps))
 
 -- programs of one unit, whose block 0 is its procedure
 
@@ -263,6 +264,16 @@ ElementPrints = after (element 3) 1 9 ≡ Some (gives (codes "0 ") Ended 3)
 -- there is no element 4
 abbrev pub ElementFails : Type 0
 ElementFails = after (element 4) 1 5 ≡ Some (gives [] (Error SubscriptRange (codes "M") 2) 1)
+
+-- a program that leads its place so many bytes on, where nothing asks what stands there
+abbrev pub leading : (offset : ℕ) → Program
+leading offset = with_variable row (Line 2 ∷ Local 0 0 ∷ Field offset (FixedBinary 15) ∷ Return 0 ∷ [])
+
+-- 1,000,000, and no more
+abbrev pub LeadingFaults : Type 0
+LeadingFaults =
+    (after (leading 1000000) 1 4 ≡ Some (gives [] Ended 1))
+    × (after (leading 1000001) 1 3 ≡ Some (gives [] MachineFault 1))
 
 -- an operation on constants, printed
 abbrev pub printing : List Value → Operation → Program

@@ -1,16 +1,16 @@
 -- Worked examples of scalars and of subscripts.
 use Rattle.std.specs.Prelude.{◌≡◌, pos, List, [], ◌∷◌, Some, None, true, false}
-use Rattle.pli_map.specs.Description.{Description, FixedBinary, Character, Array}
+use Rattle.pli_map.specs.Description.{Description, FixedBinary, Character, Area, Array}
 use Rattle.pli_map.specs.examples.Examples.{up_to, structure, mixed, table, pairs}
 use Rattle.pli_map.specs.Parts.{PathStep, Member, Element, place_of}
 use Rattle.pli_map.specs.ScalarPaths.{scalars_before, is_filled}
 use Rattle.pli_map.specs.Scalars.{scalars_in, first_scalar}
 use Rattle.pli_map.specs.Subscripts.{first_path, subscripts_of}
 
--- one; five members; two times three elements; three elements of two members
+-- one; five members; two times three elements; three elements of two members; none in an area
 abbrev pub CountedScalars : Type 0
 CountedScalars = (scalars_in (Character 4) ≡ 1) × (scalars_in mixed ≡ 5) × (scalars_in table ≡ 6)
-    × (scalars_in pairs ≡ 6) × (is_filled pairs ≡ true) × (is_filled (Array (up_to 0 ∷ []) pairs) ≡ false)
+    × (scalars_in pairs ≡ 6) × (scalars_in (Area 8) ≡ 0) × (is_filled pairs ≡ true) × (is_filled (Array (up_to 0 ∷ []) pairs) ≡ false)
 
 -- an element of `pairs`: FIXED BINARY(31) and FIXED BINARY(15)
 abbrev pub pair : Description

@@ -1,8 +1,9 @@
 -- Worked examples of stored values.
 use Rattle.std.specs.Prelude.{◌≡◌, pos, negsuc, [], ◌∷◌, Some, None, true, false}
-use Rattle.pli_map.specs.Description.{FixedBinary, Character, Varying, Bit, Pointer}
+use Rattle.pli_map.specs.Description.{FixedBinary, Character, Varying, Bit, Pointer, Offset, Area}
 use Rattle.pli_map.specs.StoredValues.{stored_bytes, loaded_value}
-use Rattle.pli_value.specs.Value.{Number, Characters, Bits}
+use Rattle.pli_value.specs.Value.{Number, Characters, Bits, Located}
+use Rattle.pli_value.specs.declared.locator.Locator.TheVariants as locators
 
 -- -2 in two bytes, 258 in four, -1 in eight; and back, the least number of 15 digits too
 abbrev pub StoredNumbers : Type 0
@@ -24,4 +25,16 @@ StoredStrings = (stored_bytes (Character 2) (Characters (65 ∷ 66 ∷ [])) ≡ 
     (Bits (true ∷ false ∷ true ∷ false ∷ false ∷ false ∷ false ∷ false ∷ true ∷ []))
     ≡ 160 ∷ 128 ∷ [])
     × (loaded_value (Bit 3) (160 ∷ []) ≡ Some (Bits (true ∷ false ∷ true ∷ [])))
-    × (loaded_value Pointer [] ≡ None)
+    × (loaded_value (Area 8) [] ≡ None)
+
+-- null in eight bytes and in four; a pointer to generation 258 at position 16, one to the first generation,
+-- and an offset of 40; and back
+abbrev pub StoredLocators : Type 0
+StoredLocators = (stored_bytes Pointer (Located locators.Null) ≡ 0 ∷ 0 ∷ 0 ∷ 0 ∷ 0 ∷ 0 ∷ 0 ∷ 0 ∷ [])
+    × (stored_bytes Offset (Located (locators.Offset 0)) ≡ 0 ∷ 0 ∷ 0 ∷ 0 ∷ [])
+    × (stored_bytes Pointer (Located (locators.Pointer 258 16)) ≡ 0 ∷ 0 ∷ 1 ∷ 3 ∷ 0 ∷ 0 ∷ 0 ∷ 16 ∷ [])
+    × (stored_bytes Offset (Located (locators.Offset 40)) ≡ 0 ∷ 0 ∷ 0 ∷ 40 ∷ [])
+    × (loaded_value Pointer (0 ∷ 0 ∷ 0 ∷ 0 ∷ 0 ∷ 0 ∷ 0 ∷ 0 ∷ []) ≡ Some (Located locators.Null))
+    × (loaded_value Pointer (0 ∷ 0 ∷ 0 ∷ 1 ∷ 0 ∷ 0 ∷ 0 ∷ 0 ∷ []) ≡ Some (Located (locators.Pointer 0 0)))
+    × (loaded_value Pointer (0 ∷ 0 ∷ 1 ∷ 3 ∷ 0 ∷ 0 ∷ 0 ∷ 16 ∷ []) ≡ Some (Located (locators.Pointer 258 16)))
+    × (loaded_value Offset (0 ∷ 0 ∷ 0 ∷ 40 ∷ []) ≡ Some (Located (locators.Offset 40)))

@@ -1,9 +1,9 @@
 -- What the definitions of scalars amount to.
-use Rattle.std.specs.Prelude.{◌≡◌, ℕ, ◌+◌, ◌<◌, ◌≤◌, Some, IsTrue, List}
+use Rattle.std.specs.Prelude.{◌≡◌, ℕ, ◌+◌, ◌<◌, ◌≤◌, false, Some, IsTrue, List}
 use Rattle.pli_map.specs.Description.{Description}
 use Rattle.pli_map.specs.Parts.{PathStep, PlacedPart, place_of}
 use Rattle.pli_map.specs.Scalars.{scalars_in, first_scalar}
-use Rattle.pli_map.specs.ScalarPaths.{scalars_before, is_filled}
+use Rattle.pli_map.specs.ScalarPaths.{scalars_before, is_filled, has_area}
 use Rattle.pli_map.specs.Sizes.{size_of}
 
 -- the first scalar of a part that takes bytes is found by where it stands and by its description: as many
@@ -45,9 +45,9 @@ PartsOfParts =
     → first_scalar part inner description ≡ Some j
     → first_scalar whole (offset + inner) description ≡ Some (k + j)
 
--- where no length, size and number of elements is 0 each part takes bytes, and has a scalar
+-- where no length, size and number of elements is 0 each part takes bytes, and one without areas has a scalar
 abbrev pub FilledPartsTakeBytes : Type 0
 FilledPartsTakeBytes =
     (whole : Description) (offset : ℕ) (part : Description) (k : ℕ) → IsTrue (is_filled whole)
     → first_scalar whole offset part ≡ Some k
-    → IsTrue (is_filled part) × (0 < size_of part) × (0 < scalars_in part)
+    → IsTrue (is_filled part) × (0 < size_of part) × (has_area part ≡ false → 0 < scalars_in part)

@@ -1,7 +1,6 @@
 -- Worked examples of the meaning, in a unit M whose external procedure is block 0 and statement 1.
 use Rattle.std.specs.Prelude.{◌≡◌, ℕ, pos, neg_ℤ, true, false, Option, Some, None, List, [], ◌∷◌, ◌++◌}
 use Rattle.std.specs.Prelude.{map, codes}
-use Rattle.pli_base.specs.Name.{Name}
 use Rattle.pli_code.specs.declared.ending.Ending.{Ending}
 use Rattle.pli_code.specs.declared.ending.Ending.TheVariants.{Ended, OutOfSteps, Error}
 use Rattle.pli_code.specs.declared.ending.RunError.TheVariants.{SubscriptRange, FixedOverflow}
@@ -256,7 +255,7 @@ GotoGroupBeginsAnew =
     8 [] Ended 1
 
 -- label 7 of a unit
-abbrev pub seven_of : (unit : Name) → Label
+abbrev pub seven_of : (unit : ℕ) → Label
 seven_of unit = record { unit = unit; number = 7 }
 
 -- from its front a list jumps to a label, and from a label it ends at once
@@ -264,16 +263,16 @@ abbrev pub jumps_first : Label → (from : Option Label) → Doing Flow
 jumps_first label None w left = Jumps 0 label w left
 jumps_first label (Some own) w left = Gives Next w left
 
--- what such a list comes to, which is of unit M and holds statement 7
+-- what such a list comes to, which is of unit 0 and holds statement 7
 abbrev pub jump_in_list : Label → Effect Flow
 jump_in_list label =
-    as_list 2 (codes "M") (listed (Statement 7 Null ∷ [])) (jumps_first label) nothing 5
+    as_list 2 0 (listed (Statement 7 Null ∷ [])) (jumps_first label) nothing 5
 
 -- the list catches a jump to its own label, and not one to the label of the same number of another unit
 abbrev pub LabelsAreOfUnits : Type 0
 LabelsAreOfUnits =
-    (jump_in_list (seven_of (codes "M")) ≡ Gives Next (cleared nothing) 5)
-    × (jump_in_list (seven_of (codes "N")) ≡ Jumps 0 (seven_of (codes "N")) nothing 5)
+    (jump_in_list (seven_of 0) ≡ Gives Next (cleared nothing) 5)
+    × (jump_in_list (seven_of 1) ≡ Jumps 0 (seven_of 1) nothing 5)
 
 -- RETURN in a BEGIN block returns from the procedure, and STOP ends the run
 abbrev pub ReturnLeavesBlock : Type 0

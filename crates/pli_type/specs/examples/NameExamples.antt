@@ -99,15 +99,15 @@ NamesOfUnit =
     × (meant_at 58 ≡ AProcedure (record { callee = OfEntry 1; parameters = Bit 1 ∷ []; returned = None }))
     × (meant_at 60 ≡ AVariable (record { root = OfProgram 2; whole = Bit 1; path = [] }))
 
--- AUTOMATIC: X without initial values, Y with 3; globals: S, whose second scalar is B, E and Z
+-- AUTOMATIC: X without initial values, Y with 3; globals: S, whose second byte is B, E and Z
 abbrev pub VariablesOfUnit : Type 0
 VariablesOfUnit =
     ((named_unit 31 resolved).automatic 0
     ≡ record { description = Bit 1; initial = [] }
-    ∷ record { description = FixedBinary 15; initial = record { scalar = 0; value = Number (pos 3) } ∷ [] }
+    ∷ record { description = FixedBinary 15; initial = record { offset = 0; value = Number (pos 3) } ∷ [] }
     ∷ [])
     × ((named_unit 31 resolved).globals
     ≡ OwnVariable
-    (record { description = pair; initial = record { scalar = 1; value = Bits (true ∷ []) } ∷ [] })
+    (record { description = pair; initial = record { offset = 1; value = Bits (true ∷ []) } ∷ [] })
     ∷ EntryPoint (codes "E") (record { parameters = Bit 1 ∷ []; result = None })
     ∷ ExternalVariable (codes "Z") (record { description = Bit 1; initial = [] }) ∷ [])

@@ -100,9 +100,9 @@ abbrev pub numbers : List ℕ → List InitialValue
 numbers [] = []
 numbers (n ∷ ns) = initial.Integer None (record { negative = false; value = n }) ∷ numbers ns
 
--- an initial value of a scalar
-abbrev pub scalar : ℕ → Value → InitialScalar
-scalar number value = record { scalar = number; value = value }
+-- an initial value of the scalar that begins on a byte
+abbrev pub scalar : (offset : ℕ) → Value → InitialScalar
+scalar offset value = record { offset = offset; value = value }
 
 -- bits from ones and zeros, as INITIAL has them
 abbrev pub bits : List Bool → InitialValue
@@ -125,7 +125,7 @@ InitialValues =
     (initial_scalars
     (array 2 (Structure (MemberThen (array 2 (described.FixedBinary 15)) NoMembers)))
     (item (0 ∷ []) (numbers (1 ∷ 2 ∷ 3 ∷ [])))
-    ≡ scalar 0 (Number (pos 1)) ∷ scalar 1 (Number (pos 2)) ∷ scalar 2 (Number (pos 3)) ∷ [])
+    ≡ scalar 0 (Number (pos 1)) ∷ scalar 2 (Number (pos 2)) ∷ scalar 4 (Number (pos 3)) ∷ [])
     × ((template_of pairs
     (item (0 ∷ []) (bits (true ∷ []) ∷ bits (true ∷ []) ∷ [])
     ∷ item (1 ∷ []) (bits (true ∷ []) ∷ bits (false ∷ []) ∷ []) ∷ [])).initial
@@ -133,7 +133,7 @@ InitialValues =
     ∷ scalar 3 (Bits (false ∷ [])) ∷ [])
     × (initial_scalars (array 3 (described.FixedBinary 15))
     (item [] (initial.Integer (Some 2) (record { negative = false; value = 1 }) ∷ []))
-    ≡ scalar 0 (Number (pos 1)) ∷ scalar 1 (Number (pos 1)) ∷ [])
+    ≡ scalar 0 (Number (pos 1)) ∷ scalar 2 (Number (pos 1)) ∷ [])
     × (initial_scalars (described.Character 3) (item [] (initial.Characters (codes "A") ∷ []))
     ≡ scalar 0 (Characters (codes "A  ")) ∷ [])
     × (initial_scalars (described.Varying 1) (item [] (initial.Characters (codes "AB") ∷ []))

@@ -1,41 +1,13 @@
 -- Digests by which tables are searched. Equal entries have one digest, and others mostly different ones; the
 -- entries that a search finds are compared whole.
-use Rattle.std.specs.Prelude.{ℕ, ◌+◌, ◌*◌, ◌%◌, ◌^◌, Bool, List, [], ◌∷◌, if◌then◌else◌}
-use Rattle.std.specs.Prelude.{unsigned_abs}
-use Rattle.pli_map.specs.declared.description.Bounds.{Bounds}
-use Rattle.pli_map.specs.Description.{Description, FixedBinary, Character, Varying, Bit, Pointer, Offset}
-use Rattle.pli_map.specs.Description.{Area, Array, Structure, Members, NoMembers, MemberThen}
-use Rattle.pli_value.specs.Value.{Value, Number, Characters, Bits}
+use Rattle.std.specs.Prelude.{ℕ, Bool, List, [], ◌∷◌, unsigned_abs, if◌then◌else◌}
+use Rattle.pli_map.specs.Digests.{mixed, digest_of}
+use Rattle.pli_value.specs.Value.{Value, Number, Characters, Bits, Located}
+use Rattle.pli_value.specs.declared.locator.Locator.{Locator}
+use Rattle.pli_value.specs.declared.locator.Locator.TheVariants as locators
 use Rattle.pli_type_tree.specs.Templates.{InitialScalar, Template}
 
--- a digest with a number more
-abbrev pub mixed : (digest number : ℕ) → ℕ
-mixed h x = ((h * 1099511628211) % 2 ^ 64 + x) % 2 ^ 64
-
--- with the bounds of an array
-abbrev pub digest_of_bounds : (digest : ℕ) → List Bounds → ℕ
-digest_of_bounds h [] = h
-digest_of_bounds h (b ∷ bs) = digest_of_bounds (mixed (mixed h (unsigned_abs b.low)) (unsigned_abs b.high)) bs
-
-abbrev mutual
-  -- of a description
-  pub digest_of : Description → ℕ
-  digest_of (FixedBinary p) = mixed 1 p
-  digest_of (Character n) = mixed 2 n
-  digest_of (Varying n) = mixed 3 n
-  digest_of (Bit n) = mixed 4 n
-  digest_of Pointer = 5
-  digest_of Offset = 6
-  digest_of (Area n) = mixed 7 n
-  digest_of (Array bounds element) = mixed (digest_of_bounds 8 bounds) (digest_of element)
-  digest_of (Structure members) = digest_of_members 9 members
-
-  -- with the members of a structure
-  pub digest_of_members : (digest : ℕ) → Members → ℕ
-  digest_of_members h NoMembers = h
-  digest_of_members h (MemberThen d ds) = digest_of_members (mixed h (digest_of d)) ds
-
--- with characters
+-- a digest with characters more
 abbrev pub digest_of_characters : (digest : ℕ) → List ℕ → ℕ
 digest_of_characters h [] = h
 digest_of_characters h (c ∷ cs) = digest_of_characters (mixed h c) cs
@@ -45,16 +17,23 @@ abbrev pub digest_of_bits : (digest : ℕ) → List Bool → ℕ
 digest_of_bits h [] = h
 digest_of_bits h (b ∷ bs) = digest_of_bits (mixed h (if b then 1 else 0)) bs
 
+-- of a locator
+abbrev pub digest_of_locator : Locator → ℕ
+digest_of_locator locators.Null = 3
+digest_of_locator (locators.Pointer generation position) = mixed generation position
+digest_of_locator (locators.Offset position) = mixed 4 position
+
 -- of a value
 abbrev pub digest_of_value : Value → ℕ
 digest_of_value (Number x) = unsigned_abs x
 digest_of_value (Characters s) = digest_of_characters 1 s
 digest_of_value (Bits s) = digest_of_bits 2 s
+digest_of_value (Located l) = digest_of_locator l
 
 -- with initial values
 abbrev pub digest_of_initial : (digest : ℕ) → List InitialScalar → ℕ
 digest_of_initial h [] = h
-digest_of_initial h (i ∷ is) = digest_of_initial (mixed (mixed h i.scalar) (digest_of_value i.value)) is
+digest_of_initial h (i ∷ is) = digest_of_initial (mixed (mixed h i.offset) (digest_of_value i.value)) is
 
 -- of what a variable is made from
 abbrev pub digest_of_template : Template → ℕ

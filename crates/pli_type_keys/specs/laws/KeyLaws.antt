@@ -5,7 +5,8 @@ use Rattle.std.proofs.lemmas.Bool.Decides.{Decides-int_eq, Decides-eqb, Decides-
 use Rattle.std.proofs.lemmas.Slice.Eq.{slice_eq-Decides}
 use Rattle.pli_map.specs.Description.{Description}
 use Rattle.pli_map.specs.laws.SameLaws.{same_decides}
-use Rattle.pli_value.specs.Value.{Value, Number, Characters, Bits}
+use Rattle.pli_value.specs.Value.{Value, Number, Characters, Bits, Located}
+use Rattle.pli_value.specs.laws.LocatorLaws.{locator_decides}
 use Rattle.pli_type_tree.specs.Templates.{InitialScalar, Template}
 use Rattle.pli_type_keys.specs.Same.{same_value, same_initial, same_template}
 
@@ -18,19 +19,20 @@ value_decides (Characters s) (Characters t) =
     Decides-like _ (ap Characters) (λ e. cc) (slice_eq-Decides Decides-eqb s t _ refl)
 value_decides (Bits s) (Bits t) =
     Decides-like _ (ap Bits) (λ e. cc) (slice_eq-Decides booleans_Decides s t _ refl)
+value_decides (Located a) (Located b) = Decides-like _ (ap Located) (λ e. cc) (locator_decides a b)
 value_decides v w = differ v w (λ e. cc)
 
 -- an initial value of a scalar
 abbrev initial : ℕ → Value → InitialScalar
-initial k v = record { scalar = k; value = v }
+initial k v = record { offset = k; value = v }
 
-initial_parts : (a b : InitialScalar) → (a.scalar ≡ b.scalar) × (a.value ≡ b.value) → a ≡ b
-initial_parts a b h = ap (λ k. initial k a.value) h.0 ∙ ap (initial b.scalar) h.1
+initial_parts : (a b : InitialScalar) → (a.offset ≡ b.offset) × (a.value ≡ b.value) → a ≡ b
+initial_parts a b h = ap (λ k. initial k a.value) h.0 ∙ ap (initial b.offset) h.1
 
 pub initial_decides : (a b : InitialScalar) → Decides (same_initial a b) (a ≡ b)
 initial_decides a b =
-    Decides-like _ (initial_parts a b) (λ e. (ap (λ i. i.scalar) e, ap (λ i. i.value) e))
-    (Decides-and _ _ (Decides-eqb a.scalar b.scalar) (value_decides a.value b.value))
+    Decides-like _ (initial_parts a b) (λ e. (ap (λ i. i.offset) e, ap (λ i. i.value) e))
+    (Decides-and _ _ (Decides-eqb a.offset b.offset) (value_decides a.value b.value))
 
 -- what a variable of a description and initial values is made from
 abbrev template : Description → List InitialScalar → Template

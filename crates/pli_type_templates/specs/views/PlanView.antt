@@ -7,7 +7,7 @@ use Rattle.pli_type_templates.specs.declared.plan.Plan.{Plan}
 use Rattle.pli_type_templates.specs.declared.plan.Plan.TheOpen.{Plan-F}
 use Rattle.pli_type_templates.specs.declared.plan.Plan.TheFolds.{fold-Plan}
 
--- a scalar with its number
+-- a scalar with its byte
 abbrev pub leaf_view : Leaf → plain.Leaf
 leaf_view l = record { first = l.first; description = description_view l.description.now }
 

@@ -8,9 +8,9 @@ use Rattle.pli_type_tree.specs.declared.template.InitialScalar.{InitialScalar}
 use Rattle.pli_type_tree.specs.declared.template.Template.{Template}
 use Rattle.pli_type_tree.specs.declared.template.VariableGroup.{VariableGroup}
 
--- an initial value with the scalar that has it
+-- an initial value with the byte on which its scalar begins
 abbrev pub initial_view : InitialScalar → plain.InitialScalar
-initial_view i = record { scalar = i.scalar; value = value_view i.value }
+initial_view i = record { offset = i.offset; value = value_view i.value }
 
 -- what a variable is made from
 abbrev pub template_view : Template → plain.Template

@@ -81,7 +81,7 @@ AreKnown s statics =
 -- a variable of a name is there, and known
 abbrev pub KnownAt : Name → Shared → List Static → Result (Option Place) StoreFault → Type 0
 KnownAt name s statics (Ok (Some p)) =
-    (unit : Name) (number : ℕ)
+    (unit number : ℕ)
     → AreKnown s
     (statics
     ++ record { unit = unit; number = number; external = Some name; standing = standing_view p } ∷ [])
@@ -113,7 +113,7 @@ number_behind number (Some g) = suc number
 
 -- the next global of a unit is linked, of which the first ones are these; those that are left, and the units
 -- of their entries
-pub record NextLinked (c : Code) (unit : Name) (number : ℕ) (statics : List Static)
+pub record NextLinked (c : Code) (unit number : ℕ) (statics : List Static)
     (globals more : List CodedGlobal) (entries left : List ℕ) (old new : Shared) (g : Option LinkedGlobal)
     : Type 0 where
   pub made :
@@ -127,7 +127,7 @@ pub record NextLinked (c : Code) (unit : Name) (number : ℕ) (statics : List St
   pub known : AreKnown new (statics ++ statics_from unit number (there g))
 
 -- or the storage has no room
-abbrev pub Links : (c : Code) (unit : Name) (number : ℕ) (statics : List Static)
+abbrev pub Links : (c : Code) (unit number : ℕ) (statics : List Static)
     (globals more : List CodedGlobal) (entries left : List ℕ) (old new : Shared)
     → Result (Option LinkedGlobal) StoreFault → Type 0
 Links c unit number statics globals more entries left old new (Ok g) =
@@ -139,7 +139,7 @@ Links c unit number statics globals more entries left old new (Err fault) =
     (first_world new.storage statics)
 
 -- all globals of a unit are linked, in the world with the variables of those before
-pub record UnitLinked (unit : Name) (globals : List GlobalCode) (statics : List Static) (old new : Shared)
+pub record UnitLinked (unit : ℕ) (globals : List GlobalCode) (statics : List Static) (old new : Shared)
     (table : List LinkedGlobal) : Type 0 where
   pub made :
       statics_made unit 0 (map global_variable globals) (first_world old.storage statics)
@@ -148,7 +148,7 @@ pub record UnitLinked (unit : Name) (globals : List GlobalCode) (statics : List 
   pub known : AreKnown new (statics ++ statics_from unit 0 table)
 
 -- the globals of a unit are linked, or the storage has no room
-abbrev pub LinksUnit : (unit : Name) (globals : List GlobalCode) (statics : List Static) (old new : Shared)
+abbrev pub LinksUnit : (unit : ℕ) (globals : List GlobalCode) (statics : List Static) (old new : Shared)
     (table : List LinkedGlobal) → Result Unit StoreFault → Type 0
 LinksUnit unit globals statics old new table (Ok done) = UnitLinked unit globals statics old new table
 LinksUnit unit globals statics old new table (Err fault) =
@@ -159,8 +159,8 @@ LinksUnit unit globals statics old new table (Err fault) =
 pub record AllLinked (units : List LinkedUnit) (old new : Shared) (tables : List (List LinkedGlobal)) : Type 0
   where
     pub made :
-        all_statics_made (map unit_of units) (first_world old.storage [])
-        ≡ Yields tt (first_world new.storage (all_statics (map (λ u. u.unit) units) tables))
+        all_statics_made 0 (map unit_of units) (first_world old.storage [])
+        ≡ Yields tt (first_world new.storage (all_statics 0 tables))
     pub same : AreLinked units tables
 
 -- those of all units are, or the storage has no room
@@ -168,4 +168,4 @@ abbrev pub LinksAll : (units : List LinkedUnit) (old new : Shared) (tables : Lis
     → Result Unit StoreFault → Type 0
 LinksAll units old new tables (Ok done) = AllLinked units old new tables
 LinksAll units old new tables (Err fault) =
-    EndsEarlier fault (all_statics_made (map unit_of units) (first_world old.storage []))
+    EndsEarlier fault (all_statics_made 0 (map unit_of units) (first_world old.storage []))

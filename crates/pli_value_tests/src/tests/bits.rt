@@ -1,8 +1,8 @@
 use crate::tests::at_row;
-use pli_value::Value;
 use pli_value::bit::{
     Bits, and, bits_to_char, compare, concat, fit, index, is_true, not, or, rest, substr,
 };
+use pli_value::{Locator, Value};
 use std::alloc::Global;
 use std::cmp::Ordering::{self, Equal, Greater, Less};
 use std::process::Abort;
@@ -353,4 +353,25 @@ fn copies_of_values(rt: HostRuntime) {
     assert!(rt; is_copied(&rt, alloc, Value::Characters(characters), 0, "AB"));
     let string = bits(&rt, alloc, "101");
     assert!(rt; is_copied(&rt, alloc, Value::Bits(string), 0, "101"));
+    let pointer = Locator::Pointer {
+        generation: 3,
+        position: 8,
+    };
+    let copy = Value::Locator(pointer).copy(alloc).expect(&rt, "memory");
+    assert!(rt; matches!(copy, Value::Locator(copied) if copied.equals(pointer)));
+}
+
+#[test]
+fn locators(rt: HostRuntime) {
+    let pointer = Locator::Pointer {
+        generation: 3,
+        position: 0,
+    };
+    let other = Locator::Pointer {
+        generation: 3,
+        position: 8,
+    };
+    assert!(rt; pointer.equals(pointer) && !pointer.equals(other) && !pointer.is_null());
+    assert!(rt; Locator::Null.is_null() && Locator::Offset(0).is_null());
+    assert!(rt; !Locator::Offset(8).is_null() && !Locator::Null.equals(Locator::Offset(0)));
 }

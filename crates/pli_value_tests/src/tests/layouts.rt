@@ -4,9 +4,10 @@ use Word::{Ar, Bi, Ch, Di, Fb, Of, Pt, St, Va};
 use pli_map::{
     Bounds, Description, Layout, PathStep, PlacedPart, alignment, areas_are_rounded,
     elements_are_in_row_major_order, elements_are_within_bounds, filled_parts_take_bytes,
-    fixed_binary_size, four_alignments, measure, offsets_are_sums, parts_do_not_meet,
-    parts_have_their_scalars, parts_lie_within, parts_of_parts, parts_stand_aligned, place,
-    same_is_equal, scalars_lie_within, size, stored_is_loaded, worked_examples,
+    first_values_are_held, fixed_binary_size, four_alignments, measure, offsets_are_sums,
+    parts_do_not_meet, parts_have_their_scalars, parts_lie_within, parts_of_parts,
+    parts_stand_aligned, place, same_is_equal, scalars_lie_within, size, stored_is_loaded,
+    worked_examples,
 };
 use std::alloc::Global;
 use std::process::Abort;
@@ -637,5 +638,6 @@ fn laws() {
     filled_parts_take_bytes();
     offsets_are_sums();
     stored_is_loaded();
+    first_values_are_held();
     worked_examples();
 }

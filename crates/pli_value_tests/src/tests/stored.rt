@@ -1,6 +1,6 @@
-use pli_map::{Description, load_value, store_value};
-use pli_value::Value;
+use pli_map::{Description, first_values, holds, load_value, store_value};
 use pli_value::bit::{Bits, bits_to_char};
+use pli_value::{Locator, Value};
 use std::alloc::Global;
 use std::process::Abort;
 use std::test::*;
@@ -14,7 +14,7 @@ fn is_number(value: Value, wanted: i64) -> bool {
 fn is_text(value: Value, wanted: &[u8]) -> bool {
     match value {
         Value::Characters(text) => text.as_slice() == wanted,
-        Value::Number(_) | Value::Bits(_) => false,
+        Value::Number(_) | Value::Bits(_) | Value::Locator(_) => false,
     }
 }
 
@@ -112,7 +112,7 @@ fn bits_are_read(rt: &impl Abort, alloc: Global) -> bool {
         rt, "memory",
     ) {
         Value::Bits(loaded) => loaded.bytes() == [0b1010_0000, 0b1000_0000].as_slice(),
-        Value::Number(_) | Value::Characters(_) => false,
+        Value::Number(_) | Value::Characters(_) | Value::Locator(_) => false,
     }
 }
 
@@ -136,4 +136,61 @@ fn nine_bits(rt: &impl Abort, alloc: Global) -> bool {
 fn bits(rt: HostRuntime) {
     assert!(rt; nine_bits(&rt, rt.alloc()) && bits_are_read(&rt, rt.alloc()));
     assert!(rt; one_bit(&rt, rt.alloc()));
+}
+
+/// Whether a locator stands in eight bytes of POINTER so, and is read again.
+fn is_stored_pointer(rt: &impl Abort, alloc: Global, locator: Locator, wanted: [u8; 8]) -> bool {
+    let mut bytes = [1; 8];
+    if !holds(&Description::Pointer, &Value::Locator(locator)) {
+        return false;
+    }
+    store_value(&Description::Pointer, &Value::Locator(locator), &mut bytes);
+    let read = load_value(alloc, &Description::Pointer, &bytes).expect(rt, "memory");
+    bytes == wanted && matches!(read, Value::Locator(loaded) if loaded == locator)
+}
+
+/// Whether an offset stands in four bytes so, and is read again.
+fn is_stored_offset(rt: &impl Abort, alloc: Global, position: u32, wanted: [u8; 4]) -> bool {
+    let offset = Value::Locator(Locator::Offset(position));
+    let mut bytes = [1; 4];
+    if !holds(&Description::Offset, &offset) {
+        return false;
+    }
+    store_value(&Description::Offset, &offset, &mut bytes);
+    let read = load_value(alloc, &Description::Offset, &bytes).expect(rt, "memory");
+    bytes == wanted && matches!(read, Value::Locator(loaded) if loaded == Locator::Offset(position))
+}
+
+#[test]
+fn locators(rt: HostRuntime) {
+    let alloc = rt.alloc();
+    let first = Locator::Pointer {
+        generation: 0,
+        position: 0,
+    };
+    let pointer = Locator::Pointer {
+        generation: 258,
+        position: 16,
+    };
+    assert!(rt; is_stored_pointer(&rt, alloc, Locator::Null, [0; 8]));
+    assert!(rt; is_stored_pointer(&rt, alloc, first, [0, 0, 0, 1, 0, 0, 0, 0]));
+    assert!(rt; is_stored_pointer(&rt, alloc, pointer, [0, 0, 1, 3, 0, 0, 0, 16]));
+    assert!(rt; is_stored_offset(&rt, alloc, 0, [0; 4]));
+    assert!(rt; is_stored_offset(&rt, alloc, 40, [0, 0, 0, 40]));
+}
+
+/// The values with which the scalars of a structure begin, of POINTER, AREA and OFFSET: two, as an area has none.
+#[test]
+fn first_locators(rt: HostRuntime) {
+    let alloc = rt.alloc();
+    let members = vec![in alloc;
+        Description::Pointer,
+        Description::Area(8),
+        Description::Offset,
+    ]
+    .expect(&rt, "memory");
+    let values = first_values(alloc, &Description::Structure(members)).expect(&rt, "memory");
+    assert!(rt; values.len() == 2);
+    assert!(rt; matches!(values[0], Value::Locator(Locator::Null)));
+    assert!(rt; matches!(values[1], Value::Locator(Locator::Offset(0))));
 }

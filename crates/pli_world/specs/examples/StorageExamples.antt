@@ -10,15 +10,15 @@ use Rattle.pli_world.specs.Storage.{Automatic, Place, whole, field_of}
 use Rattle.pli_map.specs.Values.{first_values}
 use Rattle.pli_world.specs.World.{Stacked, World, nothing, Answer, Yields, Raises, Wrong, further}
 use Rattle.pli_map.specs.Variables.{Variable}
-use Rattle.pli_program.specs.Program.{Head}
+use Rattle.pli_world.specs.Activations.{Head}
 use Rattle.pli_map.specs.Variables.{GlobalVariable}
 use Rattle.pli_world.specs.World.{made_of, entered, left_by, cleared, dummy_of, parts_held, held, slot_place}
-use Rattle.pli_world.specs.World.{stored, copied, subscripted, static_place, statics_made}
+use Rattle.pli_world.specs.World.{stored, copied, led_on, subscripted, static_place, statics_made}
 
 -- a procedure with one variable, FIXED BINARY(15)
 abbrev pub procedure : Head
 procedure = record {
-  unit = codes "M";
+  unit = 0;
   block = 0;
   statement = 1;
   variables = record { description = FixedBinary 15; initial = Number (pos 0) ∷ [] } ∷ [];
@@ -26,7 +26,7 @@ procedure = record {
 
 -- a block of it, with none
 abbrev pub inner : Head
-inner = record { unit = codes "M"; block = 1; statement = 4; variables = [] }
+inner = record { unit = 0; block = 1; statement = 4; variables = [] }
 
 -- the block runs within the procedure, whose variable has the value 7
 abbrev pub within : {A : Type 0} → (World → Answer A) → Answer A
@@ -140,6 +140,15 @@ NoElement =
     (error_of (with_aggregate (at_element (pos 4))) ≡ Some SubscriptRange)
     × (error_of (with_aggregate (at_element (negsuc 0))) ≡ Some SubscriptRange)
 
+-- a place is led on to the limit, and no further; a subscript out of its bounds is an error also there
+abbrev pub TooFar : Type 0
+TooFar =
+    (result_of (with_aggregate (led_on 1000000 (Character 1)))
+    ≡ Some (field_of 1000000 (Character 1) (whole 1 aggregate)))
+    × (with_aggregate (led_on 1000001 (Character 1)) ≡ Wrong)
+    × (with_aggregate (subscripted (pos 1) (pos 3) 1000000 (pos 3)) ≡ Wrong)
+    × (error_of (with_aggregate (subscripted (pos 1) (pos 3) 1000000 (pos 4))) ≡ Some SubscriptRange)
+
 -- behind a character there is none
 abbrev pub NoPart : Type 0
 NoPart = with_aggregate (λ p w. held (field_of 3 (Character 1) p) w) ≡ Wrong
@@ -156,7 +165,7 @@ own = Some (record { external = None; variable = once }) ∷ []
 abbrev pub StaticStays : Type 0
 StaticStays =
     result_of
-    (further (statics_made (codes "M") 0 own nothing)
+    (further (statics_made 0 0 own nothing)
     (λ _ w. further (entered inner 0 [] w)
     (λ _ w. further (static_place 0 w)
     (λ p w. further (stored p (Number (pos 8)) w)
@@ -167,7 +176,7 @@ StaticStays =
 -- that of another unit is not there
 abbrev pub StaticOfOther : Type 0
 StaticOfOther =
-    further (statics_made (codes "N") 0 own nothing)
+    further (statics_made 1 0 own nothing)
     (λ _ w. further (entered inner 0 [] w) (λ _ w. static_place 0 w)) ≡ Wrong
 
 -- the place of a unit's one variable, which is stacked in this list
@@ -175,7 +184,7 @@ abbrev pub newest_of : List Place → Answer Place
 newest_of places =
     further (entered inner 0 [] (record nothing {
       statics =
-          record { unit = codes "M"; number = 0; external = None; standing = Stacked 0 } ∷ [];
+          record { unit = 0; number = 0; external = None; standing = Stacked 0 } ∷ [];
       lists = places ∷ [];
     }))
     (λ _ w. static_place 0 w)
@@ -193,15 +202,15 @@ shared = record { external = Some (codes "X"); variable = once }
 
 -- a procedure of another unit
 abbrev pub other : Head
-other = record { unit = codes "N"; block = 0; statement = 1; variables = [] }
+other = record { unit = 1; block = 0; statement = 1; variables = [] }
 
 -- it is one: what one unit puts there the other one finds; the numbers are those among all globals of the
 -- unit, of which an entry is one too
 abbrev pub ExternalIsShared : Type 0
 ExternalIsShared =
     result_of
-    (further (statics_made (codes "M") 0 (None ∷ Some shared ∷ []) nothing)
-    (λ _ w. further (statics_made (codes "N") 0 (Some shared ∷ []) w)
+    (further (statics_made 0 0 (None ∷ Some shared ∷ []) nothing)
+    (λ _ w. further (statics_made 1 0 (Some shared ∷ []) w)
     (λ _ w. further (entered inner 0 [] w)
     (λ _ w. further (static_place 1 w)
     (λ p w. further (stored p (Number (pos 8)) w)

@@ -1,18 +1,22 @@
 -- Each operation keeps what it should: a lemma for each.
-use Rattle.std.specs.Prelude.{ℕ, suc, ◌+◌, ◌-◌, nat_le, nat_lt, Bool, true, false, ◌&&◌, int_le, Option}
+use Rattle.std.specs.Prelude.{ℕ, suc, ◌+◌, ◌-◌, nat_le, nat_lt, Bool, true, false, not, ◌&&◌, int_le}
+use Rattle.std.specs.Prelude.{Option, ◌*◌, ◌-ℤ◌, unsigned_abs}
 use Rattle.std.specs.Prelude.{Some, None, List, [], ◌∷◌, ◌++◌, length, slice_get, if◌then◌else◌, refl}
-use Rattle.std.proofs.Common.{◌≡◌, sym, ap, ◌∙◌, subst, arith, append_assoc, append-nil}
+use Rattle.std.proofs.Common.{◌≡◌, ◌<◌, ◌≤◌, sym, ap, ◌∙◌, subst, arith, append_assoc, append-nil, le-leb}
+use Rattle.std.proofs.lemmas.Bool.{lt-leb}
+use Rattle.pli_map.specs.Description.{Description}
 use Rattle.pli_code.specs.Print.{print}
 use Rattle.pli_code.specs.declared.ending.RunError.TheVariants.{StorageLimit, SubscriptRange}
 use Rattle.pli_map.specs.Same.{same}
-use Rattle.pli_map.specs.Scalars.{is_scalar, scalars_of}
+use Rattle.pli_map.specs.Scalars.{is_area, is_scalar, scalars_of}
 use Rattle.pli_map.specs.Sizes.{size_of}
 use Rattle.pli_value.specs.Value.{Value}
 use Rattle.pli_value.specs.declared.number.Raised.TheVariants as raised
 use Rattle.pli_operation.specs.Operations.{Calculates, RaisesCondition, OutOfString, Misfits}
 use Rattle.pli_world.specs.Activations.{Activation, activation_at, outward_from, with_newest, without_newest}
 use Rattle.pli_world.specs.Storage.{Generation, Automatic, Static as AsStatic, Dummy, Place, whole}
-use Rattle.pli_world.specs.Storage.{generation_in, scalar_at, live_bytes, generation_limit}
+use Rattle.pli_world.specs.Storage.{field_of, generation_in, scalar_at, live_bytes, generation_limit}
+use Rattle.pli_world.specs.Storage.{offset_limit}
 use Rattle.pli_map.specs.Variables.{byte_limit}
 use Rattle.pli_map.specs.Values.{holds, are_held}
 use Rattle.pli_world.specs.World.{Standing, Lies, Stacked, World, Answer, Yields, Raises, Wrong, further}
@@ -20,7 +24,7 @@ use Rattle.pli_world.specs.World.{known, height}
 use Rattle.pli_map.specs.Variables.{Variable}
 use Rattle.pli_world.specs.World.{made_of, unless_dead, living, parts_held, parts_stored, single, held}
 use Rattle.pli_world.specs.World.{stored}
-use Rattle.pli_world.specs.World.{copied, made_all, in_newest, with_slot, begun_in}
+use Rattle.pli_world.specs.World.{copied, led_on, made_all, in_newest, with_slot, begun_in}
 use Rattle.pli_world.specs.World.{without_handed, entered, left_by, cleared, at_statement, stepped, height_of}
 use Rattle.pli_world.specs.World.{slot_in, slot_place, newest_unit, static_in, newest_in, place_standing}
 use Rattle.pli_world.specs.World.{static_place, made_before}
@@ -28,7 +32,8 @@ use Rattle.pli_world.specs.World.{made_once, with_static, statics_made}
 use Rattle.pli_world.specs.World.{dummy_of, printed, line_ended}
 use Rattle.pli_world.specs.laws.Operations.{IsPrefix, Follows, AnswerFollows, MakingKeeps, LoadingKeeps}
 use Rattle.pli_world.specs.laws.Operations.{StoringKeeps, PartsHeldKeep, PartsStoredKeep, CopyingKeeps}
-use Rattle.pli_world.specs.laws.Operations.{SubscriptKeeps, CalculatingKeeps, WalkingKeeps, SlotKeeps}
+use Rattle.pli_world.specs.laws.Operations.{LeadingKeeps, SubscriptKeeps, CalculatingKeeps, WalkingKeeps}
+use Rattle.pli_world.specs.laws.Operations.{SlotKeeps}
 use Rattle.pli_world.specs.laws.Operations.{StaticKeeps, StaticsKeep, DummyKeeps, EnteringAdds}
 use Rattle.pli_world.specs.laws.Operations.{LeavingTakes, ClearingKeeps, StatementKeeps, PrintingKeeps}
 use Rattle.pli_world.specs.laws.Operations.{LineKeeps, SteppingCounts}
@@ -148,17 +153,37 @@ storing_keeps p x w =
 pub copying_keeps : CopyingKeeps
 unfolding copied
 copying_keeps source target w =
-    guarded (height w) w (same source.description target.description) _
+    guarded (height w) w (not (is_area source.description) && same source.description target.description) _
     (further_follows (height w) (height w) w (parts_held source w) _ (parts_held_keep source w) refl
     (λ vs v f. behind (height w) w v _ f (parts_stored_keep target vs v)))
 
+-- a place is led on to the limit, and no further
+pub led_near : (offset : ℕ) (d : Description) (p : Place) (w : World) → p.offset + offset ≤ offset_limit
+    → led_on offset d p w ≡ Yields (field_of offset d p) w
+led_near offset d p w near =
+    ap (λ b. if b then Yields (field_of offset d p) w else Wrong)
+    (le-leb (p.offset + offset) offset_limit near)
+
+pub led_too_far : (offset : ℕ) (d : Description) (p : Place) (w : World) → offset_limit < p.offset + offset
+    → led_on offset d p w ≡ Wrong
+led_too_far offset d p w far =
+    ap (λ b. if b then Yields (field_of offset d p) w else Wrong)
+    (lt-leb (p.offset + offset) offset_limit far)
+
+pub leading_keeps : LeadingKeeps
+leading_keeps offset d p w =
+    guarded (height w) w (nat_le (p.offset + offset) offset_limit) (Yields (field_of offset d p) w)
+    (follows_same w)
+
 pub subscript_keeps : SubscriptKeeps
-subscript_keeps low high multiplier x p w = by _ (int_le low x && int_le x high)
+subscript_keeps low high multiplier x p w =
+    by (led_on (unsigned_abs (x -ℤ low) * multiplier) p.description p w) (int_le low x && int_le x high)
+    (leading_keeps (unsigned_abs (x -ℤ low) * multiplier) p.description p w)
   where
-    by : (q : Place) (within : Bool)
-        → AnswerFollows (height w) w (if within then Yields q w else Raises SubscriptRange w)
-    by q true = follows_same w
-    by q false = follows_same w
+    by : (a : Answer Place) (within : Bool) → AnswerFollows (height w) w a
+        → AnswerFollows (height w) w (if within then a else Raises SubscriptRange w)
+    by a true f = f
+    by a false f = follows_same w
 
 pub calculating_keeps : CalculatingKeeps
 calculating_keeps (Calculates v) w = follows_same w

@@ -1,15 +1,15 @@
 -- What every operation on the world keeps: it takes no step, adds to the output, and leaves as many
 -- activations as it should.
 use Rattle.std.specs.Prelude.{◌≡◌, ℕ, suc, ◌-◌, ℤ, Option, List, ◌++◌}
-use Rattle.pli_base.specs.Name.{Name}
 use Rattle.pli_map.specs.Description.{Description}
 use Rattle.pli_value.specs.Value.{Value}
 use Rattle.pli_operation.specs.Operations.{Calculation}
 use Rattle.pli_world.specs.Storage.{Made, Place}
 use Rattle.pli_world.specs.World.{World, Answer, Yields, Raises, Wrong, height, made_of}
 use Rattle.pli_map.specs.Variables.{GlobalVariable}
-use Rattle.pli_program.specs.Program.{Head}
-use Rattle.pli_world.specs.World.{parts_held, parts_stored, held, stored, copied, subscripted, calculation}
+use Rattle.pli_world.specs.Activations.{Head}
+use Rattle.pli_world.specs.World.{parts_held, parts_stored, held, stored, copied, led_on, subscripted}
+use Rattle.pli_world.specs.World.{calculation}
 use Rattle.pli_world.specs.World.{entered, left_by, cleared, at_statement, stepped, height_of, slot_place}
 use Rattle.pli_world.specs.World.{static_place, statics_made, dummy_of, printed, line_ended}
 
@@ -59,6 +59,10 @@ PartsStoredKeep = (p : Place) (vs : List Value) → Keeps (parts_stored p vs)
 abbrev pub CopyingKeeps : Type 0
 CopyingKeeps = (source target : Place) → Keeps (copied source target)
 
+-- leading a place on is such an operation
+abbrev pub LeadingKeeps : Type 0
+LeadingKeeps = (offset : ℕ) (d : Description) (p : Place) → Keeps (led_on offset d p)
+
 -- leading a place on by a subscript is such an operation
 abbrev pub SubscriptKeeps : Type 0
 SubscriptKeeps =
@@ -87,7 +91,7 @@ StaticKeeps = (number : ℕ) → Keeps (static_place number)
 -- making such variables is such an operation
 abbrev pub StaticsKeep : Type 0
 StaticsKeep =
-    (unit : Name) (number : ℕ) (gs : List (Option GlobalVariable)) → Keeps (statics_made unit number gs)
+    (unit number : ℕ) (gs : List (Option GlobalVariable)) → Keeps (statics_made unit number gs)
 
 -- entering a block adds an activation, also where there is no room for its variables
 abbrev pub EnteringAdds : Type 0

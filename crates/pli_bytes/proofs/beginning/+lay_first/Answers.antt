@@ -1,10 +1,11 @@
-use Rattle.std.proofs.Common.{◌≡◌, ◌+◌, ◌*◌, ◌/◌, true, ap, ◌∙◌, subst, arith}
+use Rattle.std.proofs.Common.{◌≡◌, ◌+◌, ◌*◌, ◌/◌, ap, ◌∙◌, subst, arith}
 use Rattle.pli_map.specs.Scalars.{scalars_in}
 use Rattle.pli_map.specs.Sizes.{count_of, stride_of}
+use Rattle.pli_map.specs.Values.{first_values}
 use Rattle.pli_map.specs.views.DescriptionView.{description_view}
 use Rattle.pli_map.proofs.FarSizes.{cut_stride}
-use Rattle.pli_bytes.specs.answers.Laying.{FirstLaid}
-use Rattle.pli_bytes.proofs.FirstsLaid.{few_in_element, few_in_member, first_array, first_element, first_filled, first_in_place, first_member, first_of_nothing}
+use Rattle.pli_bytes.specs.answers.Laying.{LaidAt}
+use Rattle.pli_bytes.proofs.FirstsLaid.{first_array, first_element, first_filled, first_in_place, first_member, first_of_nothing}
 use Rattle.pli_bytes.proofs.LaidPlaces.{divided_by_stride, member_end, member_inside, member_start, nodes_of_member, some_factor, whole_stride}
 use Rattle.pli_bytes.proofs.beginning.+lay_first.Goals as goal
 
@@ -24,13 +25,8 @@ pub lay_first_elements-returns-then-stride-eq0 : goal.lay_first_elements-returns
 lay_first_elements-returns-then-stride-eq0 t c =
     let e = description_view c.args.element.now in
     let stride = c.next_multiple_of-stride.ensures.value ∙ cut_stride e c.far_size.result c.from.result c.far_size.ensures (c.from.ensures ∙ c.alignment.ensures.value) in
-    first_in_place c.args.at c.args.bounds.now e c.lay_first_at.result c.args.bytes.now c.lay_first_at.new.bytes (omega (arith, stride, c.if-stride-eq0.true))
+    first_in_place c.args.at c.args.bounds.now e c.args.bytes.now c.lay_first_at.new.bytes (omega (arith, stride, c.if-stride-eq0.true))
     (some_factor (count_of c.args.bounds.now) (scalars_in e) c.requires.some) c.lay_first_at.ensures
-
-pub lay_first_elements-returns-then-not-lay_first_at : goal.lay_first_elements-returns-then-not-lay_first_at
-lay_first_elements-returns-then-not-lay_first_at t c =
-    let e = description_view c.args.element.now in
-    few_in_element c.args.bounds.now e (some_factor (count_of c.args.bounds.now) (scalars_in e) c.requires.some) c.if-not-lay_first_at.ensures
 
 pub lay_first_elements-loop-made-preserved : goal.lay_first_elements-loop-made-preserved
 lay_first_elements-loop-made-preserved t c =
@@ -39,7 +35,7 @@ lay_first_elements-loop-made-preserved t c =
     let stride = whole_stride e count c.far_size.result c.from.result c.next_multiple_of-stride.result (some_factor count (scalars_in e) c.requires.some)
     (omega (arith, c.requires.limit, c.requires.size)) c.far_size.ensures (c.from.ensures ∙ c.alignment.ensures.value) c.next_multiple_of-stride.ensures.value in
     first_element c.args.at e c.loop-made.made c.args.bytes.now c.loop-made.bytes c.lay_first_at-in-loop-made.new.bytes c.loop-made.invariant
-    (subst (λ n. FirstLaid true (c.args.at + c.loop-made.made * n) e c.loop-made.bytes c.lay_first_at-in-loop-made.new.bytes) stride c.if-not-lay_first_at.ensures)
+    (subst (λ n. LaidAt (c.args.at + c.loop-made.made * n) e (first_values e) c.loop-made.bytes c.lay_first_at-in-loop-made.new.bytes) stride c.lay_first_at-in-loop-made.ensures)
 
 pub lay_first_elements-returns : goal.lay_first_elements-returns
 lay_first_elements-returns t c =
@@ -76,10 +72,6 @@ lay_first_members-lay_first_at-requires t c =
       (omega (arith, inside, c.requires.within, c.next_multiple_of-start.ensures.value, l.auto.bytes), omega (arith, inside, c.requires.limit)),
     )
 
-pub lay_first_members-returns-then-not-lay_first_at : goal.lay_first_members-returns-then-not-lay_first_at
-lay_first_members-returns-then-not-lay_first_at t c =
-    few_in_member c.args.at c.args.members.now c.loop-member.member-index c.member-item.result c.loop-member-test.true c.member-item.is c.if-not-lay_first_at.ensures
-
 pub lay_first_members-overflow_add-end : goal.lay_first_members-overflow_add-end
 lay_first_members-overflow_add-end t c =
     let l = c.loop-member in
@@ -98,6 +90,6 @@ lay_first_members-loop-member-preserved t c =
     (c.from.ensures ∙ c.alignment.ensures.value) in
     record {
       laid = first_member c.args.at c.args.members.now l.member-index c.member-item.result c.loop-member-test.true c.member-item.is c.next_multiple_of-start.result
-          c.args.bytes.now l.bytes c.lay_first_at.new.bytes (c.next_multiple_of-start.ensures.value ∙ start) l.invariant.laid c.if-not-lay_first_at.ensures;
+          c.args.bytes.now l.bytes c.lay_first_at.new.bytes (c.next_multiple_of-start.ensures.value ∙ start) l.invariant.laid c.lay_first_at.ensures;
       end = omega (arith, end, inside, c.requires.limit, c.next_multiple_of-start.ensures.value, c.far_size.ensures);
     }

@@ -1,9 +1,10 @@
-use Rattle.std.proofs.Common.{◌≡◌, ◌*◌, ◌+◌, true, take}
+use Rattle.std.proofs.Common.{◌≡◌, ◌*◌, ◌+◌, take}
 use Rattle.pli_map.specs.Description as tree
 use Rattle.pli_map.specs.Sizes.{end_behind}
+use Rattle.pli_map.specs.Values.{first_values_of}
 use Rattle.pli_map.specs.views.DescriptionView.{description_view, members_view}
 use Rattle.pli_map.proofs.ScalarPlaces.{nodes, nodes_among}
-use Rattle.pli_bytes.specs.answers.Laying.{FirstLaid}
+use Rattle.pli_bytes.specs.answers.Laying.{LaidAt}
 use Rattle.pli_bytes.proofs.FirstsLaid.{FirstElements}
 use Rattle.pli_bytes.proofs.beginning.+lay_first.Given as goal
 
@@ -20,7 +21,8 @@ decreases-lay_first_elements l = 2 * nodes (description_view l.element.now) + 1
 abbrev pub invariant-lay_first_members-loop-member : goal.invariant-lay_first_members-loop-member
 invariant-lay_first_members-loop-member l =
     record {
-      laid : FirstLaid true l.at (tree.Structure (members_view (take l.member-index l.members))) l.fn.bytes l.bytes;
+      laid : LaidAt l.at (tree.Structure (members_view (take l.member-index l.members)))
+          (first_values_of (members_view (take l.member-index l.members))) l.fn.bytes l.bytes;
       end : l.end ≡ end_behind 0 (members_view (take l.member-index l.members));
     }
 

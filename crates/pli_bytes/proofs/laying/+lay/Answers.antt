@@ -6,7 +6,7 @@ use Rattle.pli_map.specs.Sizes.{count_of}
 use Rattle.pli_map.specs.views.DescriptionView.{description_view, members_view}
 use Rattle.pli_value.specs.Value.{value_view}
 use Rattle.pli_bytes.specs.answers.Laying.{LaidFront, NoneTaken}
-use Rattle.pli_bytes.proofs.DescriptionTrees.{array_view, structure_view}
+use Rattle.pli_bytes.proofs.DescriptionTrees.{area_view, array_view, structure_view}
 use Rattle.pli_bytes.proofs.LaidFronts.{all_elements, front_element, front_member, no_elements, no_members, none_in_element, none_in_member, no_scalars, too_few}
 use Rattle.pli_bytes.proofs.LaidPlaces.{element_placed, elements_counted, member_end, member_inside, member_start, nodes_of_member}
 use Rattle.pli_bytes.proofs.Scalars.{scalars_counted}
@@ -160,3 +160,11 @@ lay_members-returns t c =
     let l = c.loop-member in
     let all : take l.member-index c.args.members.now ≡ c.args.members.now = take_all l.member-index c.args.members.now c.loop-member-test.false in
     subst (λ ms. LaidFront c.args.at (tree.Structure (members_view ms)) (map value_view c.args.values.now) (map value_view l.left.now) c.args.bytes.now l.bytes) all l.invariant.front
+
+-- ---- areas
+
+pub lay_at-returns-in-Area : goal.lay_at-returns-in-Area
+lay_at-returns-in-Area t c =
+    let d = description_view c.args.description.now in
+    let none : scalars_in d ≡ 0 = ap scalars_in (area_view c.args.description.now c.in-Area.field-0 c.in-Area.is) in
+    no_scalars c.args.at d (map value_view c.args.values.now) c.args.bytes.now none

@@ -3,7 +3,7 @@ use Rattle.std.proofs.lemmas.Result.{on_ok_weaker}
 use Rattle.std.specs.List.{flat_map}
 use Rattle.byteorder.specs.Endian.{big_bytes}
 use Rattle.pli_deck.specs.ModuleFields.{external_behind, bytes_behind, member, module_field}
-use Rattle.pli_deck.specs.ModuleView.{external_view, member_view}
+use Rattle.pli_deck.specs.ModuleView.{external_view, lent_member_view}
 use Rattle.pli_deck.proofs.ModulePuts.{external_bytes, behind_bytes}
 use Rattle.pli_deck.proofs.PutLemmas.{then_put, mapped_length}
 use Rattle.pli_deck.proofs.modules.put_module.Goals as goal
@@ -24,7 +24,7 @@ returns c =
     let count = big_bytes 2 (length units) in
     let main = big_bytes 2 c.args.program.now.main in
     let listed = counted (length externals) (flat_map external_bytes (map external_view externals)) in
-    let members = flat_map member.bytes_of (map member_view units) in
+    let members = flat_map member.bytes_of (map lent_member_view units) in
     let magic = 80 ∷ 76 ∷ 73 ∷ 77 ∷ [] in
     let version = 80 ∷ 76 ∷ 73 ∷ 77 ∷ 1 ∷ [] in
     let first = then_put out _ _ magic (1 ∷ []) version c.in_ok-put_bytes.ensures.put refl c.in_ok-put_byte.ensures in
@@ -35,8 +35,8 @@ returns c =
     let same_externals : counted (length (map external_view externals)) (bytes_behind external_behind None (map external_view externals)) ≡ listed =
     ap (λ n. counted n (bytes_behind external_behind None (map external_view externals))) (mapped_length external_view externals)
     ∙ ap (counted (length externals)) (behind_bytes None (map external_view externals)) in
-    let said = ap (λ n. whole (big_bytes 2 n) main (counted (length (map external_view externals)) (bytes_behind external_behind None (map external_view externals))) members) (mapped_length member_view units)
+    let said = ap (λ n. whole (big_bytes 2 n) main (counted (length (map external_view externals)) (bytes_behind external_behind None (map external_view externals))) members) (mapped_length lent_member_view units)
     ∙ ap (λ es. whole count main es members) same_externals in
-    on_ok_weaker c.put_all.result
-    (λ e. then_put out _ _ (version ++ (count ++ (main ++ listed))) members _ fourth said (e ∙ ap (λ us. c.put_list.new.out.items ++ flat_map member.bytes_of (map member_view us)) c.deref-2.ensures.value))
-    c.put_all.ensures
+    on_ok_weaker c.put_members.result
+    (λ e. then_put out _ _ (version ++ (count ++ (main ++ listed))) members _ fourth said (e ∙ ap (λ us. c.put_list.new.out.items ++ flat_map member.bytes_of (map lent_member_view us)) c.deref-2.ensures.value))
+    c.put_members.ensures

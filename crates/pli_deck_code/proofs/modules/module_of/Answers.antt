@@ -1,7 +1,7 @@
 use Rattle.std.proofs.Common.{◌∙◌, ap, subst, List, map}
 use Rattle.std.specs.Map.{keys_of}
 use Rattle.pli_deck.specs.ModuleFields.{External, Member, DeckModule}
-use Rattle.pli_deck.specs.ModuleView.{member_view}
+use Rattle.pli_deck.specs.ModuleView.{lent_member_view}
 use Rattle.pli_deck_code.specs.CodeModules.{declarations, external_of, members_of}
 use Rattle.pli_deck_code.specs.answers.Tables.{name_of, AreNumbered}
 use Rattle.pli_deck_code.specs.views.LinkedView.{lent_view}
@@ -21,4 +21,4 @@ returns c =
     let numbered : AreNumbered numbers names =
     subst (AreNumbered numbers) (ap (map name_of) c.deref-2.ensures.value ∙ names_are externals declared first) c.in_ok-numbers.ensures in
     let second = c.in_ok-units.ensures names numbered ∙ ap (λ us. members_of main names 0 (map lent_view us)) c.deref-3.ensures.value in
-    ap (λ es. module_with es (map member_view c.in_ok-units.units.items)) first ∙ ap (module_with (map external_of declared)) second
+    ap (λ es. module_with es (map lent_member_view c.in_ok-units.units.items)) first ∙ ap (module_with (map external_of declared)) second

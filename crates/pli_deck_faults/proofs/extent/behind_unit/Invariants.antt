@@ -1,6 +1,7 @@
 use Rattle.std.proofs.Common.{◌≡◌, ◌≤◌, ◌+◌, drop, map}
 use Rattle.std.specs.List.{sum_by}
-use Rattle.pli_deck.specs.DeckView.{deck_view, global_view}
+use Rattle.pli_unit_code.specs.views.CodeView.{code_view}
+use Rattle.pli_unit_code.specs.views.CodeView.{global_view}
 use Rattle.pli_deck.specs.ModuleSpelling.{static_bytes}
 use Rattle.pli_deck_faults.proofs.extent.behind_unit.Given as goal
 
@@ -9,5 +10,5 @@ abbrev pub invariant-loop-global : goal.invariant-loop-global
 invariant-loop-global l =
     record {
       small : l.left ≤ 16777216;
-      same : l.left + sum_by (static_bytes (deck_view l.deck)) (map global_view l.deck.globals.items) ≡ l.bytes + sum_by (static_bytes (deck_view l.deck)) (map global_view (drop l.global-index l.deck.globals.items));
+      same : l.left + sum_by (static_bytes (code_view l.code)) (map global_view l.code.globals.items) ≡ l.bytes + sum_by (static_bytes (code_view l.code)) (map global_view (drop l.global-index l.code.globals.items));
     }

@@ -23,7 +23,7 @@ returns-in_err-left c =
     let l = c.loop-unit in
     let left = next_said member_view c.args.units.now l.unit-index c.unit-item.result c.loop-unit-test.true c.unit-item.is in
     rw c.from_residual.ensures
-    (over_by_one (λ (u : Member). sum_by (static_bytes u.deck) u.deck.globals) _ _ (member_view c.unit-item.result) l.left c.args.bytes _ left l.invariant.same c.in_err-left.ensures)
+    (over_by_one (λ (u : Member). sum_by (static_bytes u.deck.code) u.deck.code.globals) _ _ (member_view c.unit-item.result) l.left c.args.bytes _ left l.invariant.same c.in_err-left.ensures)
 
 pub loop-unit-preserved : goal.loop-unit-preserved
 loop-unit-preserved c =
@@ -33,6 +33,6 @@ loop-unit-preserved c =
       small = omega (arith, c.in_ok-left.ensures, l.invariant.small);
       place = omega (arith, l.invariant.place);
       same =
-          one_behind (λ (u : Member). sum_by (static_bytes u.deck) u.deck.globals) _ _ (member_view c.unit-item.result) l.left c.in_ok-left.left c.args.bytes _ left l.invariant.same
+          one_behind (λ (u : Member). sum_by (static_bytes u.deck.code) u.deck.code.globals) _ _ (member_view c.unit-item.result) l.left c.in_ok-left.left c.args.bytes _ left l.invariant.same
           c.in_ok-left.ensures;
     }

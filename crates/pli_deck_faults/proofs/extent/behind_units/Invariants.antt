@@ -10,6 +10,6 @@ invariant-loop-unit l =
     record {
       small : l.left ≤ 16777216;
       place : l.place ≡ l.unit-index;
-      same : l.left + sum_by (λ u. sum_by (static_bytes u.deck) u.deck.globals) (map member_view l.units)
-          ≡ l.bytes + sum_by (λ u. sum_by (static_bytes u.deck) u.deck.globals) (map member_view (drop l.unit-index l.units));
+      same : l.left + sum_by (λ u. sum_by (static_bytes u.deck.code) u.deck.code.globals) (map member_view l.units)
+          ≡ l.bytes + sum_by (λ u. sum_by (static_bytes u.deck.code) u.deck.code.globals) (map member_view (drop l.unit-index l.units));
     }

@@ -8,5 +8,5 @@ abbrev pub invariant-loop-unit : goal.invariant-loop-unit
 invariant-loop-unit l =
     record {
       small : l.left ≤ 1000000;
-      same : nat_le (sum_by (λ u. length u.deck.instructions) (map member_view (drop l.unit-index l.units))) l.left ≡ nat_le (sum_by (λ u. length u.deck.instructions) (map member_view l.units)) 1000000;
+      same : nat_le (sum_by (λ u. length u.deck.code.instructions) (map member_view (drop l.unit-index l.units))) l.left ≡ nat_le (sum_by (λ u. length u.deck.code.instructions) (map member_view l.units)) 1000000;
     }

@@ -1,5 +1,5 @@
 use Rattle.std.proofs.Common.{◌≤◌, length, map, slice_get, Some, ap, sym, ◌∙◌, arith}
-use Rattle.pli_deck.specs.DeckView.{initial_view}
+use Rattle.pli_type_tree.specs.views.TemplateView.{initial_view}
 use Rattle.pli_deck_faults.specs.Counted.{counted_of}
 use Rattle.pli_deck_faults.proofs.FoundPlaces.{found_at, none_at}
 use Rattle.pli_deck_faults.proofs.limits.bytes_of.Goals as goal

@@ -1,6 +1,6 @@
 use Rattle.std.proofs.Common.{◌≡◌, drop, map, List}
 use Rattle.pli_map.specs.Description.{Description}
-use Rattle.pli_deck.specs.DeckView.{template_view}
+use Rattle.pli_unit_code.specs.views.CodeView.{coded_template_view}
 use Rattle.pli_deck_faults.specs.Counted.{keep_limits}
 use Rattle.pli_deck_faults.specs.Places.{placed_of, all_placed}
 use Rattle.pli_deck_faults.proofs.limits.templates_fit.Given as goal
@@ -9,4 +9,4 @@ use Rattle.pli_deck_faults.proofs.limits.templates_fit.Given as goal
 abbrev pub invariant-loop-template : goal.invariant-loop-template
 invariant-loop-template l =
     (ds : List Description) → all_placed l.placed ≡ map placed_of ds
-    → keep_limits ds (map template_view (drop l.template-index l.templates)) l.left ≡ keep_limits ds (map template_view l.templates) 16777216
+    → keep_limits ds (map coded_template_view (drop l.template-index l.templates)) l.left ≡ keep_limits ds (map coded_template_view l.templates) 16777216

@@ -1,6 +1,6 @@
 use Rattle.std.proofs.Common.{◌≡◌, drop, map}
 use Rattle.std.specs.List.{filter}
-use Rattle.pli_deck.specs.DeckView.{global_view}
+use Rattle.pli_unit_code.specs.views.CodeView.{global_view}
 use Rattle.pli_deck.specs.ModuleFields.{is_external}
 use Rattle.pli_deck.specs.ModuleSpelling.{are_good_links}
 use Rattle.pli_deck.specs.ModuleView.{module_view}

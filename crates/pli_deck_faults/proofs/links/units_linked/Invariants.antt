@@ -8,5 +8,5 @@ use Rattle.pli_deck_faults.proofs.links.units_linked.Given as goal
 -- what is left passes as all pass
 abbrev pub invariant-loop-unit : goal.invariant-loop-unit
 invariant-loop-unit l =
-    list_all (λ u. are_good_links (module_view l.program) (filter is_external u.deck.globals) u.links) (map member_view (drop l.unit-index l.units))
-    ≡ list_all (λ u. are_good_links (module_view l.program) (filter is_external u.deck.globals) u.links) (map member_view l.units)
+    list_all (λ u. are_good_links (module_view l.program) (filter is_external u.deck.code.globals) u.links) (map member_view (drop l.unit-index l.units))
+    ≡ list_all (λ u. are_good_links (module_view l.program) (filter is_external u.deck.code.globals) u.links) (map member_view l.units)

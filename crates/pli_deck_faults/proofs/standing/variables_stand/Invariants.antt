@@ -1,11 +1,11 @@
 use Rattle.std.proofs.Common.{◌≡◌, drop}
 use Rattle.std.specs.List.{list_all}
 use Rattle.pli_deck.specs.DeckFaults.{is_there, OfTemplate}
-use Rattle.pli_deck.specs.DeckView.{deck_view}
+use Rattle.pli_unit_code.specs.views.CodeView.{code_view}
 use Rattle.pli_deck_faults.proofs.standing.variables_stand.Given as goal
 
 -- what is left passes as all pass
 abbrev pub invariant-loop-number : goal.invariant-loop-number
 invariant-loop-number l =
-    list_all (λ n. is_there (deck_view l.deck) (OfTemplate n)) (drop l.number-index l.variables)
-    ≡ list_all (λ n. is_there (deck_view l.deck) (OfTemplate n)) l.variables
+    list_all (λ n. is_there (code_view l.code) (OfTemplate n)) (drop l.number-index l.variables)
+    ≡ list_all (λ n. is_there (code_view l.code) (OfTemplate n)) l.variables

@@ -1,12 +1,12 @@
 use Rattle.std.proofs.Common.{◌≡◌, ◌<◌, ◌+◌, ◌++◌, ◌∙◌, ℕ, List, length, map, drop, get_or, ap, sym, append_assoc}
 use Rattle.std.proofs.lemmas.List.{at_drop_more}
-use Rattle.pli_deck.specs.declared.deck.Global.{Global}
-use Rattle.pli_deck.specs.DeckView.{global_view}
+use Rattle.pli_unit_code.specs.declared.code.CodedGlobal.{CodedGlobal}
+use Rattle.pli_unit_code.specs.views.CodeView.{global_view}
 use Rattle.pli_deck_load.specs.ModuleUnits.{unit_in, links_behind, entries_from}
 use Rattle.pli_deck_load.proofs.units.entries_from.Goals as goal
 
 -- the units of one global more
-one_more : (gs : List Global) (i : ℕ) (g : Global) (before after links behind whole : List ℕ) → i < length gs → g ≡ get_or gs i g
+one_more : (gs : List CodedGlobal) (i : ℕ) (g : CodedGlobal) (before after links behind whole : List ℕ) → i < length gs → g ≡ get_or gs i g
     → after ≡ before ++ unit_in (global_view g) links → behind ≡ links_behind (global_view g) links
     → before ++ entries_from (map global_view (drop i gs)) links ≡ whole → after ++ entries_from (map global_view (drop (i + 1) gs)) behind ≡ whole
 one_more gs i g before after links behind whole lt read put left was =

@@ -1,6 +1,6 @@
 use Rattle.std.proofs.Common.{◌≡◌, ◌≤◌, ◌+◌, length, drop, map}
 use Rattle.std.specs.List.{filter}
-use Rattle.pli_deck.specs.DeckView.{global_view}
+use Rattle.pli_unit_code.specs.views.CodeView.{global_view}
 use Rattle.pli_deck.specs.ModuleFields.{is_external}
 use Rattle.pli_deck_read.proofs.modules.externals_in.Given as goal
 

@@ -9,7 +9,7 @@ use Rattle.pli_link.proofs.MeantFirst.{few_are_small}
 use Rattle.pli_link.proofs.linking.link_by.Goals as goal
 
 abbrev main_of : List NamedUnit → Option ℕ
-main_of us = position (λ (u : NamedUnit). u.compiled.now.is_main) us
+main_of us = position (λ (u : NamedUnit). u.deck.now.is_main) us
 
 abbrev module_with : List LinkedUnit → ℕ → Module
 module_with us main = record { units = us; main = main }

@@ -33,8 +33,8 @@ loop-unit-preserved c =
     let known = c.classes_of.new.known.keys in
     let grown = grows_on c.args.known.now.keys c.loop-unit.known.keys known c.loop-unit.invariant.1 c.in_ok-classes.ensures.grows in
     let have : HaveClasses known c.args.names.now = classed_stay c.args.known.now.keys known c.args.names.now.externals.now.entries grown c.requires.classes in
-    let classes = subst (AreClasses (known_in known) (code_view unit.compiled.now.code)) (sym c.deref.ensures.value) c.in_ok-classes.ensures.classes in
-    let told = c.in_ok-found.ensures known have classes ∙ ap (λ gs. each_once _ (faulty_names cs c.args.fault (code_view unit.compiled.now.code) (map global_view gs))) c.deref-in-loop-unit.ensures.value in (
+    let classes = subst (AreClasses (known_in known) (code_view unit.deck.now.code)) (sym c.deref.ensures.value) c.in_ok-classes.ensures.classes in
+    let told = c.in_ok-found.ensures known have classes ∙ ap (λ gs. each_once _ (faulty_names cs c.args.fault (code_view unit.deck.now.code) (map global_view gs))) c.deref-in-loop-unit.ensures.value in (
       one_unit cs c.args.fault c.args.units.now c.loop-unit.unit-index unit c.loop-unit.linked.items c.add_linked.new.linked.items (linked_in unit.unit c.in_ok-found.found.keys) _
           (omega (arith, c.loop-unit-test.true)) c.unit-item.is c.in_ok-add_linked.ensures (ap (linked_in unit.unit) told) c.loop-unit.invariant.0,
       grown,

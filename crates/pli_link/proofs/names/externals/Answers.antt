@@ -20,13 +20,13 @@ loop-unit-preserved c =
     let rest = all_shared (map compiled_view (drop (i + 1) units)) in
     record {
       first =
-          ap (λ es. firsts es rest) (c.in_ok-note_shared.ensures.first ∙ ap (λ gs. firsts before (shared_by (code_view unit.compiled.now.code) (map global_view gs))) c.deref-in-loop-unit.ensures.value)
-          ∙ sym (firsts_behind before (shared_by (code_view unit.compiled.now.code) (map global_view unit.compiled.now.code.globals.items)) rest)
+          ap (λ es. firsts es rest) (c.in_ok-note_shared.ensures.first ∙ ap (λ gs. firsts before (shared_by (code_view unit.deck.now.code) (map global_view gs))) c.deref-in-loop-unit.ensures.value)
+          ∙ sym (firsts_behind before (shared_by (code_view unit.deck.now.code) (map global_view unit.deck.now.code.globals.items)) rest)
           ∙ sym (at_drop_more (λ us. firsts before (all_shared (map compiled_view us))) units i unit (omega arith)
           ∙ ap (λ (u : NamedUnit). firsts before (all_shared (compiled_view u ∷ map compiled_view (drop (i + 1) units)))) (sym c.unit-item.is))
           ∙ c.loop-unit.invariant.first;
       classed =
           c.in_ok-note_shared.ensures.classed (known_in known)
-          (subst (AreClasses (known_in known) (code_view unit.compiled.now.code)) (sym c.deref.ensures.value) c.in_ok-classes.ensures.classes)
+          (subst (AreClasses (known_in known) (code_view unit.deck.now.code)) (sym c.deref.ensures.value) c.in_ok-classes.ensures.classes)
           (classed_stay c.loop-unit.known.keys known c.loop-unit.found.entries c.in_ok-classes.ensures.grows c.loop-unit.invariant.classed);
     }

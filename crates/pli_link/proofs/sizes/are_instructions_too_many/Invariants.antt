@@ -7,5 +7,5 @@ use Rattle.pli_link.proofs.sizes.are_instructions_too_many.Given as goal
 abbrev pub invariant-loop-unit : goal.invariant-loop-unit
 invariant-loop-unit l =
     (l.count ≤ 1000000)
-    × (l.count + sum_by (λ (c : Compiled). length c.code.instructions) (map compiled_view (drop l.unit-index l.units))
-    ≡ sum_by (λ (c : Compiled). length c.code.instructions) (map compiled_view l.units))
+    × (l.count + sum_by (λ (c : Compiled). length c.deck.code.instructions) (map compiled_view (drop l.unit-index l.units))
+    ≡ sum_by (λ (c : Compiled). length c.deck.code.instructions) (map compiled_view l.units))

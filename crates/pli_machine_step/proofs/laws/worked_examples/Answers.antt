@@ -73,6 +73,9 @@ returns-clause-element_prints c = run.element_prints
 pub returns-clause-element_fails : goal.returns-clause-element_fails
 returns-clause-element_fails c = run.element_fails
 
+pub returns-clause-leading_faults : goal.returns-clause-leading_faults
+returns-clause-leading_faults c = run.leading_faults
+
 pub returns-clause-part_prints : goal.returns-clause-part_prints
 returns-clause-part_prints c = run.part_prints
 

@@ -16,7 +16,7 @@ returns c =
     let passed : levels_in plan path ≡ levels =
     sym (c.deref.ensures.value ∙ c.in_ok-found.ensures.levels ∙ ap (λ ls. ls ++ levels_in plan path) c.new-levels.ensures.items) in
     let made : c.deref-2.result.now ≡ take wanted (spread levels found.first) =
-    c.deref-2.ensures.value ∙ c.in_ok-put_numbers.ensures ∙ ap (λ ns. take wanted (ns ++ spread levels found.first)) c.new-numbers.ensures.items in
+    c.deref-2.ensures.value ∙ c.in_ok-put_offsets.ensures ∙ ap (λ ns. take wanted (ns ++ spread levels found.first)) c.new-offsets.ensures.items in
     c.in_ok-put_values.ensures
     ∙ ap (λ is. map initial_view c.args.scalars.now.items ++ is)
     (item_made plan path c.args.item.values.now found levels c.deref-2.result.now wanted leaf passed c.in_ok-wanted.ensures made)

@@ -1,38 +1,69 @@
-use Rattle.std.proofs.Common.{◌+◌, drop, map, refl, ap, sym, ◌∙◌, arith}
+use Rattle.std.proofs.Common.{◌≡◌, ◌+◌, ◌*◌, ◌-◌, drop, map, refl, ap, sym, ◌∙◌, arith, rules}
+use Rattle.std.specs.Int.{next_multiple_of}
 use Rattle.std.proofs.lemmas.List.{drop_all, map_push}
-use Rattle.pli_map.specs.Scalars.{scalars_among}
+use Rattle.pli_map.specs.Sizes.{alignment_of, count_of, end_behind, size_of, stride_of}
 use Rattle.pli_map.specs.views.DescriptionView.{description_view, members_view}
 use Rattle.pli_map.proofs.Members.{next_member}
-use Rattle.pli_type_templates.specs.Plans.{OfStructure, PlanThen, plan_from, plans_from}
+use Rattle.pli_type_templates.specs.Plans.{OfArray, OfStructure, PlanThen, plan_from, plans_from}
+use Rattle.pli_type_templates.specs.declared.plan.ArrayLevel.{ArrayLevel}
 use Rattle.pli_type_templates.specs.views.PlanView.{plan_view}
-use Rattle.pli_type_templates.proofs.PlansMade.{before, before_more, before_none, structure_view}
+use Rattle.pli_type_templates.proofs.PlansMade.{array_view, before, before_more, before_none, structure_view}
 use Rattle.pli_type_templates.proofs.plan.+plan_from.Goals as goal
+
+pub array_from-returns : goal.array_from-returns
+array_from-returns t c =
+    let first = c.args.first in
+    let d = description_view c.args.element.now in
+    let all = count_of c.args.bounds.now in
+    let planned = c.in_ok-planned.planned in
+    let count = c.in_ok-count.count in
+    let distance = c.in_ok-distance.distance in
+    let element = c.in_ok-element.element in
+    let level : ArrayLevel = record { count = count; distance = distance } in
+    let counted : count ≡ all = c.in_ok-count.ensures in
+    let sized : planned.end - first ≡ size_of d = omega (arith, c.in_ok-planned.ensures.1) in
+    let apart : distance ≡ stride_of d = c.in_ok-distance.ensures ∙ ap (λ n. next_multiple_of n (alignment_of d)) sized in
+    let product : c.in_ok-bytes.bytes ≡ count * distance = search rules in
+    let bytes : c.in_ok-bytes.bytes ≡ all * stride_of d = product ∙ ap (λ n. n * distance) counted ∙ ap (λ n. all * n) apart in
+    let kept : element.value ≡ planned.plan = search rules in (
+      array_view _ level element refl
+          ∙ ap (λ p. OfArray level p) (ap plan_view kept ∙ c.in_ok-planned.ensures.0)
+          ∙ ap (λ n. OfArray (record { count = n; distance = distance }) (plan_from first d)) counted
+          ∙ ap (λ n. OfArray (record { count = all; distance = n }) (plan_from first d)) apart,
+      c.in_ok-end.ensures ∙ ap (λ n. first + n) bytes,
+    )
 
 pub members_from-loop-member-preserved : goal.members_from-loop-member-preserved
 members_from-loop-member-preserved t c =
     let l = c.loop-member in
+    let first = c.args.first in
+    let d = description_view c.member-item.result in
     let left = next_member c.args.members.now l.member-index c.member-item.result c.loop-member-test.true c.member-item.is in
     let rest = members_view (drop (l.member-index + 1) c.args.members.now) in
     let planned = c.in_ok-planned.planned in
     let ones = map plan_view l.plans.items in
-    let among = ap scalars_among left in
+    let start = next_multiple_of (l.end - first) (alignment_of d) in
+    let at : c.in_ok-at.at ≡ first + start = omega (arith, c.in_ok-at.ensures, c.in_ok-start.ensures) in
+    let ended : planned.end - first ≡ start + size_of d = omega (arith, c.in_ok-planned.ensures.1, at) in
     record {
-      plans = ap (λ ps. before (map plan_view ps) (plans_from planned.end rest)) c.in_ok-push.ensures.items
-          ∙ ap (λ ps. before ps (plans_from planned.end rest)) (map_push plan_view l.plans.items planned.plan)
-          ∙ before_more ones (plan_view planned.plan) (plans_from planned.end rest)
-          ∙ ap (λ p. before ones (PlanThen p (plans_from planned.end rest))) c.in_ok-planned.ensures.0
-          ∙ ap (λ n. before ones (PlanThen (plan_from l.end (description_view c.member-item.result)) (plans_from n rest))) c.in_ok-planned.ensures.1
-          ∙ ap (λ ds. before ones (plans_from l.end ds)) (sym left)
+      plans = ap (λ ps. before (map plan_view ps) (plans_from first (planned.end - first) rest)) c.in_ok-push.ensures.items
+          ∙ ap (λ ps. before ps (plans_from first (planned.end - first) rest)) (map_push plan_view l.plans.items planned.plan)
+          ∙ before_more ones (plan_view planned.plan) (plans_from first (planned.end - first) rest)
+          ∙ ap (λ p. before ones (PlanThen p (plans_from first (planned.end - first) rest))) (c.in_ok-planned.ensures.0 ∙ ap (λ n. plan_from n d) at)
+          ∙ ap (λ n. before ones (PlanThen (plan_from (first + start) d) (plans_from first n rest))) ended
+          ∙ ap (λ ds. before ones (plans_from first (l.end - first) ds)) (sym left)
           ∙ l.invariant.plans;
-      end = omega (arith, among, c.in_ok-planned.ensures.1, l.invariant.end);
+      end = ap (λ n. end_behind n rest) ended ∙ ap (end_behind (l.end - first)) (sym left) ∙ l.invariant.end;
+      from = omega (arith, c.in_ok-planned.ensures.1, at);
     }
 
 pub members_from-returns : goal.members_from-returns
 members_from-returns t c =
     let l = c.loop-member in
+    let first = c.args.first in
     let none = drop_all l.member-index c.args.members.now c.loop-member-test.false in
-    let plans = ap (λ ds. before (map plan_view l.plans.items) (plans_from l.end (members_view ds))) none in
-    let among = ap (λ ds. scalars_among (members_view ds)) none in (
+    let plans = ap (λ ds. before (map plan_view l.plans.items) (plans_from first (l.end - first) (members_view ds))) none in
+    let ends = ap (λ ds. end_behind (l.end - first) (members_view ds)) none in (
       structure_view _ l.plans refl ∙ ap OfStructure (sym (before_none (map plan_view l.plans.items)) ∙ sym plans ∙ l.invariant.plans),
-      omega (arith, among, l.invariant.end),
+      omega (arith, ends, l.invariant.end, l.invariant.from),
     )

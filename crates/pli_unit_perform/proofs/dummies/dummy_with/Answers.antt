@@ -21,9 +21,9 @@ returns-in_ok-push-in-Ok-2 c = λ image put.
     (OfValue (value_view c.args.value) ∷ ops) ops (frame_view m.here) frames (world_of image m put) _ left
     refl (c.in-Ok.ensures.made (world_of image m put))
     ∙ ap (λ ops. Running (At (with_operands ops (frame_view m.here)) frames
-    (record behind { activations = record (activation_view image m.here) { pending = m.here.pending.items ++ c.in-Ok.place.generation ∷ [] } ∷ activations_of image m.waiting.items }) left)) (sym c.in_ok-push-in-Ok-2.ensures)
+    (record behind { activations = record (activation_view m.here) { pending = m.here.pending.items ++ c.in-Ok.place.generation ∷ [] } ∷ activations_of m.waiting.items }) left)) (sym c.in_ok-push-in-Ok-2.ensures)
     ∙ ap (λ ns. Running (At (with_operands (stack c.push-in-Ok.new.operands.items) (frame_view m.here)) frames
-    (record behind { activations = record (activation_view image m.here) { pending = ns } ∷ activations_of image m.waiting.items }) left)) (sym c.in_ok-push-in-Ok.ensures.items)
+    (record behind { activations = record (activation_view m.here) { pending = ns } ∷ activations_of m.waiting.items }) left)) (sym c.in_ok-push-in-Ok.ensures.items)
 
 pub returns-in_ok-stop_at-in-Err : goal.returns-in_ok-stop_at-in-Err
 returns-in_ok-stop_at-in-Err c = λ image put.

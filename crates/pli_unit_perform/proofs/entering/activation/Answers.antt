@@ -1,6 +1,5 @@
 use Rattle.std.proofs.Common.{ℕ, Option, List, [], map, ap, ◌∙◌}
 use Rattle.std.specs.Prelude.{option_map}
-use Rattle.pli_unit_perform.specs.views.Image.{Image, name_at}
 use Rattle.pli_value.specs.Value.{value_view}
 use Rattle.pli_value.specs.Value as plain
 use Rattle.pli_world.specs.Activations as pli
@@ -14,9 +13,9 @@ pub returns : goal.returns
 returns c =
     let frame : List Operand → List (Option plain.Value) → Frame =
     λ ops ts. record { unit = c.args.unit; next = c.args.block.now.entry; operands = ops; locals = record { temporaries = ts; jumps = 0; stamp = 0 } } in
-    let made : Image → List ℕ → pli.Activation =
-    λ image ns. record {
-      unit = name_at image.linked c.args.unit;
+    let made : List ℕ → pli.Activation =
+    λ ns. record {
+      unit = c.args.unit;
       block = c.args.number;
       statement = c.args.block.now.statement;
       link = c.args.link;
@@ -26,5 +25,5 @@ returns c =
     } in (
       ap (λ ops. frame (stack ops) (map (option_map value_view) c.in_ok-temporaries.temporaries.items)) c.requires.operands
           ∙ ap (frame []) (ap (map (option_map value_view)) c.in_ok-temporaries.ensures ∙ none_set c.args.block.now.temporaries),
-      λ image. ap (made image) c.requires.pending,
+      ap made c.requires.pending,
     )

@@ -4,7 +4,6 @@ use Rattle.std.specs.List.{filter}
 use Rattle.pli_world.specs.Activations as pli
 use Rattle.pli_world.specs.World.{is_given}
 use Rattle.pli_store.specs.views.StorageView.{place_view}
-use Rattle.pli_unit_perform.specs.views.Image.{name_at}
 use Rattle.pli_unit_perform.specs.views.MachineView.{activation_view, activations_of, frame_view, frames_of, world_of}
 use Rattle.pli_unit_perform.proofs.DisplayLemmas.{one_more}
 use Rattle.pli_unit_perform.proofs.EndLemmas.{newest_first}
@@ -22,7 +21,7 @@ returns c = λ image put.
     let m = c.args.machine.now in
     let made : List ℕ → pli.Activation =
     λ ns. record {
-      unit = name_at image.linked c.args.unit;
+      unit = c.args.unit;
       block = c.args.number;
       statement = c.args.block.now.statement;
       link = c.args.link;
@@ -37,14 +36,14 @@ returns c = λ image put.
     let others : c.in_ok-handed.others.items ≡ filter (λ g. not (is_given places g)) m.here.pending.items =
     c.in_ok-handed.ensures.1 ∙ ap (λ ps. filter (λ g. not (is_given (map place_view ps) g)) c.replace-pending.result.items) c.deref.ensures.value
     ∙ ap (λ v. filter (λ g. not (is_given places g)) v.items) c.replace-pending.ensures.value in
-    let first : activation_view image c.replace-before.new.dest ≡ made (filter (is_given (map place_view c.args.places.items)) m.here.pending.items) =
-    ap (activation_view image) c.replace-before.ensures.after ∙ c.in_ok-new.ensures.1 image ∙ ap made handed in
-    let rest : activations_of image c.push.new.self.items
-    ≡ record (activation_view image m.here) { pending = filter (λ g. not (is_given (map place_view c.args.places.items) g)) m.here.pending.items } ∷ activations_of image m.waiting.items =
-    ap (λ xs. reverse (map (activation_view image) xs)) c.in_ok-push.ensures.items
-    ∙ newest_first (activation_view image) m.waiting.items c.replace-before.result
-    ∙ ap (λ a. activation_view image a ∷ activations_of image m.waiting.items) c.replace-before.ensures.value
-    ∙ ap (λ ns. record (activation_view image m.here) { pending = ns } ∷ activations_of image m.waiting.items) others in
+    let first : activation_view c.replace-before.new.dest ≡ made (filter (is_given (map place_view c.args.places.items)) m.here.pending.items) =
+    ap activation_view c.replace-before.ensures.after ∙ c.in_ok-new.ensures.1 ∙ ap made handed in
+    let rest : activations_of c.push.new.self.items
+    ≡ record (activation_view m.here) { pending = filter (λ g. not (is_given (map place_view c.args.places.items) g)) m.here.pending.items } ∷ activations_of m.waiting.items =
+    ap (λ xs. reverse (map activation_view xs)) c.in_ok-push.ensures.items
+    ∙ newest_first activation_view m.waiting.items c.replace-before.result
+    ∙ ap (λ a. activation_view a ∷ activations_of m.waiting.items) c.replace-before.ensures.value
+    ∙ ap (λ ns. record (activation_view m.here) { pending = ns } ∷ activations_of m.waiting.items) others in
     record {
       here =
           ap frame_view c.replace-before.ensures.after ∙ c.in_ok-new.ensures.0;
@@ -53,7 +52,7 @@ returns c = λ image put.
           ∙ newest_first frame_view m.waiting.items c.replace-before.result
           ∙ ap (λ a. frame_view a ∷ frames_of m.waiting.items) c.replace-before.ensures.value;
       world =
-          ap (λ a. record (world_of image m put) { activations = a ∷ activations_of image c.push.new.self.items }) first
+          ap (λ a. record (world_of image m put) { activations = a ∷ activations_of c.push.new.self.items }) first
           ∙ ap (λ xs. record (world_of image m put) { activations = made (filter (is_given (map place_view c.args.places.items)) m.here.pending.items) ∷ xs }) rest;
       left = refl;
     }

@@ -21,5 +21,11 @@ returns-in-Some-EntryPoint c =
     let globals = c.args.globals.now in
     sym (ap standing_of (slice_get_read globals (length globals) c.args.number c.in-Some-EntryPoint.field-0.now refl h.3.0 h.1 ∙ ap Some c.in-Some-EntryPoint.field-0-is))
 
+pub returns-in-Some-ControlledVariable : goal.returns-in-Some-ControlledVariable
+returns-in-Some-ControlledVariable c =
+    let h = c.in-Some-ControlledVariable.ensures.lookup in
+    let globals = c.args.globals.now in
+    sym (ap standing_of (slice_get_read globals (length globals) c.args.number c.in-Some-ControlledVariable.field-0.now refl h.3.0 h.1 ∙ ap Some c.in-Some-ControlledVariable.field-0-is))
+
 pub returns-in-None : goal.returns-in-None
 returns-in-None c = sym (ap standing_of (slice_get_past c.args.globals.now c.args.number c.in-None.ensures.lookup.3))

@@ -21,5 +21,5 @@ returns c = λ image put.
     (same_world (world_of image m put) _ _ _ _ _ _
     (sym (c.end.ensures.storage ∙ ap (λ ns. without ns (storage_view m.storage)) c.deref.ensures.value))
     (sym c.end.ensures.made)
-    (ap (λ ns. record (activation_view image m.here) { pending = ns } ∷ activations_of image m.waiting.items) (sym c.clear.ensures.items)
-    ∙ ap (λ a. a ∷ activations_of image m.waiting.items) (sym (c.count_jump.ensures.same image))))
+    (ap (λ ns. record (activation_view m.here) { pending = ns } ∷ activations_of m.waiting.items) (sym c.clear.ensures.items)
+    ∙ ap (λ a. a ∷ activations_of m.waiting.items) (sym c.count_jump.ensures.same)))

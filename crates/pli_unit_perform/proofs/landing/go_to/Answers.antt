@@ -14,7 +14,7 @@ returns-then-outward-eq0 c = λ u image put.
 pub returns-in-Some : goal.returns-in-Some
 returns-in-Some c = λ u image put.
     let m = c.args.machine.now in
-    let found = rw c.in-Some.is at (c.outer_place.ensures.found image) in
+    let found = rw c.in-Some.is at c.outer_place.ensures.found in
     ap (λ a. leads (given (world_of image m put) a (λ h w. lands h c.args.target (frame_view m.here ∷ frames_of m.waiting.items) w)) (left_of m))
     (height_outward image m put c.args.outward (c.args.outward - 1) c.in-Some.place (c.in-Some.place + 1) (omega arith) (omega arith) found)
     ∙ c.land-in-Some.ensures image put
@@ -22,6 +22,6 @@ returns-in-Some c = λ u image put.
 pub returns-in-None : goal.returns-in-None
 returns-in-None c = λ u image put.
     let m = c.args.machine.now in
-    let found = rw c.in-None.is at (c.outer_place.ensures.found image) in
+    let found = rw c.in-None.is at c.outer_place.ensures.found in
     ap (λ a. leads (given (world_of image m put) a (λ h w. lands h c.args.target (frame_view m.here ∷ frames_of m.waiting.items) w)) (left_of m))
     (height_nowhere image m put c.args.outward (c.args.outward - 1) (omega arith) found)

@@ -11,6 +11,6 @@ returns-then-not-leave c = λ image put.
     let none = c.if-not-leave.ensures.leaves image put in
     c.loop-machine.invariant image put
     ∙ lands_fails c.args.height c.args.target (frame_view m.here) (frames_of m.waiting.items) (world_of image m put) _ (left_of m)
-    (ne_eqb c.args.height (suc (length (activations_of image c.loop-machine.machine.waiting.items)))
-    (λ e. omega (arith, e, c.loop-machine-test.true, how_many image c.loop-machine.machine.waiting.items)))
+    (ne_eqb c.args.height (suc (length (activations_of c.loop-machine.machine.waiting.items)))
+    (λ e. omega (arith, e, c.loop-machine-test.true, how_many c.loop-machine.machine.waiting.items)))
     none.frames none.world

@@ -32,9 +32,9 @@ returns-in-Some-clause-leaves c = λ image put.
           ∙ ap (without here.owned.items) (c.end.ensures.storage ∙ ap (λ ns. without ns storage) c.deref.ensures.value)
           ∙ sym (without_append here.pending.items here.owned.items storage))
           (c.end-in-Some.ensures.made ∙ c.end.ensures.made)
-          (sym (ap (λ xs. reverse (map (activation_view image) xs)) c.in-Some.ensures.items
-          ∙ newest_first (activation_view image) c.pop.new.self.items c.in-Some.next
-          ∙ ap (λ ns. record (activation_view image c.in-Some.next) { pending = ns } ∷ activations_of image c.pop.new.self.items) (sym c.lend.ensures)
-          ∙ ap (λ a. activation_view image a ∷ activations_of image c.pop.new.self.items) (sym c.replace-ended.ensures.after)));
+          (sym (ap (λ xs. reverse (map activation_view xs)) c.in-Some.ensures.items
+          ∙ newest_first activation_view c.pop.new.self.items c.in-Some.next
+          ∙ ap (λ ns. record (activation_view c.in-Some.next) { pending = ns } ∷ activations_of c.pop.new.self.items) (sym c.lend.ensures)
+          ∙ ap (λ a. activation_view a ∷ activations_of c.pop.new.self.items) (sym c.replace-ended.ensures.after)));
       left = refl;
     }

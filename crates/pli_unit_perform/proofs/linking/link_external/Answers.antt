@@ -1,27 +1,20 @@
-use Rattle.std.proofs.Common.{Ok, refl, subst}
-use Rattle.pli_unit_code.specs.CodeTables.{variable_at}
+use Rattle.std.proofs.Common.{Some, Ok, ◌∷◌, refl, sym, subst}
+use Rattle.pli_unit_code.specs.CodeTables as coded
+use Rattle.pli_unit_code.specs.declared.code.VariableKind.TheVariants as kinds
 use Rattle.pli_unit_code.specs.views.CodeView.{code_view}
-use Rattle.pli_unit_perform.specs.answers.Making.{PlacedKnown}
-use Rattle.pli_unit_perform.proofs.LinkedGlobals.{external_goes, external_none, external_fails}
+use Rattle.pli_unit_perform.specs.answers.Making.{Links}
+use Rattle.pli_unit_perform.specs.declared.linked.LinkedGlobal.TheVariants as linked
+use Rattle.pli_unit_perform.proofs.LinkedGlobals.{controlled_links}
 use Rattle.pli_unit_perform.proofs.linking.link_external.Goals as goal
 
-pub returns-in-Ok-Some : goal.returns-in-Ok-Some
-returns-in-Ok-Some c = λ more unit number statics entries known.
-    let code = code_view c.args.code.now in
-    let old = c.args.shared.now in
-    let new = c.place_external.new.shared in
-    external_goes code unit number statics more entries old new c.args.template c.args.name.now _ c.in-Ok-Some.place refl refl
-    (subst (λ o. PlacedKnown (variable_at code c.args.template) c.args.name.now old new statics (Ok o)) c.in-Ok-Some.field-0-is (c.in-Ok-Some.ensures statics known))
+pub returns-in-Static : goal.returns-in-Static
+returns-in-Static c = λ more unit number statics entries known.
+    subst (λ k. Links (code_view c.args.code.now) unit number statics (coded.ExternalVariable c.args.name.now k c.args.template ∷ more) more entries entries c.args.shared.now c.link_external_static.new.shared c.link_external_static.result)
+    (sym c.in-Static.is) (c.link_external_static.ensures more unit number statics entries known)
 
-pub returns-in-Ok-None : goal.returns-in-Ok-None
-returns-in-Ok-None c = λ more unit number statics entries known.
+pub returns-in-Controlled : goal.returns-in-Controlled
+returns-in-Controlled c = λ more unit number statics entries known.
     let code = code_view c.args.code.now in
-    let old = c.args.shared.now in
-    let new = c.place_external.new.shared in
-    external_none code unit number statics more entries old new c.args.template c.args.name.now
-    (subst (λ o. PlacedKnown (variable_at code c.args.template) c.args.name.now old new statics (Ok o)) c.in-Ok-None.field-0-is (c.in-Ok-None.ensures statics known))
-
-pub returns-in-Err : goal.returns-in-Err
-returns-in-Err c = λ more unit number statics entries known.
-    external_fails (code_view c.args.code.now) unit number statics more entries c.args.shared.now c.place_external.new.shared c.args.template c.args.name.now c.in-Err.fault
-    (c.in-Err.ensures statics known)
+    let shared = c.args.shared.now in
+    subst (λ k. Links code unit number statics (coded.ExternalVariable c.args.name.now k c.args.template ∷ more) more entries entries shared shared (Ok (Some linked.ControlledVariable)))
+    (sym c.in-Controlled.is) (controlled_links code unit number statics entries shared (coded.ExternalVariable c.args.name.now kinds.Controlled c.args.template) more refl known)

@@ -1,13 +1,13 @@
-use Rattle.std.proofs.Common.{List, map, drop}
+use Rattle.std.proofs.Common.{ℕ, List, map, drop}
 use Rattle.pli_world.specs.World.{Static}
-use Rattle.pli_unit_code.specs.views.CodeView.{code_view, global_view}
+use Rattle.pli_unit_code.specs.views.CodeView.{global_view}
 use Rattle.pli_unit_perform.specs.answers.Making.{AreKnown}
-use Rattle.pli_unit_perform.proofs.LinkedGlobals.{SoFar}
+use Rattle.pli_unit_perform.proofs.LinkedGlobals.{GlobalsSoFar}
 use Rattle.pli_unit_perform.proofs.linking.link_unit.Given as goal
 
 -- the globals that are left are linked behind those so far as all are behind none
 abbrev pub invariant-loop-global : goal.invariant-loop-global
 invariant-loop-global l =
-    (statics : List Static) → AreKnown l.initial.shared statics
-    → SoFar (code_view l.unit.code) l.unit.unit (map global_view l.unit.code.globals.items) (drop l.global-index (map global_view l.unit.code.globals.items))
-    l.unit.entries.items (drop l.taken l.unit.entries.items) statics l.initial.shared l.shared l.table.items
+    (number : ℕ) (statics : List Static) → AreKnown l.initial.shared statics
+    → GlobalsSoFar l.unit number (drop l.global-index (map global_view l.unit.code.globals.items)) l.taken
+    statics l.initial.shared l.shared l.table.items

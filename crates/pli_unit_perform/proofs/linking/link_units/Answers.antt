@@ -20,8 +20,7 @@ loop-unit-preserved c =
     (ap (map (λ t. t.items)) c.in_ok-add_table-in-Ok.ensures ∙ map-append (λ t. t.items) l.tables.items (c.link_unit.new.table ∷ []))
     (unit_here c.args.«module».now.units.items c.deref-unit-items.result.now l.unit-index c.unit-item.result
     c.deref-unit-items.ensures.value (omega arith) c.unit-item.is) l.invariant
-    (c.in-Ok.ensures (all_statics (map (λ u. u.unit) us) (map (λ t. t.items) l.tables.items))
-    l.invariant.known)
+    (c.in-Ok.ensures l.unit-index (all_statics 0 (map (λ t. t.items) l.tables.items)) l.invariant.known)
 
 pub returns-in-Err : goal.returns-in-Err
 returns-in-Err c =
@@ -31,8 +30,7 @@ returns-in-Err c =
     (map (λ t. t.items) l.tables.items) c.link_unit.new.table.items c.in-Err.fault
     (unit_here c.args.«module».now.units.items c.deref-unit-items.result.now l.unit-index c.unit-item.result
     c.deref-unit-items.ensures.value (omega arith) c.unit-item.is) l.invariant
-    (c.in-Err.ensures (all_statics (map (λ u. u.unit) us) (map (λ t. t.items) l.tables.items))
-    l.invariant.known)
+    (c.in-Err.ensures l.unit-index (all_statics 0 (map (λ t. t.items) l.tables.items)) l.invariant.known)
 
 pub returns : goal.returns
 returns c =

@@ -7,7 +7,6 @@ use Rattle.pli_unit_code.specs.views.CodeView.{unit_view}
 use Rattle.pli_unit_perform.specs.views.ImageView.{image_of}
 use Rattle.pli_unit_perform.specs.declared.machine.Stop.TheVariants as stop
 use Rattle.pli_unit_perform.proofs.InstructionsDo.{one_performs, does_performs, moves_performs, same_performs}
-use Rattle.pli_unit_perform.proofs.LinkedUnits.{unit_named}
 use Rattle.pli_unit_perform.proofs.performing.perform.Goals as goal
 
 pub returns-in-Step : goal.returns-in-Step
@@ -32,11 +31,11 @@ returns-in-Goto c =
 
 pub returns-in-Call : goal.returns-in-Call
 returns-in-Call c =
-    moves_performs (image_of c.args.unit.now.loaded.now) (unit_view c.args.unit.now.linked.now) c.args.instruction (coded.Call c.in-Call.block c.in-Call.arguments) c.args.machine.now c.call.new.machine c.call.result c.in-Call.is (unit_named c.args.unit.now c.args.machine.now.here.unit c.requires) c.call.ensures
+    moves_performs (image_of c.args.unit.now.loaded.now) (unit_view c.args.unit.now.linked.now) c.args.instruction (coded.Call c.in-Call.block c.in-Call.arguments) c.args.machine.now c.call.new.machine c.call.result c.in-Call.is c.call.ensures
 
 pub returns-in-Begin : goal.returns-in-Begin
 returns-in-Begin c =
-    moves_performs (image_of c.args.unit.now.loaded.now) (unit_view c.args.unit.now.linked.now) c.args.instruction (coded.Begin c.in-Begin.block) c.args.machine.now c.begin.new.machine c.begin.result c.in-Begin.is (unit_named c.args.unit.now c.args.machine.now.here.unit c.requires) c.begin.ensures
+    moves_performs (image_of c.args.unit.now.loaded.now) (unit_view c.args.unit.now.linked.now) c.args.instruction (coded.Begin c.in-Begin.block) c.args.machine.now c.begin.new.machine c.begin.result c.in-Begin.is c.begin.ensures
 
 pub returns-in-Return : goal.returns-in-Return
 returns-in-Return c =

@@ -1,7 +1,8 @@
-use Rattle.std.proofs.Common.{ap}
+use Rattle.std.proofs.Common.{refl, ap}
 use Rattle.std.proofs.lemmas.Result.{IfOk-weaker}
 use Rattle.pli_machine_step.specs.Machine.{resume}
 use Rattle.pli_machine_step.specs.Runs.{main_unit}
+use Rattle.pli_world.specs.Ends.{MachineFault}
 use Rattle.pli_unit_code.specs.views.CodeView.{module_view}
 use Rattle.pli_unit_perform.specs.answers.Making.{first_world}
 use Rattle.pli_unit_perform.specs.views.Image.{image_with}
@@ -19,11 +20,17 @@ returns-in-Some c =
     (λ b begins statics.
     begins_as (image_with (module_view md) statics) _ _ b
     (ap (λ o. resume (main_unit md.main o (first_world c.args.storage statics)) c.args.limit) (code_there md md.main u there))
-    (begins (image_with (module_view md) statics) u.entries.items (named_there md md.main u there)))
+    (begins (image_with (module_view md) statics) (named_there md md.main u there)))
     c.begin_first.ensures
 
 pub returns : goal.returns
 returns c = λ statics.
     let md = c.args.«module».now in
     let there = rw c.in-None.is at c.linked_at.ensures in
-    ap (λ o. shown (resume (main_unit md.main o (first_world c.args.storage statics)) c.args.limit)) (none_there md md.main there)
+    record {
+      end = MachineFault;
+      over =
+          ap (λ o. shown (resume (main_unit md.main o (first_world c.args.storage statics)) c.args.limit))
+          (none_there md md.main there);
+      is = refl;
+    }

@@ -13,8 +13,8 @@ pub returns-in_ok-add_slot-in-Ok-clause-made : goal.returns-in_ok-add_slot-in-Ok
 returns-in_ok-add_slot-in-Ok-clause-made c = λ more image put.
     let m = c.args.machine.now in
     ap (λ a. further a (λ p w. made_all more (in_newest (with_slot p) w))) (c.in-Ok.ensures.answer (world_of image m put))
-    ∙ ap (λ a. made_all more (record (with_storage c.make_initial.new.storage (world_of image m put)) { activations = a ∷ activations_of image m.waiting.items }))
-    (sym (c.in_ok-add_slot-in-Ok.ensures.slot image))
+    ∙ ap (λ a. made_all more (record (with_storage c.make_initial.new.storage (world_of image m put)) { activations = a ∷ activations_of m.waiting.items }))
+    (sym c.in_ok-add_slot-in-Ok.ensures.slot)
 
 pub returns-in-Err-clause-made : goal.returns-in-Err-clause-made
 returns-in-Err-clause-made c = λ more image put.

@@ -1,5 +1,4 @@
 use Rattle.std.proofs.Common.{◌≡◌, ◌-◌, ◌≤◌, length, map}
-use Rattle.pli_unit_perform.specs.views.Image.{Image}
 use Rattle.pli_world.specs.Activations.{outward_from}
 use Rattle.pli_unit_perform.specs.views.MachineView.{activation_view, activations_of}
 use Rattle.pli_unit_perform.proofs.LinkWalkLemmas.{first_of}
@@ -9,6 +8,6 @@ use Rattle.pli_unit_perform.proofs.walk.outer.Given as goal
 abbrev pub invariant-loop-passed : goal.invariant-loop-passed
 invariant-loop-passed l = record {
   within : l.count ≤ length l.waiting;
-  way : (image : Image) → outward_from (activations_of image l.waiting) l.link l.outward
-      ≡ outward_from (first_of (map (activation_view image) l.waiting) l.count) l.height (l.outward - l._passed);
+  way : outward_from (activations_of l.waiting) l.link l.outward
+      ≡ outward_from (first_of (map activation_view l.waiting) l.count) l.height (l.outward - l._passed);
 }

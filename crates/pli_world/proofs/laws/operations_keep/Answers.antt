@@ -46,6 +46,9 @@ returns-clause-parts_stored c = law.parts_stored_keep
 pub returns-clause-copying : goal.returns-clause-copying
 returns-clause-copying c = law.copying_keeps
 
+pub returns-clause-leading : goal.returns-clause-leading
+returns-clause-leading c = law.leading_keeps
+
 pub returns-clause-subscript : goal.returns-clause-subscript
 returns-clause-subscript c = law.subscript_keeps
 

@@ -17,6 +17,7 @@ returns c = record {
   element_copied = refl;
   aggregate_held = refl;
   no_element = (refl, refl);
+  too_far = (refl, refl, refl, refl);
   no_part = refl;
   static_stays = refl;
   static_of_other = refl;

@@ -10,18 +10,22 @@ use Rattle.pli_store.specs.answers.Found.{PartStands}
 use Rattle.pli_store.specs.answers.Puts.{ValuesPut}
 use Rattle.pli_store.specs.views.GenerationView.{generation_view}
 use Rattle.pli_store.specs.views.StorageView.{place_view, storage_view, with_storage}
-use Rattle.pli_store.proofs.CopyLemmas.{copied_other, copied_from_none, copied_to_none, copied_done}
+use Rattle.pli_store.proofs.CopyLemmas.{copied_area, copied_other, copied_from_none, copied_to_none, copied_done}
 use Rattle.pli_store.proofs.PartAnswers.{kept_put}
 use Rattle.pli_store.proofs.StandingParts.{part_lives}
 use Rattle.pli_store.proofs.storage.Storage.copied.Goals as goal
 use Rattle.pli_store.proofs.storage.Storage.copied.Goals.{After-copy_part}
+
+pub returns-then-is_area-clause-answer : goal.returns-then-is_area-clause-answer
+returns-then-is_area-clause-answer c = λ w.
+    copied_area (place_view c.args.source) (place_view c.args.target) (with_storage c.args.self.now w) (sym c.is_area.ensures ∙ c.if-is_area.true)
 
 pub returns-then-not-equals-clause-answer : goal.returns-then-not-equals-clause-answer
 returns-then-not-equals-clause-answer c = λ w.
     let d = description_view c.args.source.description.now in
     let e = description_view c.args.target.description.now in
     let told = same_from_decides c.equals.result (same d e) c.equals.ensures (same_decides d e) in
-    copied_other (place_view c.args.source) (place_view c.args.target) (with_storage c.args.self.now w) (sym told ∙ c.if-not-equals.true)
+    copied_other (place_view c.args.source) (place_view c.args.target) (with_storage c.args.self.now w) (sym c.is_area.ensures ∙ c.if-is_area.false) (sym told ∙ c.if-not-equals.true)
 
 pub returns-in_err-from-clause-answer : goal.returns-in_err-from-clause-answer
 returns-in_err-from-clause-answer c = λ w.
@@ -30,7 +34,8 @@ returns-in_err-from-clause-answer c = λ w.
     let told = same_from_decides c.equals.result (same d e) c.equals.ensures (same_decides d e) in
     let p = err_from_is_err_and c.from_residual.result c.from_residual.ensures.1 in
     let before = with_storage c.args.self.now w in
-    rw (p.1, p.2) (copied_from_none {T = Unit {0}} (λ x. tt) (place_view c.args.source) (place_view c.args.target) before before c.in_err-from.field-0.0 (sym told ∙ c.if-not-equals.false) c.in_err-from.ensures)
+    rw (p.1, p.2) (copied_from_none {T = Unit {0}} (λ x. tt) (place_view c.args.source) (place_view c.args.target) before before c.in_err-from.field-0.0 (sym c.is_area.ensures ∙ c.if-is_area.false)
+    (sym told ∙ c.if-not-equals.false) c.in_err-from.ensures)
 
 pub returns-in_err-to-clause-answer : goal.returns-in_err-to-clause-answer
 returns-in_err-to-clause-answer c = λ w.
@@ -39,7 +44,7 @@ returns-in_err-to-clause-answer c = λ w.
     let told = same_from_decides c.equals.result (same d e) c.equals.ensures (same_decides d e) in
     let p = err_from_is_err_and c.from_residual-in_err-to.result c.from_residual-in_err-to.ensures.1 in
     let before = with_storage c.args.self.now w in
-    rw (p.1, p.2) (copied_to_none (place_view c.args.source) (place_view c.args.target) before (sym told ∙ c.if-not-equals.false) c.in_ok-from.from c.in_ok-from.ensures {T = Unit {0}} (λ x. tt) before c.in_err-to.field-0.0 c.in_err-to.ensures)
+    rw (p.1, p.2) (copied_to_none (place_view c.args.source) (place_view c.args.target) before (sym c.is_area.ensures ∙ c.if-is_area.false) (sym told ∙ c.if-not-equals.false) c.in_ok-from.from c.in_ok-from.ensures {T = Unit {0}} (λ x. tt) before c.in_err-to.field-0.0 c.in_err-to.ensures)
 
 pub copy_part-requires : goal.copy_part-requires
 copy_part-requires c =
@@ -77,6 +82,6 @@ returns-clause-answer c = λ w.
     let d = description_view c.args.source.description.now in
     let e = description_view c.args.target.description.now in
     let told = same_from_decides c.equals.result (same d e) c.equals.ensures (same_decides d e) in
-    copied_done (place_view c.args.source) (place_view c.args.target) (with_storage c.args.self.now w) (sym told ∙ c.if-not-equals.false)
+    copied_done (place_view c.args.source) (place_view c.args.target) (with_storage c.args.self.now w) (sym c.is_area.ensures ∙ c.if-is_area.false) (sym told ∙ c.if-not-equals.false)
     c.in_ok-from.from c.in_ok-from.ensures c.in_ok-to.to c.in_ok-to.ensures (map generation_view c.copy_part.new.generations.items)
     c.args.self.now.made c.args.self.now.rising (values_put (goal.at.returns-clause-answer c).After-copy_part)

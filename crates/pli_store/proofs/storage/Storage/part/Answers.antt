@@ -1,16 +1,8 @@
-use Rattle.std.proofs.Common.{◌≡◌, ◌≤◌, length, Some, slice_get, refl, sym, arith}
+use Rattle.std.proofs.Common.{◌≡◌, length, Some, slice_get, refl, sym, arith}
 use Rattle.std.proofs.lemmas.Option.{slice_get_read}
 use Rattle.pli_store.specs.views.StorageView.{place_view}
-use Rattle.pli_store.proofs.PlaceLemmas.{within_store, leads_too_far, leads_to, leads_nowhere}
+use Rattle.pli_store.proofs.PlaceLemmas.{within_store, leads_to, leads_nowhere}
 use Rattle.pli_store.proofs.storage.Storage.part.Goals as goal
-
-pub returns-in_default-try_from : goal.returns-in_default-try_from
-returns-in_default-try_from c =
-    let items = c.args.self.now.generations.items in
-    let counted = c.args.self.now.counted in
-    let limited = c.args.self.now.limited in
-    let far : 4294967296 ≤ c.args.place.offset = omega (arith, c.in_default-try_from.ensures) in
-    leads_too_far items (place_view c.args.place) c.in-Some.at c.in-Some.ensures (omega (arith, counted, limited)) refl far
 
 pub index-requires : goal.index-requires
 index-requires c =
@@ -22,12 +14,11 @@ returns-then-not-is_part c =
     let items = c.args.self.now.generations.items in
     let inside = within_store items c.args.place.generation c.in-Some.at c.in-Some.ensures in
     let here : slice_get items c.in-Some.at ≡ Some c.index.result.now = slice_get_read items (length items) c.in-Some.at c.index.result.now refl inside c.index.ensures in
-    leads_nowhere items (place_view c.args.place) c.in-Some.at c.in-Some.ensures refl c.index.result.now here (rw (← c.in-Ok.ensures.1) (sym c.if-not-is_part.ensures))
+    leads_nowhere items (place_view c.args.place) c.in-Some.at c.in-Some.ensures refl c.index.result.now here (sym c.if-not-is_part.ensures)
 
 pub returns : goal.returns
 returns c =
     let items = c.args.self.now.generations.items in
     let inside = within_store items c.args.place.generation c.in-Some.at c.in-Some.ensures in
     let here : slice_get items c.in-Some.at ≡ Some c.index.result.now = slice_get_read items (length items) c.in-Some.at c.index.result.now refl inside c.index.ensures in
-    rw c.in-Ok.ensures.1
-    (leads_to items (place_view c.args.place) c.in-Some.at c.in-Some.ensures refl c.index.result.now here (rw (← c.in-Ok.ensures.1) (sym c.if-not-is_part.ensures)))
+    leads_to items (place_view c.args.place) c.in-Some.at c.in-Some.ensures refl c.index.result.now here (sym c.if-not-is_part.ensures)
