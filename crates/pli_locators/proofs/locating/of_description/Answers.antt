@@ -1,0 +1,22 @@
+use Rattle.std.proofs.Common.{sym, ◌∙◌}
+use Rattle.std.proofs.lemmas.Bool.Decides.{same_from_decides}
+use Rattle.pli_map.specs.Same.{same}
+use Rattle.pli_map.specs.laws.SameLaws.{same_decides}
+use Rattle.pli_map.specs.views.DescriptionView.{description_view}
+use Rattle.pli_locators.specs.views.TargetView.{target_view}
+use Rattle.pli_locators.proofs.TargetsFound.{unless_other_same, unless_other_differs}
+use Rattle.pli_locators.proofs.locating.of_description.Goals as goal
+
+pub returns-then-equals : goal.returns-then-equals
+returns-then-equals c = λ w.
+    let d = description_view c.args.living.place.description.now in
+    let e = description_view c.args.description.now in
+    let told = same_from_decides c.equals.result (same d e) c.equals.ensures (same_decides d e) in
+    unless_other_same e (target_view c.args.living) w (sym told ∙ c.if-equals.true)
+
+pub returns-else-equals : goal.returns-else-equals
+returns-else-equals c = λ w.
+    let d = description_view c.args.living.place.description.now in
+    let e = description_view c.args.description.now in
+    let told = same_from_decides c.equals.result (same d e) c.equals.ensures (same_decides d e) in
+    unless_other_differs e (target_view c.args.living) w (sym told ∙ c.if-equals.false)

@@ -1,0 +1,5 @@
+pub mod Locating
+pub mod Stacks
+pub mod examples
+pub mod laws
+pub mod views

@@ -1,0 +1,3 @@
+pub mod PlacesView
+pub mod StacksView
+pub mod TargetView
