@@ -1,4 +1,4 @@
-//! Tests of decks and modules as bytes, of the compiler, the linker and the machine, and of the workbench.
+//! Tests of the compiler, the linker and the machine, and of the workbench.
 #![tactic(auto)]
 
 #[cfg(test)]

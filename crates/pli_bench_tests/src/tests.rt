@@ -1,15 +1,12 @@
 //! Tables of calls, with what they give.
 
-mod built;
 mod calls;
 mod compiling;
 mod devices;
 mod linking;
-mod loaded;
 mod long_sessions;
 mod machine;
 mod serving;
-mod spelled;
 mod statuses;
 
 use pli_base::Name;
