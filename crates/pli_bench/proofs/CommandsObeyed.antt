@@ -14,17 +14,17 @@ use Rattle.pli_members.specs.declared.refusal.EditError.{EditError}
 use Rattle.pli_members.specs.declared.refusal.EditError.TheVariants.{Refused, OutOfMemory}
 use Rattle.pli_members.specs.declared.refusal.Refusal.{Refusal}
 use Rattle.pli_members.specs.declared.refusal.Refusal.TheVariants.{NoSuchMember}
-use Rattle.pli_unit_code.specs.Modules.{Module, program_of}
+use Rattle.pli_code.specs.Modules.{Module, program_of}
 use Rattle.pli_bench.specs.answers.Standing.{IsOfMembers, IsStanding}
 use Rattle.pli_bench.specs.declared.stored.StoredModule.{StoredModule}
 use Rattle.pli_deck_load.specs.LinkedBytes.{IsLinked}
-use Rattle.pli_code.specs.declared.ending.Ending.{Ending}
-use Rattle.pli_code.specs.declared.ending.Ran.{Ran}
+use Rattle.pli_run.specs.declared.ending.Ending.{Ending}
+use Rattle.pli_run.specs.declared.ending.Ran.{Ran}
 use Rattle.pli_meaning.specs.Scratch.{Built, Made, scratch}
 use Rattle.pli_meaning.proofs.MembersDoAsMeant.{members_simulate}
 use Rattle.pli_meaning.specs.Members.{HasMeaning}
 use Rattle.pli_bench.specs.answers.Answering.{Writes}
-use Rattle.pli_unit_machine.specs.answers.Runs.{RanTo, StoppedWithin}
+use Rattle.pli_machine.specs.answers.Runs.{RanTo, StoppedWithin}
 use Rattle.pli_bench.specs.answers.Obeying.{Does, as_edit, edit_answer, end_answer, gone, standing_after}
 use Rattle.pli_bench.specs.Commands.{Command, command_of}
 use Rattle.pli_bench.specs.Exchanges.{exchange, span}

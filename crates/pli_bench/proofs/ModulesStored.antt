@@ -3,7 +3,7 @@ use Rattle.std.specs.Prelude.{◌≡◌, ℕ, ◌<◌, ◌≤◌, List, length, 
 use Rattle.std.specs.List.{AllByRecursion}
 use Rattle.std.proofs.Common.{subst, sym}
 use Rattle.pli_base.specs.Name.{Name}
-use Rattle.pli_deck.specs.ModuleSpelling.{module_bytes}
+use Rattle.pli_deck_write.specs.ModuleSpelling.{module_bytes}
 use Rattle.pli_deck_code.specs.CodeModules.{module_of}
 use Rattle.pli_deck_code.specs.declared.linked.Linked.{Linked}
 use Rattle.pli_deck_code.specs.views.LinkedView.{lent_view, linked_view}

@@ -5,10 +5,10 @@ use Rattle.std.specs.Result.{result_ok}
 use Rattle.pli_base.specs.Name.{Name}
 use Rattle.pli_base.specs.declared.token.Fault.{Fault}
 use Rattle.pli_base.specs.declared.token.Origin.{Origin}
-use Rattle.pli_compile.specs.Faults.{faults_of}
+use Rattle.pli_deck.specs.Faults.{faults_of}
 use Rattle.pli_link.specs.Units.{Compiled, as_unit}
 use Rattle.pli_meaning.specs.Scratch.{all_located, diagnostic_line, located, with_unit}
-use Rattle.pli_unit_code.specs.CodeTables.{Deck}
+use Rattle.pli_code.specs.CodeTables.{Deck}
 use Rattle.pli_bench.specs.answers.Compiling.{Tells}
 
 pub tells : (unit : Name) (origins : List Origin) (r : Result Deck (List Fault)) (answer : Option Compiled) (old new : List ℕ)

@@ -1,8 +1,8 @@
 -- What is shown of a module's bytes: each as two digits in base 16, 32 to a line (own).
 use Rattle.std.specs.Prelude.{ℕ, ◌+◌, ◌/◌, ◌%◌, nat_eq, nat_lt, List, [], ◌∷◌, ◌++◌, if◌then◌else◌}
-use Rattle.pli_deck.specs.ModuleSpelling.{module_bytes}
+use Rattle.pli_deck_write.specs.ModuleSpelling.{module_bytes}
 use Rattle.pli_deck_code.specs.CodeModules.{module_of}
-use Rattle.pli_unit_code.specs.Modules.{Module}
+use Rattle.pli_code.specs.Modules.{Module}
 
 -- 0 to 9, then a to f
 abbrev pub digit_of : ℕ → ℕ

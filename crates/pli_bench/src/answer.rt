@@ -8,8 +8,8 @@ ghost use Rattle.pli_bench.specs.Session.{ending_line, refused};
 
 use itoa::Buffer;
 use pli_base::{Failed, Sink, put_all};
-use pli_code::Ending;
 use pli_members::Refusal;
+use pli_run::Ending;
 
 /// Puts the parts, one after another.
 pub fn put_parts<W: Sink>(writer: &mut W, parts: &[&[u8]]) -> Result<(), Failed>

@@ -16,13 +16,13 @@ use crate::listing::{put_lines, put_members};
 use crate::serving::{AfterCommand, Interpreter, ServeFault, WriteFailed, serve};
 use crate::stored::StoredModule;
 use pli_base::{Failed, Name, Sink, Source};
-use pli_code::Ran;
-use pli_compile::Compiler;
+use pli_deck::Compiler;
 use pli_deck_load::load;
 use pli_include::Expander;
+use pli_machine::run;
 use pli_members::{EditError, MemberKind, Members, Refusal};
 use pli_print::RunFault;
-use pli_unit_machine::run;
+use pli_run::Ran;
 use std::alloc::{AllocError, Global};
 use std::marker::Model;
 

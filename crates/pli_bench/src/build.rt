@@ -9,7 +9,7 @@ ghost use Rattle.pli_link.specs.views.UnitView.{compiled_view};
 use crate::compile::{KeptUnit, compile};
 use crate::stored::{StoredModule, stored};
 use pli_base::Code;
-use pli_compile::Compiler;
+use pli_deck::Compiler;
 use pli_include::Expander;
 use pli_link::{LinkError, LinkFault, LinkedName, NamedUnit, link};
 use pli_members::{MemberKind, Members, NamedMember};

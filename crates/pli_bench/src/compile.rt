@@ -4,14 +4,14 @@ ghost use Rattle.std.specs.List.{flat_map};
 ghost use Rattle.pli_meaning.specs.Scratch.{all_located, compiled_of, compiled_texts, diagnostic_line, located, origin_of, with_unit};
 ghost use Rattle.pli_bench.specs.answers.Compiling.{Tells};
 ghost use Rattle.pli_link.specs.Units.{as_unit};
-ghost use Rattle.pli_unit_code.specs.views.CodeView.{deck_view};
+ghost use Rattle.pli_code.specs.views.CodeView.{deck_view};
 ghost use Rattle.pli_bench.specs.views.KeptView.{kept_view};
 
 use pli_base::{Code, Fault, Name, Origin};
-use pli_compile::Compiler;
+use pli_code::Deck;
+use pli_deck::Compiler;
 use pli_include::{Expander, Expansion};
 use pli_members::Members;
-use pli_unit_code::Deck;
 use std::alloc::AllocError;
 use std::fmt::Write;
 

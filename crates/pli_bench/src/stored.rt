@@ -1,7 +1,7 @@
 //! The module of a build, as its bytes.
 ghost use Rattle.std.specs.Prelude.{◌≡◌, ◌<◌, length, map, IfOk};
 ghost use Rattle.std.specs.List.{AllByRecursion};
-ghost use Rattle.pli_deck.specs.ModuleSpelling.{module_bytes};
+ghost use Rattle.pli_deck_write.specs.ModuleSpelling.{module_bytes};
 ghost use Rattle.pli_deck_code.specs.CodeModules.{module_of};
 ghost use Rattle.pli_deck_code.specs.views.LinkedView.{lent_view, linked_view};
 ghost use Rattle.pli_deck_laws.specs.UnitTypes.{IsTypedUnit};

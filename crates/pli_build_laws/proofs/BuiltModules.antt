@@ -15,7 +15,7 @@ use Rattle.pli_members.specs.Members.{Member}
 use Rattle.pli_members.specs.declared.kind.MemberKind.{MemberKind}
 use Rattle.pli_members.specs.declared.kind.MemberKind.TheVariants.{Source, Include}
 use Rattle.pli_type_tree.specs.TypedTree.{TypedUnit}
-use Rattle.pli_unit_code.specs.Modules.{Module}
+use Rattle.pli_code.specs.Modules.{Module}
 use Rattle.pli_build_laws.specs.BuiltModules.{BuiltModulesAreLoaded}
 use Rattle.pli_build_laws.proofs.FormedMembers.{tree_formed, named_formed}
 

@@ -1,3 +1,4 @@
-pub mod Errors
-pub mod Print
-pub mod examples
+pub mod CodeFields
+pub mod CodeTables
+pub mod Modules
+pub mod views

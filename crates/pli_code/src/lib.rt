@@ -1,8 +1,11 @@
-//! How a run ends, and how items are printed.
+//! The code of a unit, with the tables that its instructions name.
 #![tactic(auto)]
 
-mod ending;
-mod examples;
+mod code;
+mod instruction;
 
-pub use ending::{Ending, Ran, RunError};
-pub use examples::worked_examples;
+pub use code::{
+    Block, BlockKind, Code, CodedGlobal, CodedSignature, CodedTemplate, Deck, LinkedUnit, Module,
+    VariableKind,
+};
+pub use instruction::Instruction;

@@ -1,13 +1,3 @@
-pub mod DeckFaults
-pub mod DeckFields
-pub mod Descriptions
-pub mod FaultNumbers
-pub mod Fields
-pub mod Instructions
-pub mod ModuleFields
-pub mod ModuleSpelling
-pub mod ModuleView
-pub mod Numbered
-pub mod Spelling
-pub mod Whole
-pub mod examples
+pub mod Faults
+pub mod answers
+pub mod views

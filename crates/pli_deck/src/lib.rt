@@ -1,23 +1,10 @@
-//! Decks and modules as bytes: what spells them, the laws of that, and what writes them.
+//! The compiler: what the tokens of a unit are compiled to, its deck or its faults.
 #![tactic(auto)]
 
-mod coding;
-mod describing;
-mod fault;
-mod laws;
-mod module;
-mod modules;
-mod numbered;
-mod putting;
-mod write;
-mod writing;
+mod compiled;
+mod compiler;
+mod copying;
+mod passes;
 
-pub use describing::LEVELS;
-pub use fault::DeckFault;
-pub use laws::{
-    decks_both_ways, descriptions_both_ways, instructions_both_ways, modules_both_ways,
-    worked_decks, worked_modules,
-};
-pub use module::{DeckModule, External, LentDeck, LentMember, LentModule, Member};
-pub use modules::write_module;
-pub use write::write_deck;
+pub use compiled::Compiled;
+pub use compiler::Compiler;

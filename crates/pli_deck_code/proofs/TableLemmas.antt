@@ -4,14 +4,14 @@ use Rattle.std.specs.Map.{keys_of, lookup}
 use Rattle.std.proofs.lemmas.List.{at_drop_more, drop_all, drop_more}
 use Rattle.pli_base.specs.Name.{Name}
 use Rattle.pli_base.specs.Words.{same_name}
-use Rattle.pli_deck.specs.ModuleFields as plain
-use Rattle.pli_deck.specs.ModuleView.{external_view}
-use Rattle.pli_deck.specs.declared.module.External.{External}
-use Rattle.pli_unit_code.specs.CodeTables as code
-use Rattle.pli_unit_code.specs.declared.code.CodedGlobal.{CodedGlobal}
-use Rattle.pli_unit_code.specs.declared.code.CodedGlobal.TheVariants as globals
-use Rattle.pli_unit_code.specs.declared.code.CodedSignature.{CodedSignature}
-use Rattle.pli_unit_code.specs.views.CodeView.{global_view, signature_view}
+use Rattle.pli_deck_write.specs.ModuleFields as plain
+use Rattle.pli_deck_write.specs.ModuleView.{external_view}
+use Rattle.pli_deck_write.specs.declared.module.External.{External}
+use Rattle.pli_code.specs.CodeTables as code
+use Rattle.pli_code.specs.declared.code.CodedGlobal.{CodedGlobal}
+use Rattle.pli_code.specs.declared.code.CodedGlobal.TheVariants as globals
+use Rattle.pli_code.specs.declared.code.CodedSignature.{CodedSignature}
+use Rattle.pli_code.specs.views.CodeView.{global_view, signature_view}
 use Rattle.pli_deck_code.specs.CodeModules.{short, external_of, number_of, links_of}
 use Rattle.pli_deck_code.specs.answers.Tables.{name_of}
 use Rattle.pli_deck_code.specs.declared.externals.ExternalDeclaration.{ExternalDeclaration}

@@ -7,11 +7,11 @@ use Rattle.std.specs.Map.{keys_of, lookup}
 use Rattle.std.specs.Ordering.{nat_cmp}
 use Rattle.pli_base.specs.Name.{Name}
 use Rattle.pli_base.specs.Words.{same_name}
-use Rattle.pli_deck.specs.ModuleFields.{External, Member, DeckModule}
-use Rattle.pli_unit_code.specs.CodeTables.{Deck, CodedGlobal, OwnVariable, ExternalVariable, EntryPoint}
-use Rattle.pli_unit_code.specs.declared.code.VariableKind.TheVariants.{Static}
-use Rattle.pli_unit_code.specs.Modules as linked
-use Rattle.pli_unit_code.specs.Modules.{LinkedUnit}
+use Rattle.pli_deck_write.specs.ModuleFields.{External, Member, DeckModule}
+use Rattle.pli_code.specs.CodeTables.{Deck, CodedGlobal, OwnVariable, ExternalVariable, EntryPoint}
+use Rattle.pli_code.specs.declared.code.VariableKind.TheVariants.{Static}
+use Rattle.pli_code.specs.Modules as linked
+use Rattle.pli_code.specs.Modules.{LinkedUnit}
 use Rattle.pli_deck_code.specs.declared.externals.ExternalDeclaration.{ExternalDeclaration}
 
 -- a number in a field of two bytes: the greatest that it holds stands for every greater one, which no module

@@ -1,7 +1,7 @@
 //! The external variables of a module, in the order of their names.
 ghost use Rattle.std.specs.Prelude.{◌≡◌, map, IfOk, OnOk};
-ghost use Rattle.pli_deck.specs.ModuleView.{external_view};
-ghost use Rattle.pli_unit_code.specs.views.CodeView.{global_view};
+ghost use Rattle.pli_deck_write.specs.ModuleView.{external_view};
+ghost use Rattle.pli_code.specs.views.CodeView.{global_view};
 ghost use Rattle.pli_deck_code.specs.CodeModules as spec;
 ghost use Rattle.pli_deck_code.specs.answers.Tables.{name_of, AreNumbered};
 ghost use Rattle.pli_deck_code.specs.views.LinkedView.{lent_view};
@@ -9,8 +9,8 @@ ghost use Rattle.pli_deck_code.specs.views.LinkedView.{lent_view};
 use crate::linked::LentUnit;
 use indexmap::IndexMap;
 use pli_base::Name;
-use pli_deck::External;
-use pli_unit_code::{CodedGlobal, VariableKind};
+use pli_code::{CodedGlobal, VariableKind};
+use pli_deck_write::External;
 use std::alloc::{AllocError, Global};
 use std::collections::BTreeMap;
 

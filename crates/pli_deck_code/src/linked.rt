@@ -1,14 +1,14 @@
 //! Modules of units that are lent, and their bytes.
 ghost use Rattle.std.specs.Prelude.{◌≡◌, None, true, IfOk};
-ghost use Rattle.pli_deck.specs.ModuleFields.{module_field};
-ghost use Rattle.pli_deck.specs.ModuleSpelling.{module_bytes, module_fault, SpellsModule};
+ghost use Rattle.pli_deck_write.specs.ModuleFields.{module_field};
+ghost use Rattle.pli_deck_write.specs.ModuleSpelling.{module_bytes, module_fault, SpellsModule};
 ghost use Rattle.pli_deck_code.specs.CodeModules.{module_of};
 ghost use Rattle.pli_deck_code.specs.views.LinkedView.{linked_view};
 
 use crate::modules::module_of;
 use pli_base::Name;
-use pli_deck::write_module;
-use pli_unit_code::Code;
+use pli_code::Code;
+use pli_deck_write::write_module;
 use std::alloc::{AllocError, Global};
 
 /// A unit of a module: the names of its member and of its external procedure, its code, which is lent, and for each entry

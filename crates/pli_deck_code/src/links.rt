@@ -2,13 +2,13 @@
 ghost use Rattle.std.specs.Prelude.{◌≡◌, List, map, unwrap_or, IfOk};
 ghost use Rattle.std.specs.Map.{lookup};
 ghost use Rattle.pli_base.specs.Words.{same_name};
-ghost use Rattle.pli_unit_code.specs.views.CodeView.{global_view};
+ghost use Rattle.pli_code.specs.views.CodeView.{global_view};
 ghost use Rattle.pli_deck_code.specs.CodeModules as spec;
 ghost use Rattle.pli_deck_code.specs.answers.Tables.{AreNumbered};
 
 use indexmap::IndexMap;
 use pli_base::Name;
-use pli_unit_code::CodedGlobal;
+use pli_code::CodedGlobal;
 use std::alloc::{AllocError, Global};
 
 /// The number of an external variable; each one of a module has one.

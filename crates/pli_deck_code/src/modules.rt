@@ -1,6 +1,6 @@
 //! The module of linked units.
 ghost use Rattle.std.specs.Prelude.{◌≡◌, List, map, IfOk};
-ghost use Rattle.pli_deck.specs.ModuleView.{lent_member_view, lent_module_view};
+ghost use Rattle.pli_deck_write.specs.ModuleView.{lent_member_view, lent_module_view};
 ghost use Rattle.pli_deck_code.specs.CodeModules.{member, members_of, module_of};
 ghost use Rattle.pli_deck_code.specs.answers.Tables.{AreNumbered};
 ghost use Rattle.pli_deck_code.specs.views.LinkedView.{lent_view, linked_view};
@@ -10,7 +10,7 @@ use crate::linked::{LentUnit, Linked};
 use crate::links::links_of;
 use indexmap::IndexMap;
 use pli_base::Name;
-use pli_deck::{LentDeck, LentMember, LentModule};
+use pli_deck_write::{LentDeck, LentMember, LentModule};
 use std::alloc::{AllocError, Global};
 
 /// A unit with its deck, and what its external globals stand for.

@@ -4,7 +4,7 @@ use Rattle.std.specs.Int.{next_multiple_of}
 use Rattle.std.proofs.lemmas.Bool.{lt-ltb, le-ltb, eqb-true}
 use Rattle.pli_map.specs.Description.{Description, FixedBinary, Character, Varying, Bit, Pointer, Offset, Area, Array, Structure, Members, NoMembers, MemberThen}
 use Rattle.pli_map.specs.Sizes.{alignment_of, size_of, stride_of}
-use Rattle.pli_deck.specs.DeckFaults.{scalar_at, scalar_among}
+use Rattle.pli_deck_write.specs.DeckFaults.{scalar_at, scalar_among}
 use Rattle.pli_deck_faults.specs.Places.{Places, Nothing, One, Elements, Among, PlacesList, starts_from, ends_from, places_of, places_among, list_of_places}
 
 -- ---- members

@@ -2,8 +2,8 @@
 use Rattle.std.proofs.Common.{◌≡◌, ℕ, zero, suc, min, List, [], ◌∷◌, map, get_or, slice_get, Option, Some, None, option_map, refl, sym, ap}
 use Rattle.pli_map.specs.declared.description.Description.{Description}
 use Rattle.pli_map.specs.views.DescriptionView.{description_view}
-use Rattle.pli_unit_code.specs.CodeTables.{CodedTemplate, Code}
-use Rattle.pli_deck.specs.ModuleSpelling.{description_bytes, bytes_by_template, template_bytes}
+use Rattle.pli_code.specs.CodeTables.{CodedTemplate, Code}
+use Rattle.pli_deck_write.specs.ModuleSpelling.{description_bytes, bytes_by_template, template_bytes}
 use Rattle.pli_deck_faults.specs.CutSizes.{cut_sizes}
 
 -- a size that is looked up is that of the description, and 0 where there is none

@@ -4,8 +4,8 @@ use Rattle.std.specs.Prelude.{if◌then◌else◌}
 use Rattle.std.specs.List.{list_all, sum_by}
 use Rattle.pli_map.specs.Description.{Description}
 use Rattle.pli_type_tree.specs.Templates.{InitialScalar}
-use Rattle.pli_unit_code.specs.CodeTables.{CodedTemplate}
-use Rattle.pli_deck.specs.DeckFaults.{is_good_template, initial_bytes}
+use Rattle.pli_code.specs.CodeTables.{CodedTemplate}
+use Rattle.pli_deck_write.specs.DeckFaults.{is_good_template, initial_bytes}
 
 -- the bytes of a good template that has initial values; none where it is not good
 abbrev pub counted_of : Option Description → List InitialScalar → Option ℕ

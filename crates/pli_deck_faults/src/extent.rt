@@ -1,15 +1,15 @@
 //! Whether a module keeps the limits.
 ghost use Rattle.std.specs.Prelude.{◌≡◌, ◌≤◌, min, nat_le, length, map, get_or, slice_get, option_map, IfOk};
 ghost use Rattle.std.specs.List.{sum_by};
-ghost use Rattle.pli_unit_code.specs.views.CodeView.{code_view, coded_template_view, global_view};
-ghost use Rattle.pli_deck.specs.ModuleSpelling as spelling;
-ghost use Rattle.pli_deck.specs.ModuleView.{external_view, member_view, module_view};
+ghost use Rattle.pli_code.specs.views.CodeView.{code_view, coded_template_view, global_view};
+ghost use Rattle.pli_deck_write.specs.ModuleSpelling as spelling;
+ghost use Rattle.pli_deck_write.specs.ModuleView.{external_view, member_view, module_view};
 ghost use Rattle.pli_deck_faults.specs.CutSizes.{cut_sizes, unit_sizes};
 ghost use Rattle.pli_deck_faults.specs.Remains.{Remains};
 
-use pli_deck::{DeckModule, External, Member};
+use pli_code::{Code, CodedGlobal, VariableKind};
+use pli_deck_write::{DeckModule, External, Member};
 use pli_map::{Description, far_size};
-use pli_unit_code::{Code, CodedGlobal, VariableKind};
 use std::alloc::{AllocError, Global};
 
 /// The greatest number of instructions of a module (own).

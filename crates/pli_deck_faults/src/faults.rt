@@ -1,16 +1,16 @@
 //! The first fault of a deck or a module as a whole.
 ghost use Rattle.std.specs.Prelude.{◌≡◌, IfOk};
-ghost use Rattle.pli_deck.specs.DeckFaults as faults;
-ghost use Rattle.pli_deck.specs.ModuleSpelling as spelling;
-ghost use Rattle.pli_deck.specs.ModuleView.{module_view};
-ghost use Rattle.pli_unit_code.specs.views.CodeView.{deck_view};
+ghost use Rattle.pli_deck_write.specs.DeckFaults as faults;
+ghost use Rattle.pli_deck_write.specs.ModuleSpelling as spelling;
+ghost use Rattle.pli_deck_write.specs.ModuleView.{module_view};
+ghost use Rattle.pli_code.specs.views.CodeView.{deck_view};
 
 use crate::extent::module_within;
 use crate::limits::within_limits;
 use crate::links::links_stand;
 use crate::standing::{all_stand, jumps_stand};
-use pli_deck::{DeckFault, DeckModule};
-use pli_unit_code::Deck;
+use pli_code::Deck;
+use pli_deck_write::{DeckFault, DeckModule};
 use std::alloc::{AllocError, Global};
 
 /// The first of the faults that are looked for once a deck is read: a jump to no instruction, a number of no entry, or

@@ -3,16 +3,16 @@ ghost use Rattle.std.specs.Prelude.{◌≡◌, Some, List, option_map, slice_get
 ghost use Rattle.std.specs.List.{list_all};
 ghost use Rattle.pli_map.specs.Description as tree;
 ghost use Rattle.pli_map.specs.views.DescriptionView.{description_view};
-ghost use Rattle.pli_deck.specs.DeckFaults as faults;
+ghost use Rattle.pli_deck_write.specs.DeckFaults as faults;
 ghost use Rattle.pli_type_tree.specs.views.TemplateView.{initial_view};
-ghost use Rattle.pli_unit_code.specs.views.CodeView.{code_view, coded_template_view};
+ghost use Rattle.pli_code.specs.views.CodeView.{code_view, coded_template_view};
 ghost use Rattle.pli_deck_faults.specs.Places.{places_of, placed_of, places_view, placed_view, all_placed};
 ghost use Rattle.pli_deck_faults.specs.Counted.{counted_of, keep_limits};
 
 use crate::places::{DescriptionExtent, Places, placed_scalars, scalar_at};
+use pli_code::{Code, CodedTemplate};
 use pli_map::{Description, holds};
 use pli_type_tree::InitialScalar;
-use pli_unit_code::{Code, CodedTemplate};
 use std::alloc::{AllocError, Global};
 
 /// The greatest number of bytes of all templates that have initial values (own).

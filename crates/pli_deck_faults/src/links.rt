@@ -1,13 +1,13 @@
 //! Whether what the external names of a module stand for is there.
 ghost use Rattle.std.specs.Prelude.{◌≡◌, map, nat_eq, Some, slice_get};
 ghost use Rattle.std.specs.List.{filter, list_all};
-ghost use Rattle.pli_unit_code.specs.views.CodeView.{global_view};
-ghost use Rattle.pli_deck.specs.ModuleFields as module_fields;
-ghost use Rattle.pli_deck.specs.ModuleSpelling as spelling;
-ghost use Rattle.pli_deck.specs.ModuleView.{kind_number, external_view, member_view, module_view};
+ghost use Rattle.pli_code.specs.views.CodeView.{global_view};
+ghost use Rattle.pli_deck_write.specs.ModuleFields as module_fields;
+ghost use Rattle.pli_deck_write.specs.ModuleSpelling as spelling;
+ghost use Rattle.pli_deck_write.specs.ModuleView.{kind_number, external_view, member_view, module_view};
 
-use pli_deck::{DeckModule, External, Member};
-use pli_unit_code::{CodedGlobal, VariableKind};
+use pli_code::{CodedGlobal, VariableKind};
+use pli_deck_write::{DeckModule, External, Member};
 
 /// Whether a global is of a kind of externals.
 fn has_kind(kind: VariableKind, global: &CodedGlobal) -> bool

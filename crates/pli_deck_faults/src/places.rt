@@ -3,7 +3,7 @@ ghost use Rattle.std.specs.Prelude.{◌≡◌, ◌≤◌, ◌<◌, ◌-◌, ◌%
 ghost use Rattle.pli_map.specs.Description as tree;
 ghost use Rattle.pli_map.specs.Sizes.{alignment_of, size_of};
 ghost use Rattle.pli_map.specs.views.DescriptionView.{description_view, members_view};
-ghost use Rattle.pli_deck.specs.DeckFaults as faults;
+ghost use Rattle.pli_deck_write.specs.DeckFaults as faults;
 ghost use Rattle.pli_deck_faults.specs.Places.{places_of, placed_of, places_view, placed_view};
 
 use pli_map::{Description, Layout, measure};

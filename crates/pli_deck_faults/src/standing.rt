@@ -1,11 +1,11 @@
 //! Whether what code names by numbers is there.
 ghost use Rattle.std.specs.Prelude.{◌≡◌, ◌++◌, ◌∷◌, [], nat_lt, length, map};
 ghost use Rattle.std.specs.List.{flat_map, list_all};
-ghost use Rattle.pli_deck.specs.DeckFaults as faults;
-ghost use Rattle.pli_deck.specs.DeckFaults.{OfDescription, OfTemplate, OfValue, OfGlobal, OfBlock, OfInstruction};
-ghost use Rattle.pli_unit_code.specs.views.CodeView.{block_view, code_view, coded_template_view, global_view, signature_view};
+ghost use Rattle.pli_deck_write.specs.DeckFaults as faults;
+ghost use Rattle.pli_deck_write.specs.DeckFaults.{OfDescription, OfTemplate, OfValue, OfGlobal, OfBlock, OfInstruction};
+ghost use Rattle.pli_code.specs.views.CodeView.{block_view, code_view, coded_template_view, global_view, signature_view};
 
-use pli_unit_code::{Block, Code, CodedGlobal, CodedSignature, CodedTemplate, Instruction};
+use pli_code::{Block, Code, CodedGlobal, CodedSignature, CodedTemplate, Instruction};
 
 /// Whether a description of this number is there.
 #[tactic(auto, using(crate::proofs::CountLemmas::mapped_length))]

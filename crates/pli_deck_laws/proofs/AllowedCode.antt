@@ -3,10 +3,10 @@ use Rattle.std.proofs.Common.{◌≡◌, ℕ, suc, ◌<◌, ◌≤◌, Option, S
 use Rattle.std.specs.List.{AllByRecursion}
 use Rattle.pli_gen_emit.specs.TreeTranslation.{BlockTree, value_code, place_code, skip_code, items_code, behind, start_code, tests_code, advances_code, back_code, turn_place, list_place}
 use Rattle.pli_gen_emit.specs.TreeTranslation.{statement_code, form_code, list_code, end_code, block_code, blocks_code, blocks_in, blocks_of_form, blocks_among}
-use Rattle.pli_gen_tree.proofs.CodeEnds.{both_within, one_way_within, two_ways_within, turns_within, iterate_within}
-use Rattle.pli_gen_tree.proofs.SimpleCode.{behind_both}
-use Rattle.pli_gen_tree.specs.laws.ListLaws.{all_front, all_back}
-use Rattle.pli_gen_tree.specs.WellNumbered.{next_temporary, KeepsApart, KeepsApartForm, KeepApart}
+use Rattle.pli_gen.proofs.CodeEnds.{both_within, one_way_within, two_ways_within, turns_within, iterate_within}
+use Rattle.pli_gen.proofs.SimpleCode.{behind_both}
+use Rattle.pli_gen.specs.laws.ListLaws.{all_front, all_back}
+use Rattle.pli_gen.specs.WellNumbered.{next_temporary, KeepsApart, KeepsApartForm, KeepApart}
 use Rattle.pli_program.specs.Program as op
 use Rattle.pli_type_tree.specs.Iterations.{is_iterated}
 use Rattle.pli_type_tree.specs.TypedTree.{TypedExpression, TypedStatement, Statement, TypedStatements, NoStatement, StatementThen, NoElse, Else, TypedUnit}

@@ -3,8 +3,8 @@ use Rattle.std.proofs.Common.{◌≡◌, ℕ, suc, ◌+◌, ◌<◌, ◌≤◌, 
 use Rattle.std.specs.List.{AllByRecursion}
 use Rattle.pli_gen_emit.specs.TreeTranslation.{argument_count, root_code, call_instruction, value_code, place_code, operands_code, subscripts_code, arguments_code, call_code, skip_code, items_code}
 use Rattle.pli_gen_emit.specs.TreeTranslation.{keeps_code, conversion_code, sets_code, start_code, test_against, limit_test, while_test, guarded, tests_code, counted_code, advances_code, back_code}
-use Rattle.pli_gen_tree.proofs.SimpleCode.{all_both}
-use Rattle.pli_gen_tree.specs.WellNumbered.{next_temporary}
+use Rattle.pli_gen.proofs.SimpleCode.{all_both}
+use Rattle.pli_gen.specs.WellNumbered.{next_temporary}
 use Rattle.pli_program.specs.Program as op
 use Rattle.pli_operation.specs.Operations as calculate
 use Rattle.pli_type_tree.specs.Iterations.{kept_by, limit_number, step_number, temporaries_of}

@@ -1,8 +1,8 @@
 -- The place behind a block's code is later than where it begins.
 use Rattle.std.proofs.Common.{◌≡◌, ℕ, suc, ◌≤◌, Option, Some, None, ◌++◌, arith}
 use Rattle.pli_gen_emit.specs.TreeTranslation.{BlockTree, behind, list_code, end_code, block_code}
-use Rattle.pli_gen_tree.proofs.CodeEnds.{grows}
-use Rattle.pli_gen_tree.proofs.SimpleCode.{behind_both}
+use Rattle.pli_gen.proofs.CodeEnds.{grows}
+use Rattle.pli_gen.proofs.SimpleCode.{behind_both}
 
 pub end_is_some : (e : Option ℕ) (p : ℕ) → suc p ≤ behind (end_code e) p
 end_is_some None p = omega arith

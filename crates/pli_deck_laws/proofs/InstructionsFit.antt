@@ -1,21 +1,21 @@
 -- Instructions whose numbers are within limits fit the fields of a deck, and name what is there.
 use Rattle.std.proofs.Common.{◌≡◌, ℕ, ◌<◌, ◌≤◌, true, length, refl, arith}
 use Rattle.std.specs.List.{AllByRecursion}
-use Rattle.pli_code.specs.declared.ending.RunError.{RunError}
-use Rattle.pli_code.specs.declared.ending.RunError.TheVariants as errors
+use Rattle.pli_run.specs.declared.ending.RunError.{RunError}
+use Rattle.pli_run.specs.declared.ending.RunError.TheVariants as errors
 use Rattle.pli_map.specs.Description.{Description}
 use Rattle.pli_program.specs.Program as op
 use Rattle.pli_operation.specs.Operations as calculate
 use Rattle.pli_operation.specs.Operations.{Operation, Relation}
 use Rattle.pli_type_tree.specs.Templates.{Template}
 use Rattle.pli_value.specs.Value.{Value}
-use Rattle.pli_unit_code.specs.declared.instruction.Instruction.{Instruction}
+use Rattle.pli_code.specs.declared.instruction.Instruction.{Instruction}
 use Rattle.pli_type_keys.specs.Same.{same_value}
-use Rattle.pli_gen_tree.specs.Encoding.{NumberedTables, number_in, dummy, fitted_by, descriptions_named, templates_named, values_named, relation_code, description_number, template_number, operation_code, instruction_code}
-use Rattle.pli_deck.specs.Fields.{u1, u2, u4, ◌⊗◌}
-use Rattle.pli_deck.specs.Descriptions.{bound}
-use Rattle.pli_deck.specs.Instructions.{error, relation, instruction}
-use Rattle.pli_deck.specs.DeckFaults.{Naming, OfDescription, OfTemplate, OfValue, OfGlobal, OfBlock, OfInstruction, named_by_instruction, targets_of}
+use Rattle.pli_gen.specs.Encoding.{NumberedTables, number_in, dummy, fitted_by, descriptions_named, templates_named, values_named, relation_code, description_number, template_number, operation_code, instruction_code}
+use Rattle.pli_deck_write.specs.Fields.{u1, u2, u4, ◌⊗◌}
+use Rattle.pli_deck_write.specs.Descriptions.{bound}
+use Rattle.pli_deck_write.specs.Instructions.{error, relation, instruction}
+use Rattle.pli_deck_write.specs.DeckFaults.{Naming, OfDescription, OfTemplate, OfValue, OfGlobal, OfBlock, OfInstruction, named_by_instruction, targets_of}
 use Rattle.pli_deck_laws.specs.Limits.{link_limit, parameter_limit, IsOperation}
 use Rattle.pli_deck_laws.proofs.AllowedLemmas.{Allowed}
 use Rattle.pli_deck_laws.proofs.UnitCode.{leads}

@@ -1,9 +1,9 @@
 -- The temporaries that the iterations of a block keep are no more than its instructions.
 use Rattle.std.proofs.Common.{◌≡◌, ℕ, suc, ◌+◌, ◌≤◌, List, [], ◌∷◌, ◌++◌, length, arith}
 use Rattle.pli_gen_emit.specs.TreeTranslation.{BlockTree, value_code, behind, keeps_code, sets_code, tests_code, advances_code, back_code, turn_place, list_place, statement_code, form_code, list_code, end_code, block_code}
-use Rattle.pli_gen_tree.proofs.CodeEnds.{grows, one_way_ends, two_ways_ends, turns_ends}
-use Rattle.pli_gen_tree.proofs.IterationCode.{iterate_ends}
-use Rattle.pli_gen_tree.proofs.SimpleCode.{behind_both}
+use Rattle.pli_gen.proofs.CodeEnds.{grows, one_way_ends, two_ways_ends, turns_ends}
+use Rattle.pli_gen.proofs.IterationCode.{iterate_ends}
+use Rattle.pli_gen.proofs.SimpleCode.{behind_both}
 use Rattle.pli_program.specs.Program as op
 use Rattle.pli_type_tree.specs.Iterations.{kept_by, temporaries_of, is_iterated}
 use Rattle.pli_type_tree.specs.TypedTree.{TypedExpression, TypedStatement, Statement, TypedStatements, NoStatement, StatementThen, NoElse, Else, Iteration}

@@ -8,12 +8,12 @@ use Rattle.pli_program.specs.Program as op
 use Rattle.pli_operation.specs.Operations as calculate
 use Rattle.pli_operation.specs.Operations.{Operation}
 use Rattle.pli_type_tree.specs.TypedTree.{TypedUnit}
-use Rattle.pli_unit_code.specs.CodeFields.{is_byte, is_short, instruction_fits, parent_fits, block_fits}
-use Rattle.pli_unit_code.specs.declared.instruction.Instruction.{Instruction}
+use Rattle.pli_code.specs.CodeFields.{is_byte, is_short, instruction_fits, parent_fits, block_fits}
+use Rattle.pli_code.specs.declared.instruction.Instruction.{Instruction}
 use Rattle.pli_gen_emit.specs.TreeTranslation.{BlockTree, behind, block_code, blocks_code, blocks_of, instructions_of}
-use Rattle.pli_gen_tree.specs.Encoding.{NumberedTables, tables_for, operation_code, instruction_code, global_code, coded_block, coded_blocks, code_of}
-use Rattle.pli_gen_tree.proofs.CodeEnds.{both_within}
-use Rattle.pli_gen_tree.proofs.LimitLemmas.{few, blocks_counted}
+use Rattle.pli_gen.specs.Encoding.{NumberedTables, tables_for, operation_code, instruction_code, global_code, coded_block, coded_blocks, code_of}
+use Rattle.pli_gen.proofs.CodeEnds.{both_within}
+use Rattle.pli_gen.proofs.LimitLemmas.{few, blocks_counted}
 use Rattle.pli_deck_laws.specs.DeckLaws.{HasShortTables, NumbersFit}
 use Rattle.pli_deck_laws.specs.Limits.{link_limit, IfThere}
 use Rattle.pli_deck_laws.proofs.AllowedLemmas.{Allowed}

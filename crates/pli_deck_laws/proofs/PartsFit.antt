@@ -8,16 +8,16 @@ use Rattle.pli_map.specs.Sizes.{size_of}
 use Rattle.pli_program.specs.Program as op
 use Rattle.pli_type_tree.specs.Templates.{InitialScalar, Template}
 use Rattle.pli_type_tree.specs.TypedTree.{Signature, Global, OwnVariable, ExternalVariable, EntryPoint}
-use Rattle.pli_unit_code.specs.CodeTables as code
-use Rattle.pli_unit_code.specs.CodeTables.{there}
+use Rattle.pli_code.specs.CodeTables as code
+use Rattle.pli_code.specs.CodeTables.{there}
 use Rattle.pli_gen_emit.specs.TreeTranslation.{BlockTree, behind, block_code, blocks_code}
-use Rattle.pli_gen_tree.specs.Encoding.{NumberedTables, signature_descriptions, global_descriptions, global_templates, block_templates, description_number, template_number, template_code, signature_code, global_code, coded_block, coded_blocks}
-use Rattle.pli_gen_tree.specs.laws.ListLaws.{all_front, all_back}
-use Rattle.pli_gen_tree.proofs.SimpleCode.{all_both}
-use Rattle.pli_deck.specs.Fields.{u1, u2, u4, list_of, ◌⊗◌}
-use Rattle.pli_deck.specs.DeckFields.{name, constant, initial, template, signature, global, block_kind, optional, block}
-use Rattle.pli_deck.specs.DeckFaults.{Naming, OfDescription, OfTemplate, OfInstruction, named_by_result, named_by_signature, named_by_template, named_by_global, named_by_parent, named_by_block}
-use Rattle.pli_deck.specs.DeckFaults.{scalar_at, fits_scalar, is_good_template}
+use Rattle.pli_gen.specs.Encoding.{NumberedTables, signature_descriptions, global_descriptions, global_templates, block_templates, description_number, template_number, template_code, signature_code, global_code, coded_block, coded_blocks}
+use Rattle.pli_gen.specs.laws.ListLaws.{all_front, all_back}
+use Rattle.pli_gen.proofs.SimpleCode.{all_both}
+use Rattle.pli_deck_write.specs.Fields.{u1, u2, u4, list_of, ◌⊗◌}
+use Rattle.pli_deck_write.specs.DeckFields.{name, constant, initial, template, signature, global, block_kind, optional, block}
+use Rattle.pli_deck_write.specs.DeckFaults.{Naming, OfDescription, OfTemplate, OfInstruction, named_by_result, named_by_signature, named_by_template, named_by_global, named_by_parent, named_by_block}
+use Rattle.pli_deck_write.specs.DeckFaults.{scalar_at, fits_scalar, is_good_template}
 use Rattle.pli_bytes.specs.Contents.{scalars_at}
 use Rattle.pli_bytes.proofs.Rising.{rises}
 use Rattle.pli_bytes.proofs.ScalarsOn.{on_lies}
@@ -27,7 +27,7 @@ use Rattle.pli_deck_laws.proofs.InstructionsFit.{Named}
 use Rattle.pli_deck_laws.proofs.ScalarsStand.{stands}
 use Rattle.pli_deck_laws.proofs.TablesFit.{StandsDescription, StandsTemplate, description_within, template_within}
 use Rattle.pli_deck_laws.proofs.CodeGrows.{block_is_some}
-use Rattle.pli_gen_tree.proofs.CodeEnds.{both_within}
+use Rattle.pli_gen.proofs.CodeEnds.{both_within}
 use Rattle.pli_deck_laws.proofs.KeptTemporaries.{few_temporaries}
 use Rattle.pli_deck_laws.proofs.UnitBlocks.{all_as, all_pairs}
 use Rattle.pli_deck_laws.proofs.UnitCode.{BlockWithin}

@@ -9,7 +9,7 @@ use Rattle.pli_bytes.proofs.ScalarsOn.{on_past, on_in_array, on_before, on_first
 use Rattle.pli_map.specs.Description.{Description, FixedBinary, Character, Varying, Bit, Pointer, Offset, Area, Array, Structure, Members, NoMembers, MemberThen}
 use Rattle.pli_map.specs.Parts.{PlacedPart, moved}
 use Rattle.pli_map.specs.Sizes.{count_of, alignment_of, size_of, stride_of}
-use Rattle.pli_deck.specs.DeckFaults.{scalar_at, scalar_among}
+use Rattle.pli_deck_write.specs.DeckFaults.{scalar_at, scalar_among}
 use Rattle.pli_deck_laws.specs.DeckLaws.{ScalarsAreFound}
 
 -- one that is moved

@@ -4,9 +4,9 @@ use Rattle.std.specs.List.{filter, flat_map, list_any, range_with_len, AllByRecu
 use Rattle.std.proofs.lemmas.Bool.{eqb-true, ltb-true}
 use Rattle.std.proofs.lemmas.Option.{none-some, same_Some, slice_get_within}
 use Rattle.pli_gen_emit.specs.TreeTranslation.{BlockTree, blocks_in, blocks_of_form, blocks_of_else, blocks_among, blocks_of_procedure, has_number, by_number, blocks_of}
-use Rattle.pli_gen_tree.proofs.SimpleCode.{all_both}
-use Rattle.pli_gen_tree.specs.laws.ListLaws.{all_front, all_back}
-use Rattle.pli_gen_tree.specs.WellNumbered.{KeepApart, IsWellNumbered}
+use Rattle.pli_gen.proofs.SimpleCode.{all_both}
+use Rattle.pli_gen.specs.laws.ListLaws.{all_front, all_back}
+use Rattle.pli_gen.specs.WellNumbered.{KeepApart, IsWellNumbered}
 use Rattle.pli_type_tree.specs.TypedTree.{TypedStatement, Statement, TypedStatements, NoStatement, StatementThen, OtherWise, NoElse, Else, TypedProcedure, TypedUnit}
 use Rattle.pli_type_tree.specs.TypedTree.{Form, If, Begin, Group, While, Iterate}
 use Rattle.pli_deck_laws.specs.Limits.{IfThere}

@@ -6,11 +6,11 @@ use Rattle.pli_program.specs.Program as op
 use Rattle.pli_type_tree.specs.TypedTree.{TypedUnit}
 use Rattle.pli_gen_emit.specs.TreeTranslation.{BlockTree, behind, block_code, blocks_code, blocks_of, places_of, statement_place, with_target, instructions_of}
 use Rattle.pli_gen_emit.proofs.JumpLemmas.{behind_is}
-use Rattle.pli_gen_tree.specs.WellNumbered.{IsWellNumbered}
-use Rattle.pli_gen_tree.proofs.CodeEnds.{grows}
-use Rattle.pli_gen_tree.proofs.CodeFits.{begins_within}
-use Rattle.pli_gen_tree.proofs.SimpleCode.{behind_both}
-use Rattle.pli_gen_tree.proofs.StepPlaces.{steps_are_places}
+use Rattle.pli_gen.specs.WellNumbered.{IsWellNumbered}
+use Rattle.pli_gen.proofs.CodeEnds.{grows}
+use Rattle.pli_gen.proofs.CodeFits.{begins_within}
+use Rattle.pli_gen.proofs.SimpleCode.{behind_both}
+use Rattle.pli_gen.proofs.StepPlaces.{steps_are_places}
 use Rattle.pli_deck_laws.specs.Limits.{parameter_limit, IfThere}
 use Rattle.pli_deck_laws.specs.WellFormed.{slots_of, IsHead, HasBlock, HasSlot, IsWellFormed}
 use Rattle.pli_deck_laws.proofs.AllowedLemmas.{Allowed}

@@ -1,7 +1,7 @@
 -- The worked unit is well formed.
 use Rattle.std.proofs.Common.{◌≡◌, ℕ, ◌≤◌, nat_le, true, refl, arith}
 use Rattle.std.proofs.lemmas.Bool.{leb-true}
-use Rattle.pli_gen_tree.specs.WellNumbered.{IsWellNumbered}
+use Rattle.pli_gen.specs.WellNumbered.{IsWellNumbered}
 use Rattle.pli_map.specs.Description.{Character}
 use Rattle.pli_map.specs.Sizes.{size_of}
 use Rattle.pli_deck_laws.specs.Limits.{IsMade, IsTemplate}

@@ -2,20 +2,20 @@
 -- is one that bytes spell.
 use Rattle.std.specs.Prelude.{◌≡◌, ℕ, Bool, false, Some}
 use Rattle.std.specs.List.{list_any}
-use Rattle.pli_deck.specs.DeckFaults.{scalar_at}
-use Rattle.pli_deck.specs.Spelling.{IsDeck}
+use Rattle.pli_deck_write.specs.DeckFaults.{scalar_at}
+use Rattle.pli_deck_write.specs.Spelling.{IsDeck}
 use Rattle.pli_deck_code.specs.CodeModules.{deck_of}
 use Rattle.pli_bytes.specs.Contents.{scalar_on, scalars_at}
 use Rattle.pli_map.specs.Parts.{PlacedPart}
 use Rattle.pli_deck_laws.specs.UnitTypes.{IsTypedUnit}
 use Rattle.pli_deck_laws.specs.WellFormed.{IsWellFormed}
-use Rattle.pli_gen_tree.specs.Encoding.{code_of}
-use Rattle.pli_gen_tree.specs.Limits.{is_over, has_many_slots, has_wide_number, is_too_long}
-use Rattle.pli_gen_tree.specs.WellNumbered.{IsWellNumbered}
+use Rattle.pli_gen.specs.Encoding.{code_of}
+use Rattle.pli_gen.specs.Limits.{is_over, has_many_slots, has_wide_number, is_too_long}
+use Rattle.pli_gen.specs.WellNumbered.{IsWellNumbered}
 use Rattle.pli_map.specs.Description.{Description}
 use Rattle.pli_type_tree.specs.TypedTree.{TypedUnit}
-use Rattle.pli_unit_code.specs.CodeTables.{Code}
-use Rattle.pli_unit_code.specs.Modules.{LinkedUnit}
+use Rattle.pli_code.specs.CodeTables.{Code}
+use Rattle.pli_code.specs.Modules.{LinkedUnit}
 
 -- the scalar that begins on a byte is the one that decks find there
 abbrev pub ScalarsAreFound : Type 0

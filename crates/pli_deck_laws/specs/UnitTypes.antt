@@ -4,9 +4,9 @@ use Rattle.std.specs.Prelude.{◌≡◌, ℕ, ◌<◌, Some}
 use Rattle.std.specs.List.{AllByRecursion}
 use Rattle.pli_base.specs.Name.{Name, name_of}
 use Rattle.pli_type_tree.specs.Templates.{InitialScalar}
-use Rattle.pli_unit_code.specs.CodeTables.{Code, CodedTemplate, CodedGlobal, OwnVariable, ExternalVariable}
-use Rattle.pli_unit_code.specs.CodeTables.{EntryPoint}
-use Rattle.pli_unit_code.specs.Modules.{LinkedUnit}
+use Rattle.pli_code.specs.CodeTables.{Code, CodedTemplate, CodedGlobal, OwnVariable, ExternalVariable}
+use Rattle.pli_code.specs.CodeTables.{EntryPoint}
+use Rattle.pli_code.specs.Modules.{LinkedUnit}
 use Rattle.pli_value.specs.Value.{Value, Characters}
 
 -- a name as it is written in upper case

@@ -2,12 +2,12 @@
 ghost use Rattle.std.specs.Prelude.{map};
 ghost use Rattle.std.specs.List.{AllByRecursion};
 ghost use Rattle.pli_deck_code.specs.views.LinkedView.{lent_view};
-ghost use Rattle.pli_unit_code.specs.views.CodeView.{code_view};
+ghost use Rattle.pli_code.specs.views.CodeView.{code_view};
 ghost use Rattle.pli_deck_laws.specs.UnitTypes.{IsByte, IsTypedCode, IsTypedUnit};
 
+use pli_code::{Code, CodedGlobal, CodedTemplate};
 use pli_deck_code::LentUnit;
 use pli_type_tree::InitialScalar;
-use pli_unit_code::{Code, CodedGlobal, CodedTemplate};
 use pli_value::Value;
 
 /// The characters of a text are bytes.
@@ -87,8 +87,8 @@ impl Tells for Initials {
 struct Templates;
 
 impl Tells for Templates {
-    ghost use Rattle.pli_unit_code.specs.CodeTables.{CodedTemplate};
-    ghost use Rattle.pli_unit_code.specs.views.CodeView.{coded_template_view};
+    ghost use Rattle.pli_code.specs.CodeTables.{CodedTemplate};
+    ghost use Rattle.pli_code.specs.views.CodeView.{coded_template_view};
     ghost use Rattle.pli_deck_laws.specs.UnitTypes.{BeginsWithBytes};
 
     type Value = CodedTemplate;
@@ -108,8 +108,8 @@ impl Tells for Templates {
 struct Globals;
 
 impl Tells for Globals {
-    ghost use Rattle.pli_unit_code.specs.CodeTables.{CodedGlobal};
-    ghost use Rattle.pli_unit_code.specs.views.CodeView.{global_view};
+    ghost use Rattle.pli_code.specs.CodeTables.{CodedGlobal};
+    ghost use Rattle.pli_code.specs.views.CodeView.{global_view};
     ghost use Rattle.pli_deck_laws.specs.UnitTypes.{HasName};
 
     type Value = CodedGlobal;

@@ -2,12 +2,12 @@
 use Rattle.std.proofs.Common.{◌≡◌, ℕ, suc, ◌+◌, ◌<◌, nat_eq, List, [], ◌∷◌, length, map, drop, get_or, refl, ap, sym, ◌∙◌}
 use Rattle.std.proofs.lemmas.List.{at_drop_more, length-map}
 use Rattle.pli_base.specs.Name.{Name}
-use Rattle.pli_deck.specs.ModuleView.{member_view}
-use Rattle.pli_deck.specs.declared.module.Member.{Member}
+use Rattle.pli_deck_write.specs.ModuleView.{member_view}
+use Rattle.pli_deck_write.specs.declared.module.Member.{Member}
 use Rattle.pli_deck_code.specs.CodeModules.{member, members_of}
 use Rattle.pli_deck_code.specs.declared.linked.LentUnit.{LentUnit}
 use Rattle.pli_deck_code.specs.views.LinkedView.{lent_view}
-use Rattle.pli_unit_code.specs.Modules.{LinkedUnit}
+use Rattle.pli_code.specs.Modules.{LinkedUnit}
 use Rattle.pli_deck_load.specs.answers.Linkings.{Mark, mark_of}
 use Rattle.pli_deck_load.proofs.ComparedLists.{first_is}
 

@@ -1,11 +1,11 @@
 -- What is loaded is the linked module that the bytes are.
 use Rattle.std.proofs.Common.{◌≡◌, ℕ, Bool, false, List, Result, Ok, refl, sym, ap, subst, ◌∙◌}
-use Rattle.pli_deck.specs.ModuleFields.{DeckModule}
-use Rattle.pli_deck.specs.ModuleSpelling.{SpellsModule}
-use Rattle.pli_deck.specs.declared.fault.DeckFault.{DeckFault}
-use Rattle.pli_deck.proofs.FieldLaws.{ok_is}
+use Rattle.pli_deck_write.specs.ModuleFields.{DeckModule}
+use Rattle.pli_deck_write.specs.ModuleSpelling.{SpellsModule}
+use Rattle.pli_deck_write.specs.declared.fault.DeckFault.{DeckFault}
+use Rattle.pli_deck_write.proofs.FieldLaws.{ok_is}
 use Rattle.pli_deck_code.specs.CodeModules.{module_of}
-use Rattle.pli_unit_code.specs.Modules as linked
+use Rattle.pli_code.specs.Modules as linked
 use Rattle.pli_deck_load.specs.LinkedBytes.{IsLinked}
 use Rattle.pli_deck_load.specs.ModuleUnits.{module_from}
 use Rattle.pli_deck_load.specs.answers.Linkings.{Compares, linking_of}

@@ -3,12 +3,12 @@ use Rattle.std.proofs.Common.{◌≡◌, ℕ, ◌+◌, nat_eq, Bool, true, List,
 use Rattle.std.specs.List.{list_all}
 use Rattle.std.proofs.lemmas.Bool.{and_parts, eqb-true}
 use Rattle.pli_base.specs.Name.{Name}
-use Rattle.pli_deck.proofs.ModuleLaws.{one_module}
+use Rattle.pli_deck_write.proofs.ModuleLaws.{one_module}
 use Rattle.pli_deck_code.specs.CodeModules.{links_of, member, members_of, module_of}
-use Rattle.pli_unit_code.specs.CodeTables as code
-use Rattle.pli_unit_code.specs.declared.code.VariableKind.TheVariants.{Static, Controlled}
-use Rattle.pli_unit_code.specs.Modules as linked
-use Rattle.pli_unit_code.specs.Modules.{LinkedUnit}
+use Rattle.pli_code.specs.CodeTables as code
+use Rattle.pli_code.specs.declared.code.VariableKind.TheVariants.{Static, Controlled}
+use Rattle.pli_code.specs.Modules as linked
+use Rattle.pli_code.specs.Modules.{LinkedUnit}
 use Rattle.pli_deck_load.specs.LinkedBytes.{IsLinked}
 use Rattle.pli_deck_load.specs.LinkedEntries.{entries_in, has_its_entries}
 use Rattle.pli_deck_load.specs.ModuleUnits.{entries_from, unit_from, module_from}

@@ -6,13 +6,13 @@ use Rattle.std.specs.List.{list_all, filter}
 use Rattle.std.specs.Map.{keys_of}
 use Rattle.std.proofs.lemmas.Bool.{and_parts, and_from, leb-true, eq-eqb}
 use Rattle.pli_base.specs.Name.{Name}
-use Rattle.pli_deck.specs.DeckFields.{name}
-use Rattle.pli_deck.specs.Fields.{u2, from_to}
-use Rattle.pli_deck.specs.ModuleFields as modules
-use Rattle.pli_deck.specs.ModuleFields.{External, Member, is_external, sized_deck, module_field}
+use Rattle.pli_deck_write.specs.DeckFields.{name}
+use Rattle.pli_deck_write.specs.Fields.{u2, from_to}
+use Rattle.pli_deck_write.specs.ModuleFields as modules
+use Rattle.pli_deck_write.specs.ModuleFields.{External, Member, is_external, sized_deck, module_field}
 use Rattle.pli_deck_code.specs.CodeModules.{links_of, member, members_of, module_of, declarations}
-use Rattle.pli_unit_code.specs.CodeTables as code
-use Rattle.pli_unit_code.specs.declared.code.VariableKind.TheVariants.{Static, Controlled}
+use Rattle.pli_code.specs.CodeTables as code
+use Rattle.pli_code.specs.declared.code.VariableKind.TheVariants.{Static, Controlled}
 use Rattle.pli_deck_load.specs.LinkedEntries.{entries_in, has_its_entries, have_their_entries}
 use Rattle.pli_deck_load.specs.ModuleUnits.{entries_from, unit_from, module_from}
 use Rattle.pli_deck_load.specs.answers.Linkings.{mark_of, linking_of}

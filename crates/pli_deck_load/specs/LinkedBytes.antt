@@ -1,12 +1,12 @@
 -- Which linked module the bytes of a module are, and what loading them answers (own).
 use Rattle.std.specs.Prelude.{◌≡◌, ℕ, true, List, Result, Ok, Err}
-use Rattle.pli_deck.specs.ModuleFields as deck
-use Rattle.pli_deck.specs.ModuleSpelling.{SpellsModule}
-use Rattle.pli_deck.specs.declared.fault.DeckFault.{DeckFault}
+use Rattle.pli_deck_write.specs.ModuleFields as deck
+use Rattle.pli_deck_write.specs.ModuleSpelling.{SpellsModule}
+use Rattle.pli_deck_write.specs.declared.fault.DeckFault.{DeckFault}
 use Rattle.pli_deck_code.specs.CodeModules.{module_of}
-use Rattle.pli_unit_code.specs.Modules as linked
-use Rattle.pli_unit_code.specs.declared.code.Module.{Module}
-use Rattle.pli_unit_code.specs.views.CodeView.{module_view}
+use Rattle.pli_code.specs.Modules as linked
+use Rattle.pli_code.specs.declared.code.Module.{Module}
+use Rattle.pli_code.specs.views.CodeView.{module_view}
 use Rattle.pli_deck_load.specs.LinkedEntries.{have_their_entries}
 use Rattle.pli_deck_load.specs.declared.error.LoadError.{LoadError}
 use Rattle.pli_deck_load.specs.declared.error.LoadError.TheVariants as errors

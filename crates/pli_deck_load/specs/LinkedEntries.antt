@@ -1,8 +1,8 @@
 -- Linked code in which each entry has its unit (own).
 use Rattle.std.specs.Prelude.{ℕ, suc, nat_eq, Bool, List, [], ◌∷◌, length}
 use Rattle.std.specs.List.{list_all}
-use Rattle.pli_unit_code.specs.CodeTables.{CodedGlobal, EntryPoint}
-use Rattle.pli_unit_code.specs.Modules.{LinkedUnit, Module}
+use Rattle.pli_code.specs.CodeTables.{CodedGlobal, EntryPoint}
+use Rattle.pli_code.specs.Modules.{LinkedUnit, Module}
 
 -- how many entries stand among globals
 abbrev pub entries_in : List CodedGlobal → ℕ

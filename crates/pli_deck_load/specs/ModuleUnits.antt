@@ -1,9 +1,9 @@
 -- The linked units of a module's decks: the way back from decks to linked code.
 use Rattle.std.specs.Prelude.{ℕ, List, [], ◌∷◌, ◌++◌, map, take, drop, if◌then◌else◌}
-use Rattle.pli_deck.specs.ModuleFields.{Member, DeckModule, is_external}
-use Rattle.pli_unit_code.specs.CodeTables.{CodedGlobal, EntryPoint}
-use Rattle.pli_unit_code.specs.Modules as linked
-use Rattle.pli_unit_code.specs.Modules.{LinkedUnit}
+use Rattle.pli_deck_write.specs.ModuleFields.{Member, DeckModule, is_external}
+use Rattle.pli_code.specs.CodeTables.{CodedGlobal, EntryPoint}
+use Rattle.pli_code.specs.Modules as linked
+use Rattle.pli_code.specs.Modules.{LinkedUnit}
 
 -- the unit that a global takes from the front of what external globals stand for, if it is an entry
 abbrev pub unit_in : CodedGlobal → (links : List ℕ) → List ℕ

@@ -3,8 +3,8 @@ ghost use Rattle.std.specs.Prelude.{◌≡◌};
 ghost use Rattle.pli_deck_load.specs.answers.Errors.{load_error};
 ghost use Rattle.pli_deck_load.specs.declared.error.LoadError.TheVariants.{Memory};
 
-use pli_deck::DeckFault;
 use pli_deck_read::ReadError;
+use pli_deck_write::DeckFault;
 use std::alloc::AllocError;
 
 /// Why nothing was loaded.

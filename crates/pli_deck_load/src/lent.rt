@@ -1,12 +1,12 @@
 //! Modules of decks as they are lent to what links them.
 ghost use Rattle.std.specs.Prelude.{◌≡◌, map, IfOk};
-ghost use Rattle.pli_deck.specs.ModuleView.{member_view, module_view};
+ghost use Rattle.pli_deck_write.specs.ModuleView.{member_view, module_view};
 ghost use Rattle.pli_deck_code.specs.views.LinkedView.{lent_view, linked_view};
 ghost use Rattle.pli_deck_load.specs.ModuleUnits.{unit_from, module_from};
 
 use crate::units::entries_from;
-use pli_deck::{DeckModule, Member};
 use pli_deck_code::{LentUnit, Linked};
+use pli_deck_write::{DeckModule, Member};
 use std::alloc::{AllocError, Global};
 
 /// The linked unit of a module's unit, its code lent.

@@ -1,7 +1,7 @@
 //! Whether a module is linked as its decks are.
 ghost use Rattle.std.specs.Prelude.{◌≡◌, List, map, IfOk};
 ghost use Rattle.pli_base.specs.Name as base;
-ghost use Rattle.pli_deck.specs.ModuleView.{external_view, member_view, module_view};
+ghost use Rattle.pli_deck_write.specs.ModuleView.{external_view, member_view, module_view};
 ghost use Rattle.pli_deck_code.specs.CodeModules as spec;
 ghost use Rattle.pli_deck_code.specs.answers.Tables.{AreNumbered};
 ghost use Rattle.pli_deck_code.specs.views.LinkedView.{lent_view, linked_view};
@@ -9,8 +9,8 @@ ghost use Rattle.pli_deck_load.specs.answers.Linkings.{Compares, mark_of, linkin
 
 use indexmap::IndexMap;
 use pli_base::Name;
-use pli_deck::{DeckModule, External, Member};
 use pli_deck_code::{LentUnit, Linked, externals_of, links_of, numbers_of};
+use pli_deck_write::{DeckModule, External, Member};
 use std::alloc::{AllocError, Global};
 
 /// Whether externals are the same.

@@ -1,10 +1,10 @@
 //! Linked modules from bytes.
 ghost use Rattle.std.specs.Prelude.{◌≡◌, IfOk};
-ghost use Rattle.pli_deck.specs.ModuleSpelling.{module_read};
-ghost use Rattle.pli_deck.specs.ModuleView as deck_view;
+ghost use Rattle.pli_deck_write.specs.ModuleSpelling.{module_read};
+ghost use Rattle.pli_deck_write.specs.ModuleView as deck_view;
 ghost use Rattle.pli_deck_code.specs.CodeModules.{module_of};
-ghost use Rattle.pli_unit_code.specs.Modules as linked;
-ghost use Rattle.pli_unit_code.specs.views.CodeView.{module_view};
+ghost use Rattle.pli_code.specs.Modules as linked;
+ghost use Rattle.pli_code.specs.views.CodeView.{module_view};
 ghost use Rattle.pli_deck_load.specs.ModuleUnits.{module_from};
 ghost use Rattle.pli_deck_load.specs.LinkedBytes.{IsLinked, Loads, FaultsAre};
 ghost use Rattle.pli_deck_load.specs.answers.Linkings.{Compares, linking_of};
@@ -13,9 +13,9 @@ use crate::error::LoadError;
 use crate::lent::lent_module;
 use crate::linkings::same_linking;
 use crate::units::units_from;
-use pli_deck::DeckModule;
+use pli_code::Module;
 use pli_deck_read::read_module;
-use pli_unit_code::Module;
+use pli_deck_write::DeckModule;
 use std::alloc::{AllocError, Global};
 
 /// The linked module of a module's decks.

@@ -1,11 +1,11 @@
 //! Linked units of decks.
 ghost use Rattle.std.specs.Prelude.{◌≡◌, ◌++◌, map, IfOk, OnOk};
-ghost use Rattle.pli_deck.specs.ModuleView.{member_view};
-ghost use Rattle.pli_unit_code.specs.views.CodeView.{global_view, unit_view};
+ghost use Rattle.pli_deck_write.specs.ModuleView.{member_view};
+ghost use Rattle.pli_code.specs.views.CodeView.{global_view, unit_view};
 ghost use Rattle.pli_deck_load.specs.ModuleUnits.{unit_in, links_behind, entries_from, unit_from};
 
-use pli_deck::Member;
-use pli_unit_code::{CodedGlobal, LinkedUnit};
+use pli_code::{CodedGlobal, LinkedUnit};
+use pli_deck_write::Member;
 use std::alloc::{AllocError, Global};
 
 /// Appends the unit of an entry, which is the first of what external globals from it on stand for.

@@ -4,9 +4,9 @@ use Rattle.std.specs.Str.{bytes_eq}
 use Rattle.std.proofs.lemmas.Bool.{lt-ltb, le-ltb}
 use Rattle.pli_value.specs.Packing.{IsPacked, packed, unpacked}
 use Rattle.pli_value.proofs.PackedLaws.{packed_is}
-use Rattle.pli_deck.specs.declared.fault.DeckFault.TheVariants.{Truncated}
-use Rattle.pli_deck.specs.Fields.{held}
-use Rattle.pli_deck.specs.DeckFields.{byte_count, bits_in, bits_at}
+use Rattle.pli_deck_write.specs.declared.fault.DeckFault.TheVariants.{Truncated}
+use Rattle.pli_deck_write.specs.Fields.{held}
+use Rattle.pli_deck_write.specs.DeckFields.{byte_count, bits_in, bits_at}
 
 pub bits_short : (count : ℕ) (bytes : List ℕ) → length bytes < byte_count count → bits_at count bytes ≡ Err Truncated
 unfolding bits_at

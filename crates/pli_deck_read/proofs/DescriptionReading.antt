@@ -2,13 +2,13 @@
 use Rattle.std.proofs.Common.{◌≡◌, ℕ, zero, suc, ◌-◌, ◌<◌, List, [], get_or, Result, Ok, Err, ◌⊎◌, inl, inr, sym, ap, ◌∙◌, arith}
 use Rattle.std.proofs.lemmas.List.{get_or_past}
 use Rattle.pli_map.specs.Description.{Description}
-use Rattle.pli_deck.specs.declared.fault.DeckFault.{DeckFault}
-use Rattle.pli_deck.specs.declared.fault.DeckFault.TheVariants.{OutOfRange}
+use Rattle.pli_deck_write.specs.declared.fault.DeckFault.{DeckFault}
+use Rattle.pli_deck_write.specs.declared.fault.DeckFault.TheVariants.{OutOfRange}
 use Rattle.pli_base.specs.declared.failure.Failure.{Failure}
 use Rattle.pli_base.specs.declared.failure.Failure.TheVariants as errors
 use Rattle.pli_base.specs.Results.{◌>>=◌}
-use Rattle.pli_deck.specs.Fields.{Field, Reader, byte_at, unknown}
-use Rattle.pli_deck.specs.Descriptions.{description_readers, described, description_within}
+use Rattle.pli_deck_write.specs.Fields.{Field, Reader, byte_at, unknown}
+use Rattle.pli_deck_write.specs.Descriptions.{description_readers, described, description_within}
 use Rattle.pli_base.specs.answers.FailureAnswers.{Fails}
 
 abbrev by_tag : List (Reader Description) → ℕ × List ℕ → Result (Description × List ℕ) DeckFault

@@ -1,7 +1,7 @@
 -- What stands in front of a deck.
 use Rattle.std.proofs.Common.{◌≡◌, ℕ, ◌≤◌, ◌<◌, nat_eq, Bool, true, false, ◌&&◌, cond, List, [], ◌∷◌, length, take, drop, Option, Some, None, refl, sym, ap, ◌∙◌, arith}
 use Rattle.std.specs.Str.{bytes_eq}
-use Rattle.pli_deck.specs.DeckFields.{behind}
+use Rattle.pli_deck_write.specs.DeckFields.{behind}
 
 abbrev left_over : (same : Bool) → List ℕ → Option (List ℕ)
 left_over same rest = cond same (Some rest) None

@@ -1,16 +1,16 @@
 -- Reading an instruction's operands: what is made of them, and where they fault.
 use Rattle.std.proofs.Common.{◌≡◌, ◌<◌, ℕ, get_or, arith, List, Option, Some, None, Result, Ok, Err, refl, ap, ◌∙◌}
 use Rattle.pli_base.specs.declared.failure.Failure.{Failure}
-use Rattle.pli_deck.specs.declared.fault.DeckFault.{DeckFault}
+use Rattle.pli_deck_write.specs.declared.fault.DeckFault.{DeckFault}
 use Rattle.pli_base.specs.declared.failure.Failure.TheVariants as errors
 use Rattle.std.proofs.lemmas.List.{get_or_past}
-use Rattle.pli_unit_code.specs.declared.instruction.Instruction.{Instruction}
-use Rattle.pli_deck.specs.Instructions.{instruction_readers, reader_of}
+use Rattle.pli_code.specs.declared.instruction.Instruction.{Instruction}
+use Rattle.pli_deck_write.specs.Instructions.{instruction_readers, reader_of}
 use Rattle.pli_base.specs.Results.{◌>>=◌}
-use Rattle.pli_deck.specs.Fields.{Reader, Field, ◌⊗◌, made, nothing, unknown}
+use Rattle.pli_deck_write.specs.Fields.{Reader, Field, ◌⊗◌, made, nothing, unknown}
 use Rattle.pli_base.specs.answers.FailureAnswers.{Fails}
 use Rattle.pli_deck_read.specs.Operands.{Reads, left_of, kept}
-use Rattle.pli_deck.proofs.FieldLaws.{as_shaped, with_first, then_second}
+use Rattle.pli_deck_write.proofs.FieldLaws.{as_shaped, with_first, then_second}
 
 pub one_ok : {X Y : Type 0} (f : Field X) (to : X → Y) (bytes : List ℕ) (x : X) (rest : List ℕ) → f.read bytes ≡ Ok (x, rest) → made to f bytes ≡ Ok (to x, rest)
 one_ok f to bytes x rest h = ap (λ r. r >>= as_shaped to) h

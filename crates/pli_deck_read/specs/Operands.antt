@@ -1,9 +1,9 @@
 -- Reading the operands of an instruction, one behind another, up to the first error.
 use Rattle.std.specs.Prelude.{◌≡◌, ℕ, List, Option, Some, None, Result, Ok, Err}
-use Rattle.pli_deck.specs.Fields.{Reader}
+use Rattle.pli_deck_write.specs.Fields.{Reader}
 use Rattle.pli_base.specs.answers.FailureAnswers.{Fails}
 use Rattle.pli_base.specs.declared.failure.Failure.{Failure}
-use Rattle.pli_deck.specs.declared.fault.DeckFault.{DeckFault}
+use Rattle.pli_deck_write.specs.declared.fault.DeckFault.{DeckFault}
 use Rattle.pli_deck_read.specs.declared.operands.Operands.{Operands}
 
 -- what is left to be read, unless there was an error

@@ -1,12 +1,12 @@
 //! Constants, initial values and templates at the front of bytes.
 ghost use Rattle.std.specs.Prelude.{◌≡◌, ◌≤◌, ◌<◌, ℕ, slice_index, map};
 ghost use Rattle.std.specs.Str.{bytes_eq};
-ghost use Rattle.pli_deck.specs.Fields.{made, list_of, u4};
-ghost use Rattle.pli_deck.specs.DeckFields as deck_fields;
+ghost use Rattle.pli_deck_write.specs.Fields.{made, list_of, u4};
+ghost use Rattle.pli_deck_write.specs.DeckFields as deck_fields;
 ghost use Rattle.pli_type_tree.specs.Templates as templates;
 ghost use Rattle.pli_type_tree.specs.views.TemplateView.{initial_view};
-ghost use Rattle.pli_unit_code.specs.CodeTables as tables;
-ghost use Rattle.pli_unit_code.specs.views.CodeView.{coded_template_view};
+ghost use Rattle.pli_code.specs.CodeTables as tables;
+ghost use Rattle.pli_code.specs.views.CodeView.{coded_template_view};
 ghost use Rattle.pli_value.specs.Value as plain;
 ghost use Rattle.pli_value.specs.Value.{value_view};
 ghost use Rattle.pli_base.specs.answers.FailureAnswers.{Gives};
@@ -15,9 +15,9 @@ use crate::error::ReadError;
 use crate::reading::{
     ReadsOne, byte_of, many_of, short_of, short_within, signed_within, text_of, word_of,
 };
-use pli_deck::DeckFault;
+use pli_code::CodedTemplate;
+use pli_deck_write::DeckFault;
 use pli_type_tree::InitialScalar;
-use pli_unit_code::CodedTemplate;
 use pli_value::bit::Bits;
 use pli_value::{Locator, Value};
 use std::alloc::Global;
@@ -49,7 +49,7 @@ pub fn are_same(left: &[u8], right: &[u8]) -> bool
 }
 
 /// Bits, with their count.
-#[tactic(auto, unfolding(pli_deck::specs::DeckFields::bit_string))]
+#[tactic(auto, unfolding(pli_deck_write::specs::DeckFields::bit_string))]
 fn bit_string_of(alloc: Global, bytes: &[u8]) -> Result<(Value, &[u8]), ReadError>
     ensures { Gives (λ x. (value_view x.0, x.1.now)) result (made plain.Bits deck_fields.bit_string bytes.now) }
 {
@@ -59,7 +59,7 @@ fn bit_string_of(alloc: Global, bytes: &[u8]) -> Result<(Value, &[u8]), ReadErro
 }
 
 /// Characters, with their count.
-#[tactic(auto, unfolding(pli_deck::specs::DeckFields::characters))]
+#[tactic(auto, unfolding(pli_deck_write::specs::DeckFields::characters))]
 fn characters_of(alloc: Global, bytes: &[u8]) -> Result<(Value, &[u8]), ReadError>
     ensures { Gives (λ x. (value_view x.0, x.1.now)) result (made plain.Characters deck_fields.characters bytes.now) }
 {
@@ -69,7 +69,7 @@ fn characters_of(alloc: Global, bytes: &[u8]) -> Result<(Value, &[u8]), ReadErro
 }
 
 /// A constant.
-#[tactic(auto, unfolding(pli_deck::specs::DeckFields::constant))]
+#[tactic(auto, unfolding(pli_deck_write::specs::DeckFields::constant))]
 pub fn constant_of(alloc: Global, bytes: &[u8]) -> Result<(Value, &[u8]), ReadError>
     ensures { Gives (λ x. (value_view x.0, x.1.now)) result (deck_fields.constant.read bytes.now) }
 {
@@ -116,7 +116,7 @@ impl ReadsOne for Initials {
 
     ghost field = { deck_fields.initial };
 
-    #[tactic(auto, unfolding(pli_deck::specs::DeckFields::initial))]
+    #[tactic(auto, unfolding(pli_deck_write::specs::DeckFields::initial))]
     fn read<'a>(
         &self,
         alloc: Global,
@@ -148,7 +148,7 @@ impl ReadsOne for Templates {
 
     ghost field = { deck_fields.template };
 
-    #[tactic(auto, unfolding(pli_deck::specs::DeckFields::template))]
+    #[tactic(auto, unfolding(pli_deck_write::specs::DeckFields::template))]
     fn read<'a>(
         &self,
         alloc: Global,

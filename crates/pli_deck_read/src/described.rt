@@ -2,9 +2,9 @@
 ghost use Rattle.std.specs.Prelude.{◌≡◌, ◌≤◌, ◌%◌, map, IfOk};
 ghost use Rattle.pli_map.specs.Description as plain;
 ghost use Rattle.pli_map.specs.views.DescriptionView.{description_view};
-ghost use Rattle.pli_deck.specs.Fields.{Field, many, list};
-ghost use Rattle.pli_deck.specs.Descriptions as description_fields;
-ghost use Rattle.pli_deck.specs.Descriptions.{description, description_within, described};
+ghost use Rattle.pli_deck_write.specs.Fields.{Field, many, list};
+ghost use Rattle.pli_deck_write.specs.Descriptions as description_fields;
+ghost use Rattle.pli_deck_write.specs.Descriptions.{description, description_within, described};
 ghost use Rattle.pli_base.specs.answers.FailureAnswers.{Gives};
 
 use crate::error::ReadError;
@@ -12,7 +12,7 @@ use crate::reading::{
     ReadsOne, byte_of, byte_within, count_within, many_of, short_of, short_within, signed_within,
     word_of,
 };
-use pli_deck::{DeckFault, LEVELS};
+use pli_deck_write::{DeckFault, LEVELS};
 use pli_map::{Bounds, Description};
 use std::alloc::Global;
 
@@ -74,7 +74,7 @@ fn area_size_of(bytes: &[u8]) -> Result<(u32, &[u8]), ReadError>
 }
 
 /// The scalar of a tag that is neither an array's nor a structure's.
-#[tactic(auto, unfolding(pli_deck::specs::Descriptions::described), using(pli_deck::proofs::DescriptionViews::area_said, pli_deck::proofs::DescriptionViews::fixed_said, pli_deck::proofs::DescriptionViews::character_said, pli_deck::proofs::DescriptionViews::varying_said, pli_deck::proofs::DescriptionViews::bit_said, pli_deck::proofs::DescriptionViews::pointer_said, pli_deck::proofs::DescriptionViews::offset_said))]
+#[tactic(auto, unfolding(pli_deck_write::specs::Descriptions::described), using(pli_deck_write::proofs::DescriptionViews::area_said, pli_deck_write::proofs::DescriptionViews::fixed_said, pli_deck_write::proofs::DescriptionViews::character_said, pli_deck_write::proofs::DescriptionViews::varying_said, pli_deck_write::proofs::DescriptionViews::bit_said, pli_deck_write::proofs::DescriptionViews::pointer_said, pli_deck_write::proofs::DescriptionViews::offset_said))]
 fn scalar_of(tag: u8, bytes: &[u8]) -> Result<(Description, &[u8]), ReadError>
     requires { (1 ≤ tag) × (tag ≤ 7) }
     ensures { (inner : Field plain.Description) →
@@ -130,7 +130,7 @@ fn description_at<'a>(
 
 /// What stands behind an array's tag.
 #[cycle(description)]
-#[tactic(auto, unfolding(pli_deck::specs::Descriptions::described), using(pli_deck::proofs::DescriptionViews::array_said))]
+#[tactic(auto, unfolding(pli_deck_write::specs::Descriptions::described), using(pli_deck_write::proofs::DescriptionViews::array_said))]
 fn array_at<'a>(
     alloc: Global,
     levels: u16,
@@ -146,7 +146,7 @@ fn array_at<'a>(
 
 /// What stands behind a structure's tag.
 #[cycle(description)]
-#[tactic(auto, unfolding(pli_deck::specs::Descriptions::described), using(pli_deck::proofs::DescriptionViews::structure_said))]
+#[tactic(auto, unfolding(pli_deck_write::specs::Descriptions::described), using(pli_deck_write::proofs::DescriptionViews::structure_said))]
 fn structure_at<'a>(
     alloc: Global,
     levels: u16,

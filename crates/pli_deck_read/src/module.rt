@@ -1,15 +1,15 @@
 //! Modules from bytes.
 ghost use Rattle.std.specs.Prelude.{◌≡◌, ◌<◌, ℕ, Ok, IfOk, slice_index};
-ghost use Rattle.pli_deck.specs.ModuleFields as plain;
-ghost use Rattle.pli_deck.specs.ModuleSpelling.{SpellsModule, module_fault, module_read};
-ghost use Rattle.pli_deck.specs.ModuleView.{module_view};
-ghost use Rattle.pli_deck.specs.Whole.{whole};
+ghost use Rattle.pli_deck_write.specs.ModuleFields as plain;
+ghost use Rattle.pli_deck_write.specs.ModuleSpelling.{SpellsModule, module_fault, module_read};
+ghost use Rattle.pli_deck_write.specs.ModuleView.{module_view};
+ghost use Rattle.pli_deck_write.specs.Whole.{whole};
 ghost use Rattle.pli_base.specs.answers.FailureAnswers.{Gives};
 
 use crate::error::ReadError;
 use crate::modules::module_at;
-use pli_deck::{DeckFault, DeckModule};
 use pli_deck_faults::module_fault;
+use pli_deck_write::{DeckFault, DeckModule};
 use std::alloc::Global;
 
 /// A module, if no bytes stand behind it and it has no fault.
@@ -27,7 +27,7 @@ fn whole(alloc: Global, program: DeckModule, rest: &[u8]) -> Result<DeckModule, 
 }
 
 /// The module that bytes are, or the first fault.
-#[tactic(auto, unfolding(pli_deck::specs::ModuleSpelling::module_read))]
+#[tactic(auto, unfolding(pli_deck_write::specs::ModuleSpelling::module_read))]
 fn read(alloc: Global, bytes: &[u8]) -> Result<DeckModule, ReadError>
     ensures exact { Gives module_view result (module_read bytes.now) }
     ensures bytes { (place : ℕ) → slice_index bytes.now place < 256 }

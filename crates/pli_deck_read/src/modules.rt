@@ -1,11 +1,11 @@
 //! Modules at the front of bytes.
 ghost use Rattle.std.specs.Prelude.{◌≡◌, None, length, map};
 ghost use Rattle.std.specs.List.{filter};
-ghost use Rattle.pli_deck.specs.Fields.{u1, from_to};
-ghost use Rattle.pli_deck.specs.DeckFields as deck_fields;
-ghost use Rattle.pli_unit_code.specs.views.CodeView.{deck_view, global_view};
-ghost use Rattle.pli_deck.specs.ModuleFields as module_fields;
-ghost use Rattle.pli_deck.specs.ModuleView.{kind_number, external_view, member_view, module_view};
+ghost use Rattle.pli_deck_write.specs.Fields.{u1, from_to};
+ghost use Rattle.pli_deck_write.specs.DeckFields as deck_fields;
+ghost use Rattle.pli_code.specs.views.CodeView.{deck_view, global_view};
+ghost use Rattle.pli_deck_write.specs.ModuleFields as module_fields;
+ghost use Rattle.pli_deck_write.specs.ModuleView.{kind_number, external_view, member_view, module_view};
 ghost use Rattle.pli_deck_read.specs.Earlier.{last_of};
 ghost use Rattle.pli_base.specs.answers.FailureAnswers.{Gives};
 
@@ -18,9 +18,9 @@ use crate::reading::{
 use crate::tables::numbers_of;
 use crate::whole::behind;
 use pli_base::Name;
-use pli_deck::{DeckFault, DeckModule, External, Member};
+use pli_code::{CodedGlobal, Deck, VariableKind};
 use pli_deck_faults::is_external;
-use pli_unit_code::{CodedGlobal, Deck, VariableKind};
+use pli_deck_write::{DeckFault, DeckModule, External, Member};
 use std::alloc::Global;
 use std::cmp::Ordering;
 
@@ -50,7 +50,7 @@ fn comes_after(earlier: &[External], name: &Name) -> bool
 }
 
 /// An external, whose name stands behind that of the one before it.
-#[tactic(auto, unfolding(pli_deck::specs::ModuleFields::external_behind, pli_deck::specs::DeckFields::name))]
+#[tactic(auto, unfolding(pli_deck_write::specs::ModuleFields::external_behind, pli_deck_write::specs::DeckFields::name))]
 fn external_of<'a>(earlier: &[External], bytes: &'a [u8]) -> Result<(External, &'a [u8]), ReadError>
     ensures { Gives (λ x. (external_view x.0, x.1.now)) result ((module_fields.external_behind (last_of (map external_view earlier.now))).read bytes.now) }
 {
@@ -106,7 +106,7 @@ fn externals_of(alloc: Global, bytes: &[u8]) -> Result<(Vec<External>, &[u8]), R
 }
 
 /// A deck with the number of its bytes before it, read whole.
-#[tactic(auto, unfolding(pli_deck::specs::ModuleFields::deck_in))]
+#[tactic(auto, unfolding(pli_deck_write::specs::ModuleFields::deck_in))]
 fn sized_deck_of(alloc: Global, bytes: &[u8]) -> Result<(Deck, &[u8]), ReadError>
     ensures { Gives (λ x. (deck_view x.0, x.1.now)) result (module_fields.sized_deck.read bytes.now) }
 {
@@ -160,7 +160,7 @@ impl ReadsOne for Members {
 
     ghost field = { module_fields.member };
 
-    #[tactic(auto, unfolding(pli_deck::specs::ModuleFields::member, pli_deck::specs::DeckFields::name))]
+    #[tactic(auto, unfolding(pli_deck_write::specs::ModuleFields::member, pli_deck_write::specs::DeckFields::name))]
     fn read<'a>(&self, alloc: Global, bytes: &'a [u8]) -> Result<(Member, &'a [u8]), ReadError> {
         let (text, rest) = name_text_of(bytes)?;
         let Some(name) = upper_name(text) else {
@@ -203,7 +203,7 @@ fn versioned_of(alloc: Global, bytes: &[u8]) -> Result<(DeckModule, &[u8]), Read
 }
 
 /// A module.
-#[tactic(auto, unfolding(pli_deck::specs::ModuleFields::module_field))]
+#[tactic(auto, unfolding(pli_deck_write::specs::ModuleFields::module_field))]
 pub fn module_at(alloc: Global, bytes: &[u8]) -> Result<(DeckModule, &[u8]), ReadError>
     ensures { Gives (λ x. (module_view x.0, x.1.now)) result (module_fields.module_field.read bytes.now) }
 {

@@ -1,12 +1,12 @@
 //! Errors, relations, conditions and kinds of blocks by the numbers that stand for them.
 ghost use Rattle.std.specs.Prelude.{◌≡◌};
-ghost use Rattle.pli_deck.specs.Numbered.{error_of, relation_of, condition_of, kind_of};
-ghost use Rattle.pli_unit_code.specs.views.CodeView.{kind_view};
+ghost use Rattle.pli_deck_write.specs.Numbered.{error_of, relation_of, condition_of, kind_of};
+ghost use Rattle.pli_code.specs.views.CodeView.{kind_view};
 
 use pli_base::statement::Condition;
-use pli_code::RunError;
+use pli_code::BlockKind;
 use pli_operation::Relation;
-use pli_unit_code::BlockKind;
+use pli_run::RunError;
 
 /// The error of a number from 1 to 13.
 pub fn error_of(number: u8) -> RunError

@@ -1,7 +1,7 @@
 //! The operands of an instruction, one behind another.
 ghost use Rattle.std.specs.Prelude.{◌≡◌};
-ghost use Rattle.pli_deck.specs.Fields.{Reader, u1, u2, u4, from_to, signed, unknown};
-ghost use Rattle.pli_deck.specs.Instructions as instruction_fields;
+ghost use Rattle.pli_deck_write.specs.Fields.{Reader, u1, u2, u4, from_to, signed, unknown};
+ghost use Rattle.pli_deck_write.specs.Instructions as instruction_fields;
 ghost use Rattle.pli_deck_read.specs.Operands.{operands_view, kept, Reads};
 ghost use Rattle.pli_base.specs.answers.FailureAnswers.{Gives};
 
@@ -9,10 +9,10 @@ use crate::error::ReadError;
 use crate::numbered::{condition_of, error_of, relation_of};
 use crate::reading::{byte_of, byte_within, short_of, signed_within, word_of};
 use pli_base::statement::Condition;
-use pli_code::RunError;
-use pli_deck::DeckFault;
+use pli_code::Instruction;
+use pli_deck_write::DeckFault;
 use pli_operation::Relation;
-use pli_unit_code::Instruction;
+use pli_run::RunError;
 
 /// The bytes from which operands are read. The first error is kept, and what is read behind it says nothing: so whether
 /// all went well is asked once, behind the last operand.

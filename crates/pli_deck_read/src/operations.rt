@@ -1,14 +1,14 @@
 //! Instructions at the front of bytes.
-#![tactic(auto, unfolding(pli_deck::specs::Instructions::reader_of), using(crate::proofs::OperandReading::bare, crate::proofs::OperandReading::of_one, crate::proofs::OperandReading::of_both))]
+#![tactic(auto, unfolding(pli_deck_write::specs::Instructions::reader_of), using(crate::proofs::OperandReading::bare, crate::proofs::OperandReading::of_one, crate::proofs::OperandReading::of_both))]
 
 ghost use Rattle.std.specs.Prelude.{◌≡◌, ◌≤◌};
-ghost use Rattle.pli_deck.specs.Instructions.{reader_of};
+ghost use Rattle.pli_deck_write.specs.Instructions.{reader_of};
 ghost use Rattle.pli_deck_read.specs.Operands.{operands_view, Reads};
 ghost use Rattle.pli_base.specs.answers.FailureAnswers.{Gives};
 
 use crate::error::ReadError;
 use crate::operands::Operands;
-use pli_unit_code::Instruction;
+use pli_code::Instruction;
 
 /// The instruction of this code, with what stands behind it.
 pub fn operation_of(code: u8, bytes: &[u8]) -> Result<(Instruction, &[u8]), ReadError>

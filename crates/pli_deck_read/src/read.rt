@@ -1,17 +1,17 @@
 //! Decks from bytes.
 ghost use Rattle.std.specs.Prelude.{◌≡◌, ◌<◌, ℕ, Ok, IfOk, slice_index};
-ghost use Rattle.pli_deck.specs.DeckFaults.{fault_of};
-ghost use Rattle.pli_deck.specs.Spelling.{SpellsDeck, deck_read};
-ghost use Rattle.pli_deck.specs.Whole.{whole};
-ghost use Rattle.pli_unit_code.specs.CodeTables as plain;
-ghost use Rattle.pli_unit_code.specs.views.CodeView.{deck_view};
+ghost use Rattle.pli_deck_write.specs.DeckFaults.{fault_of};
+ghost use Rattle.pli_deck_write.specs.Spelling.{SpellsDeck, deck_read};
+ghost use Rattle.pli_deck_write.specs.Whole.{whole};
+ghost use Rattle.pli_code.specs.CodeTables as plain;
+ghost use Rattle.pli_code.specs.views.CodeView.{deck_view};
 ghost use Rattle.pli_base.specs.answers.FailureAnswers.{Gives};
 
 use crate::error::ReadError;
 use crate::whole::deck_at;
-use pli_deck::DeckFault;
+use pli_code::Deck;
 use pli_deck_faults::deck_fault;
-use pli_unit_code::Deck;
+use pli_deck_write::DeckFault;
 use std::alloc::Global;
 
 /// A deck, if no bytes stand behind it and it has no fault.
@@ -29,7 +29,7 @@ fn whole(alloc: Global, deck: Deck, rest: &[u8]) -> Result<Deck, ReadError>
 }
 
 /// The deck that bytes are, or the first fault.
-#[tactic(auto, unfolding(pli_deck::specs::Spelling::deck_read))]
+#[tactic(auto, unfolding(pli_deck_write::specs::Spelling::deck_read))]
 pub fn read(alloc: Global, bytes: &[u8]) -> Result<Deck, ReadError>
     ensures exact { Gives deck_view result (deck_read bytes.now) }
     ensures bytes { (place : ℕ) → slice_index bytes.now place < 256 }

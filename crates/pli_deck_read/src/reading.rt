@@ -1,18 +1,18 @@
 //! Numbers, names and lists at the front of bytes.
 ghost use Rattle.std.specs.Prelude.{◌≡◌, ◌≤◌, List, Result, length, map, true, false, IfOk, IfSome, IfNone, unsigned_abs};
-ghost use Rattle.pli_deck.specs.Fields.{byte_at, number_at, many, byte, list, list_of, u1, u2, count_of_one, from_to, signed};
-ghost use Rattle.pli_deck.specs.Fields as fields;
-ghost use Rattle.pli_deck.specs.DeckFields as deck_fields;
+ghost use Rattle.pli_deck_write.specs.Fields.{byte_at, number_at, many, byte, list, list_of, u1, u2, count_of_one, from_to, signed};
+ghost use Rattle.pli_deck_write.specs.Fields as fields;
+ghost use Rattle.pli_deck_write.specs.DeckFields as deck_fields;
 ghost use Rattle.pli_base.specs.answers.FailureAnswers.{Gives};
 
 use crate::error::ReadError;
 use byteorder::{BigEndian, ByteOrder};
 use pli_base::Name;
-use pli_deck::DeckFault;
+use pli_deck_write::DeckFault;
 use std::alloc::Global;
 
 /// One byte.
-#[tactic(auto, unfolding(pli_deck::specs::Fields::byte_at))]
+#[tactic(auto, unfolding(pli_deck_write::specs::Fields::byte_at))]
 pub fn byte_of(bytes: &[u8]) -> Result<(u8, &[u8]), ReadError>
     ensures { Gives (λ x. (x.0, x.1.now)) result (byte_at bytes.now) }
 {
@@ -23,7 +23,7 @@ pub fn byte_of(bytes: &[u8]) -> Result<(u8, &[u8]), ReadError>
 }
 
 /// A number of two bytes.
-#[tactic(auto, unfolding(pli_deck::specs::Fields::number_at))]
+#[tactic(auto, unfolding(pli_deck_write::specs::Fields::number_at))]
 pub fn short_of(bytes: &[u8]) -> Result<(u16, &[u8]), ReadError>
     ensures { Gives (λ x. (x.0, x.1.now)) result (number_at 2 bytes.now) }
 {
@@ -34,7 +34,7 @@ pub fn short_of(bytes: &[u8]) -> Result<(u16, &[u8]), ReadError>
 }
 
 /// A number of four bytes.
-#[tactic(auto, unfolding(pli_deck::specs::Fields::number_at))]
+#[tactic(auto, unfolding(pli_deck_write::specs::Fields::number_at))]
 pub fn word_of(bytes: &[u8]) -> Result<(u32, &[u8]), ReadError>
     ensures { Gives (λ x. (x.0, x.1.now)) result (number_at 4 bytes.now) }
 {
@@ -98,7 +98,7 @@ pub fn flag_of(bytes: &[u8]) -> Result<(bool, &[u8]), ReadError>
 }
 
 /// A number below 65,535, or none.
-#[tactic(auto, unfolding(pli_deck::specs::DeckFields::optional))]
+#[tactic(auto, unfolding(pli_deck_write::specs::DeckFields::optional))]
 pub fn optional_of(bytes: &[u8]) -> Result<(Option<u16>, &[u8]), ReadError>
     ensures { Gives (λ x. (x.0, x.1.now)) result (deck_fields.optional.read bytes.now) }
 {

@@ -1,11 +1,11 @@
 //! The items of a deck's tables at the front of bytes.
 ghost use Rattle.std.specs.Prelude.{◌≡◌, ℕ, List, map};
-ghost use Rattle.pli_deck.specs.Fields.{Field, many, u2, list, made, ◌⊗◌};
-ghost use Rattle.pli_deck.specs.DeckFields as deck_fields;
-ghost use Rattle.pli_deck.specs.Instructions.{instruction};
-ghost use Rattle.pli_unit_code.specs.CodeTables as code;
-ghost use Rattle.pli_unit_code.specs.CodeTables.{CodedBlock};
-ghost use Rattle.pli_unit_code.specs.views.CodeView.{kind_view, block_view, signature_view, global_view};
+ghost use Rattle.pli_deck_write.specs.Fields.{Field, many, u2, list, made, ◌⊗◌};
+ghost use Rattle.pli_deck_write.specs.DeckFields as deck_fields;
+ghost use Rattle.pli_deck_write.specs.Instructions.{instruction};
+ghost use Rattle.pli_code.specs.CodeTables as code;
+ghost use Rattle.pli_code.specs.CodeTables.{CodedBlock};
+ghost use Rattle.pli_code.specs.views.CodeView.{kind_view, block_view, signature_view, global_view};
 ghost use Rattle.pli_base.specs.answers.FailureAnswers.{Gives};
 
 use crate::error::ReadError;
@@ -15,8 +15,8 @@ use crate::reading::{
     ReadsOne, byte_of, byte_within, count_within, list_at, many_of, name_text_of, optional_of,
     short_of, upper_name, word_of,
 };
-use pli_deck::DeckFault;
-use pli_unit_code::{Block, BlockKind, CodedGlobal, CodedSignature, Instruction, VariableKind};
+use pli_code::{Block, BlockKind, CodedGlobal, CodedSignature, Instruction, VariableKind};
+use pli_deck_write::DeckFault;
 use std::alloc::Global;
 
 /// Reads a number of two bytes.
@@ -44,7 +44,7 @@ pub fn numbers_of(alloc: Global, count: u32, bytes: &[u8]) -> Result<(Vec<u16>, 
 }
 
 /// The parameters and the result of a procedure.
-#[tactic(auto, unfolding(pli_deck::specs::DeckFields::signature))]
+#[tactic(auto, unfolding(pli_deck_write::specs::DeckFields::signature))]
 pub fn signature_of(alloc: Global, bytes: &[u8]) -> Result<(CodedSignature, &[u8]), ReadError>
     ensures { Gives (λ x. (signature_view x.0, x.1.now)) result (deck_fields.signature.read bytes.now) }
 {
@@ -68,7 +68,7 @@ fn number_list_of(alloc: Global, bytes: &[u8]) -> Result<(Vec<u16>, &[u8]), Read
 }
 
 /// An external procedure.
-#[tactic(auto, unfolding(pli_deck::specs::DeckFields::name))]
+#[tactic(auto, unfolding(pli_deck_write::specs::DeckFields::name))]
 fn entry_of(alloc: Global, bytes: &[u8]) -> Result<(CodedGlobal, &[u8]), ReadError>
     ensures { Gives (λ x. (global_view x.0, x.1.now)) result (made (λ p. code.EntryPoint p.0 p.1) (deck_fields.name ⊗ deck_fields.signature) bytes.now) }
 {
@@ -89,7 +89,7 @@ fn own_of(bytes: &[u8], kind: VariableKind) -> Result<(CodedGlobal, &[u8]), Read
 }
 
 /// An external variable of a kind.
-#[tactic(auto, unfolding(pli_deck::specs::DeckFields::name))]
+#[tactic(auto, unfolding(pli_deck_write::specs::DeckFields::name))]
 fn external_of(bytes: &[u8], kind: VariableKind) -> Result<(CodedGlobal, &[u8]), ReadError>
     ensures { Gives (λ x. (global_view x.0, x.1.now)) result
         (made (λ p. code.ExternalVariable p.0 kind p.1) (deck_fields.name ⊗ u2) bytes.now) }
@@ -121,7 +121,7 @@ impl ReadsOne for Globals {
 
     ghost field = { deck_fields.global };
 
-    #[tactic(auto, unfolding(pli_deck::specs::DeckFields::global))]
+    #[tactic(auto, unfolding(pli_deck_write::specs::DeckFields::global))]
     fn read<'a>(
         &self,
         alloc: Global,
@@ -159,7 +159,7 @@ impl ReadsOne for Blocks {
 
     ghost field = { deck_fields.block };
 
-    #[tactic(auto, unfolding(pli_deck::specs::DeckFields::block))]
+    #[tactic(auto, unfolding(pli_deck_write::specs::DeckFields::block))]
     fn read<'a>(&self, alloc: Global, bytes: &'a [u8]) -> Result<(Block, &'a [u8]), ReadError> {
         let (kind, rest) = block_kind_of(bytes)?;
         let (parent, rest) = optional_of(rest)?;
@@ -187,7 +187,7 @@ impl ReadsOne for Blocks {
 struct Instructions;
 
 impl ReadsOne for Instructions {
-    ghost use Rattle.pli_unit_code.specs.declared.instruction.Instruction.{Instruction};
+    ghost use Rattle.pli_code.specs.declared.instruction.Instruction.{Instruction};
 
     type Value = Instruction;
 
@@ -197,7 +197,7 @@ impl ReadsOne for Instructions {
 
     ghost field = { instruction };
 
-    #[tactic(auto, unfolding(pli_deck::specs::Instructions::instruction, pli_deck::specs::Instructions::reader_of))]
+    #[tactic(auto, unfolding(pli_deck_write::specs::Instructions::instruction, pli_deck_write::specs::Instructions::reader_of))]
     fn read<'a>(
         &self,
         _alloc: Global,

@@ -1,8 +1,8 @@
 //! Whole decks at the front of bytes.
 ghost use Rattle.std.specs.Prelude.{◌≡◌, option_map};
-ghost use Rattle.pli_deck.specs.Fields.{Reader};
-ghost use Rattle.pli_deck.specs.DeckFields as deck_fields;
-ghost use Rattle.pli_unit_code.specs.views.CodeView.{code_view, deck_view};
+ghost use Rattle.pli_deck_write.specs.Fields.{Reader};
+ghost use Rattle.pli_deck_write.specs.DeckFields as deck_fields;
+ghost use Rattle.pli_code.specs.views.CodeView.{code_view, deck_view};
 ghost use Rattle.pli_base.specs.answers.FailureAnswers.{Gives};
 
 use crate::constants::{Constants, Templates, are_same};
@@ -10,12 +10,12 @@ use crate::described::descriptions_of;
 use crate::error::ReadError;
 use crate::reading::{byte_of, flag_of, list_at, name_text_of, upper_name};
 use crate::tables::{Blocks, Globals, instructions_of, signature_of};
-use pli_deck::DeckFault;
-use pli_unit_code::{Code, Deck};
+use pli_code::{Code, Deck};
+use pli_deck_write::DeckFault;
 use std::alloc::Global;
 
 /// The code of a unit: its signature, its tables, each with its count, and its instructions.
-#[tactic(auto, unfolding(pli_deck::specs::DeckFields::code))]
+#[tactic(auto, unfolding(pli_deck_write::specs::DeckFields::code))]
 fn code_of(alloc: Global, bytes: &[u8]) -> Result<(Code, &[u8]), ReadError>
     ensures { Gives (λ x. (code_view x.0, x.1.now)) result (deck_fields.code.read bytes.now) }
 {
@@ -57,7 +57,7 @@ pub fn behind<'a>(bytes: &'a [u8], front: &[u8]) -> Option<&'a [u8]>
 }
 
 /// The contents of a deck: its name, whether it is the main one, and its code.
-#[tactic(auto, unfolding(pli_deck::specs::DeckFields::contents, pli_deck::specs::DeckFields::name))]
+#[tactic(auto, unfolding(pli_deck_write::specs::DeckFields::contents, pli_deck_write::specs::DeckFields::name))]
 fn contents_of(alloc: Global, bytes: &[u8]) -> Result<(Deck, &[u8]), ReadError>
     ensures { Gives (λ x. (deck_view x.0, x.1.now)) result (deck_fields.contents.read bytes.now) }
 {
@@ -90,7 +90,7 @@ fn versioned_of(alloc: Global, bytes: &[u8]) -> Result<(Deck, &[u8]), ReadError>
 }
 
 /// A deck.
-#[tactic(auto, unfolding(pli_deck::specs::DeckFields::deck))]
+#[tactic(auto, unfolding(pli_deck_write::specs::DeckFields::deck))]
 pub fn deck_at(alloc: Global, bytes: &[u8]) -> Result<(Deck, &[u8]), ReadError>
     ensures { Gives (λ x. (deck_view x.0, x.1.now)) result (deck_fields.deck.read bytes.now) }
 {

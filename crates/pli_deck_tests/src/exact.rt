@@ -1,8 +1,8 @@
 //! Bytes whole, cut at each length, and changed in each place and at random.
 
 use crate::outcome::{Kind, Outcome, outcome_of};
-use pli_deck::write_deck;
 use pli_deck_read::read_module;
+use pli_deck_write::write_deck;
 use rand_core::utils::NextWord;
 use rand_pcg::Pcg32;
 use std::alloc::{AllocError, Global};

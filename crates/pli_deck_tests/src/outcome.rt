@@ -1,10 +1,10 @@
 //! What comes of bytes that are read and written again.
 
-use pli_deck::{write_deck, write_module};
+use pli_code::Module;
 use pli_deck_code::{LentUnit, Linked};
 use pli_deck_load::{LoadError, load};
 use pli_deck_read::{read_deck, read_module};
-use pli_unit_code::Module;
+use pli_deck_write::{write_deck, write_module};
 use std::alloc::{AllocError, Global};
 
 /// What bytes are read as.

@@ -9,8 +9,8 @@ use Rattle.pli_base.specs.FaultPlaces.{StandsAtToken}
 use Rattle.pli_base.specs.declared.token.Fault.{Fault}
 use Rattle.pli_base.specs.declared.token.Origin.{Origin}
 use Rattle.pli_declare.specs.Resolution.{resolution_faults}
-use Rattle.pli_gen_tree.specs.Encoding.{code_of}
-use Rattle.pli_gen_tree.specs.Limits.{is_too_long}
+use Rattle.pli_gen.specs.Encoding.{code_of}
+use Rattle.pli_gen.specs.Limits.{is_too_long}
 use Rattle.pli_include.specs.Expanded.{look_in}
 use Rattle.pli_include.specs.Expansion.{token_limit}
 use Rattle.pli_include.proofs.StepsKeep.{texts_have_origins}
@@ -20,7 +20,7 @@ use Rattle.pli_parse_statement.specs.StatementReading.{unit_of}
 use Rattle.pli_resolve.specs.ResolvedUnits.{resolved_unit_of}
 use Rattle.pli_type.specs.NamedUnits.{named_unit, checked_unit}
 use Rattle.pli_type_tree.specs.TypedTree.{TypedUnit}
-use Rattle.pli_unit_code.specs.CodeTables.{Deck}
+use Rattle.pli_code.specs.CodeTables.{Deck}
 use Rattle.pli_fault_laws.specs.FaultOrder.{fault_tokens}
 use Rattle.pli_fault_laws.specs.TypeFaultPlaces.{AllStand}
 use Rattle.pli_fault_laws.specs.DiagnosticPlaces.{FaultsHavePlaces, HasPlace, HavePlaces, DiagnosticsHavePlaces}

@@ -4,7 +4,7 @@
 use Rattle.std.specs.Prelude.{ℕ, suc, ◌+◌, nat_eq, Bool, true, false, Option, Some, None, List, [], ◌∷◌, ◌++◌}
 use Rattle.std.specs.Prelude.{map, length, if◌then◌else◌}
 use Rattle.std.specs.List.{filter, flat_map, range_with_len}
-use Rattle.pli_code.specs.declared.ending.RunError.TheVariants.{NoReturnedValue}
+use Rattle.pli_run.specs.declared.ending.RunError.TheVariants.{NoReturnedValue}
 use Rattle.pli_program.specs.Program.{Instruction, Step, Line, Jump, JumpUnless, Local, Field}
 use Rattle.pli_program.specs.Program.{Subscript, Constant, Load, Store, Copy, MakeDummy, Operate, Skip}
 use Rattle.pli_program.specs.Program.{Raise}

@@ -6,8 +6,8 @@ ghost use Rattle.pli_gen_emit.specs.TreeTranslation.{blocks_in, blocks_among, bl
 ghost use Rattle.pli_gen_emit.specs.answers.Collecting.{Collects};
 ghost use Rattle.pli_gen_emit.specs.views.BlockView.{block_tree, block_trees};
 
+use pli_code::BlockKind;
 use pli_type_tree::{BlockHead, Form, TypedProcedure, TypedStatement};
-use pli_unit_code::BlockKind;
 use std::alloc::{AllocError, Global};
 
 /// A block of a unit with what it executes, as it lies in the typed tree.

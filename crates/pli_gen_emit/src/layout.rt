@@ -9,7 +9,7 @@ use crate::block::BlockSource;
 use crate::emitter::Emitter;
 use crate::naming::NamingInstruction;
 use crate::statement::emit_list;
-use pli_code::RunError;
+use pli_run::RunError;
 
 /// Emits the code of a block: its statements, and what stands at its end.
 fn emit_block<'a>(block: BlockSource<'a>, code: &mut Emitter<'a>)

@@ -1,7 +1,7 @@
 //! Instructions before what they name is numbered.
-use pli_code::RunError;
 use pli_map::Description;
 use pli_operation::Operation;
+use pli_run::RunError;
 use pli_type_tree::Stride;
 use pli_value::Value;
 

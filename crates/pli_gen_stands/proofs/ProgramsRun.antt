@@ -3,11 +3,11 @@ use Rattle.std.specs.Prelude.{◌≡◌, ℕ, suc, ◌+◌, Option, Some, None, 
 use Rattle.std.proofs.Common.{ap, ◌∙◌, sym, subst, arith}
 use Rattle.pli_machine_step.proofs.OutcomesAreOne.{one_outcome}
 use Rattle.pli_type_tree.specs.TypedTree.{TypedUnit}
-use Rattle.pli_unit_code.specs.CodeTables as tables
-use Rattle.pli_unit_code.specs.Modules.{LinkedUnit, unit_of, program_of}
+use Rattle.pli_code.specs.CodeTables as tables
+use Rattle.pli_code.specs.Modules.{LinkedUnit, unit_of, program_of}
 use Rattle.pli_gen_emit.specs.TreeTranslation.{blocks_of, places_of, statement_place, unit_code}
-use Rattle.pli_gen_tree.specs.Encoding.{code_of}
-use Rattle.pli_gen_tree.proofs.TablesLookUp.{looked_up_is_unit_code}
+use Rattle.pli_gen.specs.Encoding.{code_of}
+use Rattle.pli_gen.proofs.TablesLookUp.{looked_up_is_unit_code}
 use Rattle.pli_meaning_simulation.specs.CodeStands.{UnitStands, UnitsStand}
 use Rattle.pli_meaning_simulation.proofs.ProgramsSimulate.{simulation}
 use Rattle.pli_meaning_tree.specs.Effects.{Label}

@@ -4,7 +4,7 @@ use Rattle.std.specs.List.{flat_map, list_any, AllByRecursion}
 use Rattle.std.specs.Prelude.{◌||◌, if◌then◌else◌}
 use Rattle.std.proofs.Common.{arith, ap, ◌∙◌, sym, subst, true≢false}
 use Rattle.std.proofs.lemmas.Bool.{eq-eqb}
-use Rattle.pli_code.specs.declared.ending.RunError.TheVariants.{NoReturnedValue}
+use Rattle.pli_run.specs.declared.ending.RunError.TheVariants.{NoReturnedValue}
 use Rattle.pli_program.specs.Program as op
 use Rattle.pli_operation.specs.Operations.{Operation, Add, Within}
 use Rattle.pli_program.specs.Program.{Instruction, Block, UnitCode}
@@ -20,10 +20,10 @@ use Rattle.pli_gen_emit.specs.TreeTranslation.{statement_code, form_code, list_c
 use Rattle.pli_gen_emit.specs.TreeTranslation.{blocks_in, blocks_of_form, blocks_among, blocks_of_procedure, blocks_of, end_code, block_code, blocks_code, places_of, block_at, blocks_at, globals_code, unit_code}
 use Rattle.pli_gen_emit.specs.TreeTranslation.{keeps_code, conversion_code, sets_code, start_code, test_against, limit_test, while_test, guarded, tests_code, advances_code, back_code}
 use Rattle.pli_gen_emit.specs.TreeTranslation.{turn_place, list_place}
-use Rattle.pli_gen_tree.proofs.IterationCode.{tests_length, iterate_ends}
-use Rattle.pli_gen_tree.specs.laws.ListLaws.{all_front, all_back}
-use Rattle.pli_gen_tree.specs.WellNumbered.{AreDistinct, HasTurns, HasRoom, HaveRoom, next_temporary, KeepsApart, KeepApart, IsWellNumbered}
-use Rattle.pli_gen_tree.specs.WellNumbered.{numbers_in, numbers_in_form, numbers_in_else, numbers_among, numbers_of}
+use Rattle.pli_gen.proofs.IterationCode.{tests_length, iterate_ends}
+use Rattle.pli_gen.specs.laws.ListLaws.{all_front, all_back}
+use Rattle.pli_gen.specs.WellNumbered.{AreDistinct, HasTurns, HasRoom, HaveRoom, next_temporary, KeepsApart, KeepApart, IsWellNumbered}
+use Rattle.pli_gen.specs.WellNumbered.{numbers_in, numbers_in_form, numbers_in_else, numbers_among, numbers_of}
 use Rattle.std.proofs.lemmas.List.{map-append}
 use Rattle.pli_meaning_tree.specs.Effects.{Label}
 use Rattle.pli_meaning_tree.specs.TreeMeaning.{number_of}

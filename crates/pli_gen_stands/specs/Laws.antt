@@ -3,9 +3,9 @@
 use Rattle.std.specs.Prelude.{◌≡◌, ℕ, Some, List, [], ◌∷◌}
 use Rattle.pli_machine_step.specs.Runs.{Outcome}
 use Rattle.pli_type_tree.specs.TypedTree.{TypedUnit}
-use Rattle.pli_unit_code.specs.Modules.{Module, program_of}
+use Rattle.pli_code.specs.Modules.{Module, program_of}
 use Rattle.pli_machine_step.specs.ModuleRuns.{RunsTo}
-use Rattle.pli_gen_tree.specs.WellNumbered.{IsWellNumbered}
+use Rattle.pli_gen.specs.WellNumbered.{IsWellNumbered}
 use Rattle.pli_meaning_simulation.specs.CodeStands.{ProgramStands}
 use Rattle.pli_meaning_tree.specs.TreeMeaning.{TypedProgram, whole_run}
 use Rattle.pli_meaning_typed.specs.TypedPrograms.{WellTyped}

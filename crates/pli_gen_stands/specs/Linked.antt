@@ -2,8 +2,8 @@
 -- external procedure it names.
 use Rattle.std.specs.Prelude.{◌≡◌, ℕ, Some, List, [], ◌∷◌}
 use Rattle.pli_type_tree.specs.TypedTree.{Global, OwnVariable, ExternalVariable, EntryPoint, TypedUnit}
-use Rattle.pli_unit_code.specs.Modules.{LinkedUnit, Module, greatest_precision}
-use Rattle.pli_gen_tree.specs.Encoding.{code_of}
+use Rattle.pli_code.specs.Modules.{LinkedUnit, Module, greatest_precision}
+use Rattle.pli_gen.specs.Encoding.{code_of}
 use Rattle.pli_meaning_tree.specs.TreeMeaning.{TypedProgram, unit_named}
 
 -- the units of the entries among globals have these numbers, in the order of the globals

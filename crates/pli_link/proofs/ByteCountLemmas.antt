@@ -10,7 +10,7 @@ use Rattle.pli_map.specs.Sizes.{size_of}
 use Rattle.pli_map.specs.Variables.{byte_limit}
 use Rattle.pli_type_tree.specs.Templates.{Template}
 use Rattle.pli_link.specs.ModuleSize.{is_oversized, are_too_large}
-use Rattle.pli_unit_code.specs.CodeTables.{there}
+use Rattle.pli_code.specs.CodeTables.{there}
 use Rattle.pli_link.specs.views.NameView.{externals_view}
 use Rattle.pli_type_keys.specs.views.KeyView.{templated}
 use Rattle.pli_link.specs.declared.names.KnownExternal.{KnownExternal}

@@ -13,9 +13,9 @@ use denote.Ref.{Bor}
 use Rattle.pli_base.specs.Name.{Name}
 use Rattle.pli_base.specs.Words.{same_name, is_among}
 use Rattle.pli_type_tree.specs.Templates.{Template}
-use Rattle.pli_unit_code.specs.CodeTables.{Code, template_at, with_description}
-use Rattle.pli_unit_code.specs.declared.code.CodedTemplate.{CodedTemplate}
-use Rattle.pli_unit_code.specs.views.CodeView.{coded_template_view}
+use Rattle.pli_code.specs.CodeTables.{Code, template_at, with_description}
+use Rattle.pli_code.specs.declared.code.CodedTemplate.{CodedTemplate}
+use Rattle.pli_code.specs.views.CodeView.{coded_template_view}
 use Rattle.pli_type_keys.specs.Same.{same_template}
 use Rattle.pli_link.specs.Mismatches.{is_like_first}
 use Rattle.pli_link.specs.answers.Classes.{place_of, IsClass, known_in, Grows, class_in, class_at, AreClasses, AreClassed, IsFirstClassed}

@@ -2,10 +2,10 @@
 use Rattle.std.proofs.Common.{◌≡◌, ℕ, zero, suc, ◌+◌, ◌<◌, ◌≤◌, Option, Some, None, List, [], ◌∷◌, ◌++◌, length, map, get_or, drop, append_assoc, refl, sym, ap, ◌∙◌, arith}
 use Rattle.std.proofs.lemmas.List.{at_drop_more}
 use Rattle.pli_base.specs.Name.{Name}
-use Rattle.pli_unit_code.specs.CodeTables as plain
-use Rattle.pli_unit_code.specs.CodeTables.{there}
-use Rattle.pli_unit_code.specs.declared.code.CodedGlobal.{CodedGlobal}
-use Rattle.pli_unit_code.specs.views.CodeView.{global_view}
+use Rattle.pli_code.specs.CodeTables as plain
+use Rattle.pli_code.specs.CodeTables.{there}
+use Rattle.pli_code.specs.declared.code.CodedGlobal.{CodedGlobal}
+use Rattle.pli_code.specs.views.CodeView.{global_view}
 use Rattle.pli_link.specs.Mismatches.{each_once, faulty_in, faulty_names, faulty_in_unit, faulty_linked}
 use Rattle.pli_link.specs.Names.{with_name}
 use Rattle.pli_link.specs.Units as units

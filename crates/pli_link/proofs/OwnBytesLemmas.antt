@@ -1,7 +1,7 @@
 -- The bytes of the variables that units have for themselves, unit by unit.
 use Rattle.std.proofs.Common.{◌≡◌, ℕ, ◌+◌, ◌<◌, Option, List, ◌∷◌, length, map, get_or, drop, sym, ap, ◌∙◌}
 use Rattle.std.proofs.lemmas.List.{at_drop_more}
-use Rattle.pli_unit_code.specs.views.CodeView.{code_view, global_view}
+use Rattle.pli_code.specs.views.CodeView.{code_view, global_view}
 use Rattle.pli_link.specs.ModuleSize.{own_of, all_own}
 use Rattle.pli_link.specs.answers.Counting.{counted, if_counted}
 use Rattle.pli_link.specs.views.UnitView.{compiled_view}

@@ -5,7 +5,7 @@ use Rattle.std.specs.Cmp.Lexicographic.{pointwise}
 use Rattle.std.specs.Option.{option_eq}
 use Rattle.pli_map.specs.Description.{Description}
 use Rattle.pli_map.specs.Same.{same}
-use Rattle.pli_unit_code.specs.CodeTables.{Code, CodedSignature}
+use Rattle.pli_code.specs.CodeTables.{Code, CodedSignature}
 
 -- what a procedure takes and gives, with the descriptions as the tables have them
 pub record FoundSignature : Type 0 where

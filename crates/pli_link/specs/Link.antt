@@ -7,8 +7,8 @@ use Rattle.std.specs.Ordering.{nat_cmp}
 use Rattle.pli_base.specs.Name.{Name}
 use Rattle.pli_base.specs.Words.{is_among}
 use Rattle.pli_sort.specs.Sorting as sorting
-use Rattle.pli_unit_code.specs.CodeTables.{CodedGlobal, OwnVariable, ExternalVariable, EntryPoint, there}
-use Rattle.pli_unit_code.specs.Modules.{Module, LinkedUnit}
+use Rattle.pli_code.specs.CodeTables.{CodedGlobal, OwnVariable, ExternalVariable, EntryPoint, there}
+use Rattle.pli_code.specs.Modules.{Module, LinkedUnit}
 use Rattle.pli_link.specs.Mismatches.{faulty_linked}
 use Rattle.pli_link.specs.ModuleSize.{is_too_large}
 use Rattle.pli_link.specs.Names.{with_name, meant, procedures}

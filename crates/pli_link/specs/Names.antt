@@ -5,9 +5,9 @@ use Rattle.std.specs.Map.{keys_of, lookup}
 use Rattle.pli_base.specs.Name.{Name}
 use Rattle.pli_base.specs.Words.{same_name, is_among}
 use Rattle.pli_type_tree.specs.Templates.{Template}
-use Rattle.pli_unit_code.specs.CodeTables.{Code, CodedGlobal, OwnVariable, ExternalVariable, EntryPoint}
-use Rattle.pli_unit_code.specs.CodeTables.{template_at}
-use Rattle.pli_unit_code.specs.declared.code.VariableKind.TheVariants.{Static, Controlled}
+use Rattle.pli_code.specs.CodeTables.{Code, CodedGlobal, OwnVariable, ExternalVariable, EntryPoint}
+use Rattle.pli_code.specs.CodeTables.{template_at}
+use Rattle.pli_code.specs.declared.code.VariableKind.TheVariants.{Static, Controlled}
 use Rattle.pli_link.specs.Units.{Compiled}
 
 -- one name more, unless it is there

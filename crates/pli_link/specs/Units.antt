@@ -1,6 +1,6 @@
 -- Compiled units (own).
 use Rattle.pli_base.specs.Name.{Name}
-use Rattle.pli_unit_code.specs.CodeTables.{Deck}
+use Rattle.pli_code.specs.CodeTables.{Deck}
 use Rattle.pli_link.specs.declared.units.LinkedName.{LinkedName}
 
 -- a unit that has been compiled: the name of its member, and its deck; tokens do not tell what their member

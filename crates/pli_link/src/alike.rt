@@ -3,14 +3,14 @@ ghost use Rattle.std.specs.Prelude.{◌≡◌, Some, map, option_map};
 ghost use Rattle.std.specs.Cmp.Lexicographic.{pointwise};
 ghost use Rattle.std.specs.Option.{option_eq};
 ghost use Rattle.pli_map.specs.views.DescriptionView.{description_view};
-ghost use Rattle.pli_unit_code.specs.CodeTables as tables;
-ghost use Rattle.pli_unit_code.specs.views.CodeView.{code_view, coded_template_view, signature_view};
+ghost use Rattle.pli_code.specs.CodeTables as tables;
+ghost use Rattle.pli_code.specs.views.CodeView.{code_view, coded_template_view, signature_view};
 ghost use Rattle.pli_link.specs.Alike as spec;
 ghost use Rattle.pli_type_keys.specs.views.KeyView.{templated};
 
+use pli_code::{Code, CodedSignature, CodedTemplate};
 use pli_map::Description;
 use pli_type_keys::TemplateKey;
-use pli_unit_code::{Code, CodedSignature, CodedTemplate};
 
 /// The description of this number, if the table has it.
 pub(crate) fn description_at(code: &Code, number: u16) -> Option<&Description>

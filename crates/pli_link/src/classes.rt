@@ -2,12 +2,12 @@
 ghost use Rattle.std.specs.Prelude.{◌≡◌, IfOk, option_map};
 ghost use Rattle.pli_link.specs.answers.Classes as spec;
 ghost use Rattle.pli_type_keys.specs.views.KeyView.{templated};
-ghost use Rattle.pli_unit_code.specs.views.CodeView.{code_view};
+ghost use Rattle.pli_code.specs.views.CodeView.{code_view};
 
 use crate::alike::found_template;
 use indexmap::IndexSet;
+use pli_code::Code;
 use pli_type_keys::TemplateKey;
-use pli_unit_code::Code;
 use std::alloc::{AllocError, Global};
 
 /// The class of a template: its number among those that are known, which it joins if it is new.

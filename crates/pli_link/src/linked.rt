@@ -4,14 +4,14 @@ ghost use Rattle.pli_deck_code.specs.views.LinkedView.{lent_view};
 ghost use Rattle.pli_link.specs.Link as link;
 ghost use Rattle.pli_link.specs.answers.Tables.{AreSmall};
 ghost use Rattle.pli_link.specs.views.UnitView.{compiled_view};
-ghost use Rattle.pli_unit_code.specs.CodeTables.{there};
-ghost use Rattle.pli_unit_code.specs.views.CodeView.{global_view};
+ghost use Rattle.pli_code.specs.CodeTables.{there};
+ghost use Rattle.pli_code.specs.views.CodeView.{global_view};
 
 use crate::units::NamedUnit;
 use indexmap::IndexMap;
 use pli_base::Name;
+use pli_code::CodedGlobal;
 use pli_deck_code::LentUnit;
-use pli_unit_code::CodedGlobal;
 use std::alloc::{AllocError, Global};
 
 /// Where the first main procedure stands.

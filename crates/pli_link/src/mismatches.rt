@@ -9,10 +9,10 @@ ghost use Rattle.pli_link.specs.answers.Tables.{AreNames, HaveClasses, units_in}
 ghost use Rattle.pli_type_keys.specs.declared.key.TemplateKey.{TemplateKey};
 ghost use Rattle.pli_link.specs.views.UnitView.{compiled_view};
 ghost use Rattle.pli_type_keys.specs.views.KeyView.{templated};
-ghost use Rattle.pli_unit_code.specs.CodeTables.{there};
-ghost use Rattle.pli_unit_code.specs.CodeTables as plain;
+ghost use Rattle.pli_code.specs.CodeTables.{there};
+ghost use Rattle.pli_code.specs.CodeTables as plain;
 ghost use Rattle.pli_link.specs.declared.global_fault.GlobalFault.TheVariants as faults;
-ghost use Rattle.pli_unit_code.specs.views.CodeView.{code_view, global_view, signature_view};
+ghost use Rattle.pli_code.specs.views.CodeView.{code_view, global_view, signature_view};
 
 use crate::alike::is_same_signature;
 use crate::classes::{class_at, classes_of};
@@ -21,8 +21,8 @@ use crate::names::{KnownExternal, Names};
 use crate::units::{LinkedName, NamedUnit};
 use indexmap::IndexSet;
 use pli_base::Name;
+use pli_code::{Code, CodedGlobal, CodedSignature, VariableKind};
 use pli_type_keys::TemplateKey;
-use pli_unit_code::{Code, CodedGlobal, CodedSignature, VariableKind};
 use std::alloc::{AllocError, Global};
 
 /// The first unit whose external procedure has this name.

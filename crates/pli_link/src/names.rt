@@ -6,15 +6,15 @@ ghost use Rattle.pli_link.specs.Names as spec;
 ghost use Rattle.pli_link.specs.views.UnitView.{compiled_view};
 ghost use Rattle.pli_link.specs.views.NameView.{externals_view};
 ghost use Rattle.pli_type_keys.specs.views.KeyView.{templated};
-ghost use Rattle.pli_unit_code.specs.views.CodeView.{code_view, global_view};
+ghost use Rattle.pli_code.specs.views.CodeView.{code_view, global_view};
 
 use crate::alike::template_at;
 use crate::classes::{class_at, classes_of};
 use crate::units::NamedUnit;
 use indexmap::{IndexMap, IndexSet};
 use pli_base::Name;
+use pli_code::{Code, CodedGlobal, VariableKind};
 use pli_type_keys::TemplateKey;
-use pli_unit_code::{Code, CodedGlobal, VariableKind};
 use std::alloc::{AllocError, Global};
 
 /// An external variable: the template of its first declaration, if the unit's tables have it, and its class among the

@@ -9,8 +9,8 @@ ghost use Rattle.pli_link.specs.answers.Counting.{counted, counted_one};
 ghost use Rattle.pli_link.specs.answers.Tables.{AreNames, units_in};
 ghost use Rattle.pli_link.specs.views.UnitView.{compiled_view};
 ghost use Rattle.pli_link.specs.views.NameView.{externals_view};
-ghost use Rattle.pli_unit_code.specs.views.CodeView.{code_view, global_view};
-ghost use Rattle.pli_unit_code.specs.CodeTables.{there};
+ghost use Rattle.pli_code.specs.views.CodeView.{code_view, global_view};
+ghost use Rattle.pli_code.specs.CodeTables.{there};
 ghost use Rattle.pli_type_keys.specs.views.KeyView.{templated};
 
 use crate::alike::template_at;
@@ -18,9 +18,9 @@ use crate::names::{KnownExternal, Names};
 use crate::units::NamedUnit;
 use indexmap::IndexMap;
 use pli_base::Name;
+use pli_code::{Code, CodedGlobal, VariableKind};
 use pli_map::{Description, size};
 use pli_type_keys::TemplateKey;
-use pli_unit_code::{Code, CodedGlobal, VariableKind};
 
 /// The most bytes that live at once (own).
 const BYTE_LIMIT: u32 = 16_777_216;

@@ -4,7 +4,7 @@ ghost use Rattle.pli_link.specs.Units.{procedure_of};
 ghost use Rattle.pli_link.specs.views.UnitView.{compiled_view};
 
 use pli_base::Name;
-use pli_unit_code::Deck;
+use pli_code::Deck;
 
 /// A unit to be linked: the name of its member, and its deck, which is lent.
 #[derive(Clone, Copy)]

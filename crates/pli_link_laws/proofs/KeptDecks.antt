@@ -5,14 +5,14 @@ use Rattle.std.specs.List.{position_or_len}
 use Rattle.std.proofs.lemmas.Bool.{eq-eqb, ne_eqb}
 use Rattle.std.specs.Map.{keys_of}
 use Rattle.pli_base.specs.Name.{Name}
-use Rattle.pli_deck.specs.ModuleFields.{Member}
+use Rattle.pli_deck_write.specs.ModuleFields.{Member}
 use Rattle.pli_deck_code.specs.CodeModules.{declarations, deck_of, members_of, module_of}
 use Rattle.pli_link.specs.Link as link
 use Rattle.pli_link.specs.Link.{later, linked_unit, link_faults, mains}
 use Rattle.pli_link.specs.Names.{procedures}
 use Rattle.pli_link.specs.Units.{Compiled}
 use Rattle.pli_link.proofs.Faultless.{faultless}
-use Rattle.pli_unit_code.specs.Modules as unit
+use Rattle.pli_code.specs.Modules as unit
 use Rattle.pli_link_laws.specs.UnitDecks.{LinkingKeepsDecks}
 use Rattle.pli_link_laws.proofs.LinkedFrom.{of_faultless}
 

@@ -1,6 +1,6 @@
 -- Which module linking gives: that of the units, where no fault is told and one has the main procedure.
 use Rattle.std.proofs.Common.{◌≡◌, ℕ, Option, Some, None, Ok, List, [], ◌∷◌, refl}
-use Rattle.pli_unit_code.specs.Modules as unit
+use Rattle.pli_code.specs.Modules as unit
 use Rattle.pli_link.specs.Link as link
 use Rattle.pli_link.specs.Link.{module_or}
 use Rattle.pli_link.specs.Units.{Compiled}

@@ -3,13 +3,13 @@ use Rattle.std.proofs.Common.{◌≡◌, ℕ, suc, ◌<◌, ◌≤◌, nat_eq, n
 use Rattle.std.specs.List.{list_all, AllByRecursion}
 use Rattle.std.specs.Int.{is_in_range}
 use Rattle.pli_base.specs.Name.{Name}
-use Rattle.pli_deck.specs.DeckFields.{name, deck}
-use Rattle.pli_deck.specs.DeckFaults.{fault_of}
-use Rattle.pli_deck.specs.Fields.{u1, u2, u4, from_to}
-use Rattle.pli_deck.specs.ModuleFields.{External, Member, DeckModule, is_less, comes_after, external_behind, fit_behind, is_none, is_external, member, module_field}
-use Rattle.pli_deck.specs.ModuleSpelling.{has_kind, global_at, are_good_links, links_stand, module_within_limits}
-use Rattle.pli_deck.specs.Spelling.{deck_bytes}
-use Rattle.pli_deck.specs.declared.fault.DeckFault.TheVariants.{BadNumber, OverLimit}
+use Rattle.pli_deck_write.specs.DeckFields.{name, deck}
+use Rattle.pli_deck_write.specs.DeckFaults.{fault_of}
+use Rattle.pli_deck_write.specs.Fields.{u1, u2, u4, from_to}
+use Rattle.pli_deck_write.specs.ModuleFields.{External, Member, DeckModule, is_less, comes_after, external_behind, fit_behind, is_none, is_external, member, module_field}
+use Rattle.pli_deck_write.specs.ModuleSpelling.{has_kind, global_at, are_good_links, links_stand, module_within_limits}
+use Rattle.pli_deck_write.specs.Spelling.{deck_bytes}
+use Rattle.pli_deck_write.specs.declared.fault.DeckFault.TheVariants.{BadNumber, OverLimit}
 use Rattle.pli_deck_code.specs.CodeModules.{external_of}
 use Rattle.pli_deck_code.specs.declared.externals.ExternalDeclaration.{ExternalDeclaration}
 use Rattle.pli_link_laws.specs.LinkedModules.{IsSaidAlone, IsModule}

@@ -7,13 +7,13 @@ use Rattle.pli_map.specs.Description.{Description}
 use Rattle.pli_map.specs.Sizes.{size_of}
 use Rattle.pli_map.specs.Variables.{byte_limit}
 use Rattle.pli_type_tree.specs.Templates.{Template}
-use Rattle.pli_unit_code.specs.CodeTables.{there}
+use Rattle.pli_code.specs.CodeTables.{there}
 use Rattle.pli_link.specs.Link.{linked_unit}
 use Rattle.pli_link.specs.ModuleSize.{own_of, all_own, variables_made, is_oversized, are_too_large, is_too_large}
 use Rattle.pli_link.specs.Names.{externals}
 use Rattle.pli_link.specs.Units.{Compiled}
-use Rattle.pli_deck.specs.ModuleFields.{Member, DeckModule}
-use Rattle.pli_deck.specs.ModuleSpelling.{static_bytes, external_bytes, module_within_limits}
+use Rattle.pli_deck_write.specs.ModuleFields.{Member, DeckModule}
+use Rattle.pli_deck_write.specs.ModuleSpelling.{static_bytes, external_bytes, module_within_limits}
 use Rattle.pli_deck_code.specs.CodeModules.{external_of, members_of}
 use Rattle.pli_deck_code.specs.declared.externals.ExternalDeclaration.{ExternalDeclaration}
 use Rattle.pli_link_laws.proofs.Sums.{total, sum_is_total, total_joined, total_mapped, both_hold}

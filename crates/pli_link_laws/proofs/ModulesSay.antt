@@ -4,16 +4,16 @@ use Rattle.std.specs.List.{position_or_len, AllByRecursion}
 use Rattle.std.specs.Map.{keys_of}
 use Rattle.std.proofs.lemmas.List.{length-map}
 use Rattle.pli_base.specs.Name.{Name}
-use Rattle.pli_unit_code.specs.Modules as unit
-use Rattle.pli_unit_code.specs.Modules.{LinkedUnit}
+use Rattle.pli_code.specs.Modules as unit
+use Rattle.pli_code.specs.Modules.{LinkedUnit}
 use Rattle.pli_link.specs.Link as link
 use Rattle.pli_link.specs.Link.{linked_unit, link_faults}
 use Rattle.pli_link.specs.Names.{all_shared, externals, procedures}
 use Rattle.pli_link.specs.Units.{Compiled}
 use Rattle.pli_link.proofs.Faultless.{IsFaultless, faultless}
 use Rattle.pli_link.proofs.MeantFirst.{procedures_within}
-use Rattle.pli_deck.specs.ModuleFields as deck
-use Rattle.pli_deck.specs.ModuleFields.{Member, is_external}
+use Rattle.pli_deck_write.specs.ModuleFields as deck
+use Rattle.pli_deck_write.specs.ModuleFields.{Member, is_external}
 use Rattle.pli_deck_code.specs.CodeModules.{declarations, all_declared, external_of, members_of, module_of}
 use Rattle.pli_deck_code.specs.declared.externals.ExternalDeclaration.{ExternalDeclaration}
 use Rattle.pli_link_laws.specs.LinkedModules.{IsSaidAlone, IsModule, LinkedModulesAreSaid}

@@ -1,10 +1,10 @@
 -- The bytes of a deck are among those of its module.
 use Rattle.std.proofs.Common.{ℕ, ◌<◌, List, [], ◌∷◌, ◌++◌, length, length-append, arith}
 use Rattle.std.specs.List.{flat_map, AllByRecursion}
-use Rattle.pli_deck.specs.DeckFields.{name}
-use Rattle.pli_deck.specs.Fields.{u2, u4, from_to, ◌⊗◌}
-use Rattle.pli_deck.specs.ModuleFields.{Member, external_behind, chain, links_of, member, module_field}
-use Rattle.pli_deck.specs.Spelling.{deck_bytes}
+use Rattle.pli_deck_write.specs.DeckFields.{name}
+use Rattle.pli_deck_write.specs.Fields.{u2, u4, from_to, ◌⊗◌}
+use Rattle.pli_deck_write.specs.ModuleFields.{Member, external_behind, chain, links_of, member, module_field}
+use Rattle.pli_deck_write.specs.Spelling.{deck_bytes}
 use Rattle.pli_link_laws.specs.LinkedModules.{HasShortDeck, ShortModulesHaveShortDecks}
 
 front_short : (xs ys : List ℕ) (n : ℕ) → length (xs ++ ys) < n → length xs < n

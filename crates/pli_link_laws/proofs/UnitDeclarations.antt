@@ -3,15 +3,15 @@ use Rattle.std.proofs.Common.{◌≡◌, ℕ, suc, ◌+◌, ◌≤◌, nat_eq, B
 use Rattle.std.specs.List.{list_all, AllByRecursion}
 use Rattle.pli_base.specs.Name.{Name}
 use Rattle.pli_type_tree.specs.Templates.{Template}
-use Rattle.pli_unit_code.specs.CodeTables.{CodedGlobal, OwnVariable, ExternalVariable, EntryPoint, template_at}
-use Rattle.pli_unit_code.specs.declared.code.VariableKind.TheVariants.{Static, Controlled}
-use Rattle.pli_unit_code.specs.Modules.{LinkedUnit}
+use Rattle.pli_code.specs.CodeTables.{CodedGlobal, OwnVariable, ExternalVariable, EntryPoint, template_at}
+use Rattle.pli_code.specs.declared.code.VariableKind.TheVariants.{Static, Controlled}
+use Rattle.pli_code.specs.Modules.{LinkedUnit}
 use Rattle.pli_link.specs.Link.{linked_unit}
 use Rattle.pli_link.specs.Names.{shared_by, all_shared}
 use Rattle.pli_link.specs.Units.{Compiled}
-use Rattle.pli_deck.specs.DeckFields.{name, global}
-use Rattle.pli_deck.specs.ModuleFields.{Member}
-use Rattle.pli_deck.specs.ModuleSpelling.{global_in, global_at, has_kind, declared_bytes, bytes_in_unit, external_bytes}
+use Rattle.pli_deck_write.specs.DeckFields.{name, global}
+use Rattle.pli_deck_write.specs.ModuleFields.{Member}
+use Rattle.pli_deck_write.specs.ModuleSpelling.{global_in, global_at, has_kind, declared_bytes, bytes_in_unit, external_bytes}
 use Rattle.pli_deck_code.specs.CodeModules.{short, declaration, declared_in, all_declared, external_of, deck_of, member, members_of}
 use Rattle.pli_deck_code.specs.declared.externals.ExternalDeclaration.{ExternalDeclaration}
 use Rattle.pli_link_laws.specs.LinkedModules.{IsSaidAlone}

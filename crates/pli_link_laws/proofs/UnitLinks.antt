@@ -5,14 +5,14 @@ use Rattle.std.specs.List.{list_all, AllByRecursion}
 use Rattle.std.specs.Map.{keys_of, lookup}
 use Rattle.pli_base.specs.Name.{Name}
 use Rattle.pli_base.specs.Words.{same_name}
-use Rattle.pli_unit_code.specs.CodeTables.{CodedGlobal, OwnVariable, ExternalVariable, EntryPoint, there}
-use Rattle.pli_unit_code.specs.declared.code.VariableKind.TheVariants.{Static, Controlled}
+use Rattle.pli_code.specs.CodeTables.{CodedGlobal, OwnVariable, ExternalVariable, EntryPoint, there}
+use Rattle.pli_code.specs.declared.code.VariableKind.TheVariants.{Static, Controlled}
 use Rattle.pli_link.specs.Link.{entries_of, linked_unit}
 use Rattle.pli_link.specs.Names.{meant, procedures}
 use Rattle.pli_link.specs.Units.{Compiled}
-use Rattle.pli_deck.specs.Fields.{u2}
-use Rattle.pli_deck.specs.ModuleFields.{Member, DeckModule, is_external}
-use Rattle.pli_deck.specs.ModuleSpelling.{is_of_kind, is_good_link, are_good_links}
+use Rattle.pli_deck_write.specs.Fields.{u2}
+use Rattle.pli_deck_write.specs.ModuleFields.{Member, DeckModule, is_external}
+use Rattle.pli_deck_write.specs.ModuleSpelling.{is_of_kind, is_good_link, are_good_links}
 use Rattle.pli_deck_code.specs.CodeModules.{short, declared_in, all_declared, external_of, number_of, links_of, members_of}
 use Rattle.pli_deck_code.specs.declared.externals.ExternalDeclaration.{ExternalDeclaration}
 use Rattle.pli_link_laws.proofs.Sums.{both_hold, all_front, all_back}

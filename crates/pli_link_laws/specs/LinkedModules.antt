@@ -1,15 +1,15 @@
 -- Linked modules that bytes can say.
 use Rattle.std.specs.Prelude.{◌≡◌, ◌≤◌, ◌<◌, true, None, Ok, List, length}
 use Rattle.std.specs.List.{AllByRecursion}
-use Rattle.pli_deck.specs.DeckFields.{name}
-use Rattle.pli_deck.specs.ModuleFields as deck
-use Rattle.pli_deck.specs.ModuleFields.{Member, module_field}
-use Rattle.pli_deck.specs.ModuleSpelling.{module_bytes, module_fault}
-use Rattle.pli_deck.specs.Spelling.{IsDeck, deck_bytes}
+use Rattle.pli_deck_write.specs.DeckFields.{name}
+use Rattle.pli_deck_write.specs.ModuleFields as deck
+use Rattle.pli_deck_write.specs.ModuleFields.{Member, module_field}
+use Rattle.pli_deck_write.specs.ModuleSpelling.{module_bytes, module_fault}
+use Rattle.pli_deck_write.specs.Spelling.{IsDeck, deck_bytes}
 use Rattle.pli_deck_code.specs.CodeModules.{module_of}
 use Rattle.pli_link.specs.Link.{link_of}
 use Rattle.pli_link.specs.Units.{Compiled}
-use Rattle.pli_unit_code.specs.Modules.{Module}
+use Rattle.pli_code.specs.Modules.{Module}
 
 -- modules that have a spelling: all numbers are in their ranges, and name what is there
 pub record IsModule (m : deck.DeckModule) : Type 0 where

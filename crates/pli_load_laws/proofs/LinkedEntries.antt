@@ -1,7 +1,7 @@
 -- Each entry of a module that linking gives has its unit.
 use Rattle.std.proofs.Common.{◌≡◌, ℕ, suc, nat_eq, true, false, Option, Some, None, is_none, List, [], ◌∷◌, ◌++◌, length, map, refl, ap, true≢false, eq-eqb}
 use Rattle.std.specs.List.{list_all, AllByRecursion}
-use Rattle.pli_unit_code.specs.CodeTables.{CodedGlobal, OwnVariable, ExternalVariable, EntryPoint, there}
+use Rattle.pli_code.specs.CodeTables.{CodedGlobal, OwnVariable, ExternalVariable, EntryPoint, there}
 use Rattle.pli_link.specs.Link.{entries_of, linked_unit}
 use Rattle.pli_link.specs.Names.{meant, procedures}
 use Rattle.pli_link.specs.Units.{Compiled}

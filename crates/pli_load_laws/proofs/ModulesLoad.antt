@@ -4,14 +4,14 @@ use Rattle.std.specs.List.{AllByRecursion}
 use Rattle.std.specs.Map.{keys_of}
 use Rattle.pli_base.specs.Name.{Name}
 use Rattle.pli_type_tree.specs.TypedTree.{TypedUnit}
-use Rattle.pli_unit_code.specs.Modules.{Module}
+use Rattle.pli_code.specs.Modules.{Module}
 use Rattle.pli_link.specs.Link as link
 use Rattle.pli_link.specs.Link.{linked_unit, link_of, link_faults}
 use Rattle.pli_link.specs.Names.{procedures}
 use Rattle.pli_link.specs.Units.{Compiled}
 use Rattle.pli_link.proofs.Faultless.{faultless}
-use Rattle.pli_deck.specs.ModuleFields.{Member}
-use Rattle.pli_deck.specs.Spelling.{IsDeck}
+use Rattle.pli_deck_write.specs.ModuleFields.{Member}
+use Rattle.pli_deck_write.specs.Spelling.{IsDeck}
 use Rattle.pli_deck_code.specs.CodeModules.{declarations, deck_of, members_of, module_of}
 use Rattle.pli_deck_laws.specs.UnitTypes.{IsTypedUnit}
 use Rattle.pli_deck_laws.proofs.DecksSay.{units_are_said}

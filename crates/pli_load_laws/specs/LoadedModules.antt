@@ -1,20 +1,20 @@
 -- Linked modules that are loaded from their bytes.
 use Rattle.std.specs.Prelude.{◌≡◌, ◌≤◌, ◌<◌, true, false, Ok, List, [], ◌∷◌, length}
 use Rattle.std.specs.List.{AllByRecursion}
-use Rattle.pli_deck.specs.ModuleSpelling.{module_bytes}
+use Rattle.pli_deck_write.specs.ModuleSpelling.{module_bytes}
 use Rattle.pli_deck_code.specs.CodeModules.{module_of}
 use Rattle.pli_deck_laws.specs.UnitTypes.{IsTypedUnit}
 use Rattle.pli_deck_laws.specs.WellFormed.{IsWellFormed}
 use Rattle.pli_deck_load.specs.LinkedBytes.{IsLinked}
 use Rattle.pli_deck_load.specs.LinkedEntries.{have_their_entries}
-use Rattle.pli_gen_tree.specs.Encoding.{code_of}
-use Rattle.pli_gen_tree.specs.Limits.{is_too_long}
-use Rattle.pli_gen_tree.specs.WellNumbered.{IsWellNumbered}
+use Rattle.pli_gen.specs.Encoding.{code_of}
+use Rattle.pli_gen.specs.Limits.{is_too_long}
+use Rattle.pli_gen.specs.WellNumbered.{IsWellNumbered}
 use Rattle.pli_link.specs.Link.{link_of}
 use Rattle.pli_link.specs.Units.{Compiled}
 use Rattle.pli_link_laws.specs.LinkedModules.{IsSaidAlone}
 use Rattle.pli_type_tree.specs.TypedTree.{TypedUnit}
-use Rattle.pli_unit_code.specs.Modules.{Module}
+use Rattle.pli_code.specs.Modules.{Module}
 
 -- each entry of a linked module has its unit
 abbrev pub LinkedModulesHaveEntries : Type 0

@@ -1,7 +1,7 @@
 -- What lives beside stays as it is.
 use Rattle.std.proofs.Common.{◌≡◌, ◌≢◌, ℕ, zero, suc, Some, List, [], ◌∷◌, slice_get, slice_set, refl, sym, ap, subst, ◌∙◌}
 use Rattle.std.proofs.lemmas.Option.{none-some}
-use Rattle.pli_code.specs.declared.ending.RunError.TheVariants.{DescriptionMismatch}
+use Rattle.pli_run.specs.declared.ending.RunError.TheVariants.{DescriptionMismatch}
 use Rattle.pli_map.specs.Description.{Description}
 use Rattle.pli_value.specs.Value.{Value}
 use Rattle.pli_value.specs.declared.locator.Locator.{Locator}

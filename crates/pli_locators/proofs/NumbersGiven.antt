@@ -1,7 +1,7 @@
 -- No number of a generation is used again.
 use Rattle.std.proofs.Common.{◌≡◌, ℕ, suc, Bool, true, false, nat_eq, None, option_map, List, [], ◌∷◌, if◌then◌else◌, slice_get, refl, sym, ap, subst, ◌∙◌, arith, inl, inr}
 use Rattle.std.proofs.lemmas.Bool.Decides.{eqb_tells}
-use Rattle.pli_code.specs.declared.ending.RunError.TheVariants.{DeadLocator, DescriptionMismatch}
+use Rattle.pli_run.specs.declared.ending.RunError.TheVariants.{DeadLocator, DescriptionMismatch}
 use Rattle.pli_map.specs.Description.{Description}
 use Rattle.pli_value.specs.declared.locator.Locator.TheVariants.{Pointer}
 use Rattle.pli_world.specs.Storage.{Generation, Based, Controlled, Place, generation_in}

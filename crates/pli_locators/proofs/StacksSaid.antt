@@ -4,7 +4,7 @@ use Rattle.std.specs.Global.{Vec}
 use Rattle.std.specs.Vec.{with_item}
 use Rattle.std.proofs.lemmas.List.{map-set, reverse-append}
 use Rattle.std.proofs.lemmas.Option.{slice_get-map, slice_get_read, slice_get_past}
-use Rattle.pli_code.specs.declared.ending.RunError.TheVariants.{NoGeneration}
+use Rattle.pli_run.specs.declared.ending.RunError.TheVariants.{NoGeneration}
 use Rattle.pli_map.specs.Variables.{Variable}
 use Rattle.pli_store.proofs.Searches.{set_same}
 use Rattle.pli_store.specs.answers.Answered.{Answered}

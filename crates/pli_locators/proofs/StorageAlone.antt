@@ -1,6 +1,6 @@
 -- Operations by locators and on stacks change storage and stacks alone.
 use Rattle.std.proofs.Common.{◌≡◌, ℕ, Bool, true, false, Option, Some, None, List, [], ◌∷◌, refl, sym, ap, subst, nat_lt, nat_le, ◌&&◌, ◌+◌, length, slice_get, if◌then◌else◌}
-use Rattle.pli_code.specs.declared.ending.RunError.TheVariants.{StorageLimit, DescriptionMismatch, FixedOverflow}
+use Rattle.pli_run.specs.declared.ending.RunError.TheVariants.{StorageLimit, DescriptionMismatch, FixedOverflow}
 use Rattle.pli_map.specs.Description.{Description}
 use Rattle.pli_map.specs.Same.{same}
 use Rattle.pli_map.specs.Scalars.{scalars_of}

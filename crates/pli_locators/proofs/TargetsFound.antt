@@ -1,6 +1,6 @@
 -- What locators lead to, and what is answered of it.
 use Rattle.std.proofs.Common.{◌≡◌, ℕ, true, false, Some, List, Result, Ok, Err, if◌then◌else◌, refl, sym, ap, ◌∙◌}
-use Rattle.pli_code.specs.declared.ending.RunError.TheVariants.{DescriptionMismatch}
+use Rattle.pli_run.specs.declared.ending.RunError.TheVariants.{DescriptionMismatch}
 use Rattle.pli_map.specs.Description.{Description}
 use Rattle.pli_map.specs.Same.{same}
 use Rattle.pli_map.specs.Variables.{Variable}

@@ -1,7 +1,7 @@
 -- What is so where operations give results.
 use Rattle.std.proofs.Common.{◌≡◌, ℕ, suc, Bool, true, false, nat_eq, nat_lt, nat_le, ◌&&◌, ◌+◌, Option, Some, None, option_map, List, [], ◌∷◌, ◌++◌, if◌then◌else◌, refl, sym, ap, ◌∙◌}
 use Rattle.std.proofs.lemmas.Option.{same_Some, none-some}
-use Rattle.pli_code.specs.declared.ending.RunError.TheVariants.{StorageLimit, DescriptionMismatch}
+use Rattle.pli_run.specs.declared.ending.RunError.TheVariants.{StorageLimit, DescriptionMismatch}
 use Rattle.pli_map.specs.Description.{Description}
 use Rattle.pli_map.specs.Same.{same}
 use Rattle.pli_map.specs.Scalars.{scalars_of}

@@ -1,7 +1,7 @@
 -- Storage by locators (X3.53): what a locator leads to, BASED variables outside areas, and ADDR.
 use Rattle.std.specs.Prelude.{ℕ, nat_eq, Bool, true, false, ◌&&◌, Option, Some, None, List, [], ◌∷◌}
 use Rattle.std.specs.Prelude.{option_map, if◌then◌else◌}
-use Rattle.pli_code.specs.declared.ending.RunError.TheVariants.{NullLocator, DeadLocator, DescriptionMismatch}
+use Rattle.pli_run.specs.declared.ending.RunError.TheVariants.{NullLocator, DeadLocator, DescriptionMismatch}
 use Rattle.pli_map.specs.Description.{Description}
 use Rattle.pli_map.specs.Same.{same}
 use Rattle.pli_map.specs.Variables.{Variable}

@@ -2,7 +2,7 @@
 -- first, and is named by its number among the lists of the world.
 use Rattle.std.specs.Prelude.{ℕ, nat_le, List, [], ◌∷◌, ◌++◌, length, slice_get, slice_set}
 use Rattle.std.specs.Prelude.{if◌then◌else◌}
-use Rattle.pli_code.specs.declared.ending.RunError.TheVariants.{NoGeneration, FixedOverflow}
+use Rattle.pli_run.specs.declared.ending.RunError.TheVariants.{NoGeneration, FixedOverflow}
 use Rattle.pli_map.specs.Variables.{Variable}
 use Rattle.pli_world.specs.Storage.{Controlled, Place}
 use Rattle.pli_world.specs.World.{World, Answer, Yields, Raises, further, known, made_of, newest_in}

@@ -11,8 +11,8 @@ ghost use Rattle.pli_locators.specs.Locating.{addressed, allocated, freed, locat
 ghost use Rattle.pli_locators.specs.Locating as plain;
 ghost use Rattle.pli_locators.specs.views.TargetView.{target_view};
 
-use pli_code::RunError;
 use pli_map::Description;
+use pli_run::RunError;
 use pli_store::{LivingGeneration, Made, Place, Storage, StoreFault};
 use pli_value::Locator;
 

@@ -11,8 +11,8 @@ ghost use Rattle.pli_store.specs.views.StorageView.{SameStorage, place_view, wit
 ghost use Rattle.pli_locators.specs.Stacks.{newest, stacked, unstacked, counted, counted_in};
 ghost use Rattle.pli_locators.specs.views.PlacesView.{stack_view};
 
-use pli_code::RunError;
 use pli_map::Description;
+use pli_run::RunError;
 use pli_store::{Made, Place, Storage, StoreFault};
 use std::alloc::{AllocError, Global};
 

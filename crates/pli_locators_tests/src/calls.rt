@@ -1,6 +1,6 @@
 //! What calls on storage by locators answer.
 
-use pli_code::RunError;
+use pli_run::RunError;
 use pli_store::StoreFault;
 use pli_value::Locator;
 use std::process::Abort;

@@ -2,7 +2,7 @@
 
 use crate::calls::Answer;
 use crate::shapes::Shape;
-use pli_code::RunError;
+use pli_run::RunError;
 use pli_value::Locator;
 use std::alloc::Global;
 use std::process::Abort;

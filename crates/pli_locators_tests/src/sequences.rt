@@ -4,7 +4,7 @@ use crate::calls::Answer;
 use crate::pairs::Pair;
 use crate::shapes::all_shapes;
 use crate::steps::run;
-use pli_code::RunError;
+use pli_run::RunError;
 use std::test::*;
 
 /// Sequences of calls with every answer, in the form that `run` reads; where none is written, it is `done`.

@@ -3,7 +3,7 @@
 use crate::calls::Answer;
 use crate::pairs::Pair;
 use crate::shapes::{all_shapes, shape_number};
-use pli_code::RunError;
+use pli_run::RunError;
 use pli_store::Made;
 use pli_value::Locator;
 use std::alloc::Global;

@@ -10,8 +10,8 @@ use Rattle.pli_base.specs.Words.{same_name, is_among}
 use Rattle.pli_map.specs.Description.{Description}
 use Rattle.pli_type_tree.specs.Templates.{Template}
 use Rattle.pli_type_tree.specs.TypedTree.{Signature, Global, OwnVariable, ExternalVariable, EntryPoint, TypedUnit}
-use Rattle.pli_unit_code.specs.CodeTables.{CodedGlobal, there}
-use Rattle.pli_gen_tree.specs.laws.ListLaws.{all_front, all_back}
+use Rattle.pli_code.specs.CodeTables.{CodedGlobal, there}
+use Rattle.pli_gen.specs.laws.ListLaws.{all_front, all_back}
 use Rattle.pli_gen_stands.specs.Linked.{AreEntries, AreUnitsOf, IsModuleOf}
 use Rattle.pli_meaning_tree.specs.TreeMeaning.{unit_named}
 use Rattle.pli_meaning_typed.specs.TypedPrograms.{IsLinked, all_globals}

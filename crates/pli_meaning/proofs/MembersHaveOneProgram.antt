@@ -9,7 +9,7 @@ use Rattle.pli_link.specs.Link.{mains, later, none_among, link_faults, module_of
 use Rattle.pli_link.specs.Units.{Compiled}
 use Rattle.pli_link.specs.declared.linking.LinkFault.{LinkFault}
 use Rattle.pli_link.proofs.Faultless.{faultless, small}
-use Rattle.pli_unit_code.specs.Modules.{Module}
+use Rattle.pli_code.specs.Modules.{Module}
 use Rattle.pli_gen_stands.specs.Laws.{AreWellNumbered}
 use Rattle.pli_gen_stands.specs.Linked.{IsModuleOf}
 use Rattle.pli_meaning_typed.specs.TypedPrograms.{HasMain, WellTyped}

@@ -5,7 +5,7 @@ use Rattle.pli_machine_step.specs.Runs.{Outcome}
 use Rattle.pli_machine_step.proofs.RunsGrow.{runs_go_on}
 use Rattle.pli_gen_stands.specs.Laws.{AreWellNumbered}
 use Rattle.pli_gen_stands.specs.Linked.{IsModuleOf}
-use Rattle.pli_unit_code.specs.Modules.{Module, program_of}
+use Rattle.pli_code.specs.Modules.{Module, program_of}
 use Rattle.pli_machine_step.specs.ModuleRuns.{RunsTo}
 use Rattle.pli_meaning_tree.specs.TreeMeaning.{TypedProgram, whole_run}
 use Rattle.pli_meaning_typed.specs.TypedPrograms.{WellTyped}

@@ -13,9 +13,9 @@ use Rattle.pli_members.specs.declared.kind.MemberKind.{MemberKind}
 use Rattle.pli_members.specs.declared.kind.MemberKind.TheVariants.{Source, Include}
 use Rattle.pli_link.specs.Units.{Compiled, as_unit}
 use Rattle.pli_link.proofs.Faultless.{front_empty, back_empty}
-use Rattle.pli_gen_tree.specs.Encoding.{code_of}
-use Rattle.pli_gen_tree.specs.Limits.{is_too_long}
-use Rattle.pli_gen_tree.specs.WellNumbered.{IsWellNumbered}
+use Rattle.pli_gen.specs.Encoding.{code_of}
+use Rattle.pli_gen.specs.Limits.{is_too_long}
+use Rattle.pli_gen.specs.WellNumbered.{IsWellNumbered}
 use Rattle.pli_gen_stands.specs.Laws.{AreWellNumbered}
 use Rattle.pli_meaning_typed.specs.TypedPrograms.{AreTypedUnits, IsTypedUnit}
 use Rattle.pli_resolve.specs.ResolvedUnits.{ResolvedUnit, resolved_unit_of}
@@ -25,7 +25,7 @@ use Rattle.pli_type.proofs.FaultCodes.{faults_are_of_types}
 use Rattle.pli_type_laws.specs.TypedUnits.{MainTakesNothing}
 use Rattle.pli_type_laws.proofs.CheckedUnits.{checked_is_typed}
 use Rattle.pli_type_tree.specs.TypedTree.{TypedUnit}
-use Rattle.pli_unit_code.specs.CodeTables.{Deck}
+use Rattle.pli_code.specs.CodeTables.{Deck}
 use Rattle.pli_parse_statement.specs.StatementReading.{unit_of}
 use Rattle.pli_base.specs.Statements.{ExternalProcedure}
 use Rattle.pli_base.specs.Words.{Tokens}

@@ -14,9 +14,9 @@ use Rattle.pli_world.specs.Storage.{generation_limit}
 use Rattle.pli_map.specs.Variables.{byte_limit}
 use Rattle.pli_type_tree.specs.Templates.{Template}
 use Rattle.pli_type_tree.specs.TypedTree.{Global, OwnVariable, ExternalVariable, EntryPoint, TypedUnit}
-use Rattle.pli_unit_code.specs.CodeTables.{there}
-use Rattle.pli_gen_tree.specs.Encoding.{code_of}
-use Rattle.pli_gen_tree.specs.Limits.{is_over, has_many_slots, has_many_members, initial_bytes, has_wide_number, is_too_long}
+use Rattle.pli_code.specs.CodeTables.{there}
+use Rattle.pli_gen.specs.Encoding.{code_of}
+use Rattle.pli_gen.specs.Limits.{is_over, has_many_slots, has_many_members, initial_bytes, has_wide_number, is_too_long}
 use Rattle.pli_link.specs.ModuleSize.{are_too_large, is_oversized, all_own, variables_made}
 use Rattle.pli_link.specs.Names.{with_first, firsts, all_shared, externals}
 use Rattle.pli_link.proofs.Faultless.{IsSmall}

@@ -3,9 +3,9 @@ use Rattle.std.specs.Prelude.{◌≡◌, ◌≢◌, ℕ, ◌+◌, List}
 use Rattle.pli_base.specs.Name.{Name}
 use Rattle.pli_members.specs.Members.{Member}
 use Rattle.pli_machine_step.specs.Runs.{Outcome}
-use Rattle.pli_unit_code.specs.Modules.{Module}
+use Rattle.pli_code.specs.Modules.{Module}
 use Rattle.pli_machine_step.specs.ModuleRuns.{RunsTo}
-use Rattle.pli_code.specs.declared.ending.Ending.TheVariants.{MachineFault}
+use Rattle.pli_run.specs.declared.ending.Ending.TheVariants.{MachineFault}
 use Rattle.pli_machine_step.specs.laws.Laws.{GoesOn}
 use Rattle.pli_meaning.specs.Scratch.{Made, scratch, Means}
 

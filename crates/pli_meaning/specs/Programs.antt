@@ -2,7 +2,7 @@
 use Rattle.std.specs.Prelude.{ℕ, ◌+◌, List, [], ◌∷◌, if◌then◌else◌}
 use Rattle.pli_base.specs.Name.{Name}
 use Rattle.pli_type_tree.specs.TypedTree.{TypedUnit}
-use Rattle.pli_unit_code.specs.Modules.{greatest_precision}
+use Rattle.pli_code.specs.Modules.{greatest_precision}
 use Rattle.pli_meaning_tree.specs.TreeMeaning.{TypedProgram}
 
 -- a unit has the name of its member, whatever its procedure is called

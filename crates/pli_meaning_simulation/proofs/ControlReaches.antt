@@ -4,7 +4,7 @@ use Rattle.std.proofs.Common.{ap, ◌∙◌, sym, subst, arith}
 use Rattle.std.proofs.lemmas.Bool.{le-ltb, lt-ltb}
 use Rattle.pli_world.specs.Activations.{activation_limit}
 use Rattle.pli_world.specs.World.{World, Answer, Yields, Raises, Wrong, height, height_of, stepped, left_by, cleared, error_at}
-use Rattle.pli_code.specs.declared.ending.RunError.TheVariants.{TooManyActivations}
+use Rattle.pli_run.specs.declared.ending.RunError.TheVariants.{TooManyActivations}
 use Rattle.pli_value.specs.Value.{Value, Number, Characters, Bits, Located}
 use Rattle.pli_operation.specs.Operations.{is_true}
 use Rattle.pli_program.specs.Program as op

@@ -1,9 +1,9 @@
 -- The simulation: the run of a program's code gives what the program means.
 use Rattle.std.specs.Prelude.{◌≡◌, ◌≢◌, ℕ, zero, suc, nat_eq, ◌&&◌, Bool, true, false, Option, Some, None, List, [], ◌∷◌, map, slice_get, if◌then◌else◌, refl}
 use Rattle.std.proofs.Common.{ap, ◌∙◌, sym, subst, true≢false}
-use Rattle.pli_code.specs.declared.ending.Ending.{Ending}
+use Rattle.pli_run.specs.declared.ending.Ending.{Ending}
 use Rattle.pli_base.specs.Name.{Name}
-use Rattle.pli_code.specs.declared.ending.Ending.TheVariants as message
+use Rattle.pli_run.specs.declared.ending.Ending.TheVariants as message
 use Rattle.pli_world.specs.Ends.{RunEnd, Ended, OutOfSteps, told}
 use Rattle.pli_world.specs.World.{World, Answer, Yields, Raises, Wrong, further, nothing, entered, stepped, left_by, height, statics_made}
 use Rattle.pli_value.specs.Value.{Value}

@@ -3,7 +3,7 @@
 use Rattle.std.specs.Prelude.{◌≡◌, ℕ, suc, ◌+◌, ◌-◌, ◌≤◌, Bool, true, false, Option, Some, None}
 use Rattle.std.specs.Prelude.{List, [], ◌∷◌, map, slice_get}
 use Rattle.pli_base.specs.Name.{Name}
-use Rattle.pli_code.specs.declared.ending.RunError.TheVariants.{NoReturnedValue}
+use Rattle.pli_run.specs.declared.ending.RunError.TheVariants.{NoReturnedValue}
 use Rattle.pli_program.specs.Program as op
 use Rattle.pli_program.specs.Program.{Instruction, BlockKind, Procedure, BeginBlock, Block, UnitCode}
 use Rattle.pli_program.specs.Program.{Program}

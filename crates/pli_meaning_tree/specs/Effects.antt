@@ -2,7 +2,7 @@
 -- recursion of a definition; the steps left are what the language counts, and go from one thing to the next.
 use Rattle.std.specs.Prelude.{ℕ, zero, suc, nat_eq, nat_lt, Bool, true, false, ◌&&◌, Option, Some, None}
 use Rattle.std.specs.Prelude.{if◌then◌else◌}
-use Rattle.pli_code.specs.declared.ending.RunError.TheVariants.{NoReturnedValue, TooManyActivations}
+use Rattle.pli_run.specs.declared.ending.RunError.TheVariants.{NoReturnedValue, TooManyActivations}
 use Rattle.pli_operation.specs.Operations.{is_true}
 use Rattle.pli_world.specs.Activations.{activation_limit}
 use Rattle.pli_world.specs.Ends.{RunEnd}

@@ -4,7 +4,7 @@ use Rattle.std.specs.Prelude.{List, [], ◌∷◌, ◌++◌, ◌⊎◌, length, 
 use Rattle.std.specs.List.{list_any}
 use Rattle.std.proofs.Common.{arith, sym, ap, ◌∙◌, subst, inl, inr}
 use Rattle.std.proofs.lemmas.Bool.{eqb-true, eq-eqb}
-use Rattle.pli_code.specs.declared.ending.RunError.TheVariants.{NoGeneration}
+use Rattle.pli_run.specs.declared.ending.RunError.TheVariants.{NoGeneration}
 use Rattle.pli_map.specs.Description.{Description}
 use Rattle.pli_world.specs.Activations.{Activation, activation_at, outward_from, nearest_of, is_of}
 use Rattle.pli_world.specs.Storage.{Place}

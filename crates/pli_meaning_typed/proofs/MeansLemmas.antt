@@ -3,7 +3,7 @@ use Rattle.std.specs.Prelude.{◌≡◌, ℕ, zero, suc, ◌≤◌, ◌<◌, nat
 use Rattle.std.specs.Prelude.{List, ◌∷◌, length, if◌then◌else◌, refl}
 use Rattle.std.proofs.Common.{arith, sym, ◌∙◌, subst, true≢false}
 use Rattle.std.proofs.lemmas.Bool.{eqb-true}
-use Rattle.pli_code.specs.declared.ending.RunError.TheVariants.{TooManyActivations}
+use Rattle.pli_run.specs.declared.ending.RunError.TheVariants.{TooManyActivations}
 use Rattle.pli_world.specs.Activations.{activation_limit}
 use Rattle.pli_world.specs.World.{World, Answer, Yields, Raises, Wrong, height, stepped, at_statement, left_by, cleared, error_at}
 use Rattle.pli_type_tree.specs.TypedTree.{TypedUnit}

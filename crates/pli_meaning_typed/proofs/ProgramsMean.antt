@@ -4,10 +4,10 @@ use Rattle.std.specs.Prelude.{List, [], ◌∷◌, ◌++◌, length, map, slice_
 use Rattle.std.proofs.Common.{arith, sym, ap, ◌∙◌, subst, true≢false}
 use Rattle.std.proofs.lemmas.Bool.{eq-eqb}
 use Rattle.pli_base.specs.Name.{Name}
-use Rattle.pli_code.specs.declared.ending.Ending.{Ending}
-use Rattle.pli_code.specs.declared.ending.Ending.TheVariants as message
+use Rattle.pli_run.specs.declared.ending.Ending.{Ending}
+use Rattle.pli_run.specs.declared.ending.Ending.TheVariants as message
 use Rattle.pli_world.specs.Ends.{Ended, OutOfSteps, told}
-use Rattle.pli_code.specs.declared.ending.RunError.TheVariants.{NoReturnedValue}
+use Rattle.pli_run.specs.declared.ending.RunError.TheVariants.{NoReturnedValue}
 use Rattle.pli_map.specs.Description.{Description}
 use Rattle.pli_program.specs.Program.{is_external}
 use Rattle.pli_machine_step.specs.Runs.{Outcome, outcome_of}

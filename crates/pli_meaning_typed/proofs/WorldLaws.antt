@@ -4,9 +4,9 @@ use Rattle.std.specs.Prelude.{◌&&◌, IsTrue, Option, Some, None, List, [], �
 use Rattle.std.specs.Prelude.{if◌then◌else◌, refl, option_map}
 use Rattle.std.proofs.Common.{arith, sym, ap, ◌∙◌, subst, inl, inr, append_assoc, append-nil, lt-ltb, le-leb}
 use Rattle.pli_base.specs.Name.{Name}
-use Rattle.pli_code.specs.declared.ending.Ending.TheVariants as message
-use Rattle.pli_code.specs.declared.ending.RunError.{RunError}
-use Rattle.pli_code.specs.declared.ending.RunError.TheVariants.{DeadLocator, StorageLimit}
+use Rattle.pli_run.specs.declared.ending.Ending.TheVariants as message
+use Rattle.pli_run.specs.declared.ending.RunError.{RunError}
+use Rattle.pli_run.specs.declared.ending.RunError.TheVariants.{DeadLocator, StorageLimit}
 use Rattle.std.proofs.lemmas.Option.{slice_get-map}
 use Rattle.pli_map.specs.Description.{Description}
 use Rattle.pli_map.specs.Same.{same}

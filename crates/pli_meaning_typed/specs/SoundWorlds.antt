@@ -1,6 +1,6 @@
 -- Sound worlds (own): what the operations keep, and what they need so that none asks for what is not there.
 use Rattle.std.specs.Prelude.{◌≡◌, ◌≢◌, ℕ, ◌+◌, ◌≤◌, ◌<◌, Some, List, [], ◌∷◌, slice_get}
-use Rattle.pli_code.specs.declared.ending.Ending.TheVariants as message
+use Rattle.pli_run.specs.declared.ending.Ending.TheVariants as message
 use Rattle.pli_map.specs.Description.{Description}
 use Rattle.pli_map.specs.Scalars.{first_scalar}
 use Rattle.pli_world.specs.Activations.{Activation}

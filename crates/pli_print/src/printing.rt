@@ -1,7 +1,7 @@
 //! Printing: items in the columns of lines.
 ghost use Rattle.std.specs.Fmt.{signed_decimal};
 ghost use Rattle.std.specs.Prelude.{◌≡◌, ◌+◌, ◌-◌, ◌≤◌, ◌++◌, length, replicate, [], IfOk, IfSome};
-ghost use Rattle.pli_code.specs.Print.{tab_from, may_begin, lead, characters_from, print};
+ghost use Rattle.pli_run.specs.Print.{tab_from, may_begin, lead, characters_from, print};
 ghost use Rattle.pli_print.specs.answers.Prints.{Prints};
 ghost use Rattle.pli_value.specs.Conversions.{number_characters};
 

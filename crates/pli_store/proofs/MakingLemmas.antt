@@ -7,7 +7,7 @@ use Rattle.pli_bytes.specs.Changes.{IsPut}
 use Rattle.pli_bytes.specs.Contents.{value_in, values_of}
 use Rattle.pli_bytes.proofs.PartsOfBytes.{scalar_put}
 use Rattle.pli_bytes.proofs.Scalars.{scalar_alone}
-use Rattle.pli_code.specs.declared.ending.RunError.TheVariants.{StorageLimit}
+use Rattle.pli_run.specs.declared.ending.RunError.TheVariants.{StorageLimit}
 use Rattle.pli_map.specs.Description.{Description, Array, Structure}
 use Rattle.pli_map.specs.Scalars.{scalars_of}
 use Rattle.pli_map.specs.Sizes.{size_of}

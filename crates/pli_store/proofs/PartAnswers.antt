@@ -2,7 +2,7 @@
 use Rattle.std.proofs.Common.{◌≡◌, ℕ, Bool, true, false, nat_eq, List, [], ◌∷◌, ◌++◌, set, Some, None, Err, if◌then◌else◌, refl, sym, ap, ◌∙◌, subst}
 use Rattle.std.proofs.lemmas.Bool.{eqb-true}
 use Rattle.std.proofs.lemmas.Option.{same_Some, none-some}
-use Rattle.pli_code.specs.declared.ending.RunError.TheVariants.{DeadLocator}
+use Rattle.pli_run.specs.declared.ending.RunError.TheVariants.{DeadLocator}
 use Rattle.pli_map.specs.Description.{Description, Varying}
 use Rattle.pli_map.specs.Scalars.{first_scalar, is_scalar, scalars_in}
 use Rattle.pli_map.specs.Values.{holds}

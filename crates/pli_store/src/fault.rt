@@ -2,7 +2,7 @@
 ghost use Rattle.std.specs.Prelude.{◌≡◌};
 ghost use Rattle.pli_store.specs.declared.fault.StoreFault.TheVariants.{OutOfMemory};
 
-use pli_code::RunError;
+use pli_run::RunError;
 use std::alloc::AllocError;
 
 /// Why an operation on storage gives nothing.

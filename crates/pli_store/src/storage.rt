@@ -25,8 +25,8 @@ use crate::place::Place;
 use crate::putting::{holds_number, lengthen, put_number, put_value};
 use crate::spare::SpareBytes;
 use pli_bytes::{number_at, put_value_at, text_at, value_at};
-use pli_code::RunError;
 use pli_map::{Description, far_size, holds, is_area, is_scalar};
+use pli_run::RunError;
 use pli_value::Value;
 use std::alloc::{AllocError, Global};
 

@@ -5,7 +5,7 @@ use Rattle.std.specs.List.{flat_map, list_any, range_with_len, AllByRecursion}
 use Rattle.std.proofs.Common.{arith, sym, ap, ◌∙◌, eq-eqb}
 use Rattle.std.proofs.lemmas.Bool.{eqb-true}
 use Rattle.pli_gen_emit.specs.TreeTranslation.{BlockTree, has_number, by_number}
-use Rattle.pli_gen_tree.specs.WellNumbered.{AreDistinct, numbers_among, numbers_of}
+use Rattle.pli_gen.specs.WellNumbered.{AreDistinct, numbers_among, numbers_of}
 
 -- 1 where two numbers are one, and 1 where one is below another
 abbrev pub same : ℕ → ℕ → ℕ

@@ -5,8 +5,8 @@ use Rattle.std.proofs.Common.{arith, sym, ap, ◌∙◌, subst, length-append}
 use Rattle.std.proofs.lemmas.Grind.{flat_map-append}
 use Rattle.pli_gen_emit.specs.TreeTranslation.{BlockTree, blocks_of_procedure, blocks_in, blocks_of_form}
 use Rattle.pli_gen_emit.specs.TreeTranslation.{blocks_of_else, blocks_among}
-use Rattle.pli_gen_tree.specs.WellNumbered.{numbers_in, numbers_in_form, numbers_in_else, numbers_among, HasRoom, HasRoomForm}
-use Rattle.pli_gen_tree.specs.WellNumbered.{HasRoomElse, HaveRoom, KeepsApart, KeepsApartForm, KeepsApartElse, KeepApart}
+use Rattle.pli_gen.specs.WellNumbered.{numbers_in, numbers_in_form, numbers_in_else, numbers_among, HasRoom, HasRoomForm}
+use Rattle.pli_gen.specs.WellNumbered.{HasRoomElse, HaveRoom, KeepsApart, KeepsApartForm, KeepsApartElse, KeepApart}
 use Rattle.pli_type.specs.StatementTyping.{WithProcedures, alone}
 use Rattle.pli_type_laws.proofs.Counting.{same, below, below_next, times, times_both, in_blocks, of_blocks, in_both, of_both}
 use Rattle.pli_type_tree.specs.TypedTree as typed

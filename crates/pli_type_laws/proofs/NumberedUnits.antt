@@ -9,8 +9,8 @@ use Rattle.pli_base.specs.Statements.{Statement, Numbered, Body, Range, Statemen
 use Rattle.pli_base.specs.Statements.{list_count, alternative_count}
 use Rattle.pli_base.specs.declared.token.Fault.{Fault}
 use Rattle.pli_gen_emit.specs.TreeTranslation.{BlockTree, blocks_of_procedure, blocks_in, blocks_of_form, blocks_of_else, blocks_among}
-use Rattle.pli_gen_tree.specs.WellNumbered.{numbers_in, numbers_in_form, numbers_in_else, numbers_among, HasTurns, HaveRoom}
-use Rattle.pli_gen_tree.specs.WellNumbered.{KeepApart, next_temporary, IsWellNumbered}
+use Rattle.pli_gen.specs.WellNumbered.{numbers_in, numbers_in_form, numbers_in_else, numbers_among, HasTurns, HaveRoom}
+use Rattle.pli_gen.specs.WellNumbered.{KeepApart, next_temporary, IsWellNumbered}
 use Rattle.pli_parse_expression.specs.Expressions.{Deeper}
 use Rattle.pli_type.specs.Checked.{in_unit, first_inside, external_of, unit_of, typed_as, checked, unless_unbuilt}
 use Rattle.pli_type.specs.Names.{NamedUnit}

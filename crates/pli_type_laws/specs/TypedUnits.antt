@@ -2,7 +2,7 @@
 use Rattle.std.specs.Prelude.{◌≡◌, ℕ, Bool, true, Option, None, List, [], Ok}
 use Rattle.pli_base.specs.Statements.{ExternalProcedure}
 use Rattle.pli_base.specs.Words.{Tokens}
-use Rattle.pli_gen_tree.specs.WellNumbered.{IsWellNumbered}
+use Rattle.pli_gen.specs.WellNumbered.{IsWellNumbered}
 use Rattle.pli_map.specs.Description.{Description}
 use Rattle.pli_meaning_typed.specs.TypedPrograms.{IsTypedUnit}
 use Rattle.pli_parse_expression.specs.Expressions.{Deeper}

@@ -6,6 +6,7 @@ pub mod OffsetsMade
 pub mod PlansMade
 pub mod RunsMade
 pub mod ScalarsPlanned
+pub mod StoredPlans
 pub mod SymbolsOfItems
 pub mod UnitsMade
 pub mod ValuesWritten

@@ -1,15 +1,14 @@
 -- The values that stand in INITIAL, one value after another.
-use Rattle.std.proofs.Common.{◌≡◌, ℕ, zero, suc, ◌+◌, ◌-◌, min, arith, Some, None, List, [], ◌∷◌, ◌++◌, length, replicate, take, drop, refl, ap, sym, ◌∙◌}
+use Rattle.std.proofs.Common.{◌≡◌, ℕ, zero, suc, ◌+◌, ◌-◌, min, true, Some, None, List, [], ◌∷◌, ◌++◌, length, replicate, take, drop, refl, ap, sym, ◌∙◌}
 use Rattle.std.specs.Option.{unwrap_or}
-use Rattle.std.proofs.lemmas.List.{append-nil, length-append, length-replicate, take_all, take_min, drop_min, drop-drop, length-drop}
+use Rattle.std.proofs.lemmas.List.{length-append, length-replicate, take_min, drop_min, drop-drop, length-drop}
 use Rattle.pli_base.specs.declared.declaration.InitialValue.{InitialValue}
 use Rattle.pli_base.specs.declared.declaration.InitialValue.TheVariants as initial
-use Rattle.pli_map.specs.Description.{Description, FixedBinary}
+use Rattle.pli_map.specs.Description.{Description, FixedBinary, Character, Varying, Bit, Pointer, Offset, Area, Array, Structure}
 use Rattle.pli_map.specs.Values.{first_value}
 use Rattle.pli_type.specs.InitialScalars.{as_held, each_with, values_written}
 use Rattle.pli_type_templates.specs.Items.{all_with, elements_of, value_of}
-use Rattle.pli_type_templates.specs.Plans.{placed_as}
-use Rattle.pli_value.specs.Strings.{fitted}
+use Rattle.pli_type_templates.specs.Plans.{is_compiled_scalar, placed_as}
 use Rattle.pli_value.specs.Value.{Value, Located}
 use Rattle.pli_value.specs.declared.locator.Locator.{Locator}
 
@@ -28,11 +27,17 @@ counted_first x more = ap length (written_first x more)
     ∙ length-append (replicate (elements_of x) (value_of x)) (values_written more)
     ∙ ap (λ n. n + length (values_written more)) (length-replicate (elements_of x) (value_of x))
 
--- a string is as long as itself
-pub fitted_whole : {A : Type 0} (extension : A) (s : List A) → fitted extension (length s) s ≡ s
-fitted_whole extension s =
-    let none : length s - length s ≡ 0 = omega arith in
-    ap (λ n. take (length s) s ++ replicate n extension) none ∙ append-nil (take (length s) s) ∙ take_all (length s) s (omega arith)
+-- a scalar that is compiled has a value with which it begins
+pub first_in_any_case : (d : Description) (v w : Value) → is_compiled_scalar d ≡ true → unwrap_or (first_value d) v ≡ unwrap_or (first_value d) w
+first_in_any_case (FixedBinary p) v w h = refl
+first_in_any_case (Character n) v w h = refl
+first_in_any_case (Varying n) v w h = refl
+first_in_any_case (Bit n) v w h = refl
+first_in_any_case Pointer v w h = refl
+first_in_any_case Offset v w h = refl
+first_in_any_case (Area n) v w h = cc
+first_in_any_case (Array bounds element) v w h = cc
+first_in_any_case (Structure members) v w h = cc
 
 -- null leaves the value with which a scalar begins
 pub null_is_first : (d : Description) (l : Locator) → as_held d (Located l) ≡ unwrap_or (first_value d) (Located l)

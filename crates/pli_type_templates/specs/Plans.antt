@@ -1,12 +1,15 @@
 -- Plans: where the scalars of a description stand, so that those of a member are found without a look at the
 -- members before it.
-use Rattle.std.specs.Prelude.{ℕ, zero, suc, ◌+◌, Option, Some, None, List, [], ◌∷◌, map}
+use Rattle.std.specs.Prelude.{◌≡◌, ◌≤◌, ℕ, zero, suc, ◌+◌, ◌*◌, nat_le, Bool, true, false, Option, Some, None}
+use Rattle.std.specs.Prelude.{IfSome, List, [], ◌∷◌, map}
 use Rattle.std.specs.Int.{next_multiple_of}
 use Rattle.std.specs.List.{flat_map}
-use Rattle.pli_map.specs.Description.{Description, Area, Array, Structure, Members, NoMembers, MemberThen}
+use Rattle.pli_map.specs.Description.{Description, FixedBinary, Character, Varying, Bit, Area, Array, Structure}
+use Rattle.pli_map.specs.Description.{Members, NoMembers, MemberThen}
 use Rattle.pli_map.specs.Parts.{PlacedPart}
 use Rattle.pli_map.specs.Sizes.{alignment_of, count_of, size_of, stride_of}
 use Rattle.pli_type.specs.InitialScalars.{counted_from}
+use Rattle.pli_type.specs.NamedUnits.{is_length}
 use Rattle.pli_type_templates.specs.declared.plan.ArrayLevel.{ArrayLevel}
 
 -- a scalar, and the byte on which it begins where all subscripts above it are the lowest
@@ -88,3 +91,34 @@ placed (Some leaf) levels base = placed_as leaf.description (spread levels (base
 -- the scalars of an item on this way
 abbrev pub scalars_planned : Plan → (path : List ℕ) → List PlacedPart
 scalars_planned p path = placed (leaf_in p path) (levels_in p path) 0
+
+-- plans of variables
+
+-- a scalar that is compiled: a number or a string within the language's limits
+abbrev pub is_compiled_scalar : Description → Bool
+is_compiled_scalar (FixedBinary precision) = nat_le precision 31
+is_compiled_scalar (Character n) = is_length n
+is_compiled_scalar (Varying n) = is_length n
+is_compiled_scalar (Bit n) = is_length n
+is_compiled_scalar other = false
+
+-- over how many bytes the elements of an array stand
+abbrev pub spread_over : List ArrayLevel → ℕ
+spread_over [] = 0
+spread_over (l ∷ ls) = l.count * l.distance
+
+-- the elements of each array stand within one of the array round it
+abbrev pub AreNested : List ArrayLevel → Type 0
+AreNested [] = Unit {0}
+AreNested (l ∷ ls) = (spread_over ls ≤ l.distance) × AreNested ls
+
+-- a scalar that is compiled, which with the arrays above it stands within so many bytes behind this byte
+pub record IsStoredLeaf (from bytes : ℕ) (levels : List ArrayLevel) (leaf : Leaf) : Type 0 where
+  pub first : leaf.first ≤ from + bytes
+  pub over : spread_over levels ≤ bytes
+  pub nested : AreNested levels
+  pub scalar : is_compiled_scalar leaf.description ≡ true
+
+-- each way leads to such a scalar, if to one, of a variable of at most 1,000,000 bytes
+abbrev pub IsStoredPlan : Plan → Type 0
+IsStoredPlan p = (path : List ℕ) → IfSome (leaf_in p path) (IsStoredLeaf 0 1000000 (levels_in p path))

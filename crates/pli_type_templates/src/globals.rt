@@ -9,8 +9,9 @@ ghost use Rattle.pli_type_templates.specs.ItemNames.{AreOfItems};
 ghost use Rattle.pli_type_templates.specs.views.ItemView.{HasMadeItem, items_view, made_template, rows_view};
 ghost use Rattle.pli_type_templates.specs.views.PlacedView.{HasGlobal, HasGlobalItem, global_found, placed_view, unit_global_view};
 
-use crate::groups::{MadeVariable, made_in};
+use crate::groups::made_in;
 use crate::items::ValuedItem;
+use crate::made_variable::MadeVariable;
 use crate::placed_globals::{PlacedGlobal, UnitGlobal};
 use pli_base::Name;
 use pli_declare_attributes::ScopeAttribute;

@@ -4,7 +4,7 @@ ghost use Rattle.std.specs.List.{All};
 ghost use Rattle.pli_declare_outline.specs.Outlines.{PlacedMark};
 ghost use Rattle.pli_map.specs.views.DescriptionView.{description_view};
 ghost use Rattle.pli_resolve.specs.views.SymbolView.{symbol_view, symbol_kind_view};
-ghost use Rattle.pli_type.specs.NamedUnits.{templates_of};
+ghost use Rattle.pli_type.specs.NamedUnits.{is_stored, templates_of};
 ghost use Rattle.pli_type_templates.specs.Groups.{AreMembers, is_such, made_in, templates_with};
 ghost use Rattle.pli_type_templates.specs.ItemNames.{AreOfItems};
 ghost use Rattle.pli_type_templates.specs.views.ItemView.{HasMadeItem, items_view, made_template, made_view, rows_view};
@@ -13,8 +13,8 @@ ghost use Rattle.pli_type_tree.specs.views.TemplateView.{group_view, groups_view
 
 use crate::item_numbers::ItemNumbers;
 use crate::items::{ValuedItem, put_item};
+use crate::made_variable::MadeVariable;
 use crate::plan::plan_from;
-use pli_base::declaration::InitialValue;
 use pli_map::Description;
 use pli_resolve::{StorageClass, Symbol, SymbolKind};
 use pli_type_names::is_stored;
@@ -24,21 +24,10 @@ use std::alloc::{AllocError, Global};
 /// How many variables a group may have.
 pub(crate) const MOST: usize = 4_294_967_295;
 
-/// A variable that is made.
-#[derive(Clone, Copy)]
-pub(crate) struct MadeVariable<'a> {
-    /// The token of its name, counted from 0.
-    pub at: u32,
-    pub description: &'a Description,
-    /// The values in its INITIAL.
-    pub values: &'a [InitialValue],
-    /// Its members with INITIAL.
-    pub members: &'a [ValuedItem<'a>],
-}
-
 /// Whether a variable is of the wanted class, AUTOMATIC or STATIC, and is compiled.
 fn is_such(wanted: StorageClass, class: StorageClass, description: &Description) -> bool
-    ensures { result ≡ is_such wanted class (description_view description.now) }
+    ensures value { result ≡ is_such wanted class (description_view description.now) }
+    ensures stored { result ≡ true → is_stored 31 (description_view description.now) ≡ true }
 {
     match (wanted, class) {
         (StorageClass::Automatic, StorageClass::Automatic)

@@ -1,9 +1,9 @@
 //! Items with INITIAL: which initial values their scalars have.
-ghost use Rattle.std.specs.Prelude.{◌≡◌, ◌++◌, IfOk, map};
+ghost use Rattle.std.specs.Prelude.{◌≡◌, ◌++◌, IfOk, map, true};
 ghost use Rattle.pli_map.specs.views.DescriptionView.{description_view};
 ghost use Rattle.pli_type.specs.InitialScalars.{as_held, each_with, values_written};
 ghost use Rattle.pli_type_templates.specs.Items.{all_with, item_scalars, value_of};
-ghost use Rattle.pli_type_templates.specs.Plans.{placed_as};
+ghost use Rattle.pli_type_templates.specs.Plans.{IsStoredPlan, is_compiled_scalar, placed_as};
 ghost use Rattle.pli_type_templates.specs.views.ItemView.{item_view};
 ghost use Rattle.pli_type_templates.specs.views.PlanView.{plan_view};
 ghost use Rattle.pli_type_tree.specs.views.TemplateView.{initial_view};
@@ -53,6 +53,7 @@ fn put_value(
     offsets: &[u32],
     scalars: &mut Vec<InitialScalar>,
 ) -> Result<(), AllocError>
+    requires { is_compiled_scalar (description_view description.now) ≡ true }
     ensures { IfOk result (λ _. map initial_view scalars.new.items
         ≡ map initial_view scalars.old.items
         ++ all_with (as_held (description_view description.now) (value_of written.now)) offsets.now) }
@@ -73,6 +74,7 @@ fn put_values(
     values: &[InitialValue],
     scalars: &mut Vec<InitialScalar>,
 ) -> Result<(), AllocError>
+    requires { is_compiled_scalar (description_view description.now) ≡ true }
     ensures { IfOk result (λ _. map initial_view scalars.new.items
         ≡ map initial_view scalars.old.items
         ++ each_with (placed_as (description_view description.now) offsets.now) (values_written values.now)) }
@@ -94,10 +96,11 @@ pub(crate) fn put_item(
     item: ValuedItem<'_>,
     scalars: &mut Vec<InitialScalar>,
 ) -> Result<(), AllocError>
+    requires { IsStoredPlan (plan_view plan.now) }
     ensures { IfOk result (λ _. map initial_view scalars.new.items
         ≡ map initial_view scalars.old.items ++ item_scalars (plan_view plan.now) (item_view item.entry)) }
 {
-    let wanted = elements_written(item.values)?;
+    let wanted = elements_written(item.values);
     let mut levels = Vec::new(alloc);
     let Some(found) = find_leaf(plan, item.path, &mut levels)? else {
         return Ok(());

@@ -8,6 +8,7 @@ mod groups;
 mod item_number;
 mod item_numbers;
 mod items;
+mod made_variable;
 mod members;
 mod offsets;
 mod placed_globals;

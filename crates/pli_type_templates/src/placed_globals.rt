@@ -5,7 +5,7 @@ ghost use Rattle.pli_type.specs.NamedUnits as units;
 ghost use Rattle.pli_type.specs.TextOrder.{in_order};
 ghost use Rattle.pli_type_templates.specs.views.PlacedView.{placed_view};
 
-use crate::groups::MadeVariable;
+use crate::made_variable::MadeVariable;
 use pli_base::Name;
 use pli_map::Description;
 use std::alloc::AllocError;

@@ -1,9 +1,10 @@
 //! Plans: where the scalars of a description stand, laid out once, so that those of a member are found without a look
 //! at the members before it.
 ghost use Rattle.std.specs.Int.{next_multiple_of};
-ghost use Rattle.std.specs.Prelude.{◌≡◌, ◌+◌, ◌*◌, ◌++◌, IfOk, option_map, slice_get};
+ghost use Rattle.std.specs.Prelude.{◌≡◌, ◌<◌, ◌≤◌, ◌+◌, ◌*◌, ◌++◌, IfOk, option_map, slice_get, true};
 ghost use Rattle.pli_map.specs.Sizes.{alignment_of, count_of, end_behind, size_of, stride_of};
 ghost use Rattle.pli_map.specs.views.DescriptionView.{description_view, members_view};
+ghost use Rattle.pli_type.specs.NamedUnits.{all_plain, is_plain};
 ghost use Rattle.pli_type_templates.specs.Plans as planned;
 ghost use Rattle.pli_type_templates.specs.Plans.{plan_from, plans_from, leaf_in, levels_in};
 ghost use Rattle.pli_type_templates.specs.views.PlanView.{leaf_view, plan_view};
@@ -43,35 +44,20 @@ pub(crate) struct Planned<'a> {
     pub end: u32,
 }
 
-/// A number of bytes, which is no offset where it is over `u32::MAX`.
-fn offset_of(bytes: u64) -> Result<u32, AllocError>
-    ensures { IfOk result (λ offset. offset ≡ bytes) }
-{
-    if bytes > u64::from(u32::MAX) {
-        return Err(AllocError);
-    }
-    Ok(bytes as u32)
-}
-
 /// Where a description stands behind so many bytes.
-fn aligned(ended: u32, description: &Description) -> Result<u32, AllocError>
-    ensures { IfOk result (λ start. start ≡ next_multiple_of ended (alignment_of (description_view description.now))) }
+fn aligned(ended: u32, description: &Description) -> u32
+    requires { next_multiple_of ended (alignment_of (description_view description.now)) ≤ 1000000 }
+    ensures { result ≡ next_multiple_of ended (alignment_of (description_view description.now)) }
 {
-    offset_of(u64::from(ended).next_multiple_of(u64::from(alignment(description))))
-}
-
-/// So many bytes behind a byte.
-fn behind(first: u32, bytes: u32) -> Result<u32, AllocError>
-    ensures { IfOk result (λ at. at ≡ first + bytes) }
-{
-    offset_of(u64::from(first) + u64::from(bytes))
+    ended.next_multiple_of(alignment(description))
 }
 
 /// The byte behind a description that begins on this byte.
-fn end_of(first: u32, description: &Description) -> Result<u32, AllocError>
-    ensures { IfOk result (λ end. end ≡ first + size_of (description_view description.now)) }
+fn end_of(first: u32, description: &Description) -> u32
+    requires { first + size_of (description_view description.now) ≤ 1000000 }
+    ensures { result ≡ first + size_of (description_view description.now) }
 {
-    offset_of(u64::from(first) + far_size(description))
+    first + far_size(description) as u32
 }
 
 /// The plan of an area, which has no scalars.
@@ -81,25 +67,28 @@ fn no_scalars<'a>(alloc: Global) -> Plan<'a>
     Plan::Structure(Vec::new(alloc))
 }
 
-/// How many elements an array of these bounds has. Want of memory where they are more than `u32::MAX`.
-fn count_of(bounds: &[Bounds]) -> Result<u32, AllocError>
-    ensures { IfOk result (λ count. count ≡ count_of bounds.now) }
+/// How many elements an array of these bounds has.
+fn count_of(bounds: &[Bounds]) -> u32
+    requires some { 0 < count_of bounds.now }
+    requires few { count_of bounds.now ≤ 1000000 }
+    ensures { result ≡ count_of bounds.now }
 {
     let mut count: u32 = 1;
     for dimension in bounds {
-        count = count.checked_mul(dimension.extent()).ok_or(AllocError)?;
+        count *= dimension.extent();
     }
-    Ok(count)
+    count
 }
 
-/// The plan of a description that begins on this byte. Want of memory where a byte is over `u32::MAX`, which none of a
-/// variable of 1,000,000 bytes is.
+/// The plan of a description that begins on this byte, of a variable of 1,000,000 bytes at most.
 #[cycle(plan_from)]
 pub(crate) fn plan_from<'a>(
     alloc: Global,
     description: &'a Description,
     first: u32,
 ) -> Result<Planned<'a>, AllocError>
+    requires plain { is_plain 31 (description_view description.now) ≡ true }
+    requires room { first + size_of (description_view description.now) ≤ 1000000 }
     ensures { IfOk result (λ made. (plan_view made.plan ≡ plan_from first (description_view description.now))
         × (made.end ≡ first + size_of (description_view description.now))) }
 {
@@ -107,12 +96,12 @@ pub(crate) fn plan_from<'a>(
         Description::Array { bounds, element } => array_from(alloc, bounds, element, first),
         Description::Structure(members) => members_from(alloc, members, first),
         Description::Area(_) => {
-            let end = end_of(first, description)?;
+            let end = end_of(first, description);
             let plan = no_scalars(alloc);
             Ok(Planned { plan, end })
         }
         _ => {
-            let end = end_of(first, description)?;
+            let end = end_of(first, description);
             Ok(Planned {
                 plan: Plan::Scalar(Leaf { first, description }),
                 end,
@@ -128,16 +117,18 @@ fn array_from<'a>(
     element: &'a Description,
     first: u32,
 ) -> Result<Planned<'a>, AllocError>
+    requires elements { 0 < count_of bounds.now }
+    requires plain { is_plain 31 (description_view element.now) ≡ true }
+    requires room { first + count_of bounds.now * stride_of (description_view element.now) ≤ 1000000 }
     ensures { IfOk result (λ made. (plan_view made.plan
         ≡ planned.OfArray (record { count = count_of bounds.now; distance = stride_of (description_view element.now) }) (plan_from first (description_view element.now)))
         × (made.end ≡ first + count_of bounds.now * stride_of (description_view element.now))) }
 {
-    let count = count_of(bounds)?;
+    let count = count_of(bounds);
     let planned = plan_from(alloc, element, first)?;
-    let distance = aligned(planned.end - first, element)?;
+    let distance = aligned(planned.end - first, element);
     let element = Box::new(alloc, planned.plan)?;
-    let bytes = count.checked_mul(distance).ok_or(AllocError)?;
-    let end = behind(first, bytes)?;
+    let end = first + count * distance;
     let level = ArrayLevel { count, distance };
     Ok(Planned {
         plan: Plan::Array { level, element },
@@ -151,14 +142,15 @@ fn members_from<'a>(
     members: &'a [Description],
     first: u32,
 ) -> Result<Planned<'a>, AllocError>
+    requires plain { all_plain 31 (members_view members.now) ≡ true }
+    requires room { first + end_behind 0 (members_view members.now) ≤ 1000000 }
     ensures { IfOk result (λ made. (plan_view made.plan ≡ planned.OfStructure (plans_from first 0 (members_view members.now)))
         × (made.end ≡ first + end_behind 0 (members_view members.now))) }
 {
     let mut plans = Vec::with_capacity(alloc, members.len())?;
     let mut end = first;
     for member in members {
-        let start = aligned(end - first, member)?;
-        let at = behind(first, start)?;
+        let at = first + aligned(end - first, member);
         let planned = plan_from(alloc, member, at)?;
         plans.push(planned.plan)?;
         end = planned.end;

@@ -1,10 +1,11 @@
 //! Values in INITIAL, as scalars hold them.
-ghost use Rattle.std.specs.Prelude.{◌≡◌, ◌++◌, IfOk, get_or, length, option_map, false};
+ghost use Rattle.std.specs.Prelude.{◌≡◌, ◌≤◌, ◌++◌, IfOk, get_or, length, option_map, false, true};
 ghost use Rattle.std.specs.Option.{unwrap_or};
 ghost use Rattle.pli_map.specs.Values.{first_value};
 ghost use Rattle.pli_map.specs.views.DescriptionView.{description_view};
 ghost use Rattle.pli_type.specs.InitialScalars.{as_held, values_written};
 ghost use Rattle.pli_type_templates.specs.Items.{elements_of, value_of};
+ghost use Rattle.pli_type_templates.specs.Plans.{is_compiled_scalar};
 ghost use Rattle.pli_value.specs.Strings.{fitted};
 ghost use Rattle.pli_value.specs.declared.locator.Locator.TheVariants.{Null};
 ghost use Rattle.pli_value.specs.Value as plain;
@@ -16,9 +17,6 @@ use pli_value::bit::Bits;
 use pli_value::{Locator, Value, character};
 use std::alloc::{AllocError, Global};
 
-/// How many bits a string has at most.
-const BIT_LIMIT: usize = 32_767;
-
 /// For how many elements a value in INITIAL stands.
 pub(crate) fn elements(written: &InitialValue) -> u32
     ensures { result ≡ elements_of written.now }
@@ -29,17 +27,15 @@ pub(crate) fn elements(written: &InitialValue) -> u32
     }
 }
 
-/// For how many elements the values in INITIAL stand. Want of memory where they are more than `usize::MAX`.
-pub(crate) fn elements_written(values: &[InitialValue]) -> Result<usize, AllocError>
-    ensures { IfOk result (λ count. count ≡ length (values_written values.now)) }
+/// For how many elements the values in INITIAL stand.
+pub(crate) fn elements_written(values: &[InitialValue]) -> u128
+    ensures { result ≡ length (values_written values.now) }
 {
-    let mut count: usize = 0;
+    let mut count: u128 = 0;
     for written in values {
-        count = count
-            .checked_add(elements(written) as usize)
-            .ok_or(AllocError)?;
+        count += u128::from(elements(written));
     }
-    Ok(count)
+    count
 }
 
 /// The bit at a place, counted from 0; 0 behind the end.
@@ -49,14 +45,11 @@ fn bit_at(bits: &[bool], place: usize) -> bool
     bits.get(place).copied().unwrap_or(false)
 }
 
-/// A string of bits assigned to BIT of so many: cut on the right, or extended there with zeros (X3.74). Want of memory
-/// where they are more than the language has.
+/// A string of bits assigned to BIT of so many: cut on the right, or extended there with zeros (X3.74).
 fn fit_bits(alloc: Global, bits: &[bool], size: usize) -> Result<Bits, AllocError>
+    requires { size ≤ 32767 }
     ensures { IfOk result (λ new. new ≡ fitted false size bits.now) }
 {
-    if size > BIT_LIMIT {
-        return Err(AllocError);
-    }
     let mut new = Bits::new(alloc);
     for place in 0..size {
         new.push(bit_at(bits, place))?;
@@ -64,17 +57,10 @@ fn fit_bits(alloc: Global, bits: &[bool], size: usize) -> Result<Bits, AllocErro
     Ok(new)
 }
 
-/// A string of bits as it is written. Want of memory for more bits than the language has.
-#[tactic(auto, using(crate::proofs::ValuesWritten::fitted_whole))]
-fn whole_bits(alloc: Global, bits: &[bool]) -> Result<Value, AllocError>
-    ensures { IfOk result (λ value. value_view value ≡ plain.Bits bits.now) }
-{
-    let copied = fit_bits(alloc, bits, bits.len())?;
-    Ok(Value::Bits(copied))
-}
-
 /// The value with which a scalar begins that has no initial value: zero, blanks, the empty string, zero bits, or null (own).
+#[tactic(auto, using(crate::proofs::StoredPlans::few_bits))]
 fn first_value(alloc: Global, description: &Description) -> Result<Option<Value>, AllocError>
+    requires { is_compiled_scalar (description_view description.now) ≡ true }
     ensures { IfOk result (λ value. option_map value_view value ≡ first_value (description_view description.now)) }
 {
     match description {
@@ -96,6 +82,7 @@ fn first_value(alloc: Global, description: &Description) -> Result<Option<Value>
 
 /// What stands in a scalar that a value does not suit: the value with which it begins.
 fn unsuited(alloc: Global, description: &Description, value: Value) -> Result<Value, AllocError>
+    requires { is_compiled_scalar (description_view description.now) ≡ true }
     ensures { IfOk result (λ held. value_view held ≡ unwrap_or (first_value (description_view description.now)) (value_view value)) }
 {
     match first_value(alloc, description)? {
@@ -106,6 +93,7 @@ fn unsuited(alloc: Global, description: &Description, value: Value) -> Result<Va
 
 /// A number as a scalar holds it: itself, where it is within the precision (X3.74).
 fn held_number(alloc: Global, description: &Description, number: i64) -> Result<Value, AllocError>
+    requires { is_compiled_scalar (description_view description.now) ≡ true }
     ensures { IfOk result (λ held. value_view held ≡ as_held (description_view description.now) (plain.Number number)) }
 {
     let value = Value::Number(number);
@@ -122,6 +110,7 @@ fn held_characters(
     description: &Description,
     text: &[u8],
 ) -> Result<Value, AllocError>
+    requires { is_compiled_scalar (description_view description.now) ≡ true }
     ensures { IfOk result (λ held. value_view held ≡ as_held (description_view description.now) (plain.Characters text.now)) }
 {
     match description {
@@ -140,9 +129,11 @@ fn held_characters(
     }
 }
 
-/// Bits as a scalar holds them: cut on the right, or extended there with zeros (X3.74). Want of memory for more bits
-/// than the language has.
+/// Bits as a scalar holds them: cut on the right, or extended there with zeros (X3.74). A scalar of another
+/// type has the value with which it begins, whatever bits are written.
+#[tactic(auto, using(crate::proofs::ValuesWritten::first_in_any_case, crate::proofs::StoredPlans::few_bits))]
 fn held_bits(alloc: Global, description: &Description, bits: &[bool]) -> Result<Value, AllocError>
+    requires { is_compiled_scalar (description_view description.now) ≡ true }
     ensures { IfOk result (λ held. value_view held ≡ as_held (description_view description.now) (plain.Bits bits.now)) }
 {
     match description {
@@ -150,16 +141,14 @@ fn held_bits(alloc: Global, description: &Description, bits: &[bool]) -> Result<
             let fitted = fit_bits(alloc, bits, usize::from(*length))?;
             Ok(Value::Bits(fitted))
         }
-        _ => {
-            let value = whole_bits(alloc, bits)?;
-            unsuited(alloc, description, value)
-        }
+        _ => unsuited(alloc, description, Value::Bits(Bits::new(alloc))),
     }
 }
 
 /// Null as a scalar holds it: the value with which it begins.
 #[tactic(auto, using(crate::proofs::ValuesWritten::null_is_first))]
 fn held_null(alloc: Global, description: &Description) -> Result<Value, AllocError>
+    requires { is_compiled_scalar (description_view description.now) ≡ true }
     ensures { IfOk result (λ held. value_view held ≡ as_held (description_view description.now) (plain.Located Null)) }
 {
     unsuited(alloc, description, Value::Locator(Locator::Null))
@@ -172,6 +161,7 @@ pub(crate) fn held(
     description: &Description,
     written: &InitialValue,
 ) -> Result<Value, AllocError>
+    requires { is_compiled_scalar (description_view description.now) ≡ true }
     ensures { IfOk result (λ held. value_view held ≡ as_held (description_view description.now) (value_of written.now)) }
 {
     match written {

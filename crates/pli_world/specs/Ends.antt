@@ -1,9 +1,9 @@
 -- How runs end. In a world a unit has its number alone; its name is looked up where an end is told.
 use Rattle.std.specs.Prelude.{ℕ, Option, Some, None, List, slice_get}
 use Rattle.pli_base.specs.Name.{Name}
-use Rattle.pli_code.specs.declared.ending.Ending.{Ending}
-use Rattle.pli_code.specs.declared.ending.Ending.TheVariants as ending
-use Rattle.pli_code.specs.declared.ending.RunError.{RunError}
+use Rattle.pli_run.specs.declared.ending.Ending.{Ending}
+use Rattle.pli_run.specs.declared.ending.Ending.TheVariants as ending
+use Rattle.pli_run.specs.declared.ending.RunError.{RunError}
 
 -- by the end of the main procedure; where the next step would be one too many; by an error at a statement of
 -- the unit of a number; or where no rule of the machine fits

@@ -8,11 +8,11 @@ use Rattle.std.specs.Prelude.{if◌then◌else◌}
 use Rattle.std.specs.List.{filter, list_any}
 use Rattle.pli_base.specs.Name.{Name}
 use Rattle.pli_base.specs.Words.{same_name}
-use Rattle.pli_code.specs.Print.{print}
-use Rattle.pli_code.specs.declared.ending.RunError.{RunError}
-use Rattle.pli_code.specs.declared.ending.RunError.TheVariants.{SubscriptRange, StringRange, DeadLocator}
-use Rattle.pli_code.specs.declared.ending.RunError.TheVariants.{NoGeneration}
-use Rattle.pli_code.specs.declared.ending.RunError.TheVariants.{FixedOverflow, ZeroDivide, StorageLimit}
+use Rattle.pli_run.specs.Print.{print}
+use Rattle.pli_run.specs.declared.ending.RunError.{RunError}
+use Rattle.pli_run.specs.declared.ending.RunError.TheVariants.{SubscriptRange, StringRange, DeadLocator}
+use Rattle.pli_run.specs.declared.ending.RunError.TheVariants.{NoGeneration}
+use Rattle.pli_run.specs.declared.ending.RunError.TheVariants.{FixedOverflow, ZeroDivide, StorageLimit}
 use Rattle.pli_map.specs.Description.{Description}
 use Rattle.pli_map.specs.Same.{same}
 use Rattle.pli_map.specs.Scalars.{is_area, is_scalar, scalars_in, scalars_of}

@@ -3,7 +3,7 @@ use Rattle.std.specs.Prelude.{ℕ, List, [], ◌∷◌, ◌++◌, nat_eq, Option
 use Rattle.pli_members.specs.declared.refusal.EditError.{EditError}
 use Rattle.pli_members.specs.declared.refusal.EditError.TheVariants.{Refused, OutOfMemory}
 use Rattle.pli_members.specs.declared.refusal.Refusal.{Refusal}
-use Rattle.pli_code.specs.declared.ending.Ending.{Ending}
+use Rattle.pli_run.specs.declared.ending.Ending.{Ending}
 use Rattle.pli_bench.specs.answers.Answering.{Writes}
 use Rattle.pli_bench.specs.declared.serving.AfterCommand.{AfterCommand}
 use Rattle.pli_bench.specs.declared.serving.AfterCommand.TheVariants.{Go}

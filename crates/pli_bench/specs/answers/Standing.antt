@@ -4,7 +4,7 @@ use Rattle.pli_base.specs.Name.{Name}
 use Rattle.pli_deck_load.specs.LinkedBytes.{IsLinked}
 use Rattle.pli_members.specs.Members.{Member}
 use Rattle.pli_meaning.specs.Scratch.{scratch, Made}
-use Rattle.pli_unit_code.specs.Modules.{Module}
+use Rattle.pli_code.specs.Modules.{Module}
 use Rattle.pli_bench.specs.declared.stored.StoredModule.{StoredModule}
 
 -- bytes are the linked module that members give

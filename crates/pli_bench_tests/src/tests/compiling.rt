@@ -1,6 +1,6 @@
 //! Units that are compiled, with their faults, copies and bytes.
 use crate::tests::named;
-use pli_compile::{Compiled, Compiler};
+use pli_deck::{Compiled, Compiler};
 use pli_link::{NamedUnit, link};
 use pli_text_tests::{Answers, Shown, all, tokens_of};
 use std::alloc::{AllocError, Global};

@@ -1,13 +1,11 @@
 //! Units that are linked, with what a link gives of them.
 use crate::tests::named;
 use pli_base::Name;
+use pli_code::{Code, CodedGlobal, CodedSignature, CodedTemplate, Deck, Instruction, VariableKind};
 use pli_deck_code::Linked;
 use pli_link::{LinkError, LinkFault, LinkedName, NamedUnit, link};
 use pli_map::{Bounds, Description};
 use pli_text_tests::Shown;
-use pli_unit_code::{
-    Code, CodedGlobal, CodedSignature, CodedTemplate, Deck, Instruction, VariableKind,
-};
 use std::alloc::Global;
 use std::process::Abort;
 use std::test::*;

@@ -3,7 +3,7 @@ use Rattle.std.specs.Prelude.{◌≡◌, ℕ, List}
 use Rattle.std.specs.Map.{lookup}
 use Rattle.pli_base.specs.Name.{Name}
 use Rattle.pli_base.specs.Words.{same_name}
-use Rattle.pli_deck.specs.declared.module.External.{External}
+use Rattle.pli_deck_write.specs.declared.module.External.{External}
 use Rattle.pli_deck_code.specs.CodeModules.{number_of}
 
 -- the name of an external variable

@@ -1,13 +1,13 @@
 -- Worked examples: modules of linked units, as their bytes have them.
 use Rattle.std.specs.Prelude.{◌≡◌, ℕ, List, [], ◌∷◌, map, codes}
 use Rattle.pli_base.specs.Name.{Name}
-use Rattle.pli_deck.specs.ModuleFields.{External}
-use Rattle.pli_deck.specs.examples.DeckExamples.{smallest_code, calling_code, called_code}
-use Rattle.pli_deck.specs.examples.ModuleExamples.{one_unit, two_units}
-use Rattle.pli_unit_code.specs.CodeTables.{Code, ExternalVariable}
-use Rattle.pli_unit_code.specs.declared.code.VariableKind.TheVariants.{Static}
-use Rattle.pli_unit_code.specs.declared.instruction.Instruction.TheVariants as op
-use Rattle.pli_unit_code.specs.Modules.{LinkedUnit, Module}
+use Rattle.pli_deck_write.specs.ModuleFields.{External}
+use Rattle.pli_deck_write.specs.examples.DeckExamples.{smallest_code, calling_code, called_code}
+use Rattle.pli_deck_write.specs.examples.ModuleExamples.{one_unit, two_units}
+use Rattle.pli_code.specs.CodeTables.{Code, ExternalVariable}
+use Rattle.pli_code.specs.declared.code.VariableKind.TheVariants.{Static}
+use Rattle.pli_code.specs.declared.instruction.Instruction.TheVariants as op
+use Rattle.pli_code.specs.Modules.{LinkedUnit, Module}
 use Rattle.pli_deck_code.specs.CodeModules.{module_of}
 
 -- a unit of this code, whose procedure has its name

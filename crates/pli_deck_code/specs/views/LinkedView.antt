@@ -1,7 +1,7 @@
 -- What modules of lent units say.
 use Rattle.std.specs.Prelude.{map}
-use Rattle.pli_unit_code.specs.Modules as modules
-use Rattle.pli_unit_code.specs.views.CodeView.{code_view}
+use Rattle.pli_code.specs.Modules as modules
+use Rattle.pli_code.specs.views.CodeView.{code_view}
 use Rattle.pli_deck_code.specs.declared.linked.LentUnit.{LentUnit}
 use Rattle.pli_deck_code.specs.declared.linked.Linked.{Linked}
 

@@ -1,6 +1,6 @@
 -- How the decks of a module are linked: what their code does not say.
 use Rattle.std.specs.Prelude.{◌≡◌, ℕ, Bool, true, false, List, map}
-use Rattle.pli_deck.specs.ModuleFields.{External, Member, DeckModule}
+use Rattle.pli_deck_write.specs.ModuleFields.{External, Member, DeckModule}
 
 -- whether a unit is marked as the main one, and what its external globals stand for
 abbrev pub Mark : Type 0

@@ -1,6 +1,6 @@
 -- Bytes are one linked module at most.
 use Rattle.std.specs.Prelude.{◌≡◌, ℕ, List}
-use Rattle.pli_unit_code.specs.Modules.{Module}
+use Rattle.pli_code.specs.Modules.{Module}
 use Rattle.pli_deck_load.specs.LinkedBytes.{IsLinked}
 
 -- bytes are one linked module at most

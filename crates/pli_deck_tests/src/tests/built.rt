@@ -1,14 +1,14 @@
 //! Linked modules of units of one kind, each of which has each instruction and all other forms that the machine has.
 use pli_base::Name;
 use pli_base::statement::Condition;
-use pli_code::RunError;
-use pli_map::{Bounds, Description};
-use pli_operation::Relation;
-use pli_type_tree::InitialScalar;
-use pli_unit_code::{
+use pli_code::{
     Block, BlockKind, Code, CodedGlobal, CodedSignature, CodedTemplate, Instruction, LinkedUnit,
     Module, VariableKind,
 };
+use pli_map::{Bounds, Description};
+use pli_operation::Relation;
+use pli_run::RunError;
+use pli_type_tree::InitialScalar;
 use pli_value::Value;
 use pli_value::bit::Bits;
 use std::alloc::Global;

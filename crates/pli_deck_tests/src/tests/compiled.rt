@@ -2,8 +2,8 @@
 use crate::tests::is_exact_with_decks;
 use crate::tests::spelled::SMALLEST;
 use pli_base::Name;
-use pli_compile::{Compiled, Compiler};
-use pli_deck::write_deck;
+use pli_deck::{Compiled, Compiler};
+use pli_deck_write::write_deck;
 use pli_link::{NamedUnit, link};
 use pli_text_tests::tokens_of;
 use std::alloc::Global;

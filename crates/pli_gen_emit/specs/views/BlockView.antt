@@ -1,7 +1,7 @@
 -- What the blocks of a unit are, apart from where they lie in memory.
 use Rattle.std.specs.Prelude.{List, map}
 use Rattle.pli_type_tree.specs.views.TypedView.{head_view, statements_view}
-use Rattle.pli_unit_code.specs.views.CodeView.{kind_view}
+use Rattle.pli_code.specs.views.CodeView.{kind_view}
 use Rattle.pli_gen_emit.specs.TreeTranslation.{BlockTree}
 use Rattle.pli_gen_emit.specs.declared.block.BlockSource.{BlockSource}
 

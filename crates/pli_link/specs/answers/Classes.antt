@@ -5,7 +5,7 @@ use Rattle.std.specs.List.{AllByRecursion}
 use denote.Ref.{Bor}
 use Rattle.pli_base.specs.Name.{Name}
 use Rattle.pli_type_tree.specs.Templates.{Template}
-use Rattle.pli_unit_code.specs.CodeTables.{Code, template_at}
+use Rattle.pli_code.specs.CodeTables.{Code, template_at}
 use Rattle.pli_type_keys.specs.Same.{same_template}
 use Rattle.pli_type_keys.specs.views.KeyView.{templated}
 use Rattle.pli_type_keys.specs.declared.key.TemplateKey.{TemplateKey}

@@ -3,7 +3,7 @@ use Rattle.std.specs.Prelude.{◌≡◌, Result, Ok, Err, List, ◌++◌, map}
 use Rattle.std.specs.Global.{Vec}
 use Rattle.pli_link.specs.Link.{in_order, later, mains, none_among}
 use Rattle.pli_link.specs.Units.{Compiled, procedure_of}
-use Rattle.pli_unit_code.specs.Modules.{Module}
+use Rattle.pli_code.specs.Modules.{Module}
 use Rattle.pli_deck_code.specs.views.LinkedView.{linked_view}
 use Rattle.pli_deck_code.specs.declared.linked.Linked.{Linked}
 use Rattle.pli_link.specs.declared.linking.LinkFault.{LinkFault}

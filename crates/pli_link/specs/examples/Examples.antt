@@ -8,11 +8,11 @@ use Rattle.pli_link.specs.declared.linking.LinkFault.TheVariants.{NoMainProcedur
 use Rattle.pli_link.specs.declared.linking.LinkFault.TheVariants.{Unresolved, DefinedTwice, Mismatch}
 use Rattle.pli_link.specs.declared.linking.LinkFault.TheVariants.{ModuleTooLarge}
 use Rattle.pli_link.specs.declared.units.LinkedName.{LinkedName}
-use Rattle.pli_unit_code.specs.CodeTables.{Code, CodedGlobal, CodedSignature, OwnVariable, ExternalVariable}
-use Rattle.pli_unit_code.specs.CodeTables.{EntryPoint}
-use Rattle.pli_unit_code.specs.declared.code.VariableKind.TheVariants.{Static, Controlled}
-use Rattle.pli_unit_code.specs.Modules.{LinkedUnit}
-use Rattle.pli_unit_code.specs.declared.instruction.Instruction.TheVariants as op
+use Rattle.pli_code.specs.CodeTables.{Code, CodedGlobal, CodedSignature, OwnVariable, ExternalVariable}
+use Rattle.pli_code.specs.CodeTables.{EntryPoint}
+use Rattle.pli_code.specs.declared.code.VariableKind.TheVariants.{Static, Controlled}
+use Rattle.pli_code.specs.Modules.{LinkedUnit}
+use Rattle.pli_code.specs.declared.instruction.Instruction.TheVariants as op
 
 -- what a procedure without parameters takes and gives
 abbrev pub nothing : CodedSignature

@@ -1,7 +1,7 @@
 -- Worked examples: BASED variables that are allocated and freed, pointers of ADDR, and CONTROLLED variables.
 use Rattle.std.specs.Prelude.{◌≡◌, ℕ, pos, Some, [], ◌∷◌}
-use Rattle.pli_code.specs.declared.ending.RunError.TheVariants.{NullLocator, DeadLocator, DescriptionMismatch}
-use Rattle.pli_code.specs.declared.ending.RunError.TheVariants.{NoGeneration}
+use Rattle.pli_run.specs.declared.ending.RunError.TheVariants.{NullLocator, DeadLocator, DescriptionMismatch}
+use Rattle.pli_run.specs.declared.ending.RunError.TheVariants.{NoGeneration}
 use Rattle.pli_map.specs.Description.{Description, FixedBinary, Structure, NoMembers, MemberThen}
 use Rattle.pli_map.specs.Variables.{Variable}
 use Rattle.pli_value.specs.Value.{Number}

@@ -1,6 +1,6 @@
 -- Laws of storage by locators and of stacks.
 use Rattle.std.specs.Prelude.{◌≡◌, ◌≢◌, ◌<◌, ℕ, suc, Some, None, List, [], ◌∷◌, slice_get}
-use Rattle.pli_code.specs.declared.ending.RunError.TheVariants.{DeadLocator}
+use Rattle.pli_run.specs.declared.ending.RunError.TheVariants.{DeadLocator}
 use Rattle.pli_map.specs.Description.{Description}
 use Rattle.pli_map.specs.Variables.{Variable}
 use Rattle.pli_value.specs.Value.{Value}

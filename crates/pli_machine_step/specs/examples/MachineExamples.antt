@@ -2,10 +2,10 @@
 use Rattle.std.specs.Prelude.{◌≡◌, ℕ, zero, suc, true, false, pos, Option, Some, None, List, [], ◌∷◌, ◌++◌}
 use Rattle.std.specs.Prelude.{codes}
 use Rattle.pli_base.specs.Name.{Name}
-use Rattle.pli_code.specs.declared.ending.Ending.{Ending}
-use Rattle.pli_code.specs.declared.ending.Ending.TheVariants.{Ended, OutOfSteps, Error, MachineFault}
-use Rattle.pli_code.specs.declared.ending.RunError.TheVariants.{TooManyActivations, SubscriptRange}
-use Rattle.pli_code.specs.declared.ending.RunError.TheVariants.{StringRange}
+use Rattle.pli_run.specs.declared.ending.Ending.{Ending}
+use Rattle.pli_run.specs.declared.ending.Ending.TheVariants.{Ended, OutOfSteps, Error, MachineFault}
+use Rattle.pli_run.specs.declared.ending.RunError.TheVariants.{TooManyActivations, SubscriptRange}
+use Rattle.pli_run.specs.declared.ending.RunError.TheVariants.{StringRange}
 use Rattle.pli_map.specs.Description.{FixedBinary, Array}
 use Rattle.pli_operation.specs.Operations.{Operation, ToCharacters, Add, Compare, AtMost, Less, Substring}
 use Rattle.pli_value.specs.Value.{Value, Number, Characters, Bits}

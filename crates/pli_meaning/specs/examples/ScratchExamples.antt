@@ -5,12 +5,12 @@ use Rattle.pli_base.specs.Name.{Name}
 use Rattle.pli_map.specs.Description.{FixedBinary}
 use Rattle.pli_members.specs.Members.{Member}
 use Rattle.pli_members.specs.declared.kind.MemberKind.TheVariants.{Source}
-use Rattle.pli_code.specs.declared.ending.Ending.TheVariants.{Ended, OutOfSteps}
+use Rattle.pli_run.specs.declared.ending.Ending.TheVariants.{Ended, OutOfSteps}
 use Rattle.pli_program.specs.Program.{Procedure}
-use Rattle.pli_unit_code.specs.CodeTables.{Code}
-use Rattle.pli_unit_code.specs.Modules.{Module}
+use Rattle.pli_code.specs.CodeTables.{Code}
+use Rattle.pli_code.specs.Modules.{Module}
 use Rattle.pli_machine_step.specs.ModuleRuns.{RunsTo}
-use Rattle.pli_unit_code.specs.declared.instruction.Instruction.TheVariants as op
+use Rattle.pli_code.specs.declared.instruction.Instruction.TheVariants as op
 use Rattle.pli_value.specs.Value.{Number}
 use Rattle.pli_meaning.specs.Scratch.{Diagnosed, Made, scratch}
 

@@ -3,9 +3,9 @@
 use Rattle.std.specs.Prelude.{◌≡◌, ◌≢◌, ℕ, ◌+◌, Some}
 use Rattle.pli_gen_stands.specs.Laws.{AreWellNumbered}
 use Rattle.pli_gen_stands.specs.Linked.{IsModuleOf}
-use Rattle.pli_unit_code.specs.Modules.{Module}
+use Rattle.pli_code.specs.Modules.{Module}
 use Rattle.pli_machine_step.specs.ModuleRuns.{RunsTo}
-use Rattle.pli_code.specs.declared.ending.Ending.TheVariants.{MachineFault}
+use Rattle.pli_run.specs.declared.ending.Ending.TheVariants.{MachineFault}
 use Rattle.pli_machine_step.specs.Runs.{Outcome}
 use Rattle.pli_machine_step.specs.laws.Laws.{GoesOn}
 use Rattle.pli_meaning_tree.specs.TreeMeaning.{TypedProgram, whole_run}

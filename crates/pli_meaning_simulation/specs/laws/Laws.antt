@@ -1,6 +1,6 @@
 -- The laws: the code of a program does what the program means, and with a step more a program goes on.
 use Rattle.std.specs.Prelude.{◌≡◌, ◌≢◌, ℕ, ◌+◌, Some}
-use Rattle.pli_code.specs.declared.ending.Ending.TheVariants.{MachineFault}
+use Rattle.pli_run.specs.declared.ending.Ending.TheVariants.{MachineFault}
 use Rattle.pli_program.specs.Program.{Program}
 use Rattle.pli_machine_step.specs.Runs.{Outcome, ProgramRunsTo}
 use Rattle.pli_machine_step.specs.laws.Laws.{GoesOn}

@@ -1,6 +1,6 @@
 -- What look-ups of the program answer.
 use Rattle.std.specs.Prelude.{◌≡◌, ℕ, Some, None, Result, Ok, Err, List, slice_get}
-use Rattle.pli_code.specs.declared.ending.RunError.TheVariants.{DeadLocator}
+use Rattle.pli_run.specs.declared.ending.RunError.TheVariants.{DeadLocator}
 use Rattle.pli_map.specs.Description.{Description}
 use Rattle.pli_map.specs.Scalars.{first_scalar}
 use Rattle.pli_world.specs.Storage.{Generation, Place, generation_in, scalar_at}

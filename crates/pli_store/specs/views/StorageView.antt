@@ -1,6 +1,6 @@
 -- What storage of the program says.
 use Rattle.std.specs.Prelude.{◌≡◌, ◌≤◌, ◌<◌, ℕ, ℤ, ◌+◌, Bool, true, false, List, ◌++◌, length, map}
-use Rattle.pli_code.specs.declared.ending.RunError.TheVariants.{StorageLimit}
+use Rattle.pli_run.specs.declared.ending.RunError.TheVariants.{StorageLimit}
 use Rattle.pli_map.specs.Description.{Description}
 use Rattle.pli_map.specs.Sizes.{size_of}
 use Rattle.pli_map.specs.Variables.{byte_limit}

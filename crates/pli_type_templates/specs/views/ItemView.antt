@@ -6,7 +6,7 @@ use Rattle.pli_map.specs.views.DescriptionView.{description_view}
 use Rattle.pli_type.specs.InitialScalars.{InitialItem}
 use Rattle.pli_type_templates.specs.Groups as plain
 use Rattle.pli_type_templates.specs.Groups.{HasItem, template_with}
-use Rattle.pli_type_templates.specs.declared.groups.MadeVariable.{MadeVariable}
+use Rattle.pli_type_templates.specs.declared.made_variable.MadeVariable.{MadeVariable}
 use Rattle.pli_type_templates.specs.declared.items.ValuedItem.{ValuedItem}
 use Rattle.pli_type_templates.specs.declared.members.Owned.{Owned}
 use Rattle.pli_type_tree.specs.Templates.{Template}

@@ -4,8 +4,8 @@ use Rattle.std.specs.Prelude.{◌≡◌, ℕ, ℤ, pos, negsuc, Option, Some, No
 use Rattle.pli_map.specs.Description.{Description, FixedBinary, Character, Array, Structure, NoMembers}
 use Rattle.pli_map.specs.Description.{MemberThen}
 use Rattle.pli_value.specs.Value.{Value, Number, Characters}
-use Rattle.pli_code.specs.declared.ending.RunError.{RunError}
-use Rattle.pli_code.specs.declared.ending.RunError.TheVariants.{DeadLocator, SubscriptRange, NoGeneration}
+use Rattle.pli_run.specs.declared.ending.RunError.{RunError}
+use Rattle.pli_run.specs.declared.ending.RunError.TheVariants.{DeadLocator, SubscriptRange, NoGeneration}
 use Rattle.pli_world.specs.Storage.{Automatic, Place, whole, field_of}
 use Rattle.pli_map.specs.Values.{first_values}
 use Rattle.pli_world.specs.World.{Stacked, World, nothing, Answer, Yields, Raises, Wrong, further}

@@ -1,6 +1,6 @@
 use Rattle.std.proofs.Common.{◌+◌, ◌∷◌, ◌∙◌, ap, sym, arith, map, drop}
 use Rattle.std.proofs.lemmas.List.{at_drop_more}
-use Rattle.pli_unit_code.specs.views.CodeView.{global_view}
+use Rattle.pli_code.specs.views.CodeView.{global_view}
 use Rattle.pli_deck_code.specs.CodeModules.{firsts, declared_in, all_declared}
 use Rattle.pli_deck_code.specs.declared.linked.LentUnit.{LentUnit}
 use Rattle.pli_deck_code.specs.views.LinkedView.{lent_view}

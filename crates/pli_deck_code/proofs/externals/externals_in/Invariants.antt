@@ -1,5 +1,5 @@
 use Rattle.std.proofs.Common.{◌≡◌, ◌++◌, map}
-use Rattle.pli_deck.specs.ModuleView.{external_view}
+use Rattle.pli_deck_write.specs.ModuleView.{external_view}
 use Rattle.pli_deck_code.specs.CodeModules.{external_of}
 use Rattle.pli_deck_code.proofs.externals.externals_in.Given as goal
 

@@ -1,5 +1,5 @@
 use Rattle.std.proofs.Common.{◌≡◌, map, drop}
-use Rattle.pli_unit_code.specs.views.CodeView.{global_view}
+use Rattle.pli_code.specs.views.CodeView.{global_view}
 use Rattle.pli_deck_code.specs.CodeModules.{firsts, declared_in}
 use Rattle.pli_deck_code.proofs.externals.note_unit.Given as goal
 

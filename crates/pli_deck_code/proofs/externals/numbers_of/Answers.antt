@@ -2,7 +2,7 @@ use Rattle.std.proofs.Common.{◌≡◌, ◌+◌, ◌-◌, ◌<◌, cond, Some, 
 use Rattle.std.proofs.lemmas.List.{drop_all}
 use Rattle.std.specs.Map.{lookup}
 use Rattle.pli_base.specs.Words.{same_name}
-use Rattle.pli_deck.specs.declared.module.External.{External}
+use Rattle.pli_deck_write.specs.declared.module.External.{External}
 use Rattle.pli_deck_code.specs.CodeModules.{number_of}
 use Rattle.pli_deck_code.specs.answers.Tables.{name_of}
 use Rattle.pli_deck_code.proofs.TableLemmas.{number_more}

@@ -1,6 +1,6 @@
 use Rattle.std.proofs.Common.{◌<◌, ◌≤◌, [], ◌∷◌, length, map, drop, get_or, unwrap_or, ap, sym, ◌∙◌, arith, append-nil}
-use Rattle.pli_unit_code.specs.declared.code.CodedGlobal.{CodedGlobal}
-use Rattle.pli_unit_code.specs.views.CodeView.{global_view}
+use Rattle.pli_code.specs.declared.code.CodedGlobal.{CodedGlobal}
+use Rattle.pli_code.specs.views.CodeView.{global_view}
 use Rattle.pli_deck_code.specs.CodeModules.{links_of}
 use Rattle.pli_deck_code.proofs.TableLemmas.{link_more, entry_taken, none_taken}
 use Rattle.pli_deck_code.proofs.links.links_of.Goals as goal

@@ -1,6 +1,6 @@
 use Rattle.std.proofs.Common.{◌≡◌, ◌++◌, List, map, drop}
 use Rattle.pli_base.specs.Name.{Name}
-use Rattle.pli_unit_code.specs.views.CodeView.{global_view}
+use Rattle.pli_code.specs.views.CodeView.{global_view}
 use Rattle.pli_deck_code.specs.CodeModules.{links_of}
 use Rattle.pli_deck_code.specs.answers.Tables.{AreNumbered}
 use Rattle.pli_deck_code.proofs.links.links_of.Given as goal

@@ -1,6 +1,6 @@
 use Rattle.std.proofs.Common.{◌≡◌, ◌+◌, ◌<◌, ◌++◌, ◌∷◌, [], nat_eq, length, map, drop, ap, sym, ◌∙◌, arith, append_assoc}
 use Rattle.std.proofs.lemmas.List.{at_drop_more, map_push}
-use Rattle.pli_deck.specs.ModuleView.{lent_member_view}
+use Rattle.pli_deck_write.specs.ModuleView.{lent_member_view}
 use Rattle.pli_deck_code.specs.CodeModules.{member, members_of}
 use Rattle.pli_deck_code.specs.declared.linked.LentUnit.{LentUnit}
 use Rattle.pli_deck_code.specs.views.LinkedView.{lent_view}

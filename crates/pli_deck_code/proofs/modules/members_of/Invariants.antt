@@ -1,6 +1,6 @@
 use Rattle.std.proofs.Common.{◌≡◌, ◌++◌, List, map, drop}
 use Rattle.pli_base.specs.Name.{Name}
-use Rattle.pli_deck.specs.ModuleView.{lent_member_view}
+use Rattle.pli_deck_write.specs.ModuleView.{lent_member_view}
 use Rattle.pli_deck_code.specs.CodeModules.{members_of}
 use Rattle.pli_deck_code.specs.answers.Tables.{AreNumbered}
 use Rattle.pli_deck_code.specs.views.LinkedView.{lent_view}

@@ -1,7 +1,7 @@
 use Rattle.std.proofs.Common.{◌∙◌, ap, subst, List, map}
 use Rattle.std.specs.Map.{keys_of}
-use Rattle.pli_deck.specs.ModuleFields.{External, Member, DeckModule}
-use Rattle.pli_deck.specs.ModuleView.{lent_member_view}
+use Rattle.pli_deck_write.specs.ModuleFields.{External, Member, DeckModule}
+use Rattle.pli_deck_write.specs.ModuleView.{lent_member_view}
 use Rattle.pli_deck_code.specs.CodeModules.{declarations, external_of, members_of}
 use Rattle.pli_deck_code.specs.answers.Tables.{name_of, AreNumbered}
 use Rattle.pli_deck_code.specs.views.LinkedView.{lent_view}

@@ -1,8 +1,8 @@
 use Rattle.std.proofs.Common.{◌≡◌, ◌≤◌, ◌+◌, drop, map}
 use Rattle.std.specs.List.{sum_by}
-use Rattle.pli_unit_code.specs.views.CodeView.{code_view}
-use Rattle.pli_unit_code.specs.views.CodeView.{global_view}
-use Rattle.pli_deck.specs.ModuleSpelling.{static_bytes}
+use Rattle.pli_code.specs.views.CodeView.{code_view}
+use Rattle.pli_code.specs.views.CodeView.{global_view}
+use Rattle.pli_deck_write.specs.ModuleSpelling.{static_bytes}
 use Rattle.pli_deck_faults.proofs.extent.behind_unit.Given as goal
 
 -- what is left and all together are what there was and those that are left

@@ -1,5 +1,5 @@
 use Rattle.std.proofs.Common.{min, get_or, ap, sym, ◌∙◌}
-use Rattle.pli_unit_code.specs.views.CodeView.{code_view}
+use Rattle.pli_code.specs.views.CodeView.{code_view}
 use Rattle.pli_deck_faults.proofs.StaticSizes.{size_found, template_found}
 use Rattle.pli_deck_faults.proofs.extent.template_bytes.Goals as goal
 

@@ -1,7 +1,7 @@
 use Rattle.std.proofs.Common.{◌≡◌, drop, map}
 use Rattle.std.specs.List.{list_all}
 use Rattle.pli_map.specs.Description.{Description}
-use Rattle.pli_deck.specs.DeckFaults.{fits_scalar, scalar_at}
+use Rattle.pli_deck_write.specs.DeckFaults.{fits_scalar, scalar_at}
 use Rattle.pli_type_tree.specs.views.TemplateView.{initial_view}
 use Rattle.pli_deck_faults.specs.Places.{places_of, places_view}
 use Rattle.pli_deck_faults.proofs.limits.all_fit.Given as goal

@@ -1,6 +1,6 @@
 use Rattle.std.proofs.Common.{◌≡◌, drop, map, List}
 use Rattle.pli_map.specs.Description.{Description}
-use Rattle.pli_unit_code.specs.views.CodeView.{coded_template_view}
+use Rattle.pli_code.specs.views.CodeView.{coded_template_view}
 use Rattle.pli_deck_faults.specs.Counted.{keep_limits}
 use Rattle.pli_deck_faults.specs.Places.{placed_of, all_placed}
 use Rattle.pli_deck_faults.proofs.limits.templates_fit.Given as goal

@@ -1,7 +1,7 @@
 use Rattle.std.proofs.Common.{◌≡◌, ◌<◌, ◌%◌, ◌-◌, length, get_or, map, nat_lt, ap, sym, ◌∙◌, arith}
 use Rattle.std.proofs.lemmas.Bool.{lt-ltb}
 use Rattle.std.proofs.lemmas.List.{length-map, get_or_default}
-use Rattle.pli_deck.specs.DeckFaults as faults
+use Rattle.pli_deck_write.specs.DeckFaults as faults
 use Rattle.pli_deck_faults.specs.Places.{Elements, places_of, places_view}
 use Rattle.pli_deck_faults.proofs.PlacesFound.{in_array, in_bytes, no_start, no_member, before_member, in_it, mapped_item}
 use Rattle.pli_deck_faults.proofs.PlacesViews.{elements_said, among_form}

@@ -1,7 +1,7 @@
 use Rattle.std.proofs.Common.{sym, ap}
 use Rattle.std.specs.List.{list_all}
-use Rattle.pli_deck.specs.DeckFaults.{is_there}
-use Rattle.pli_unit_code.specs.views.CodeView.{code_view}
+use Rattle.pli_deck_write.specs.DeckFaults.{is_there}
+use Rattle.pli_code.specs.views.CodeView.{code_view}
 use Rattle.pli_deck_faults.proofs.NamelessLemmas.{names_nothing}
 use Rattle.pli_deck_faults.proofs.standing.instruction_stands.Goals as goal
 

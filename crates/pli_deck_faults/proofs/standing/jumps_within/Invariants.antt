@@ -1,6 +1,6 @@
 use Rattle.std.proofs.Common.{◌≡◌, drop, nat_lt}
 use Rattle.std.specs.List.{list_all}
-use Rattle.pli_deck.specs.DeckFaults.{targets_of}
+use Rattle.pli_deck_write.specs.DeckFaults.{targets_of}
 use Rattle.pli_deck_faults.proofs.standing.jumps_within.Given as goal
 
 -- what is left passes as all pass

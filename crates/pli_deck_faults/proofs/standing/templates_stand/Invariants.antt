@@ -1,7 +1,7 @@
 use Rattle.std.proofs.Common.{◌≡◌, drop, map}
 use Rattle.std.specs.List.{list_all}
-use Rattle.pli_deck.specs.DeckFaults.{is_there, named_by_template}
-use Rattle.pli_unit_code.specs.views.CodeView.{code_view, coded_template_view}
+use Rattle.pli_deck_write.specs.DeckFaults.{is_there, named_by_template}
+use Rattle.pli_code.specs.views.CodeView.{code_view, coded_template_view}
 use Rattle.pli_deck_faults.proofs.standing.templates_stand.Given as goal
 
 -- what is left passes as all pass

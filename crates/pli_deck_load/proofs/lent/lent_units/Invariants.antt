@@ -1,5 +1,5 @@
 use Rattle.std.proofs.Common.{◌≡◌, ◌++◌, map, drop}
-use Rattle.pli_deck.specs.ModuleView.{member_view}
+use Rattle.pli_deck_write.specs.ModuleView.{member_view}
 use Rattle.pli_deck_code.specs.views.LinkedView.{lent_view}
 use Rattle.pli_deck_load.specs.ModuleUnits.{unit_from}
 use Rattle.pli_deck_load.proofs.lent.lent_units.Given as goal

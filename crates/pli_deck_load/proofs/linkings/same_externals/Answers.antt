@@ -1,5 +1,5 @@
 use Rattle.std.proofs.Common.{subst, arith}
-use Rattle.pli_deck.specs.ModuleView.{external_view}
+use Rattle.pli_deck_write.specs.ModuleView.{external_view}
 use Rattle.pli_deck_load.specs.answers.Linkings.{Compares}
 use Rattle.pli_deck_load.proofs.ComparedLists.{differ_at}
 use Rattle.pli_deck_load.proofs.linkings.same_externals.Goals as goal

@@ -1,5 +1,5 @@
 use Rattle.std.proofs.Common.{◌≡◌, map, take}
-use Rattle.pli_deck.specs.ModuleView.{external_view}
+use Rattle.pli_deck_write.specs.ModuleView.{external_view}
 use Rattle.pli_deck_load.proofs.linkings.same_externals.Given as goal
 
 -- they agree as far as the loop has come

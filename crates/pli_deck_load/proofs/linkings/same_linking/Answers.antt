@@ -2,8 +2,8 @@ use Rattle.std.proofs.Common.{◌≡◌, ◌∙◌, Bool, List, map, ap, sym, su
 use Rattle.std.proofs.lemmas.Result.{IfOk-weaker}
 use Rattle.std.specs.Map.{keys_of}
 use Rattle.pli_base.specs.Name.{Name}
-use Rattle.pli_deck.specs.ModuleView.{external_view, member_view, module_view}
-use Rattle.pli_deck.specs.declared.module.Member.{Member}
+use Rattle.pli_deck_write.specs.ModuleView.{external_view, member_view, module_view}
+use Rattle.pli_deck_write.specs.declared.module.Member.{Member}
 use Rattle.pli_deck_code.specs.CodeModules as spec
 use Rattle.pli_deck_code.specs.answers.Tables.{name_of, AreNumbered}
 use Rattle.pli_deck_code.specs.declared.linked.LentUnit.{LentUnit}

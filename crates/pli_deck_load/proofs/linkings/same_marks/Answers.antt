@@ -1,5 +1,5 @@
 use Rattle.std.proofs.Common.{nat_eq, ap, sym, ◌∙◌, subst, arith}
-use Rattle.pli_deck.specs.ModuleView.{member_view}
+use Rattle.pli_deck_write.specs.ModuleView.{member_view}
 use Rattle.pli_deck_code.specs.CodeModules as spec
 use Rattle.pli_deck_code.specs.views.LinkedView.{lent_view}
 use Rattle.pli_deck_load.specs.answers.Linkings.{Compares, mark_of}

@@ -1,7 +1,7 @@
 use Rattle.std.proofs.Common.{subst}
-use Rattle.pli_deck.specs.ModuleView.{module_view}
+use Rattle.pli_deck_write.specs.ModuleView.{module_view}
 use Rattle.pli_deck_code.specs.CodeModules.{module_of}
-use Rattle.pli_unit_code.specs.views.CodeView as view
+use Rattle.pli_code.specs.views.CodeView as view
 use Rattle.pli_deck_load.specs.ModuleUnits.{module_from}
 use Rattle.pli_deck_load.specs.answers.Linkings.{Compares, linking_of}
 use Rattle.pli_deck_load.proofs.LoadedModules.{is_made, by_names, is_linked}

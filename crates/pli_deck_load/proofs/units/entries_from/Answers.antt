@@ -1,7 +1,7 @@
 use Rattle.std.proofs.Common.{◌≡◌, ◌<◌, ◌+◌, ◌++◌, ◌∙◌, ℕ, List, length, map, drop, get_or, ap, sym, append_assoc}
 use Rattle.std.proofs.lemmas.List.{at_drop_more}
-use Rattle.pli_unit_code.specs.declared.code.CodedGlobal.{CodedGlobal}
-use Rattle.pli_unit_code.specs.views.CodeView.{global_view}
+use Rattle.pli_code.specs.declared.code.CodedGlobal.{CodedGlobal}
+use Rattle.pli_code.specs.views.CodeView.{global_view}
 use Rattle.pli_deck_load.specs.ModuleUnits.{unit_in, links_behind, entries_from}
 use Rattle.pli_deck_load.proofs.units.entries_from.Goals as goal
 

@@ -1,5 +1,5 @@
 use Rattle.std.proofs.Common.{◌≡◌, ◌++◌, drop, map}
-use Rattle.pli_unit_code.specs.views.CodeView.{global_view}
+use Rattle.pli_code.specs.views.CodeView.{global_view}
 use Rattle.pli_deck_load.specs.ModuleUnits.{entries_from}
 use Rattle.pli_deck_load.proofs.units.entries_from.Given as goal
 

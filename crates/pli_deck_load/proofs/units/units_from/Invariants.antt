@@ -1,7 +1,7 @@
 use Rattle.std.proofs.Common.{◌≡◌, ◌++◌, map}
 use Rattle.std.specs.Vec.Iter.{into_iter_items}
-use Rattle.pli_unit_code.specs.views.CodeView.{unit_view}
-use Rattle.pli_deck.specs.ModuleView.{member_view}
+use Rattle.pli_code.specs.views.CodeView.{unit_view}
+use Rattle.pli_deck_write.specs.ModuleView.{member_view}
 use Rattle.pli_deck_load.specs.ModuleUnits.{unit_from}
 use Rattle.pli_deck_load.proofs.units.units_from.Given as goal
 

@@ -1,7 +1,7 @@
 use Rattle.std.proofs.Common.{◌≡◌, ◌≤◌, ◌+◌, length, drop, map}
 use Rattle.std.specs.List.{filter}
-use Rattle.pli_unit_code.specs.views.CodeView.{global_view}
-use Rattle.pli_deck.specs.ModuleFields.{is_external}
+use Rattle.pli_code.specs.views.CodeView.{global_view}
+use Rattle.pli_deck_write.specs.ModuleFields.{is_external}
 use Rattle.pli_deck_read.proofs.modules.externals_in.Given as goal
 
 -- those that were counted, and those that are left, are all

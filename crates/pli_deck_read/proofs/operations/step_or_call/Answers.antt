@@ -1,6 +1,6 @@
-use Rattle.pli_unit_code.specs.declared.instruction.Instruction.TheVariants.{Step}
-use Rattle.pli_deck.specs.Fields.{u4}
-use Rattle.pli_deck.specs.Instructions.{reader_of}
+use Rattle.pli_code.specs.declared.instruction.Instruction.TheVariants.{Step}
+use Rattle.pli_deck_write.specs.Fields.{u4}
+use Rattle.pli_deck_write.specs.Instructions.{reader_of}
 use Rattle.pli_deck_read.proofs.OperandReading.{of_one}
 use Rattle.pli_deck_read.proofs.operations.step_or_call.Goals as goal
 

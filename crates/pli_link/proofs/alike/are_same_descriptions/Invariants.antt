@@ -1,7 +1,7 @@
 use Rattle.std.proofs.Common.{◌≡◌, map, drop, length}
 use Rattle.std.specs.Cmp.Lexicographic.{pointwise}
 use Rattle.pli_link.specs.Alike.{description_at, same_found}
-use Rattle.pli_unit_code.specs.views.CodeView.{code_view}
+use Rattle.pli_code.specs.views.CodeView.{code_view}
 use Rattle.pli_link.proofs.alike.are_same_descriptions.Given as goal
 
 abbrev pub invariant-loop-i : goal.invariant-loop-i

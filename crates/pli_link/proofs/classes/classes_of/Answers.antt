@@ -1,8 +1,8 @@
 use Rattle.std.proofs.Common.{◌<◌, ◌+◌, ◌∙◌, ℕ, ap, sym, subst, arith, length}
 use Rattle.std.proofs.lemmas.List.{length-map}
 use Rattle.pli_link.specs.answers.Classes.{IsClass, known_in, class_at}
-use Rattle.pli_unit_code.specs.CodeTables.{template_at, with_description}
-use Rattle.pli_unit_code.specs.views.CodeView.{code_view, coded_template_view}
+use Rattle.pli_code.specs.CodeTables.{template_at, with_description}
+use Rattle.pli_code.specs.views.CodeView.{code_view, coded_template_view}
 use Rattle.pli_link.proofs.ClassLemmas.{class_stays, grows_on, one_more_class, all_classes, one_longer, one_found}
 use Rattle.pli_link.proofs.classes.classes_of.Goals as goal
 

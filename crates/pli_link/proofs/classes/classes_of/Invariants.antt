@@ -1,7 +1,7 @@
 use Rattle.std.proofs.Common.{◌≡◌, ◌<◌, ℕ, length}
 use Rattle.pli_link.specs.answers.Classes.{IsClass, known_in, Grows, class_at}
-use Rattle.pli_unit_code.specs.CodeTables.{template_at}
-use Rattle.pli_unit_code.specs.views.CodeView.{code_view}
+use Rattle.pli_code.specs.CodeTables.{template_at}
+use Rattle.pli_code.specs.views.CodeView.{code_view}
 use Rattle.pli_link.proofs.classes.classes_of.Given as goal
 
 -- the templates so far have their classes

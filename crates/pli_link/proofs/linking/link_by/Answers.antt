@@ -3,7 +3,7 @@ use Rattle.pli_link.specs.Link.{link_faults, linked_unit}
 use Rattle.pli_link.specs.answers.Tables.{AreSmall}
 use Rattle.pli_link.specs.declared.units.NamedUnit.{NamedUnit}
 use Rattle.pli_link.specs.views.UnitView.{compiled_view}
-use Rattle.pli_unit_code.specs.Modules.{LinkedUnit, Module}
+use Rattle.pli_code.specs.Modules.{LinkedUnit, Module}
 use Rattle.pli_link.proofs.LinkedUnits.{empty_list, main_seen, main_within, few_seen, few_units, linked_without}
 use Rattle.pli_link.proofs.MeantFirst.{few_are_small}
 use Rattle.pli_link.proofs.linking.link_by.Goals as goal

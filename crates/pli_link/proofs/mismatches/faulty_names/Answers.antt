@@ -3,7 +3,7 @@ use Rattle.std.proofs.lemmas.Grind.{common_steps}
 use Rattle.pli_link.specs.Mismatches.{each_once, faulty_names, linked_in}
 use Rattle.pli_link.specs.answers.Classes.{AreClasses, known_in}
 use Rattle.pli_link.specs.answers.Tables.{HaveClasses, units_in}
-use Rattle.pli_unit_code.specs.views.CodeView.{code_view, global_view}
+use Rattle.pli_code.specs.views.CodeView.{code_view, global_view}
 use Rattle.pli_link.proofs.ClassLemmas.{classed_stay, grows_not, grows_on}
 use Rattle.pli_link.proofs.MismatchLemmas.{one_unit}
 use Rattle.pli_link.proofs.mismatches.faulty_names.Goals as goal

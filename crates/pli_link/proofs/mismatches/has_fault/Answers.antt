@@ -2,7 +2,7 @@ use Rattle.std.proofs.Common.{◌∙◌, ap, sym}
 use Rattle.pli_link.specs.Mismatches.{has_fault}
 use Rattle.pli_link.specs.answers.Tables.{units_in}
 use Rattle.pli_link.specs.declared.global_fault.GlobalFault.TheVariants.{Mismatch}
-use Rattle.pli_unit_code.specs.views.CodeView.{code_view, global_view}
+use Rattle.pli_code.specs.views.CodeView.{code_view, global_view}
 use Rattle.pli_link.proofs.mismatches.has_fault.Goals as goal
 
 pub returns-in-Mismatch-ExternalVariable : goal.returns-in-Mismatch-ExternalVariable

@@ -9,7 +9,7 @@ use Rattle.pli_link.specs.answers.Tables.{units_in}
 use Rattle.pli_link.specs.declared.global_fault.GlobalFault.TheVariants.{Mismatch}
 use Rattle.pli_link.specs.declared.names.KnownExternal.{KnownExternal}
 use Rattle.pli_type_keys.specs.views.KeyView.{templated}
-use Rattle.pli_unit_code.specs.CodeTables.{ExternalVariable, template_at}
+use Rattle.pli_code.specs.CodeTables.{ExternalVariable, template_at}
 use Rattle.pli_link.proofs.ClassLemmas.{classed_found}
 use Rattle.pli_link.proofs.NameTables.{meant_external}
 use Rattle.pli_link.proofs.mismatches.is_unlike_variable.Goals as goal

@@ -1,6 +1,6 @@
 use Rattle.std.proofs.Common.{◌≡◌, ◌∙◌, ap, sym, arith}
 use Rattle.pli_link.specs.answers.Tables.{units_in}
-use Rattle.pli_unit_code.specs.views.CodeView.{code_view}
+use Rattle.pli_code.specs.views.CodeView.{code_view}
 use Rattle.pli_link.proofs.MismatchLemmas.{put, one_global, all_globals}
 use Rattle.pli_link.proofs.mismatches.names_with_fault.Goals as goal
 use Rattle.pli_link.proofs.mismatches.names_with_fault.Goals.{in-Some+in_ok-insert, in_default}

@@ -3,7 +3,7 @@ use Rattle.pli_link.specs.Mismatches.{each_once, faulty_names}
 use Rattle.pli_link.specs.answers.Classes.{AreClasses, known_in}
 use Rattle.pli_link.specs.answers.Tables.{HaveClasses, units_in}
 use Rattle.pli_type_keys.specs.declared.key.TemplateKey.{TemplateKey}
-use Rattle.pli_unit_code.specs.views.CodeView.{code_view, global_view}
+use Rattle.pli_code.specs.views.CodeView.{code_view, global_view}
 use Rattle.pli_link.proofs.mismatches.names_with_fault.Given as goal
 
 -- the names so far, with those of the globals that are left, are those of all

@@ -4,7 +4,7 @@ use Rattle.pli_link.specs.Names.{firsts, all_shared, shared_by}
 use Rattle.pli_link.specs.views.NameView.{externals_view}
 use Rattle.pli_link.specs.views.UnitView.{compiled_view}
 use Rattle.pli_link.specs.declared.units.NamedUnit.{NamedUnit}
-use Rattle.pli_unit_code.specs.views.CodeView.{code_view, global_view}
+use Rattle.pli_code.specs.views.CodeView.{code_view, global_view}
 use Rattle.pli_link.specs.answers.Classes.{AreClasses, known_in}
 use Rattle.pli_link.proofs.ClassLemmas.{classed_stay}
 use Rattle.pli_link.proofs.NameTables.{firsts_behind}

@@ -3,7 +3,7 @@ use Rattle.pli_type_tree.specs.Templates.{Template}
 use Rattle.pli_link.specs.Names.{firsts, shared_by}
 use Rattle.pli_link.specs.answers.Classes.{AreClasses, AreClassed}
 use Rattle.pli_link.specs.views.NameView.{externals_view}
-use Rattle.pli_unit_code.specs.views.CodeView.{code_view, global_view}
+use Rattle.pli_code.specs.views.CodeView.{code_view, global_view}
 use Rattle.pli_link.proofs.names.note_shared.Given as goal
 
 -- the variables so far, with those of the globals that are left, are those of all, and they have their classes

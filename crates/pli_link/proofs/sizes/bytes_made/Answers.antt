@@ -5,7 +5,7 @@ use Rattle.pli_link.specs.ModuleSize.{all_own}
 use Rattle.pli_link.specs.Names.{externals}
 use Rattle.pli_link.specs.answers.Counting.{counted, if_counted}
 use Rattle.pli_link.specs.answers.Tables.{units_in}
-use Rattle.pli_unit_code.specs.CodeTables.{there}
+use Rattle.pli_code.specs.CodeTables.{there}
 use Rattle.pli_link.proofs.ByteCountLemmas.{counted_behind}
 use Rattle.pli_link.proofs.sizes.bytes_made.Goals as goal
 

@@ -1,7 +1,7 @@
 use Rattle.std.proofs.Common.{◌∙◌, ap, sym, arith, map, Some, None}
 use Rattle.pli_link.specs.ModuleSize.{own_of}
 use Rattle.pli_link.specs.answers.Counting.{counted}
-use Rattle.pli_unit_code.specs.views.CodeView.{code_view, global_view}
+use Rattle.pli_code.specs.views.CodeView.{code_view, global_view}
 use Rattle.pli_link.proofs.OwnBytesLemmas.{own_more}
 use Rattle.pli_link.proofs.sizes.with_all_own.Goals as goal
 

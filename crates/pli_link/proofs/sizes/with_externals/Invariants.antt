@@ -3,7 +3,7 @@ use Rattle.std.specs.List.{flat_map}
 use Rattle.std.specs.Map.{values_of}
 use Rattle.pli_link.specs.answers.Counting.{counted}
 use Rattle.pli_link.specs.views.NameView.{externals_view}
-use Rattle.pli_unit_code.specs.CodeTables.{there}
+use Rattle.pli_code.specs.CodeTables.{there}
 use Rattle.pli_link.proofs.ByteCountLemmas.{shown}
 use Rattle.pli_link.proofs.sizes.with_externals.Given as goal
 

@@ -1,7 +1,7 @@
 use Rattle.std.proofs.Common.{◌≡◌, ◌≤◌, map, drop}
 use Rattle.pli_link.specs.ModuleSize.{own_of}
 use Rattle.pli_link.specs.answers.Counting.{counted}
-use Rattle.pli_unit_code.specs.views.CodeView.{code_view, global_view}
+use Rattle.pli_code.specs.views.CodeView.{code_view, global_view}
 use Rattle.pli_link.proofs.sizes.with_own.Given as goal
 
 -- the bytes so far, with those of the globals that are left, are those of all

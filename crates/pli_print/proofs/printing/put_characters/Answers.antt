@@ -1,5 +1,5 @@
 use Rattle.std.proofs.Common.{◌∙◌, arith}
-use Rattle.pli_code.specs.Print.{characters_from}
+use Rattle.pli_run.specs.Print.{characters_from}
 use Rattle.pli_print.proofs.PrintLemmas.{line_put-bytes, line_put-column, all_put}
 use Rattle.pli_print.proofs.printing.put_characters.Goals as goal
 

@@ -1,5 +1,5 @@
 use Rattle.std.proofs.Common.{◌≡◌, ◌+◌, ◌*◌, ◌≤◌, ◌++◌, length}
-use Rattle.pli_code.specs.Print.{characters_from}
+use Rattle.pli_run.specs.Print.{characters_from}
 use Rattle.pli_print.proofs.printing.put_characters.Given as goal
 
 -- what is put and what is left to put are together what is printed

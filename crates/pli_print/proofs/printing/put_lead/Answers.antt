@@ -1,6 +1,6 @@
 use Rattle.std.proofs.Common.{◌≡◌, ◌≤◌, ◌-◌, true, sym, ap, ◌++◌, ◌∙◌, arith}
 use Rattle.std.proofs.lemmas.List.{take-replicate}
-use Rattle.pli_code.specs.Print.{may_begin, blank}
+use Rattle.pli_run.specs.Print.{may_begin, blank}
 use Rattle.pli_print.proofs.PrintLemmas.{lead_at}
 use Rattle.pli_print.proofs.printing.put_lead.Goals as goal
 

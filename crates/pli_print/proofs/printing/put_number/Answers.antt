@@ -1,6 +1,6 @@
 use Rattle.std.proofs.Common.{◌≡◌, ◌++◌, ◌-◌, length, replicate, subst, rules, IfOk}
 use Rattle.std.specs.Fmt.{signed_decimal}
-use Rattle.pli_code.specs.Print.{characters_from}
+use Rattle.pli_run.specs.Print.{characters_from}
 use Rattle.pli_value.specs.Conversions.{number_characters}
 use Rattle.pli_print.specs.answers.Prints.{Prints}
 use Rattle.pli_print.proofs.PrintLemmas.{digits_wide, number_put}

@@ -1,6 +1,6 @@
 use Rattle.std.proofs.Common.{◌≡◌, ◌<◌, length, subst, sym, ap, ◌∙◌, arith}
 use Rattle.std.proofs.lemmas.List.Elements.{All-get_or, All-more}
-use Rattle.pli_type_templates.specs.declared.groups.MadeVariable.{MadeVariable}
+use Rattle.pli_type_templates.specs.declared.made_variable.MadeVariable.{MadeVariable}
 use Rattle.pli_type_templates.specs.views.ItemView.{HasMadeItem, made_template}
 use Rattle.pli_type_templates.specs.views.NumberView.{marks_of}
 use Rattle.pli_type_templates.proofs.groups.alike_behind.Goals as goal

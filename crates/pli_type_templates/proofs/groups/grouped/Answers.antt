@@ -4,7 +4,7 @@ use Rattle.std.proofs.lemmas.List.{length-drop, length-take, take_all}
 use Rattle.std.proofs.lemmas.List.Elements.{All-drop, All-get_or, All-same}
 use Rattle.pli_type_tree.specs.declared.template.VariableGroup.{VariableGroup}
 use Rattle.pli_type_tree.specs.views.TemplateView.{group_view, groups_view}
-use Rattle.pli_type_templates.specs.declared.groups.MadeVariable.{MadeVariable}
+use Rattle.pli_type_templates.specs.declared.made_variable.MadeVariable.{MadeVariable}
 use Rattle.pli_type_templates.specs.views.ItemView.{HasMadeItem, made_template}
 use Rattle.pli_type_templates.specs.views.NumberView.{marks_of}
 use Rattle.pli_type_templates.proofs.RunsMade.{group_more, run_alike}

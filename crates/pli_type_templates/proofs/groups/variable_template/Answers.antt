@@ -1,4 +1,4 @@
-use Rattle.std.proofs.Common.{◌≡◌, ◌++◌, ◌∷◌, [], List, map, ap, sym, ◌∙◌}
+use Rattle.std.proofs.Common.{◌≡◌, ◌++◌, ◌∷◌, [], List, map, ap, sym, subst, ◌∙◌}
 use Rattle.std.specs.List.{flat_map}
 use Rattle.std.proofs.lemmas.List.{append-nil, drop_all}
 use Rattle.pli_map.specs.Description.{Description}
@@ -7,11 +7,18 @@ use Rattle.pli_type.specs.InitialScalars.{InitialItem}
 use Rattle.pli_type_tree.specs.Templates.{InitialScalar, Template}
 use Rattle.pli_type_tree.specs.views.TemplateView.{initial_view}
 use Rattle.pli_type_templates.specs.Items.{item_scalars}
-use Rattle.pli_type_templates.specs.Plans.{Plan, plan_from}
+use Rattle.pli_type_templates.specs.Plans.{IsStoredPlan, Plan, plan_from}
 use Rattle.pli_type_templates.specs.views.ItemView.{items_view}
 use Rattle.pli_type_templates.specs.views.PlanView.{plan_view}
 use Rattle.pli_type_templates.proofs.ScalarsPlanned.{items_planned}
+use Rattle.pli_type_templates.proofs.StoredPlans.{stored_plan}
 use Rattle.pli_type_templates.proofs.groups.variable_template.Goals as goal
+
+pub put_item-requires : goal.put_item-requires
+put_item-requires c = subst IsStoredPlan (sym c.in_ok-planned.ensures.0) (stored_plan (description_view c.args.made.now.description.now) c.args.made.now.stored)
+
+pub put_item-requires-in-loop-member : goal.put_item-requires-in-loop-member
+put_item-requires-in-loop-member c = subst IsStoredPlan (sym c.in_ok-planned.ensures.0) (stored_plan (description_view c.args.made.now.description.now) c.args.made.now.stored)
 
 pub returns : goal.returns
 returns c =

@@ -11,7 +11,7 @@ returns c =
     let path = c.args.item.path.now in
     let found = leaf_view c.in-Some.found in
     let levels = c.deref.result.now in
-    let wanted = c.in_ok-wanted.wanted in
+    let wanted = c.elements_written-wanted.result in
     let leaf : leaf_in plan path ≡ Some found = sym c.in_ok-found.ensures.leaf ∙ ap (option_map leaf_view) c.in-Some.is in
     let passed : levels_in plan path ≡ levels =
     sym (c.deref.ensures.value ∙ c.in_ok-found.ensures.levels ∙ ap (λ ls. ls ++ levels_in plan path) c.new-levels.ensures.items) in
@@ -19,4 +19,4 @@ returns c =
     c.deref-2.ensures.value ∙ c.in_ok-put_offsets.ensures ∙ ap (λ ns. take wanted (ns ++ spread levels found.first)) c.new-offsets.ensures.items in
     c.in_ok-put_values.ensures
     ∙ ap (λ is. map initial_view c.args.scalars.now.items ++ is)
-    (item_made plan path c.args.item.values.now found levels c.deref-2.result.now wanted leaf passed c.in_ok-wanted.ensures made)
+    (item_made plan path c.args.item.values.now found levels c.deref-2.result.now wanted leaf passed c.elements_written-wanted.ensures made)

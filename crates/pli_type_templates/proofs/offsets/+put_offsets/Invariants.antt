@@ -1,4 +1,4 @@
-use Rattle.std.proofs.Common.{◌≡◌, ◌≤◌, ◌-◌, ◌++◌, length, take}
+use Rattle.std.proofs.Common.{◌≡◌, ◌≤◌, ◌+◌, ◌-◌, ◌*◌, ◌++◌, length, take}
 use Rattle.std.specs.List.{flat_map}
 use Rattle.pli_type.specs.InitialScalars.{counted_from}
 use Rattle.pli_type_templates.specs.Plans.{spread}
@@ -13,4 +13,5 @@ invariant-loop-passed l = record {
   whole : take l.wanted (l.offsets.items ++ flat_map (spread l.inner) (counted_from l.at l.level.distance (l.level.count - l._passed)))
       ≡ take l.wanted (l.fn.offsets.items ++ spread l.fn.levels l.fn.first);
   room : length l.offsets.items ≤ l.wanted;
+  reach : l.at + (l.level.count - l._passed) * l.level.distance ≤ 4294967295;
 }

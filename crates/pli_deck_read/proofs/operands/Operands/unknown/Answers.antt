@@ -1,7 +1,7 @@
 use Rattle.std.proofs.Common.{refl}
-use Rattle.pli_deck.specs.declared.fault.DeckFault.TheVariants.{OutOfRange}
-use Rattle.pli_unit_code.specs.declared.instruction.Instruction.TheVariants.{Stop}
-use Rattle.pli_deck.specs.Fields.{unknown}
+use Rattle.pli_deck_write.specs.declared.fault.DeckFault.TheVariants.{OutOfRange}
+use Rattle.pli_code.specs.declared.instruction.Instruction.TheVariants.{Stop}
+use Rattle.pli_deck_write.specs.Fields.{unknown}
 use Rattle.pli_base.specs.declared.failure.Failure.TheVariants as errors
 use Rattle.pli_deck_read.proofs.OperandReading.{goes_wrong}
 use Rattle.pli_deck_read.proofs.operands.Operands.unknown.Goals as goal

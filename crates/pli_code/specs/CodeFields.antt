@@ -1,0 +1,38 @@
+-- Code whose numbers are within the fields that its bytes have for them (own). An instruction in memory never
+-- has a wider one; definitions speak of numbers of any size, and these tests say how large they may be.
+use Rattle.std.specs.Prelude.{ℕ, nat_le, nat_lt, Bool, true, ◌&&◌, Option, Some, None}
+use Rattle.pli_code.specs.CodeTables.{CodedBlock}
+use Rattle.pli_code.specs.declared.instruction.Instruction.{Instruction}
+use Rattle.pli_code.specs.declared.instruction.Instruction.TheVariants as coded
+
+-- a number in a field of one byte
+abbrev pub is_byte : ℕ → Bool
+is_byte n = nat_le n 255
+
+-- a number in a field of two bytes
+abbrev pub is_short : ℕ → Bool
+is_short n = nat_le n 65535
+
+-- blocks, globals, slots and temporaries are numbers of two bytes, arguments and static links of one; numbers
+-- of entries and targets are within two bytes by the limits of tables
+abbrev pub instruction_fits : Instruction → Bool
+instruction_fits (coded.Goto outward target) = is_byte outward
+instruction_fits (coded.Call block arguments) = is_short block && is_byte arguments
+instruction_fits (coded.CallExternal global arguments) = is_short global && is_byte arguments
+instruction_fits (coded.Begin block) = is_short block
+instruction_fits (coded.Return outward) = is_byte outward
+instruction_fits (coded.ReturnValue outward) = is_byte outward
+instruction_fits (coded.Local outward slot) = is_byte outward && is_short slot
+instruction_fits (coded.Global number) = is_short number
+instruction_fits (coded.SetTemporary number) = is_short number
+instruction_fits (coded.TakeTemporary number) = is_short number
+instruction_fits other = true
+
+-- the block around another has a number of two bytes, which is not the one that stands for none
+abbrev pub parent_fits : Option ℕ → Bool
+parent_fits None = true
+parent_fits (Some b) = nat_lt b 65535
+
+-- the numbers of a block fit
+abbrev pub block_fits : CodedBlock → Bool
+block_fits b = parent_fits b.parent && (is_byte b.parameters && is_short b.temporaries)

@@ -1,0 +1,189 @@
+//! Instructions of the stack machine.
+use pli_base::statement::Condition;
+use pli_operation::Relation;
+use pli_run::RunError;
+
+/// An instruction of the stack machine, with numbers as wide as its bytes have them (own). Operands on its list are
+/// values and places, of which the newest is taken first. A target is the place of an instruction in its unit, counted
+/// from 0; blocks, globals, descriptions, templates and values are numbers of entries in the unit's tables. Those of
+/// based, controlled and area storage and of conditions are read and written; no code of today's language has them.
+#[derive(Clone, Copy)]
+pub enum Instruction {
+    /// A step; the activation's statement is this one.
+    Step {
+        statement: u32,
+    },
+    /// The activation's statement is this one.
+    Line {
+        statement: u32,
+    },
+    Jump {
+        target: u16,
+    },
+    /// Takes bits, and jumps if none of them is one.
+    JumpUnless {
+        target: u16,
+    },
+    /// Ends the activations inside the one so many static links outward, clears its operands and jumps there.
+    Goto {
+        outward: u8,
+        target: u16,
+    },
+    /// Takes so many places and activates a procedure.
+    Call {
+        block: u16,
+        arguments: u8,
+    },
+    /// Takes so many places and activates the external procedure of an entry.
+    CallExternal {
+        global: u16,
+        arguments: u8,
+    },
+    /// Activates a BEGIN block.
+    Begin {
+        block: u16,
+    },
+    /// Ends this activation and so many more.
+    Return {
+        outward: u8,
+    },
+    /// The same, and gives a value to the activation that goes on.
+    ReturnValue {
+        outward: u8,
+    },
+    /// Ends the run by an error.
+    Raise(RunError),
+    /// Ends the run.
+    Stop,
+    /// The place in a slot of the activation so many static links outward.
+    Local {
+        outward: u8,
+        slot: u16,
+    },
+    /// The place of a variable that was made before the program began.
+    Global {
+        number: u16,
+    },
+    /// Takes a pointer and gives the place to which it leads, of this description.
+    Based {
+        description: u16,
+    },
+    /// Leads a place so many bytes on, to a part of this description.
+    Field {
+        offset: u32,
+        description: u16,
+    },
+    /// Takes a number, tests it and leads a place on by so many bytes for each number over the low one. Bounds are from
+    /// -32,767 to 32,767.
+    Subscript {
+        low: i32,
+        high: i32,
+        multiplier: u32,
+    },
+    Constant {
+        value: u16,
+    },
+    /// Takes a place and gives what it holds.
+    Load,
+    /// Takes a value and a place, and puts the value there.
+    Store,
+    /// Takes a source's place and a target's, of aggregates, and copies what the source holds.
+    Copy,
+    /// Takes a value and gives the place of a dummy argument.
+    MakeDummy {
+        template: u16,
+    },
+    /// Holds a number against a precision, or cuts or extends a string to a length.
+    Fit {
+        description: u16,
+    },
+    /// Makes characters of a number, at the right of so many columns.
+    ToCharacters {
+        width: u8,
+    },
+    /// Makes characters of bits.
+    FromBits,
+    Add,
+    Subtract,
+    Multiply,
+    Negate,
+    /// To so many binary digits, from 1 to 31.
+    Divide {
+        precision: u8,
+    },
+    Modulo,
+    Absolute,
+    Sign,
+    Greatest,
+    Least,
+    Compare(Relation),
+    Concatenate,
+    And,
+    Or,
+    Not,
+    LengthOf,
+    Index,
+    Substring,
+    Rest,
+    /// Takes a place and gives a pointer to it.
+    AddressOf,
+    /// Takes an area's place and an offset, and gives the pointer.
+    ToPointer,
+    /// Takes an area's place and a pointer, and gives the offset.
+    ToOffset,
+    /// Stacks a generation of a controlled variable.
+    AllocateControlled {
+        global: u16,
+    },
+    /// Removes its newest generation.
+    FreeControlled {
+        global: u16,
+    },
+    /// How many generations it has.
+    CountGenerations {
+        global: u16,
+    },
+    /// Makes a generation in free storage and gives a pointer to it.
+    AllocateBased {
+        template: u16,
+    },
+    /// Takes an area's place, makes a block there and gives a pointer to it. After the unit of the AREA condition, jumps
+    /// to the target.
+    AllocateInArea {
+        template: u16,
+        target: u16,
+    },
+    /// Takes a pointer and frees that to which it leads.
+    FreeBased {
+        description: u16,
+    },
+    /// Takes a source area and a target area, and assigns the one to the other.
+    AssignArea,
+    /// Takes an area and empties it.
+    EmptyArea,
+    /// Establishes the unit of a condition.
+    On {
+        condition: Condition,
+        block: u16,
+    },
+    Revert {
+        condition: Condition,
+    },
+    Signal {
+        condition: Condition,
+    },
+    /// Takes characters or bits and prints them.
+    Put,
+    /// Ends the line.
+    Skip,
+    /// Takes a value and keeps it as a temporary. Those of a block are numbered from 0.
+    SetTemporary {
+        number: u16,
+    },
+    /// The value that is kept as a temporary.
+    TakeTemporary {
+        number: u16,
+    },
+    /// Takes a step, a limit and a number, and gives a bit, which is one unless the number has passed the limit.
+    Within,
+}

@@ -1,2 +1,0 @@
-mod FaultsTold
-mod TypedCompiled

@@ -1,0 +1,98 @@
+//! The passes of the compiler over the tokens of a unit.
+ghost use Rattle.std.specs.Prelude.{◌≡◌, ◌≤◌, length};
+ghost use Rattle.pli_base.specs.views.StatementView.{unit_view};
+ghost use Rattle.pli_resolve.specs.ResolvedUnits.{resolved_unit_of};
+ghost use Rattle.pli_type.specs.NamedUnits.{checked_unit};
+ghost use Rattle.pli_declare.specs.Resolution.{resolution_faults};
+ghost use Rattle.pli_meaning.specs.Scratch.{coded_from, compiled_texts, typed_unless};
+ghost use Rattle.pli_deck.specs.answers.Outcomes.{Compiles, of_fault, of_faults, of_generating};
+
+use pli_base::{Code, Failure, Fault, TokenText, Unit};
+use pli_code::Deck;
+use pli_gen::{GenerateError, generate};
+use pli_parse::parse;
+use pli_resolve::ResolvedUnit;
+use pli_resolve_unit::resolve_unit;
+use pli_type_statement::check;
+use std::alloc::Global;
+
+/// Why the tokens of a unit are not compiled.
+#[derive(Drop)]
+pub(crate) enum CompileError {
+    /// The one fault of a pass.
+    Fault(Fault),
+    /// All faults of the declarations and uses of names, or of types, in the order of their tokens.
+    Faults(Vec<Fault>),
+    OutOfMemory,
+}
+
+impl From<Failure<Fault>> for CompileError {
+    ghost from_gives = { λ error e. e ≡ of_fault error };
+
+    fn from(error: Failure<Fault>) -> CompileError {
+        match error {
+            Failure::Fault(fault) => CompileError::Fault(fault),
+            Failure::OutOfMemory => CompileError::OutOfMemory,
+        }
+    }
+}
+
+impl From<Failure<Vec<Fault>>> for CompileError {
+    ghost from_gives = { λ error e. e ≡ of_faults error };
+
+    fn from(error: Failure<Vec<Fault>>) -> CompileError {
+        match error {
+            Failure::Fault(faults) => CompileError::Faults(faults),
+            Failure::OutOfMemory => CompileError::OutOfMemory,
+        }
+    }
+}
+
+impl From<GenerateError> for CompileError {
+    ghost from_gives = { λ error e. e ≡ of_generating error };
+
+    fn from(error: GenerateError) -> CompileError {
+        match error {
+            GenerateError::TooLong => CompileError::Fault(Fault {
+                code: Code::CodeTooLong,
+                at: 0,
+            }),
+            GenerateError::OutOfMemory => CompileError::OutOfMemory,
+        }
+    }
+}
+
+/// A unit without faults of declarations, compiled, or its faults of types, or that its code is too long.
+fn compile_resolved(alloc: Global, resolved: &ResolvedUnit<'_>) -> Result<Deck, CompileError>
+    ensures { Compiles result (coded_from (checked_unit (resolved_unit_of (unit_view resolved.now)))) }
+{
+    let typed = check(alloc, resolved)?;
+    let code = generate(alloc, &typed)?;
+    Ok(Deck {
+        name: typed.procedure,
+        is_main: typed.is_main,
+        code,
+    })
+}
+
+/// A unit's tree, compiled, or the faults of the first pass behind reading that has any.
+fn compile_tree(alloc: Global, tree: &Unit) -> Result<Deck, CompileError>
+    ensures { let unit = unit_view tree.now in
+        Compiles result (coded_from (typed_unless (resolution_faults unit) unit)) }
+{
+    let resolved = resolve_unit(alloc, tree)?;
+    let compiled = compile_resolved(alloc, &resolved);
+    drop(resolved);
+    compiled
+}
+
+/// The tokens of a unit, compiled, or the faults of the first pass that has any.
+pub(crate) fn compile_texts(alloc: Global, texts: &[TokenText]) -> Result<Deck, CompileError>
+    requires { length texts.now ≤ 200000 }
+    ensures { Compiles result (compiled_texts texts.now) }
+{
+    let tree = parse(alloc, texts)?;
+    let compiled = compile_tree(alloc, &tree);
+    drop(tree);
+    compiled
+}

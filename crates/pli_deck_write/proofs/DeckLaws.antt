@@ -1,0 +1,332 @@
+-- The laws of the fields of a deck.
+use Rattle.std.proofs.Common.{◌≡◌, ℕ, zero, suc, ◌≤◌, ◌^◌, nat_eq, nat_le, nat_lt, Bool, true, false, ◌&&◌, cond, List, [], ◌∷◌, ◌++◌, length, get_or, take, drop, Option, Some, None, Result, Ok, Err, refl, sym, ap, subst, ◌∙◌, append_assoc, arith}
+use Rattle.std.specs.Int.{is_in_range}
+use Rattle.std.specs.Str.{bytes_eq}
+use Rattle.std.proofs.lemmas.Bool.{ltb-true, ltb-false, leb-true, lt-ltb, le-ltb, le-leb, and_parts, eqb-true, eq-eqb}
+use Rattle.std.proofs.lemmas.List.{take_at, drop_at, take-append-drop, length-append}
+use Rattle.std.proofs.lemmas.List.FromFn.{length-map-range_with_len}
+use Rattle.std.proofs.lemmas.Slice.Eq.{bytes_eq-Decides}
+use Rattle.pli_base.specs.laws.NameLaws.{pointwise-refl}
+use Rattle.pli_value.specs.Packing.{packed_bit, packed, unpacked}
+use Rattle.pli_value.proofs.PackedLaws.{unpacked_packed, packed_length}
+use Rattle.byteorder.specs.Endian.{big_bytes}
+use Rattle.pli_deck_write.specs.declared.fault.DeckFault.{DeckFault}
+use Rattle.pli_deck_write.specs.declared.fault.DeckFault.TheVariants.{Truncated, BadMagic, BadVersion}
+use Rattle.pli_base.specs.Results.{◌>>=◌}
+use Rattle.pli_deck_write.specs.Fields.{AreBytes, Reader, Field, nothing, byte, held, ◌⊗◌, list_of, unknown, u1, u2, u4, count_of_one, byte_at, from_to, list}
+use Rattle.pli_value.specs.Value.{Value, Number, Characters, Bits, Located}
+use Rattle.pli_value.specs.declared.locator.Locator.TheVariants as locators
+use Rattle.pli_deck_write.specs.Descriptions.{description}
+use Rattle.pli_deck_write.specs.Instructions.{instruction}
+use Rattle.pli_deck_write.specs.DeckFields.{is_name, name, flag, number_if, none_last, is_number_if, optional, byte_count, bits_in, bits_at, bit_string, integer, characters, constant_form, constant_readers, constant, initial, template, parameter_count, parameter_number, signature, global_form, global_readers, global, block_kind, block_of, block_parts, block, behind, past, after_magic, if_first, versioned, after_version, code_of, code_parts, code, deck_of, deck_parts, contents, deck}
+use Rattle.pli_deck_write.proofs.FieldLaws.{AreBytes-drop, bind_ok, held_ok, guard_ok, both_true, Taken, IsField, nothing_law, byte_law, u2_law, u4_law, count_law, byte_again, as_shaped, answered, checked_law, signed_law, ◌⊠◌, shaped_law, list_law, from_to_law}
+use Rattle.pli_deck_write.proofs.FormLaws.{AllRead, unknown_reads, made_reads, made_again, tagged_law}
+use Rattle.pli_deck_write.proofs.DescriptionLaws.{description_law}
+use Rattle.pli_deck_write.proofs.InstructionLaws.{instruction_law}
+use Rattle.pli_deck_write.proofs.NumberedLaws.{block_kind_law}
+use Rattle.pli_code.specs.CodeTables.{CodedGlobal, OwnVariable, ExternalVariable, EntryPoint}
+use Rattle.pli_code.specs.declared.code.VariableKind.TheVariants.{Static, Controlled}
+
+-- ---- names, flags and numbers that may be absent
+
+pub name_law : IsField name
+unfolding name
+name_law = checked_law is_name (list_of (from_to 1 31 count_of_one) byte) (list_law (from_to 1 31 count_of_one) byte (from_to_law 1 31 count_of_one count_law) byte_law)
+
+at_most_one : (n : ℕ) → is_in_range 0 1 n ≡ true → cond (nat_eq n 1) 1 0 ≡ n
+at_most_one zero h = refl
+at_most_one (suc zero) h = refl
+at_most_one (suc (suc n)) h =
+    let le = leb-true (suc (suc n)) 1 (and_parts (nat_le 0 (suc (suc n))) (nat_le (suc (suc n)) 1) h).1 in absurd (omega (arith, le))
+
+flag_back : (b : Bool) → nat_eq (cond b 1 0) 1 ≡ b
+flag_back true = refl
+flag_back false = refl
+
+pub flag_law : IsField flag
+flag_law =
+    shaped_law (λ n. nat_eq n 1) (λ b. cond b 1 0) (from_to 0 1 u1) (from_to_law 0 1 u1 byte_law)
+    (λ n h. at_most_one n (and_parts (nat_lt n 256) (is_in_range 0 1 n) h).1) (λ b h. flag_back b)
+
+number_there : (n : ℕ) (b : Bool) → nat_lt n 65535 ≡ b → nat_lt n 65536 ≡ true → none_last (cond b (Some n) None) ≡ n
+number_there n true e h = refl
+number_there n false e h = omega (arith, ltb-false n 65535 e, ltb-true n 65536 h)
+
+number_fits : (n : ℕ) (b : Bool) → nat_lt n 65535 ≡ b → is_number_if (cond b (Some n) None) ≡ true
+number_fits n true e = e
+number_fits n false e = refl
+
+optional_back : (o : Option ℕ) → is_number_if o ≡ true → (nat_lt (none_last o) 65536 ≡ true) × (number_if (none_last o) ≡ o)
+optional_back None h = (refl, refl)
+optional_back (Some n) h = (lt-ltb n 65536 (omega (arith, ltb-true n 65535 h)), ap (λ t. cond t (Some n) None) h)
+
+optional_takes : (bytes : List ℕ) (o : Option ℕ) (rest : List ℕ) → AreBytes bytes → optional.read bytes ≡ Ok (o, rest) → Taken optional bytes o rest
+unfolding optional
+optional_takes bytes o rest b e =
+    let r = bind_ok (u2.read bytes) (as_shaped number_if) (o, rest) e in
+    let t = u2_law.takes bytes r.0.0 r.0.1 b r.1 in
+    let same = number_there r.0.0 (nat_lt r.0.0 65535) refl t.fitting in
+    answered optional bytes (number_if r.0.0, r.0.1) (o, rest) r.2 (record {
+      parts = t.parts ∙ ap (λ n. big_bytes 2 n ++ r.0.1) (sym same);
+      fitting = number_fits r.0.0 (nat_lt r.0.0 65535) refl;
+      rest_bytes = t.rest_bytes;
+    })
+
+optional_again : (o : Option ℕ) (rest : List ℕ) → is_number_if o ≡ true → optional.read (optional.bytes_of o ++ rest) ≡ Ok (o, rest)
+unfolding optional
+optional_again o rest h =
+    let back = optional_back o h in
+    ap (λ r. r >>= as_shaped number_if) (u2_law.again (none_last o) rest back.0) ∙ ap (λ z. Ok (z, rest)) back.1
+
+pub optional_law : IsField optional
+unfolding optional
+optional_law = record { takes = optional_takes; again = optional_again }
+
+-- ---- bits
+
+pub record BitsTaken (count : ℕ) (bytes : List ℕ) (bits : List Bool) (rest : List ℕ) : Type 0 where
+  pub parts : bytes ≡ packed bits ++ rest
+  pub counted : length bits ≡ count
+  pub rest_bytes : AreBytes rest
+
+bits_take : (count : ℕ) (bytes : List ℕ) (bits : List Bool) (rest : List ℕ) → AreBytes bytes → bits_at count bytes ≡ Ok (bits, rest) → BitsTaken count bytes bits rest
+unfolding bits_at
+bits_take count bytes bits rest fits e =
+    let k = byte_count count in
+    let front = take k bytes in
+    let g = guard_ok (nat_lt (length bytes) k) Truncated (bits_in count front (drop k bytes)) (bits, rest) e in
+    let h = held_ok (bytes_eq front (packed (unpacked count front))) (unpacked count front, drop k bytes) (bits, rest) g.1 in
+    let same : front ≡ packed (unpacked count front) = (bytes_eq-Decides front (packed (unpacked count front))).0 h.0 in
+    subst (λ p. BitsTaken count bytes p.0 p.1) h.1 (record {
+      parts = sym (take-append-drop k bytes) ∙ ap (λ s. s ++ drop k bytes) same;
+      counted = length-map-range_with_len (packed_bit front) 0 count;
+      rest_bytes = AreBytes-drop k bytes fits;
+    })
+
+bits_again : (bits : List Bool) (rest : List ℕ) → bits_at (length bits) (packed bits ++ rest) ≡ Ok (bits, rest)
+unfolding bits_at
+bits_again bits rest =
+    let k = byte_count (length bits) in
+    let len : length (packed bits) ≡ k = packed_length bits in
+    let all = packed bits ++ rest in
+    let enough : nat_lt (length all) k ≡ false = le-ltb _ _ (omega (arith, len, length-append (packed bits) rest)) in
+    ap (λ b. cond b (Err Truncated) (bits_in (length bits) (take k all) (drop k all))) enough
+    ∙ ap (λ s. bits_in (length bits) s (drop k all)) (take_at (packed bits) rest k len)
+    ∙ ap (λ s. bits_in (length bits) (packed bits) s) (drop_at (packed bits) rest k len)
+    ∙ ap (λ bs. held (bytes_eq (packed bits) (packed bs)) (bs, rest)) (unpacked_packed bits)
+    ∙ ap (λ g. held g (bits, rest)) (pointwise-refl (packed bits))
+
+bit_count_law : IsField (from_to 0 32767 u2)
+bit_count_law = from_to_law 0 32767 u2 u2_law
+
+abbrev bits_of : ℕ × List ℕ → Result (List Bool × List ℕ) DeckFault
+bits_of n = bits_at n.0 n.1
+
+bit_string_takes : (bytes : List ℕ) (bits : List Bool) (rest : List ℕ) → AreBytes bytes → bit_string.read bytes ≡ Ok (bits, rest) → Taken bit_string bytes bits rest
+unfolding bit_string
+bit_string_takes bytes bits rest b e =
+    let r = bind_ok ((from_to 0 32767 u2).read bytes) bits_of (bits, rest) e in
+    let t = bit_count_law.takes bytes r.0.0 r.0.1 b r.1 in
+    let u = bits_take r.0.0 r.0.1 bits rest t.rest_bytes r.2 in
+    let range = and_parts (nat_lt r.0.0 (256 ^ 2)) (is_in_range 0 32767 r.0.0) t.fitting in
+    let small = and_parts (nat_le 0 r.0.0) (nat_le r.0.0 32767) range.1 in
+    record {
+      parts = t.parts ∙ ap (λ s. big_bytes 2 r.0.0 ++ s) u.parts ∙ sym (append_assoc (big_bytes 2 r.0.0) (packed bits) rest)
+          ∙ ap (λ n. (big_bytes 2 n ++ packed bits) ++ rest) (sym u.counted);
+      fitting = ap (λ n. nat_le n 32767) u.counted ∙ small.1;
+      rest_bytes = u.rest_bytes;
+    }
+
+bit_string_again : (bits : List Bool) (rest : List ℕ) → bit_string.fits bits ≡ true → bit_string.read (bit_string.bytes_of bits ++ rest) ≡ Ok (bits, rest)
+unfolding bit_string
+bit_string_again bits rest h =
+    let le : length bits ≤ 32767 = leb-true (length bits) 32767 h in
+    let fits : (nat_lt (length bits) (256 ^ 2) && is_in_range 0 32767 (length bits)) ≡ true =
+    both_true _ _ (lt-ltb (length bits) (256 ^ 2) (omega (arith, le))) (both_true _ _ (le-leb 0 (length bits) (omega arith)) h) in
+    ap (λ s. (from_to 0 32767 u2).read s >>= bits_of) (append_assoc (big_bytes 2 (length bits)) (packed bits) rest)
+    ∙ ap (λ r. r >>= bits_of) (bit_count_law.again (length bits) (packed bits ++ rest) fits) ∙ bits_again bits rest
+
+pub bit_string_law : IsField bit_string
+bit_string_law = record { takes = bit_string_takes; again = bit_string_again }
+
+-- ---- constants, templates and signatures
+
+integer_law : IsField integer
+integer_law = signed_law 2147483647 (omega arith)
+
+characters_law : IsField characters
+unfolding characters
+characters_law = list_law (from_to 0 32767 u2) byte bit_count_law byte_law
+
+constants_read : AllRead constant_form 0 constant_readers
+constants_read =
+    let f = constant_form in (
+      unknown_reads f 0,
+      (
+        made_reads integer integer_law Number f 1 (λ x. refl),
+        (
+          made_reads characters characters_law Characters f 2 (λ x. refl),
+          (
+            made_reads bit_string bit_string_law Bits f 3 (λ x. refl),
+            (
+              made_reads nothing nothing_law (λ _. Located locators.Null) f 4 (λ x. refl),
+              (
+                made_reads nothing nothing_law (λ _. Located (locators.Offset 0)) f 5 (λ x. refl),
+                tt,
+              ),
+            ),
+          ),
+        ),
+      ),
+    )
+
+constants_again : (c : Value) (rest : List ℕ) → (constant_form c).fits ≡ true → get_or constant_readers (constant_form c).tag unknown ((constant_form c).bytes ++ rest) ≡ Ok (c, rest)
+constants_again (Number x) rest h = made_again integer integer_law Number x rest h
+constants_again (Characters text) rest h = made_again characters characters_law Characters text rest h
+constants_again (Bits bits) rest h = made_again bit_string bit_string_law Bits bits rest h
+constants_again (Located locators.Null) rest h = refl
+constants_again (Located (locators.Offset k)) rest h = ap (λ n. Ok (Located (locators.Offset n), rest)) (sym (eqb-true k 0 h))
+constants_again (Located (locators.Pointer generation position)) rest h = absurd cc
+
+constant_law : IsField constant
+unfolding constant
+constant_law = tagged_law constant_form constant_readers constants_read constants_again
+
+initial_law : IsField initial
+unfolding initial
+initial_law = shaped_law (λ p. record { offset = p.0; value = p.1 }) (λ i. (i.offset, i.value)) (u4 ⊗ constant) (u4_law ⊠ constant_law) (λ p h. refl) (λ i h. refl)
+
+template_law : IsField template
+unfolding template
+template_law =
+    shaped_law (λ p. record { description = p.0; initial = p.1 }) (λ t. (t.description, t.initial)) (u2 ⊗ list_of u4 initial)
+    (u2_law ⊠ list_law u4 initial u4_law initial_law) (λ p h. refl) (λ t h. refl)
+
+parameter_count_law : IsField parameter_count
+parameter_count_law = from_to_law 0 64 count_of_one count_law
+
+parameter_number_law : IsField parameter_number
+parameter_number_law = from_to_law 0 64 u1 byte_law
+
+signature_law : IsField signature
+unfolding signature
+signature_law =
+    shaped_law (λ p. record { parameters = p.0; result = p.1 }) (λ s. (s.parameters, s.result)) (list_of parameter_count u2 ⊗ optional)
+    (list_law parameter_count u2 parameter_count_law u2_law ⊠ optional_law) (λ p h. refl) (λ s h. refl)
+
+-- ---- globals and blocks
+
+globals_read : AllRead global_form 0 global_readers
+globals_read =
+    let f = global_form in (
+      made_reads u2 u2_law (OwnVariable Static) f 0 (λ x. refl),
+      (
+        made_reads u2 u2_law (OwnVariable Controlled) f 1 (λ x. refl),
+        (
+          made_reads (name ⊗ u2) (name_law ⊠ u2_law) (λ p. ExternalVariable p.0 Static p.1) f 2 (λ x. refl),
+          (
+            made_reads (name ⊗ u2) (name_law ⊠ u2_law) (λ p. ExternalVariable p.0 Controlled p.1) f 3 (λ x. refl),
+            (
+              made_reads (name ⊗ signature) (name_law ⊠ signature_law) (λ p. EntryPoint p.0 p.1) f 4 (λ x. refl),
+              tt,
+            ),
+          ),
+        ),
+      ),
+    )
+
+globals_again : (g : CodedGlobal) (rest : List ℕ) → (global_form g).fits ≡ true → get_or global_readers (global_form g).tag unknown ((global_form g).bytes ++ rest) ≡ Ok (g, rest)
+globals_again (OwnVariable Static t) rest h = made_again u2 u2_law (OwnVariable Static) t rest h
+globals_again (OwnVariable Controlled t) rest h = made_again u2 u2_law (OwnVariable Controlled) t rest h
+globals_again (ExternalVariable n Static t) rest h = made_again (name ⊗ u2) (name_law ⊠ u2_law) (λ p. ExternalVariable p.0 Static p.1) (n, t) rest h
+globals_again (ExternalVariable n Controlled t) rest h = made_again (name ⊗ u2) (name_law ⊠ u2_law) (λ p. ExternalVariable p.0 Controlled p.1) (n, t) rest h
+globals_again (EntryPoint n s) rest h = made_again (name ⊗ signature) (name_law ⊠ signature_law) (λ p. EntryPoint p.0 p.1) (n, s) rest h
+
+global_law : IsField global
+unfolding global
+global_law = tagged_law global_form global_readers globals_read globals_again
+
+block_law : IsField block
+unfolding block
+block_law =
+    shaped_law block_of block_parts (block_kind ⊗ optional ⊗ parameter_number ⊗ list u2 ⊗ u2 ⊗ u2 ⊗ u4)
+    (block_kind_law ⊠ optional_law ⊠ parameter_number_law ⊠ list_law u2 u2 u2_law u2_law ⊠ u2_law ⊠ u2_law ⊠ u4_law)
+    (λ p h. refl) (λ b h. refl)
+
+-- ---- what stands in front of a deck
+
+if_equal : {A : Type 0} (x b : ℕ) (r : Option A) (y : A) → cond (nat_eq x b) r None ≡ Some y → (x ≡ b) × (r ≡ Some y)
+if_equal x b r y e = by_test (nat_eq x b) refl e
+  where
+    by_test : (t : Bool) → nat_eq x b ≡ t → cond t r None ≡ Some y → (x ≡ b) × (r ≡ Some y)
+    by_test true same given = (eqb-true x b same, given)
+    by_test false same given = absurd cc
+
+behind_is : (front bytes rest : List ℕ) → AreBytes bytes → behind front bytes ≡ Some rest → (bytes ≡ front ++ rest) × AreBytes rest
+behind_is [] bytes rest fits e = let same : bytes ≡ rest = cc in (same, subst AreBytes same fits)
+behind_is (x ∷ xs) [] rest fits e = absurd cc
+behind_is (x ∷ xs) (b ∷ bytes) rest fits e =
+    let here = if_equal x b (behind xs bytes) rest e in
+    let others = behind_is xs bytes rest (λ i. fits (suc i)) here.1 in
+    (ap (λ c. c ∷ bytes) (sym here.0) ∙ ap (λ s. x ∷ s) others.0, others.1)
+
+behind_again : (front rest : List ℕ) → behind front (front ++ rest) ≡ Some rest
+behind_again [] rest = refl
+behind_again (x ∷ xs) rest = ap (λ t. cond t (behind xs (xs ++ rest)) None) (eq-eqb x x refl) ∙ behind_again xs rest
+
+past_ok : {X : Type 0} (fault : DeckFault) (read : Reader X) (o : Option (List ℕ)) (y : X × List ℕ) → past fault read o ≡ Ok y → (bytes : List ℕ) × (o ≡ Some bytes) × (read bytes ≡ Ok y)
+past_ok fault read None y e = absurd cc
+past_ok fault read (Some bytes) y e = (bytes, refl, e)
+
+pub magic_law : {X : Type 0} (magic : List ℕ) (f : Field X) → IsField f → IsField (after_magic magic f)
+magic_law {X} magic f it = record { takes = take_one; again = once_more }
+  where
+    take_one : (bytes : List ℕ) (x : X) (rest : List ℕ) → AreBytes bytes → past BadMagic f.read (behind magic bytes) ≡ Ok (x, rest) → Taken (after_magic magic f) bytes x rest
+    take_one bytes x rest b e =
+        let p = past_ok BadMagic f.read (behind magic bytes) (x, rest) e in
+        let front = behind_is magic bytes p.0 b p.1 in
+        let t = it.takes p.0 x rest front.1 p.2 in
+        record { parts = front.0 ∙ ap (λ s. magic ++ s) t.parts ∙ sym (append_assoc magic (f.bytes_of x) rest); fitting = t.fitting; rest_bytes = t.rest_bytes }
+
+    once_more : (x : X) (rest : List ℕ) → f.fits x ≡ true → past BadMagic f.read (behind magic ((magic ++ f.bytes_of x) ++ rest)) ≡ Ok (x, rest)
+    once_more x rest h =
+        ap (λ s. past BadMagic f.read (behind magic s)) (append_assoc magic (f.bytes_of x) rest)
+        ∙ ap (past BadMagic f.read) (behind_again magic (f.bytes_of x ++ rest)) ∙ it.again x rest h
+
+version_ok : {X : Type 0} (v : ℕ) (r : Result X DeckFault) (y : X) → cond (nat_eq v 1) r (Err BadVersion) ≡ Ok y → (v ≡ 1) × (r ≡ Ok y)
+version_ok v r y e = by_test (nat_eq v 1) refl e
+  where
+    by_test : (t : Bool) → nat_eq v 1 ≡ t → cond t r (Err BadVersion) ≡ Ok y → (v ≡ 1) × (r ≡ Ok y)
+    by_test true same given = (eqb-true v 1 same, given)
+    by_test false same given = absurd cc
+
+version_takes : {X : Type 0} (f : Field X) → IsField f → (bytes : List ℕ) (x : X) (rest : List ℕ) → AreBytes bytes → versioned f.read bytes ≡ Ok (x, rest) → Taken (after_version f) bytes x rest
+version_takes f it bytes x rest b e =
+    let r = bind_ok (byte_at bytes) (if_first f.read) (x, rest) e in
+    let v = version_ok r.0.0 (f.read r.0.1) (x, rest) r.2 in
+    let front = byte_law.takes bytes r.0.0 r.0.1 b r.1 in
+    let t = it.takes r.0.1 x rest front.rest_bytes v.1 in
+    record { parts = front.parts ∙ ap (λ n. n ∷ r.0.1) v.0 ∙ ap (λ s. 1 ∷ s) t.parts; fitting = t.fitting; rest_bytes = t.rest_bytes }
+
+version_again : {X : Type 0} (f : Field X) → IsField f → (x : X) (rest : List ℕ) → f.fits x ≡ true → versioned f.read (1 ∷ (f.bytes_of x ++ rest)) ≡ Ok (x, rest)
+version_again f it x rest h = ap (λ r. r >>= if_first f.read) (byte_again 1 (f.bytes_of x ++ rest)) ∙ it.again x rest h
+
+pub version_law : {X : Type 0} (f : Field X) → IsField f → IsField (after_version f)
+version_law f it = record { takes = version_takes f it; again = version_again f it }
+
+-- ---- decks
+
+code_law : IsField code
+unfolding code
+code_law =
+    shaped_law code_of code_parts (signature ⊗ list description ⊗ list template ⊗ list constant ⊗ list global ⊗ list block ⊗ list instruction)
+    (signature_law ⊠ list_law u2 description u2_law description_law ⊠ list_law u2 template u2_law template_law ⊠ list_law u2 constant u2_law constant_law
+    ⊠ list_law u2 global u2_law global_law ⊠ list_law u2 block u2_law block_law ⊠ list_law u2 instruction u2_law instruction_law) (λ p h. refl) (λ c h. refl)
+
+contents_law : IsField contents
+unfolding contents
+contents_law = shaped_law deck_of deck_parts (name ⊗ flag ⊗ code) (name_law ⊠ flag_law ⊠ code_law) (λ p h. refl) (λ d h. refl)
+
+pub deck_law : IsField deck
+unfolding deck
+deck_law = magic_law (80 ∷ 76 ∷ 73 ∷ 68 ∷ []) (after_version contents) (version_law contents contents_law)

@@ -1,0 +1,105 @@
+-- The laws of the field of descriptions.
+use Rattle.std.proofs.Common.{◌≡◌, ℕ, zero, suc, ◌%◌, nat_eq, true, false, List, [], ◌∷◌, ◌++◌, get_or, Ok, refl, ap, ◌∙◌, arith}
+use Rattle.std.specs.Prelude.{int_le}
+use Rattle.pli_map.specs.Description.{Description, FixedBinary, Character, Varying, Bit, Pointer, Offset}
+use Rattle.pli_map.specs.Description.{Area, Array, Structure, Members, NoMembers, MemberThen}
+use Rattle.pli_map.specs.views.DescriptionView.{members_of}
+use Rattle.pli_deck_write.specs.Fields.{BothWays, Field, nothing, ◌⊗◌, form, unknown, u1, u2, u4, count_of_one, from_to, checked}
+use Rattle.pli_deck_write.specs.Descriptions.{precision, string_length, area_size, bound, bounds, dimensions, listed, members, description_form, description_readers, too_deep, description_within, description}
+use Rattle.pli_deck_write.proofs.FieldLaws.{IsField, byte_law, count_law, u2_law, u4_law, nothing_law, checked_law, from_to_law, signed_law, pair_law, shaped_law, list_law, both_ways}
+use Rattle.pli_deck_write.proofs.FormLaws.{AllRead, unknown_reads, made_reads, made_again, tagged_law}
+
+pub precision_law : IsField precision
+precision_law = from_to_law 1 31 u1 byte_law
+
+pub length_law : IsField string_length
+length_law = from_to_law 1 32767 u2 u2_law
+
+pub area_law : IsField area_size
+area_law = checked_law (λ n. nat_eq (n % 8) 0) (from_to 1 1000000 u4) (from_to_law 1 1000000 u4 u4_law)
+
+pub bound_law : IsField bound
+bound_law = signed_law 32767 (omega arith)
+
+bounds_law : IsField bounds
+bounds_law =
+    shaped_law (λ p. record { low = p.0; high = p.1 }) (λ b. (b.low, b.high)) (checked (λ p. int_le p.0 p.1) (bound ⊗ bound))
+    (checked_law (λ p. int_le p.0 p.1) (bound ⊗ bound) (pair_law bound bound bound_law bound_law)) (λ p h. refl) (λ b h. refl)
+
+dimensions_law : IsField dimensions
+dimensions_law = list_law (from_to 1 8 count_of_one) bounds (from_to_law 1 8 count_of_one count_law) bounds_law
+
+members_law : (inner : Field Description) → IsField inner → IsField (members inner)
+members_law inner it = list_law (from_to 1 65535 u2) inner (from_to_law 1 65535 u2 u2_law) it
+
+listed-members_of : (ds : List Description) → listed (members_of ds) ≡ ds
+listed-members_of [] = refl
+listed-members_of (d ∷ ds) = ap (λ es. d ∷ es) (listed-members_of ds)
+
+members_of-listed : (ds : Members) → members_of (listed ds) ≡ ds
+members_of-listed NoMembers = refl
+members_of-listed (MemberThen d ds) = ap (MemberThen d) (members_of-listed ds)
+
+forms_read : (inner : Field Description) → IsField inner → AllRead (description_form inner) 0 (description_readers inner)
+forms_read inner it =
+    let f = description_form inner in (
+      unknown_reads f 0,
+      (
+        made_reads precision precision_law FixedBinary f 1 (λ p. refl),
+        (
+          made_reads string_length length_law Character f 2 (λ n. refl),
+          (
+            made_reads string_length length_law Varying f 3 (λ n. refl),
+            (
+              made_reads string_length length_law Bit f 4 (λ n. refl),
+              (
+                made_reads nothing nothing_law (λ _. Pointer) f 5 (λ n. refl),
+                (
+                  made_reads nothing nothing_law (λ _. Offset) f 6 (λ n. refl),
+                  (
+                    made_reads area_size area_law Area f 7 (λ n. refl),
+                    (
+                      made_reads (dimensions ⊗ inner) (pair_law dimensions inner dimensions_law it) (λ p. Array p.0 p.1) f 8 (λ p. refl),
+                      (
+                        made_reads (members inner) (members_law inner it) (λ ds. Structure (members_of ds)) f 9 (λ ds. ap (form 9 (members inner)) (listed-members_of ds)),
+                        tt,
+                      ),
+                    ),
+                  ),
+                ),
+              ),
+            ),
+          ),
+        ),
+      ),
+    )
+
+read_again : (inner : Field Description) → IsField inner → (d : Description) (rest : List ℕ) → (description_form inner d).fits ≡ true
+    → get_or (description_readers inner) (description_form inner d).tag unknown ((description_form inner d).bytes ++ rest) ≡ Ok (d, rest)
+read_again inner it (FixedBinary p) rest h = made_again precision precision_law FixedBinary p rest h
+read_again inner it (Character n) rest h = made_again string_length length_law Character n rest h
+read_again inner it (Varying n) rest h = made_again string_length length_law Varying n rest h
+read_again inner it (Bit n) rest h = made_again string_length length_law Bit n rest h
+read_again inner it Pointer rest h = refl
+read_again inner it Offset rest h = refl
+read_again inner it (Area n) rest h = made_again area_size area_law Area n rest h
+read_again inner it (Array bs element) rest h = made_again (dimensions ⊗ inner) (pair_law dimensions inner dimensions_law it) (λ p. Array p.0 p.1) (bs, element) rest h
+read_again inner it (Structure ds) rest h =
+    made_again (members inner) (members_law inner it) (λ es. Structure (members_of es)) (listed ds) rest h ∙ ap (λ es. Ok (Structure es, rest)) (members_of-listed ds)
+
+too_deep_law : IsField too_deep
+too_deep_law = tagged_law (λ d. record { tag = 0; bytes = []; fits = false }) [] tt (λ d rest h. absurd cc)
+
+pub description_within_law : (levels : ℕ) → IsField (description_within levels)
+unfolding description_within
+description_within_law zero = too_deep_law
+description_within_law (suc n) =
+    let inner = description_within n in
+    let it = description_within_law n in
+    tagged_law (description_form inner) (description_readers inner) (forms_read inner it) (read_again inner it)
+
+pub description_law : IsField description
+description_law = description_within_law 512
+
+pub descriptions_both_ways : BothWays description
+descriptions_both_ways = both_ways description description_law

@@ -1,0 +1,88 @@
+-- The bytes of descriptions (own).
+use Rattle.std.specs.Prelude.{ℕ, zero, suc, ◌%◌, nat_eq, int_le, List, [], ◌∷◌, ℤ, false, get_or}
+use Rattle.pli_map.specs.declared.description.Bounds.{Bounds}
+use Rattle.pli_map.specs.Description.{Description, FixedBinary, Character, Varying, Bit, Pointer, Offset}
+use Rattle.pli_map.specs.Description.{Area, Array, Structure, Members, NoMembers, MemberThen}
+use Rattle.pli_map.specs.views.DescriptionView.{members_of}
+use Rattle.pli_deck_write.specs.Fields.{Field, Form, Reader, nothing, checked, signed, ◌⊗◌}
+use Rattle.pli_deck_write.specs.Fields.{shaped, list_of, form, made, unknown, tagged, u1, u2, u4, from_to}
+use Rattle.pli_deck_write.specs.Fields.{count_of_one}
+
+-- a precision of FIXED BINARY
+abbrev pub precision : Field ℕ
+precision = from_to 1 31 u1
+
+-- a length of a string
+abbrev pub string_length : Field ℕ
+string_length = from_to 1 32767 u2
+
+-- an area's size, a multiple of 8
+abbrev pub area_size : Field ℕ
+area_size = checked (λ n. nat_eq (n % 8) 0) (from_to 1 1000000 u4)
+
+-- a bound, which is at most 32,767 from 0
+abbrev pub bound : Field ℤ
+bound = signed 32767
+
+-- the bounds of a dimension: no low one is over its high one
+abbrev pub bounds : Field Bounds
+bounds = shaped (λ p. record { low = p.0; high = p.1 }) (λ b. (b.low, b.high))
+    (checked (λ p. int_le p.0 p.1) (bound ⊗ bound))
+
+-- one to eight dimensions
+abbrev pub dimensions : Field (List Bounds)
+dimensions = list_of (from_to 1 8 count_of_one) bounds
+
+-- the members of a structure, as a list
+abbrev pub listed : Members → List Description
+listed NoMembers = []
+listed (MemberThen d ds) = d ∷ listed ds
+
+-- one member or more, by the field of each
+abbrev pub members : Field Description → Field (List Description)
+members inner = list_of (from_to 1 65535 u2) inner
+
+-- a description, by the field of those within it
+abbrev pub description_form : Field Description → Description → Form
+description_form inner (FixedBinary p) = form 1 precision p
+description_form inner (Character n) = form 2 string_length n
+description_form inner (Varying n) = form 3 string_length n
+description_form inner (Bit n) = form 4 string_length n
+description_form inner Pointer = form 5 nothing tt
+description_form inner Offset = form 6 nothing tt
+description_form inner (Area n) = form 7 area_size n
+description_form inner (Array bs element) = form 8 (dimensions ⊗ inner) (bs, element)
+description_form inner (Structure ds) = form 9 (members inner) (listed ds)
+
+-- how each form of descriptions is read, by its tag
+abbrev pub description_readers : Field Description → List (Reader Description)
+description_readers inner =
+    unknown
+    ∷ made FixedBinary precision
+    ∷ made Character string_length
+    ∷ made Varying string_length
+    ∷ made Bit string_length
+    ∷ made (λ _. Pointer) nothing
+    ∷ made (λ _. Offset) nothing
+    ∷ made Area area_size
+    ∷ made (λ p. Array p.0 p.1) (dimensions ⊗ inner)
+    ∷ made (λ ds. Structure (members_of ds)) (members inner)
+    ∷ []
+
+-- what stands behind the tag
+unfoldable pub described : (inner : Field Description) → (tag : ℕ) → Reader Description
+described inner tag = get_or (description_readers inner) tag unknown
+
+-- in no level, no description has a spelling
+abbrev pub too_deep : Field Description
+too_deep = tagged (λ d. record { tag = 0; bytes = []; fits = false }) []
+
+-- descriptions in at most so many levels
+unfoldable pub description_within : (levels : ℕ) → Field Description
+description_within zero = too_deep
+description_within (suc n) =
+    tagged (description_form (description_within n)) (description_readers (description_within n))
+
+-- descriptions in at most 512 levels
+abbrev pub description : Field Description
+description = description_within 512

@@ -1,0 +1,138 @@
+-- Worked examples: decks, each with its bytes.
+use Rattle.std.specs.Prelude.{◌≡◌, ℕ, true, false, List, [], ◌∷◌, None, Ok, Err, take, ◌++◌}
+use Rattle.pli_base.specs.declared.statement.Condition.TheVariants as conditions
+use Rattle.pli_run.specs.declared.ending.RunError.TheVariants as errors
+use Rattle.pli_map.specs.Description.{Bit}
+use Rattle.pli_operation.specs.declared.operation.Relation.TheVariants as relations
+use Rattle.pli_deck_write.specs.declared.fault.DeckFault.TheVariants.{BadMagic, Truncated, Trailing, OutOfRange}
+use Rattle.pli_program.specs.Program.{Procedure}
+use Rattle.pli_code.specs.CodeTables.{CodedTemplate, CodedBlock, CodedSignature, Code, Deck}
+use Rattle.pli_code.specs.CodeTables.{ExternalVariable, EntryPoint}
+use Rattle.pli_code.specs.declared.instruction.Instruction.TheVariants as op
+use Rattle.pli_deck_write.specs.Instructions.{instruction}
+use Rattle.pli_deck_write.specs.Spelling.{deck_bytes, deck_read}
+use Rattle.pli_code.specs.declared.code.VariableKind.TheVariants.{Static}
+
+-- no parameters and no result
+abbrev pub without_parameters : CodedSignature
+without_parameters = record { parameters = []; result = None }
+
+-- one parameter, of the first description
+abbrev pub with_parameter : CodedSignature
+with_parameter = record { parameters = 0 ∷ []; result = None }
+
+-- the block of an external procedure that declares no AUTOMATIC variable
+abbrev pub outermost : (parameters : ℕ) → CodedBlock
+outermost n = record {
+  kind = Procedure;
+  parent = None;
+  parameters = n;
+  variables = [];
+  temporaries = 0;
+  entry = 0;
+  statement = 1;
+}
+
+-- M: PROC OPTIONS(MAIN); END;
+abbrev pub smallest_code : Code
+smallest_code = record {
+  signature = without_parameters;
+  descriptions = [];
+  templates = [];
+  values = [];
+  globals = [];
+  blocks = outermost 0 ∷ [];
+  instructions = op.Return 0 ∷ [];
+}
+
+-- its deck
+abbrev pub smallest : Deck
+smallest = record { name = 77 ∷ []; is_main = true; code = smallest_code }
+
+-- its bytes
+abbrev pub smallest_bytes : List ℕ
+smallest_bytes =
+    80 ∷ 76 ∷ 73 ∷ 68 ∷ 1 ∷ 1 ∷ 77 ∷ 1 ∷ 0 ∷ 255 ∷ 255 ∷ 0 ∷ 0 ∷ 0 ∷ 0 ∷ 0 ∷ 0 ∷ 0 ∷ 0 ∷ 0 ∷ 1 ∷ 0 ∷
+    255 ∷ 255 ∷ 0 ∷ 0 ∷ 0 ∷ 0 ∷ 0 ∷ 0 ∷ 0 ∷ 0 ∷ 0 ∷ 0 ∷ 1 ∷ 0 ∷ 1 ∷ 9 ∷ 0 ∷ []
+
+-- what a BIT variable is made from
+abbrev pub bit_template : CodedTemplate
+bit_template = record { description = 0; initial = [] }
+
+-- M: PROC OPTIONS(MAIN); DCL X BIT EXT, Q ENTRY(BIT); CALL Q(X); END;
+abbrev pub calling_code : Code
+calling_code = record {
+  signature = without_parameters;
+  descriptions = Bit 1 ∷ [];
+  templates = bit_template ∷ [];
+  values = [];
+  globals = ExternalVariable (88 ∷ []) Static 0 ∷ EntryPoint (81 ∷ []) with_parameter ∷ [];
+  blocks = outermost 0 ∷ [];
+  instructions = op.Step 3 ∷ op.Global 0 ∷ op.CallExternal 1 1 ∷ op.Return 0 ∷ [];
+}
+
+-- its deck
+abbrev pub calling : Deck
+calling = record { name = 77 ∷ []; is_main = true; code = calling_code }
+
+-- its bytes
+abbrev pub calling_bytes : List ℕ
+calling_bytes =
+    80 ∷ 76 ∷ 73 ∷ 68 ∷ 1 ∷ 1 ∷ 77 ∷ 1 ∷ 0 ∷ 255 ∷ 255 ∷ 0 ∷ 1 ∷ 4 ∷ 0 ∷ 1 ∷ 0 ∷ 1 ∷ 0 ∷ 0 ∷ 0 ∷ 0 ∷ 0 ∷
+    0 ∷ 0 ∷ 0 ∷ 0 ∷ 2 ∷ 2 ∷ 1 ∷ 88 ∷ 0 ∷ 0 ∷ 4 ∷ 1 ∷ 81 ∷ 1 ∷ 0 ∷ 0 ∷ 255 ∷ 255 ∷ 0 ∷ 1 ∷ 0 ∷ 255 ∷ 255 ∷
+    0 ∷ 0 ∷ 0 ∷ 0 ∷ 0 ∷ 0 ∷ 0 ∷ 0 ∷ 0 ∷ 0 ∷ 1 ∷ 0 ∷ 4 ∷ 1 ∷ 0 ∷ 0 ∷ 0 ∷ 3 ∷ 14 ∷ 0 ∷ 0 ∷ 7 ∷ 0 ∷ 1 ∷ 1 ∷
+    9 ∷ 0 ∷ []
+
+-- Q: PROC(P); DCL P BIT, X BIT EXT; X = P; END;
+abbrev pub called_code : Code
+called_code = record {
+  signature = with_parameter;
+  descriptions = Bit 1 ∷ [];
+  templates = bit_template ∷ [];
+  values = [];
+  globals = ExternalVariable (88 ∷ []) Static 0 ∷ [];
+  blocks = outermost 1 ∷ [];
+  instructions =
+      op.Step 3 ∷ op.Global 0 ∷ op.Local 0 0 ∷ op.Load ∷ op.Fit 0 ∷ op.Store ∷ op.Return 0 ∷ [];
+}
+
+-- its deck
+abbrev pub called : Deck
+called = record { name = 81 ∷ []; is_main = false; code = called_code }
+
+-- its bytes
+abbrev pub called_bytes : List ℕ
+called_bytes =
+    80 ∷ 76 ∷ 73 ∷ 68 ∷ 1 ∷ 1 ∷ 81 ∷ 0 ∷ 1 ∷ 0 ∷ 0 ∷ 255 ∷ 255 ∷ 0 ∷ 1 ∷ 4 ∷ 0 ∷ 1 ∷ 0 ∷ 1 ∷ 0 ∷ 0 ∷ 0 ∷
+    0 ∷ 0 ∷ 0 ∷ 0 ∷ 0 ∷ 0 ∷ 1 ∷ 2 ∷ 1 ∷ 88 ∷ 0 ∷ 0 ∷ 0 ∷ 1 ∷ 0 ∷ 255 ∷ 255 ∷ 1 ∷ 0 ∷ 0 ∷ 0 ∷ 0 ∷ 0 ∷ 0 ∷
+    0 ∷ 0 ∷ 0 ∷ 1 ∷ 0 ∷ 7 ∷ 1 ∷ 0 ∷ 0 ∷ 0 ∷ 3 ∷ 14 ∷ 0 ∷ 0 ∷ 13 ∷ 0 ∷ 0 ∷ 0 ∷ 19 ∷ 23 ∷ 0 ∷ 0 ∷ 20 ∷ 9 ∷
+    0 ∷ []
+
+-- how they are written
+abbrev pub WrittenSo : Type 0
+WrittenSo =
+    (deck_bytes smallest ≡ smallest_bytes) × (deck_bytes calling ≡ calling_bytes)
+    × (deck_bytes called ≡ called_bytes)
+
+-- instructions with an error, a relation and a condition; the first and the last number of each
+abbrev pub NumberedSo : Type 0
+NumberedSo =
+    (instruction.bytes_of (op.Raise errors.SubscriptRange) ≡ 11 ∷ 1 ∷ [])
+    × (instruction.bytes_of (op.Raise errors.TooManyActivations) ≡ 11 ∷ 13 ∷ [])
+    × (instruction.bytes_of (op.Compare relations.Equal) ≡ 36 ∷ 0 ∷ [])
+    × (instruction.bytes_of (op.Compare relations.AtLeast) ≡ 36 ∷ 5 ∷ [])
+    × (instruction.bytes_of (op.On conditions.FixedOverflow 7) ≡ 56 ∷ 0 ∷ 0 ∷ 7 ∷ [])
+    × (instruction.bytes_of (op.Signal conditions.Area) ≡ 58 ∷ 2 ∷ [])
+    × (instruction.read (11 ∷ 10 ∷ 60 ∷ []) ≡ Ok (op.Raise errors.ZeroDivide, 60 ∷ []))
+    × (instruction.read (11 ∷ 0 ∷ []) ≡ Err OutOfRange) × (instruction.read (11 ∷ 14 ∷ []) ≡ Err OutOfRange)
+    × (instruction.read (36 ∷ 6 ∷ []) ≡ Err OutOfRange) × (instruction.read (57 ∷ 3 ∷ []) ≡ Err OutOfRange)
+
+-- how they are read, and what is wrong where a byte is missing or one stands behind
+abbrev pub ReadSo : Type 0
+ReadSo =
+    (deck_read smallest_bytes ≡ Ok smallest) × (deck_read calling_bytes ≡ Ok calling)
+    × (deck_read called_bytes ≡ Ok called) × (deck_read [] ≡ Err BadMagic)
+    × (deck_read (take 3 smallest_bytes) ≡ Err BadMagic)
+    × (deck_read (take 4 smallest_bytes) ≡ Err Truncated)
+    × (deck_read (take 38 smallest_bytes) ≡ Err Truncated)
+    × (deck_read (smallest_bytes ++ 0 ∷ []) ≡ Err Trailing)

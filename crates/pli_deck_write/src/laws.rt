@@ -1,0 +1,57 @@
+//! Laws of the bytes of decks.
+ghost use Rattle.pli_deck_write.specs.Fields.{BothWays};
+ghost use Rattle.pli_deck_write.specs.Descriptions.{description};
+ghost use Rattle.pli_deck_write.specs.Instructions.{instruction};
+ghost use Rattle.pli_deck_write.specs.Spelling.{ReadIsSpelled, SpelledIsRead, OneSpelling, OneDeck};
+ghost use Rattle.pli_deck_write.specs.ModuleSpelling.{ReadModuleIsSpelled, SpelledModuleIsRead, OneModule};
+ghost use Rattle.pli_deck_write.specs.examples.DeckExamples.{WrittenSo, NumberedSo, ReadSo};
+ghost use Rattle.pli_deck_write.specs.examples.FaultExamples.{DeckFaultsAre};
+ghost use Rattle.pli_deck_write.specs.examples.ModuleExamples.{ModulesWrittenSo, ModulesReadSo, ModuleFaultsAre};
+
+/// A law: an instruction that is read is spelled by the bytes that were there, and one that is spelled is read again,
+/// whatever stands behind it.
+#[tactic(auto, using(crate::proofs::InstructionLaws::instructions_both_ways))]
+pub fn instructions_both_ways()
+    ensures { BothWays instruction }
+{}
+
+/// The same law of descriptions.
+#[tactic(auto, using(crate::proofs::DescriptionLaws::descriptions_both_ways))]
+pub fn descriptions_both_ways()
+    ensures { BothWays description }
+{}
+
+/// Laws: what is read is spelled so, what is spelled so is read, a deck has one spelling, and bytes spell one deck at
+/// most.
+#[tactic(auto, using(crate::proofs::SpellingLaws::spelled_is_read, crate::proofs::SpellingLaws::one_spelling, crate::proofs::SpellingLaws::one_deck))]
+pub fn decks_both_ways()
+    ensures read { ReadIsSpelled }
+    ensures spelled { SpelledIsRead }
+    ensures one_spelling { OneSpelling }
+    ensures one_deck { OneDeck }
+{}
+
+/// The same laws of modules; two modules have not one spelling.
+#[tactic(auto, using(crate::proofs::ModuleLaws::spelled_module_is_read, crate::proofs::ModuleLaws::one_module))]
+pub fn modules_both_ways()
+    ensures read { ReadModuleIsSpelled }
+    ensures spelled { SpelledModuleIsRead }
+    ensures one_module { OneModule }
+{}
+
+/// Worked examples: decks with their bytes, and bytes that are none.
+#[tactic(auto, unfolding(crate::specs::Fields::byte_at, crate::specs::Fields::number_at, crate::specs::Fields::many, crate::specs::Descriptions::description_within, crate::specs::Instructions::instruction, crate::specs::DeckFields::name, crate::specs::DeckFields::optional, crate::specs::DeckFields::bits_at, crate::specs::DeckFields::bit_string, crate::specs::DeckFields::characters, crate::specs::DeckFields::constant, crate::specs::DeckFields::initial, crate::specs::DeckFields::template, crate::specs::DeckFields::signature, crate::specs::DeckFields::global, crate::specs::DeckFields::block, crate::specs::DeckFields::code, crate::specs::DeckFields::contents, crate::specs::DeckFields::deck, crate::specs::Spelling::deck_read))]
+pub fn worked_decks()
+    ensures written { WrittenSo }
+    ensures numbered { NumberedSo }
+    ensures read { ReadSo }
+    ensures faults { DeckFaultsAre }
+{}
+
+/// Worked examples: modules with their bytes, and bytes that are none.
+#[tactic(auto, unfolding(crate::specs::Fields::byte_at, crate::specs::Fields::number_at, crate::specs::Fields::many, crate::specs::Descriptions::description_within, crate::specs::Instructions::instruction, crate::specs::DeckFields::name, crate::specs::DeckFields::optional, crate::specs::DeckFields::bits_at, crate::specs::DeckFields::bit_string, crate::specs::DeckFields::characters, crate::specs::DeckFields::constant, crate::specs::DeckFields::initial, crate::specs::DeckFields::template, crate::specs::DeckFields::signature, crate::specs::DeckFields::global, crate::specs::DeckFields::block, crate::specs::DeckFields::code, crate::specs::DeckFields::contents, crate::specs::DeckFields::deck, crate::specs::Spelling::deck_read, crate::specs::ModuleFields::external_behind, crate::specs::ModuleFields::many_behind, crate::specs::ModuleFields::deck_in, crate::specs::ModuleFields::member, crate::specs::ModuleFields::module_field, crate::specs::ModuleSpelling::module_read))]
+pub fn worked_modules()
+    ensures written { ModulesWrittenSo }
+    ensures read { ModulesReadSo }
+    ensures faults { ModuleFaultsAre }
+{}

@@ -1,0 +1,93 @@
+//! Modules as bytes.
+ghost use Rattle.std.specs.Prelude.{◌≡◌, ◌++◌, None, true, length, map, IfOk, OnOk};
+ghost use Rattle.std.specs.List.{flat_map};
+ghost use Rattle.byteorder.specs.Endian.{big_bytes};
+ghost use Rattle.pli_deck_write.specs.ModuleFields as module_fields;
+ghost use Rattle.pli_deck_write.specs.ModuleSpelling.{module_bytes, module_fault, SpellsModule};
+ghost use Rattle.pli_deck_write.specs.ModuleView.{kind_number, external_view, lent_member_view, lent_module_view};
+
+use crate::module::{External, LentMember, LentModule};
+use crate::putting::put_numbers;
+use crate::write::written;
+use crate::writing::{
+    PutsOne, put_byte, put_bytes, put_count, put_large_count, put_list, put_name, put_short,
+};
+use pli_code::VariableKind;
+use std::alloc::{AllocError, Global};
+
+/// The number of a kind.
+fn kind_number(kind: VariableKind) -> u8
+    ensures { result ≡ kind_number kind }
+{
+    match kind {
+        VariableKind::Static => 2,
+        VariableKind::Controlled => 3,
+    }
+}
+
+/// Puts an external.
+struct Externals;
+
+impl PutsOne for Externals {
+    type Value = External;
+
+    ghost Said = { module_fields.External };
+
+    ghost say = { external_view };
+
+    ghost bytes_of = { (module_fields.external_behind None).bytes_of };
+
+    #[tactic(auto, unfolding(crate::specs::ModuleFields::external_behind))]
+    fn put(&self, out: &mut Vec<u8>, value: &External) -> Result<(), AllocError> {
+        put_name(out, &value.name)?;
+        put_byte(out, kind_number(value.kind))?;
+        put_short(out, value.unit)?;
+        put_short(out, value.global)
+    }
+}
+
+/// Puts a unit, whose deck is written apart first, since its length stands before it.
+#[tactic(auto, unfolding(crate::specs::ModuleFields::member))]
+fn put_member(alloc: Global, out: &mut Vec<u8>, unit: &LentMember<'_>) -> Result<(), AllocError>
+    ensures { OnOk result (out.new.items ≡ out.old.items ++ module_fields.member.bytes_of (lent_member_view unit.now)) }
+{
+    let deck = written(alloc, &unit.deck)?;
+    put_name(out, &unit.name)?;
+    put_large_count(out, deck.len())?;
+    put_bytes(out, &deck)?;
+    put_numbers(out, &unit.links)
+}
+
+/// Puts units one behind another.
+fn put_members(alloc: Global, out: &mut Vec<u8>, units: &[LentMember<'_>]) -> Result<(), AllocError>
+    ensures { OnOk result (out.new.items ≡ out.old.items ++ flat_map module_fields.member.bytes_of (map lent_member_view units.now)) }
+{
+    for unit in units {
+        put_member(alloc, out, unit)?;
+    }
+    Ok(())
+}
+
+/// Puts a module: PLIM, the version, how many units there are, the main one, externals, and the units.
+#[tactic(auto, unfolding(crate::specs::ModuleFields::module_field), using(crate::proofs::ModulePuts::behind_bytes, crate::proofs::PutLemmas::mapped_length))]
+fn put_module(alloc: Global, out: &mut Vec<u8>, program: &LentModule<'_>) -> Result<(), AllocError>
+    ensures { OnOk result (out.new.items ≡ out.old.items ++ module_bytes (lent_module_view program.now)) }
+{
+    put_bytes(out, b"PLIM")?;
+    put_byte(out, 1)?;
+    put_count(out, program.units.len())?;
+    put_short(out, program.main)?;
+    put_list(out, &Externals, &program.externals)?;
+    put_members(alloc, out, &program.units)
+}
+
+/// The bytes of a module, which are its one spelling where it has one. An error comes where memory runs out.
+pub fn write_module(alloc: Global, program: &LentModule<'_>) -> Result<Vec<u8>, AllocError>
+    ensures bytes { IfOk result (λ v. v.items ≡ module_bytes (lent_module_view program.now)) }
+    ensures spelled { let m = lent_module_view program.now in
+        module_fields.module_field.fits m ≡ true → module_fault m ≡ None → IfOk result (λ v. SpellsModule v.items m) }
+{
+    let mut out = Vec::new(alloc);
+    put_module(alloc, &mut out, program)?;
+    Ok(out)
+}

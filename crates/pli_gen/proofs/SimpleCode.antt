@@ -1,0 +1,126 @@
+-- Code without steps and jumps: that of expressions, and of statements in which no other stands.
+use Rattle.std.proofs.Common.{◌≡◌, ℕ, suc, nat_eq, if◌then◌else◌, List, [], ◌∷◌, ◌++◌, Bool, true, false, refl, ap}
+use Rattle.std.specs.List.{AllByRecursion}
+use Rattle.pli_program.specs.Program as op
+use Rattle.pli_type_tree.specs.TypedTree.{Callee, OfBlock, OfEntry}
+use Rattle.pli_type_tree.specs.TypedTree.{Root, InSlot, OfProgram, TypedExpression, Literal, Held, Calculated, Called, TypedReference, Whole, Part}
+use Rattle.pli_type_tree.specs.TypedTree.{Operands, NoOperand, OperandThen, Subscripts, NoSubscript, SubscriptThen, TypedArguments, NoArgument, ByPlace, ByDummy}
+use Rattle.pli_type_tree.specs.TypedTree.{Form, Null, Assign, AssignAggregate, Put, If, Begin, Group, While, Iterate, Call, Goto, Return, ReturnValue, Stop}
+use Rattle.pli_gen_emit.specs.TreeTranslation.{argument_count, root_code, call_instruction, value_code, place_code, operands_code, subscripts_code, arguments_code, skip_code, items_code, behind}
+use Rattle.pli_gen_emit.specs.answers.Pieces.{simple_code}
+use Rattle.pli_gen.specs.answers.Pieces.{step_place, Fits}
+
+-- no step and no jump
+abbrev pub IsSimple : op.Instruction → Type 0
+IsSimple (op.Step s) = ⊥
+IsSimple (op.Jump target) = ⊥
+IsSimple (op.JumpUnless target) = ⊥
+IsSimple i = Unit {0}
+
+abbrev pub AllSimple : List op.Instruction → Type 0
+AllSimple is = AllByRecursion IsSimple is
+
+-- what holds of each of two lists holds of both
+pub all_both : {X : Type 0} (P : X → Type 0) (xs ys : List X) → AllByRecursion P xs → AllByRecursion P ys → AllByRecursion P (xs ++ ys)
+all_both P [] ys h k = k
+all_both P (x ∷ xs) ys h k = (h.0, all_both P xs ys h.1 k)
+
+pub simple_both : (xs ys : List op.Instruction) → AllSimple xs → AllSimple ys → AllSimple (xs ++ ys)
+simple_both xs ys h k = all_both IsSimple xs ys h k
+
+root_simple : (r : Root) → AllSimple (root_code r)
+root_simple (InSlot outward slot) = (tt, tt)
+root_simple (OfProgram number) = (tt, tt)
+
+call_simple : (callee : Callee) (arguments : ℕ) → IsSimple (call_instruction callee arguments)
+call_simple (OfBlock block) arguments = tt
+call_simple (OfEntry number) arguments = tt
+
+mutual
+  pub value_simple : (e : TypedExpression) → AllSimple (value_code e)
+  value_simple (Literal value) = (tt, tt)
+  value_simple (Held variable) = simple_both (place_code variable) (op.Load ∷ []) (place_simple variable) (tt, tt)
+  value_simple (Calculated operation operands) = simple_both (operands_code operands) (op.Operate operation ∷ []) (operands_simple operands) (tt, tt)
+  value_simple (Called callee arguments) =
+      let count = argument_count arguments in
+      simple_both (arguments_code arguments) (call_instruction callee count ∷ []) (arguments_simple arguments) (call_simple callee count, tt)
+
+  pub place_simple : (r : TypedReference) → AllSimple (place_code r)
+  place_simple (Whole root) = root_simple root
+  place_simple (Part root offset description subscripts) =
+      simple_both (root_code root) (op.Field offset description ∷ subscripts_code subscripts) (root_simple root) (tt, subscripts_simple subscripts)
+
+  operands_simple : (es : Operands) → AllSimple (operands_code es)
+  operands_simple NoOperand = tt
+  operands_simple (OperandThen first more) = simple_both (value_code first) (operands_code more) (value_simple first) (operands_simple more)
+
+  subscripts_simple : (ss : Subscripts) → AllSimple (subscripts_code ss)
+  subscripts_simple NoSubscript = tt
+  subscripts_simple (SubscriptThen stride value more) =
+      simple_both (value_code value) (op.Subscript stride.low stride.high stride.multiplier ∷ subscripts_code more) (value_simple value) (tt, subscripts_simple more)
+
+  arguments_simple : (args : TypedArguments) → AllSimple (arguments_code args)
+  arguments_simple NoArgument = tt
+  arguments_simple (ByPlace variable more) = simple_both (place_code variable) (arguments_code more) (place_simple variable) (arguments_simple more)
+  arguments_simple (ByDummy description value more) =
+      simple_both (value_code value) (op.MakeDummy description ∷ arguments_code more) (value_simple value) (tt, arguments_simple more)
+
+items_simple : (es : List TypedExpression) → AllSimple (items_code es)
+items_simple [] = tt
+items_simple (e ∷ es) = simple_both (value_code e) (op.Put ∷ items_code es) (value_simple e) (tt, items_simple es)
+
+skip_simple : (b : Bool) → AllSimple (skip_code b)
+skip_simple true = (tt, tt)
+skip_simple false = tt
+
+-- two codes and an instruction
+both_then : (front back : List op.Instruction) (last : op.Instruction) → AllSimple front → AllSimple back → IsSimple last → AllSimple (front ++ back ++ last ∷ [])
+both_then front back last first second simple = simple_both (front ++ back) (last ∷ []) (simple_both front back first second) (simple, tt)
+
+pub form_simple : (f : Form) → AllSimple (simple_code f)
+form_simple (Assign target value) = both_then (place_code target) (value_code value) op.Store (place_simple target) (value_simple value) tt
+form_simple (AssignAggregate target source) = both_then (place_code target) (place_code source) op.Copy (place_simple target) (place_simple source) tt
+form_simple (Put skip items) = simple_both (skip_code skip) (items_code items) (skip_simple skip) (items_simple items)
+form_simple (Call callee arguments) = value_simple (Called callee arguments)
+form_simple (ReturnValue outward value) = simple_both (value_code value) (op.ReturnValue outward ∷ []) (value_simple value) (tt, tt)
+form_simple (Begin head statements) = (tt, tt)
+form_simple (Goto outward label) = (tt, tt)
+form_simple (Return outward) = (tt, tt)
+form_simple Stop = (tt, tt)
+form_simple Null = tt
+form_simple (If condition consequence alternative) = tt
+form_simple (Group statements) = tt
+form_simple (While condition statements) = tt
+form_simple (Iterate iteration statements) = tt
+
+-- such code fits
+one_fits : (i : op.Instruction) (n : ℕ) → IsSimple i → Fits n i
+one_fits (op.Jump target) n h = absurd h
+one_fits (op.JumpUnless target) n h = absurd h
+one_fits i n h = tt
+
+pub simple_fits : (is : List op.Instruction) (n : ℕ) → AllSimple is → AllByRecursion (Fits n) is
+simple_fits [] n h = tt
+simple_fits (i ∷ is) n h = (one_fits i n h.0, simple_fits is n h.1)
+
+-- and in it no statement begins
+pub none_begins : (is : List op.Instruction) (p m d : ℕ) → AllSimple is → step_place is p m d ≡ d
+none_begins [] p m d h = refl
+none_begins (op.Step s ∷ is) p m d h = absurd h.0
+none_begins (i ∷ is) p m d h = none_begins is (suc p) m d h.1
+
+pub none_in_value : (e : TypedExpression) (p m d : ℕ) → step_place (value_code e) p m d ≡ d
+none_in_value e p m d = none_begins (value_code e) p m d (value_simple e)
+
+pub none_in_form : (f : Form) (p m d : ℕ) → step_place (simple_code f) p m d ≡ d
+none_in_form f p m d = none_begins (simple_code f) p m d (form_simple f)
+
+-- where a statement begins in code behind code
+pub step_place_behind : (xs ys : List op.Instruction) (p m d : ℕ) → step_place (xs ++ ys) p m d ≡ step_place xs p m (step_place ys (behind xs p) m d)
+step_place_behind [] ys p m d = refl
+step_place_behind (op.Step s ∷ xs) ys p m d = ap (λ k. if nat_eq s m then p else k) (step_place_behind xs ys (suc p) m d)
+step_place_behind (i ∷ xs) ys p m d = step_place_behind xs ys (suc p) m d
+
+pub behind_both : (xs ys : List op.Instruction) (p : ℕ) → behind (xs ++ ys) p ≡ behind ys (behind xs p)
+behind_both [] ys p = refl
+behind_both (x ∷ xs) ys p = behind_both xs ys (suc p)

@@ -1,0 +1,132 @@
+-- The first steps in the code of blocks stand where their statements begin.
+use Rattle.std.proofs.Common.{◌≡◌, ℕ, suc, ◌+◌, ◌<◌, nat_eq, Bool, true, false, if◌then◌else◌, Option, Some, None, unwrap_or, List, [], ◌∷◌, ◌++◌, drop, get_or, length, refl, sym, ap, ◌∙◌, add-one}
+use Rattle.std.proofs.lemmas.List.{at_drop_more}
+use Rattle.pli_program.specs.Program as op
+use Rattle.pli_type_tree.specs.TypedTree.{TypedExpression, TypedStatement, Statement, TypedStatements, NoStatement, StatementThen, NoElse, Else}
+use Rattle.pli_type_tree.specs.TypedTree.{Form, Null, Assign, AssignAggregate, Put, If, Begin, Group, While, Iterate, Call, Goto, Return, ReturnValue, Stop}
+use Rattle.pli_gen_emit.specs.TreeTranslation.{BlockTree, behind, value_code, statement_code, form_code, list_code, end_code, block_code, blocks_code}
+use Rattle.pli_gen_emit.specs.TreeTranslation.{places_in, places_in_form, places_among, places_of, statement_place, list_place}
+use Rattle.pli_gen.specs.answers.Pieces.{step_place}
+use Rattle.pli_gen_emit.specs.views.NamingView.{naming_view, naming_code}
+use Rattle.pli_gen_emit.specs.declared.naming.NamingInstruction.{NamingInstruction}
+use Rattle.pli_gen.proofs.IterationCode.{iterate_passed}
+use Rattle.pli_gen.proofs.SimpleCode.{none_in_value, none_in_form, step_place_behind, behind_both}
+
+-- one instruction more
+pub more_steps : (code : List NamingInstruction) (i : ℕ) (x : NamingInstruction) (was now : Option ℕ) (n whole : ℕ) → i < length code → x ≡ get_or code i x
+    → ((d : ℕ) → unwrap_or now d ≡ unwrap_or was (step_place (naming_view x ∷ []) i n d))
+    → unwrap_or was (step_place (naming_code (drop i code)) i n 0) ≡ whole
+    → unwrap_or now (step_place (naming_code (drop (i + 1) code)) (i + 1) n 0) ≡ whole
+more_steps code i x was now n whole lt read step all =
+    let rest = naming_code (drop (i + 1) code) in
+    let here : step_place (naming_code (drop i code)) i n 0 ≡ step_place (naming_view (get_or code i x) ∷ rest) i n 0 =
+    at_drop_more (λ ys. step_place (naming_code ys) i n 0) code i x lt in
+    let apart : step_place (naming_view x ∷ rest) i n 0 ≡ step_place (naming_view x ∷ []) i n (step_place rest (i + 1) n 0) =
+    step_place_behind (naming_view x ∷ []) rest i n 0 ∙ ap (λ k. step_place (naming_view x ∷ []) i n (step_place rest k n 0)) (sym (add-one i)) in
+    step (step_place rest (i + 1) n 0)
+    ∙ ap (unwrap_or was) (sym apart ∙ ap (λ y. step_place (naming_view y ∷ rest) i n 0) read ∙ sym here)
+    ∙ all
+
+-- the place of a statement among places; another one if it is not there
+abbrev place_or : List (ℕ × ℕ) → (number other : ℕ) → ℕ
+place_or [] m d = d
+place_or ((s, p) ∷ more) m d = if nat_eq s m then p else place_or more m d
+
+place_or_is : (places : List (ℕ × ℕ)) (m : ℕ) → place_or places m 0 ≡ statement_place places m
+place_or_is [] m = refl
+place_or_is ((s, p) ∷ more) m = ap (λ k. if nat_eq s m then p else k) (place_or_is more m)
+
+place_or_behind : (xs ys : List (ℕ × ℕ)) (m d : ℕ) → place_or (xs ++ ys) m d ≡ place_or xs m (place_or ys m d)
+place_or_behind [] ys m d = refl
+place_or_behind ((s, p) ∷ xs) ys m d = ap (λ k. if nat_eq s m then p else k) (place_or_behind xs ys m d)
+
+-- a test is passed over
+test_passed : (test : TypedExpression) (rest : List op.Instruction) (p m d : ℕ) → step_place (value_code test ++ rest) p m d ≡ step_place rest (behind (value_code test) p) m d
+test_passed test rest p m d =
+    step_place_behind (value_code test) rest p m d ∙ none_in_value test p m (step_place rest (behind (value_code test) p) m d)
+
+-- where a test fails, what is chosen is the other one
+other_one : (b : Bool) (x y : ℕ) → b ≡ false → (if b then x else y) ≡ y
+other_one b x y e = ap (λ b. if b then x else y) e
+
+unless : (b : Bool) (p x y : ℕ) → (b ≡ false → x ≡ y) → (if b then p else x) ≡ (if b then p else y)
+unless true p x y h = refl
+unless false p x y h = h refl
+
+-- the step at each turn of a loop is not the first of its statement
+turn_passed : (number p r m d : ℕ) (test : TypedExpression) (code : List op.Instruction) → nat_eq number m ≡ false
+    → step_place (op.Line number ∷ value_code test ++ op.JumpUnless r ∷ op.Step number ∷ code ++ op.Jump p ∷ []) p m d
+    ≡ step_place code (suc (suc (behind (value_code test) (suc p)))) m d
+turn_passed number p r m d test code e =
+    let front = op.Line number ∷ value_code test ++ op.JumpUnless r ∷ op.Step number ∷ code in
+    let q = suc (behind (value_code test) (suc p)) in
+    step_place_behind front (op.Jump p ∷ []) p m d
+    ∙ test_passed test (op.JumpUnless r ∷ op.Step number ∷ code) (suc p) m d
+    ∙ other_one (nat_eq number m) q (step_place code (suc q) m d) e
+
+mutual
+  statement_begins : (s : TypedStatement) (p m d : ℕ) → step_place (statement_code s p) p m d ≡ place_or (places_in s p) m d
+  statement_begins (Statement number form) p m d = unless (nat_eq number m) p _ _ (λ e. form_begins number form (suc p) m d e)
+
+  form_begins : (number : ℕ) (f : Form) (p m d : ℕ) → nat_eq number m ≡ false → step_place (form_code number f p) p m d ≡ place_or (places_in_form f p) m d
+  form_begins number (If test part NoElse) p m d e =
+      let q = suc (behind (value_code test) p) in
+      test_passed test (op.JumpUnless (behind (statement_code part q) q) ∷ statement_code part q) p m d ∙ statement_begins part q m d
+      ∙ sym (place_or_behind (places_in part q) [] m d)
+  form_begins number (If test part (Else other)) p m d e =
+      let q = suc (behind (value_code test) p) in
+      let code = statement_code part q in
+      let r = suc (behind code q) in
+      let rest = op.Jump (behind (statement_code other r) r) ∷ statement_code other r in
+      let front = value_code test ++ op.JumpUnless r ∷ code in
+      step_place_behind front rest p m d
+      ∙ test_passed test (op.JumpUnless r ∷ code) p m (step_place rest (behind front p) m d)
+      ∙ statement_begins part q m (step_place rest (behind front p) m d)
+      ∙ ap (place_or (places_in part q) m) (ap (λ k. step_place rest k m d) (behind_both (value_code test) (op.JumpUnless r ∷ code) p) ∙ statement_begins other r m d)
+      ∙ sym (place_or_behind (places_in part q) (places_in other r) m d)
+  form_begins number (Group statements) p m d e = list_begins statements p m d
+  form_begins number (While condition statements) p m d e =
+      let q = suc (suc (behind (value_code condition) (suc p))) in
+      turn_passed number p _ m d condition (list_code statements q) e ∙ list_begins statements q m d
+  form_begins number (Iterate iteration statements) p m d e =
+      iterate_passed number iteration (list_code statements) p m d e ∙ list_begins statements (list_place iteration p) m d
+  form_begins number Null p m d e = none_in_form Null p m d
+  form_begins number (Assign target value) p m d e = none_in_form (Assign target value) p m d
+  form_begins number (AssignAggregate target source) p m d e = none_in_form (AssignAggregate target source) p m d
+  form_begins number (Put skip items) p m d e = none_in_form (Put skip items) p m d
+  form_begins number (Begin head statements) p m d e = refl
+  form_begins number (Call callee arguments) p m d e = none_in_form (Call callee arguments) p m d
+  form_begins number (Goto outward label) p m d e = refl
+  form_begins number (Return outward) p m d e = refl
+  form_begins number (ReturnValue outward value) p m d e = none_in_form (ReturnValue outward value) p m d
+  form_begins number Stop p m d e = refl
+
+  list_begins : (ss : TypedStatements) (p m d : ℕ) → step_place (list_code ss p) p m d ≡ place_or (places_among ss p) m d
+  list_begins NoStatement p m d = refl
+  list_begins (StatementThen first more) p m d =
+      let code = statement_code first p in
+      let q = behind code p in
+      step_place_behind code (list_code more q) p m d
+      ∙ statement_begins first p m _
+      ∙ ap (place_or (places_in first p) m) (list_begins more q m d)
+      ∙ sym (place_or_behind (places_in first p) (places_among more q) m d)
+
+end_passed : (e : Option ℕ) (p m d : ℕ) → step_place (end_code e) p m d ≡ d
+end_passed None p m d = refl
+end_passed (Some number) p m d = refl
+
+blocks_begin : (bs : List BlockTree) (p m d : ℕ) → step_place (blocks_code bs p) p m d ≡ place_or (places_of bs p) m d
+blocks_begin [] p m d = refl
+blocks_begin (b ∷ bs) p m d =
+    let code = block_code b p in
+    let q = behind code p in
+    step_place_behind code (blocks_code bs q) p m d
+    ∙ step_place_behind (list_code b.statements p) (end_code b.function_end) p m _
+    ∙ ap (step_place (list_code b.statements p) p m) (end_passed b.function_end _ m _)
+    ∙ list_begins b.statements p m _
+    ∙ ap (place_or (places_among b.statements p) m) (blocks_begin bs q m d)
+    ∙ sym (place_or_behind (places_among b.statements p) (places_of bs q) m d)
+
+-- so a GOTO leads where its label's statement begins
+pub steps_are_places : (bs : List BlockTree) (m : ℕ) → step_place (blocks_code bs 0) 0 m 0 ≡ statement_place (places_of bs 0) m
+steps_are_places bs m = blocks_begin bs 0 m 0 ∙ place_or_is (places_of bs 0) m

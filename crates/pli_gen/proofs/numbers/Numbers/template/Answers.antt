@@ -1,0 +1,11 @@
+use Rattle.std.proofs.Common.{◌∙◌, ap, length, unwrap_or}
+use Rattle.pli_type_keys.specs.Same.{same_template}
+use Rattle.pli_type_keys.specs.views.KeyView.{templated}
+use Rattle.pli_gen.proofs.NumberLemmas.{found_number}
+use Rattle.pli_gen.proofs.numbers.Numbers.template.Goals as goal
+
+pub returns : goal.returns
+returns c =
+    let keys = c.args.self.now.tables.now.templates.keys in
+    c.unwrap_or.ensures ∙ ap (unwrap_or c.get_index_of.result) c.len.ensures.len ∙ ap (λ o. unwrap_or o (length keys)) c.get_index_of.ensures.index
+    ∙ found_number templated same_template keys c.args.template

@@ -1,0 +1,230 @@
+-- The code of a unit with its tables: descriptions, templates and values are numbered by first use, and equal
+-- ones once (own). First comes what the external procedure takes and gives, then the globals, then the
+-- variables of the blocks, then the instructions, block after block.
+use Rattle.std.specs.Prelude.{ℕ, suc, Bool, option_map, List, [], ◌∷◌, ◌++◌, map}
+use Rattle.std.specs.Prelude.{length, if◌then◌else◌}
+use Rattle.std.specs.List.{flat_map, list_any}
+use Rattle.pli_map.specs.Description.{Description}
+use Rattle.pli_map.specs.Same.{same}
+use Rattle.pli_operation.specs.Operations as calculate
+use Rattle.pli_operation.specs.Operations.{Operation, Relation}
+use Rattle.pli_operation.specs.declared.operation.Relation.TheVariants as relations
+use Rattle.pli_operation.specs.declared.operation.Relation as declared_relation
+use Rattle.pli_value.specs.Value.{Value}
+use Rattle.pli_program.specs.Program as op
+use Rattle.pli_type_tree.specs.Templates.{Template}
+use Rattle.pli_type_tree.specs.TypedTree.{Signature, Global, OwnVariable, ExternalVariable, EntryPoint}
+use Rattle.pli_type_tree.specs.TypedTree.{TypedUnit}
+use Rattle.pli_type_keys.specs.Same.{same_value, same_template}
+use Rattle.pli_code.specs.CodeTables as plain
+use Rattle.pli_code.specs.CodeTables.{CodedTemplate, CodedBlock, CodedSignature, CodedGlobal, Code}
+use Rattle.pli_code.specs.CodeTables.{there}
+use Rattle.pli_code.specs.declared.instruction.Instruction.{Instruction}
+use Rattle.pli_code.specs.declared.instruction.Instruction.TheVariants as coded
+use Rattle.pli_code.specs.declared.code.VariableKind.TheVariants.{Static}
+use Rattle.pli_gen_emit.specs.TreeTranslation.{BlockTree, blocks_of, block_code, behind, instructions_of}
+
+-- a table, with each further one that it has not got put at its end
+abbrev pub numbered : {X : Type 0} → (alike : X → X → Bool) → (table : List X) → List X → List X
+numbered alike table [] = table
+numbered alike table (x ∷ xs) =
+    numbered alike (if list_any (alike x) table then table else table ++ x ∷ []) xs
+
+-- the number of an entry
+abbrev pub number_in : {X : Type 0} → (alike : X → X → Bool) → List X → X → ℕ
+number_in alike [] x = 0
+number_in alike (y ∷ ys) x = if alike x y then 0 else suc (number_in alike ys x)
+
+-- a dummy argument is made from a template without initial values
+abbrev pub dummy : Description → Template
+dummy d = record { description = d; initial = [] }
+
+-- the description to which an operation fits
+abbrev pub fitted_by : Operation → List Description
+fitted_by (calculate.Fit d) = d ∷ []
+fitted_by operation = []
+
+-- the descriptions that an instruction names
+abbrev pub descriptions_named : op.Instruction → List Description
+descriptions_named (op.Field offset d) = d ∷ []
+descriptions_named (op.MakeDummy d) = d ∷ []
+descriptions_named (op.Operate operation) = fitted_by operation
+descriptions_named i = []
+
+-- the templates that it names
+abbrev pub templates_named : op.Instruction → List Template
+templates_named (op.MakeDummy d) = dummy d ∷ []
+templates_named i = []
+
+-- the values that it names
+abbrev pub values_named : op.Instruction → List Value
+values_named (op.Constant v) = v ∷ []
+values_named i = []
+
+-- what a signature names: its parameters, then its result
+abbrev pub signature_descriptions : Signature → List Description
+signature_descriptions s = s.parameters ++ there s.result
+
+-- the descriptions that a global names
+abbrev pub global_descriptions : Global → List Description
+global_descriptions (OwnVariable t) = t.description ∷ []
+global_descriptions (ExternalVariable name t) = t.description ∷ []
+global_descriptions (EntryPoint name signature) = signature_descriptions signature
+
+-- the templates that it names
+abbrev pub global_templates : Global → List Template
+global_templates (OwnVariable t) = t ∷ []
+global_templates (ExternalVariable name t) = t ∷ []
+global_templates (EntryPoint name signature) = []
+
+-- the templates of the variables of blocks
+abbrev pub block_templates : List BlockTree → List Template
+block_templates bs = flat_map (λ b. b.head.variables) bs
+
+-- the entries of tables
+pub record NumberedTables : Type 0 where
+  pub descriptions : List Description
+  pub templates : List Template
+  pub values : List Value
+
+-- those of a unit of these blocks and instructions
+abbrev pub tables_for : TypedUnit → List BlockTree → List op.Instruction → NumberedTables
+tables_for u bs code = record {
+  descriptions =
+      numbered same []
+      (signature_descriptions u.signature ++ flat_map global_descriptions u.globals
+      ++ map (λ t. t.description) (block_templates bs) ++ flat_map descriptions_named code);
+  templates =
+      numbered same_template []
+      (flat_map global_templates u.globals ++ block_templates bs ++ flat_map templates_named code);
+  values = numbered same_value [] (flat_map values_named code);
+}
+
+-- an asked relation as code has it
+abbrev pub relation_code : Relation → declared_relation.Relation
+relation_code calculate.Equal = relations.Equal
+relation_code calculate.Unequal = relations.Unequal
+relation_code calculate.Less = relations.Less
+relation_code calculate.AtMost = relations.AtMost
+relation_code calculate.Greater = relations.Greater
+relation_code calculate.AtLeast = relations.AtLeast
+
+-- with these tables
+module _ (tables : NumberedTables) where
+  -- the number of a description
+  abbrev pub description_number : Description → ℕ
+  description_number d = number_in same tables.descriptions d
+
+  -- the number of a template
+  abbrev pub template_number : Template → ℕ
+  template_number t = number_in same_template tables.templates t
+
+  -- the instruction of an operation
+  abbrev pub operation_code : Operation → Instruction
+  operation_code calculate.Negate = coded.Negate
+  operation_code calculate.Absolute = coded.Absolute
+  operation_code calculate.Sign = coded.Sign
+  operation_code calculate.Not = coded.Not
+  operation_code calculate.LengthOf = coded.LengthOf
+  operation_code calculate.FromBits = coded.FromBits
+  operation_code (calculate.ToCharacters width) = coded.ToCharacters width
+  operation_code (calculate.Fit d) = coded.Fit (description_number d)
+  operation_code calculate.Add = coded.Add
+  operation_code calculate.Subtract = coded.Subtract
+  operation_code calculate.Multiply = coded.Multiply
+  operation_code calculate.Modulo = coded.Modulo
+  operation_code calculate.Greatest = coded.Greatest
+  operation_code calculate.Least = coded.Least
+  operation_code (calculate.Divide precision) = coded.Divide precision
+  operation_code (calculate.Compare relation) = coded.Compare (relation_code relation)
+  operation_code calculate.Concatenate = coded.Concatenate
+  operation_code calculate.And = coded.And
+  operation_code calculate.Or = coded.Or
+  operation_code calculate.Index = coded.Index
+  operation_code calculate.Rest = coded.Rest
+  operation_code calculate.Substring = coded.Substring
+  operation_code calculate.Within = coded.Within
+
+  -- an instruction with numbers in place of what it names; what names no entry has the number of one that its
+  -- table has not
+  abbrev pub instruction_code : op.Instruction → Instruction
+  instruction_code (op.Step s) = coded.Step s
+  instruction_code (op.Line s) = coded.Line s
+  instruction_code (op.Jump target) = coded.Jump target
+  instruction_code (op.JumpUnless target) = coded.JumpUnless target
+  instruction_code (op.Goto outward target) = coded.Goto outward target
+  instruction_code (op.Call block arguments) = coded.Call block arguments
+  instruction_code (op.CallExternal global arguments) = coded.CallExternal global arguments
+  instruction_code (op.Begin block) = coded.Begin block
+  instruction_code (op.Return outward) = coded.Return outward
+  instruction_code (op.ReturnValue outward) = coded.ReturnValue outward
+  instruction_code (op.Raise e) = coded.Raise e
+  instruction_code op.Stop = coded.Stop
+  instruction_code (op.Local outward slot) = coded.Local outward slot
+  instruction_code (op.Global number) = coded.Global number
+  instruction_code (op.Field offset d) = coded.Field offset (description_number d)
+  instruction_code (op.Subscript low high multiplier) = coded.Subscript low high multiplier
+  instruction_code (op.Constant v) = coded.Constant (number_in same_value tables.values v)
+  instruction_code op.Load = coded.Load
+  instruction_code op.Store = coded.Store
+  instruction_code op.Copy = coded.Copy
+  instruction_code (op.MakeDummy d) = coded.MakeDummy (template_number (dummy d))
+  instruction_code (op.Operate operation) = operation_code operation
+  instruction_code op.Put = coded.Put
+  instruction_code op.Skip = coded.Skip
+  instruction_code (op.SetTemporary number) = coded.SetTemporary number
+  instruction_code (op.TakeTemporary number) = coded.TakeTemporary number
+  instruction_code op.Nothing = coded.Constant (length tables.values)
+
+  -- a template with its description's number
+  abbrev pub template_code : Template → CodedTemplate
+  template_code t = record { description = description_number t.description; initial = t.initial }
+
+  -- a signature with the numbers of its descriptions
+  abbrev pub signature_code : Signature → CodedSignature
+  signature_code s = record {
+    parameters = map description_number s.parameters;
+    result = option_map description_number s.result;
+  }
+
+  -- a global with the numbers of what it names
+  abbrev pub global_code : Global → CodedGlobal
+  global_code (OwnVariable t) = plain.OwnVariable Static (template_number t)
+  global_code (ExternalVariable name t) = plain.ExternalVariable name Static (template_number t)
+  global_code (EntryPoint name signature) = plain.EntryPoint name (signature_code signature)
+
+  -- a block with its first instruction
+  abbrev pub coded_block : BlockTree → (entry : ℕ) → CodedBlock
+  coded_block b p = record {
+    kind = b.kind;
+    parent = b.parent;
+    parameters = b.parameters;
+    variables = map template_number b.head.variables;
+    temporaries = b.head.temporaries;
+    entry = p;
+    statement = b.head.statement;
+  }
+
+  -- blocks whose code stands one behind the other
+  abbrev pub coded_blocks : List BlockTree → (at : ℕ) → List CodedBlock
+  coded_blocks [] p = []
+  coded_blocks (b ∷ bs) p = coded_block b p ∷ coded_blocks bs (behind (block_code b p) p)
+
+  -- a unit of these blocks and instructions
+  abbrev pub coded_unit : TypedUnit → List BlockTree → List op.Instruction → Code
+  coded_unit u bs code = record {
+    signature = signature_code u.signature;
+    descriptions = tables.descriptions;
+    templates = map template_code tables.templates;
+    values = tables.values;
+    globals = map global_code u.globals;
+    blocks = coded_blocks bs 0;
+    instructions = map instruction_code code;
+  }
+
+-- the code of a unit
+abbrev pub code_of : TypedUnit → Code
+code_of u =
+    let bs = blocks_of u in
+    let code = instructions_of bs in
+    coded_unit (tables_for u bs code) u bs code

@@ -1,0 +1,346 @@
+-- Worked examples of the translation.
+use Rattle.std.specs.Prelude.{replicate, ◌≡◌, ℕ, pos, true, false, Some, None, [], ◌∷◌, codes}
+use Rattle.pli_run.specs.declared.ending.RunError.TheVariants.{NoReturnedValue}
+use Rattle.pli_map.specs.Description.{FixedBinary, Character, Bit}
+use Rattle.pli_operation.specs.Operations as calculate
+use Rattle.pli_value.specs.Value.{Number, Characters}
+use Rattle.pli_program.specs.Program.{Instruction, Step, Line, Jump, JumpUnless, Local, Field, Subscript}
+use Rattle.pli_program.specs.Program.{Constant, Load, Store, Copy, MakeDummy, Operate, Skip, Raise}
+use Rattle.pli_program.specs.Program.{Procedure, BeginBlock}
+use Rattle.pli_program.specs.Program as op
+use Rattle.pli_type_tree.specs.TypedTree.{InSlot, TypedExpression, Literal, Held, Calculated, Called, Whole}
+use Rattle.pli_type_tree.specs.TypedTree.{TypedReference, Part, NoOperand, OperandThen, NoSubscript}
+use Rattle.pli_type_tree.specs.TypedTree.{SubscriptThen, NoArgument, ByPlace, ByDummy, BlockHead, Statement}
+use Rattle.pli_type_tree.specs.TypedTree.{Null, Assign, AssignAggregate, Put, If, Begin, While, Call, Goto}
+use Rattle.pli_type_tree.specs.TypedTree.{Iterate, ToBy}
+use Rattle.pli_type_tree.specs.TypedTree.{Stop, NoElse, Else, NoStatement, StatementThen}
+use Rattle.pli_type_tree.specs.TypedTree.{OfBlock, OfEntry, TypedArguments, OwnVariable, ExternalVariable}
+use Rattle.pli_type_tree.specs.TypedTree.{EntryPoint, TypedUnit, TypedProcedure}
+use Rattle.pli_code.specs.CodeTables as tables
+use Rattle.pli_code.specs.declared.instruction.Instruction.TheVariants as coded
+use Rattle.pli_code.specs.declared.code.VariableKind.TheVariants.{Static}
+use Rattle.pli_gen.specs.Encoding.{code_of}
+use Rattle.pli_gen.specs.Limits.{is_too_long}
+use Rattle.pli_gen.specs.WellNumbered.{IsWellNumbered}
+use Rattle.pli_gen_emit.specs.TreeTranslation.{list_code, place_code, statement_code, unit_code}
+
+-- the variable in the first slot
+abbrev first : TypedReference
+first = Whole (InSlot 0 0)
+
+-- the variable in the second slot
+abbrev second : TypedReference
+second = Whole (InSlot 0 1)
+
+-- a constant number
+abbrev number : ℕ → TypedExpression
+number n = Literal (Number (pos n))
+
+-- statements 3 and 4: `X = 2 + 3; PUT SKIP LIST(X);`, with `DCL X FIXED BIN(31)`, at place 0
+abbrev pub AssignedAndPrinted : Type 0
+AssignedAndPrinted =
+    list_code
+    (StatementThen
+    (Statement 3
+    (Assign first
+    (Calculated (calculate.Fit (FixedBinary 31))
+    (OperandThen
+    (Calculated calculate.Add (OperandThen (number 2) (OperandThen (number 3) NoOperand)))
+    NoOperand))))
+    (StatementThen
+    (Statement 4
+    (Put true (Calculated (calculate.ToCharacters 14) (OperandThen (Held first) NoOperand) ∷ [])))
+    NoStatement))
+    0
+    ≡ Step 3 ∷ Local 0 0 ∷ Constant (Number (pos 2)) ∷ Constant (Number (pos 3)) ∷ Operate calculate.Add
+    ∷ Operate (calculate.Fit (FixedBinary 31)) ∷ Store
+    ∷ Step 4 ∷ Skip ∷ Local 0 0 ∷ Load ∷ Operate (calculate.ToCharacters 14) ∷ op.Put ∷ []
+
+-- `S.B(1, 4, 1)`, with `DCL 1 S(2), 2 A FIXED BIN(31), 2 B(3:5, 2) CHAR(3)`
+abbrev pub PartOfStructure : Type 0
+PartOfStructure =
+    place_code
+    (Part (InSlot 0 0) 4 (Character 3)
+    (SubscriptThen (record { low = pos 1; high = pos 2; multiplier = 24 }) (number 1)
+    (SubscriptThen (record { low = pos 3; high = pos 5; multiplier = 6 }) (number 4)
+    (SubscriptThen (record { low = pos 1; high = pos 2; multiplier = 3 }) (number 1) NoSubscript))))
+    ≡ Local 0 0 ∷ Field 4 (Character 3)
+    ∷ Constant (Number (pos 1)) ∷ Subscript (pos 1) (pos 2) 24
+    ∷ Constant (Number (pos 4)) ∷ Subscript (pos 3) (pos 5) 6
+    ∷ Constant (Number (pos 1)) ∷ Subscript (pos 1) (pos 2) 3 ∷ []
+
+-- statement 2: `CALL P(X, 5);`, where block 1 is a procedure whose second parameter is FIXED BIN(15)
+abbrev pub ArgumentsHanded : Type 0
+ArgumentsHanded =
+    statement_code
+    (Statement 2
+    (Call (OfBlock 1)
+    (ByPlace first
+    (ByDummy (FixedBinary 15)
+    (Calculated (calculate.Fit (FixedBinary 15)) (OperandThen (number 5) NoOperand)) NoArgument))))
+    0
+    ≡ Step 2 ∷ Local 0 0 ∷ Constant (Number (pos 5)) ∷ Operate (calculate.Fit (FixedBinary 15))
+    ∷ MakeDummy (FixedBinary 15) ∷ op.Call 1 2 ∷ []
+
+-- statement 2: `S = T;`, of structures
+abbrev pub AggregateCopied : Type 0
+AggregateCopied =
+    statement_code (Statement 2 (AssignAggregate first second)) 0
+    ≡ Step 2 ∷ Local 0 0 ∷ Local 0 1 ∷ Copy ∷ []
+
+-- statement 2: `DO X = 1 TO 3; ; END;`, with `DCL X FIXED BIN(15)`, at place 0
+abbrev pub Counted : Type 0
+Counted =
+    statement_code
+    (Statement 2
+    (Iterate
+    (record {
+      control = first;
+      conversion = calculate.Fit (FixedBinary 15) ∷ [];
+      start = number 1;
+      range = ToBy (number 3) None;
+      condition = None;
+      temporary = 0;
+    })
+    (StatementThen (Statement 3 Null) NoStatement)))
+    0
+    ≡ Step 2 ∷ Constant (Number (pos 1)) ∷ op.SetTemporary 0 ∷ Constant (Number (pos 3)) ∷ op.SetTemporary 1
+    ∷ Constant (Number (pos 1)) ∷ op.SetTemporary 2
+    ∷ Local 0 0 ∷ op.TakeTemporary 0 ∷ Operate (calculate.Fit (FixedBinary 15)) ∷ Store
+    ∷ Local 0 0 ∷ Load ∷ op.TakeTemporary 1 ∷ op.TakeTemporary 2 ∷ Operate calculate.Within ∷ JumpUnless 28
+    ∷ Step 2 ∷ Step 3
+    ∷ Line 2 ∷ Local 0 0 ∷ Local 0 0 ∷ Load ∷ op.TakeTemporary 2 ∷ Operate calculate.Add
+    ∷ Operate (calculate.Fit (FixedBinary 15)) ∷ Store ∷ Jump 11 ∷ []
+
+-- a block of this number, which begins at a statement and has no variables
+abbrev head : (number statement : ℕ) → BlockHead
+head n s = record { number = n; statement = s; variables = []; temporaries = 0 }
+
+-- F()
+abbrev call_of_f : TypedExpression
+call_of_f = Called (OfBlock 2) NoArgument
+
+-- M: PROC OPTIONS(MAIN); BEGIN; GOTO L; END; and behind F, L: IF F() THEN ; ELSE STOP; DO WHILE(F()); ; END;
+-- END M; its BEGIN is block 1
+abbrev external : TypedProcedure
+external = record {
+  head = head 0 1;
+  parent = None;
+  parameters = 0;
+  function_end = None;
+  statements =
+      StatementThen (Statement 2 (Begin (head 1 2) (StatementThen (Statement 3 (Goto 1 7)) NoStatement)))
+      (StatementThen (Statement 7 (If call_of_f (Statement 8 Null) (Else (Statement 9 Stop))))
+      (StatementThen (Statement 10 (While call_of_f (StatementThen (Statement 11 Null) NoStatement)))
+      NoStatement));
+}
+
+-- F: PROC RETURNS(BIT); END F; in M, which is block 2
+abbrev function : TypedProcedure
+function = record {
+  head = head 2 5;
+  parent = Some 0;
+  parameters = 0;
+  function_end = Some 6;
+  statements = NoStatement;
+}
+
+-- the unit of both
+abbrev jumping : TypedUnit
+jumping = record {
+  name = codes "M";
+  procedure = codes "M";
+  is_main = true;
+  signature = record { parameters = []; result = None };
+  globals = [];
+  procedures = external ∷ function ∷ [];
+}
+
+-- the GOTO of block 1 leads to place 2, where statement 7 begins
+abbrev pub JumpsAndBlocks : Type 0
+JumpsAndBlocks = (unit_code jumping []).instructions ≡
+    Step 2 ∷ op.Begin 1
+    ∷ Step 7 ∷ op.Call 2 0 ∷ JumpUnless 7 ∷ Step 8 ∷ Jump 9 ∷ Step 9 ∷ op.Stop
+    ∷ Step 10 ∷ Line 10 ∷ op.Call 2 0 ∷ JumpUnless 16 ∷ Step 10 ∷ Step 11 ∷ Jump 10 ∷ op.Return 0
+    ∷ Step 3 ∷ op.Goto 1 2 ∷ op.Return 0
+    ∷ Line 6 ∷ Raise NoReturnedValue ∷ []
+
+-- and its blocks
+abbrev pub WholeUnit : Type 0
+WholeUnit = (unit_code jumping []).blocks ≡
+    record {
+      kind = Procedure;
+      parent = None;
+      parameters = 0;
+      variables = [];
+      temporaries = 0;
+      entry = 0;
+      statement = 1;
+    }
+    ∷ record {
+      kind = BeginBlock;
+      parent = Some 0;
+      parameters = 0;
+      variables = [];
+      temporaries = 0;
+      entry = 17;
+      statement = 2;
+    }
+    ∷ record {
+      kind = Procedure;
+      parent = Some 0;
+      parameters = 0;
+      variables = [];
+      temporaries = 0;
+      entry = 20;
+      statement = 5;
+    } ∷ []
+
+-- it is numbered well
+abbrev pub NumberedWell : Type 0
+NumberedWell = IsWellNumbered jumping
+
+-- 5 as characters
+abbrev characters_of_5 : TypedExpression
+characters_of_5 = Calculated (calculate.ToCharacters 4) (OperandThen (number 5) NoOperand)
+
+-- ABS(+5)
+abbrev absolute_of_5 : TypedExpression
+absolute_of_5 = Calculated calculate.Absolute (OperandThen (number 5) NoOperand)
+
+-- M: PROC OPTIONS(MAIN); DCL C CHAR(3); CALL S(5); PUT LIST(C, 5, ABS(+5)); END M;
+abbrev printing : TypedProcedure
+printing = record {
+  head = record {
+    number = 0;
+    statement = 1;
+    variables = record { description = Character 3; initial = [] } ∷ [];
+    temporaries = 0;
+  };
+  parent = None;
+  parameters = 0;
+  function_end = None;
+  statements =
+      StatementThen
+      (Statement 3
+      (Call (OfBlock 1)
+      (ByDummy (Character 2)
+      (Calculated (calculate.Fit (Character 2)) (OperandThen characters_of_5 NoOperand)) NoArgument)))
+      (StatementThen
+      (Statement 4
+      (Put false
+      (Held first ∷ characters_of_5
+      ∷ Calculated (calculate.ToCharacters 5) (OperandThen absolute_of_5 NoOperand) ∷ [])))
+      NoStatement);
+}
+
+-- S: PROC(P); DCL P CHAR(2); END S; in M
+abbrev called : TypedProcedure
+called = record {
+  head = head 1 5;
+  parent = Some 0;
+  parameters = 1;
+  function_end = None;
+  statements = NoStatement;
+}
+
+-- the unit of both
+abbrev printing_unit : TypedUnit
+printing_unit = record {
+  name = codes "M";
+  procedure = codes "M";
+  is_main = true;
+  signature = record { parameters = []; result = None };
+  globals = [];
+  procedures = printing ∷ called ∷ [];
+}
+
+-- the variable's description and that of the dummy argument; templates of these; the number once
+abbrev pub TablesNumbered : Type 0
+TablesNumbered = ((code_of printing_unit).descriptions ≡ Character 3 ∷ Character 2 ∷ [])
+    × ((code_of printing_unit).templates
+    ≡ record { description = 0; initial = [] } ∷ record { description = 1; initial = [] } ∷ [])
+    × ((code_of printing_unit).values ≡ Number (pos 5) ∷ [])
+
+-- the instructions with the numbers of what they name
+abbrev pub InstructionsNumbered : Type 0
+InstructionsNumbered = (code_of printing_unit).instructions
+    ≡ coded.Step 3 ∷ coded.Constant 0 ∷ coded.ToCharacters 4 ∷ coded.Fit 1 ∷ coded.MakeDummy 1
+    ∷ coded.Call 1 1
+    ∷ coded.Step 4 ∷ coded.Local 0 0 ∷ coded.Load ∷ coded.Put ∷ coded.Constant 0 ∷ coded.ToCharacters 4
+    ∷ coded.Put ∷ coded.Constant 0 ∷ coded.Absolute ∷ coded.ToCharacters 5 ∷ coded.Put ∷ coded.Return 0
+    ∷ coded.Return 0 ∷ []
+
+-- its code with so many globals
+abbrev with_globals : ℕ → tables.Code
+with_globals n = record (code_of printing_unit) { globals = replicate n (tables.OwnVariable Static 0) }
+
+-- its code with a RETURN that leads so many activations outward
+abbrev with_outward : ℕ → tables.Code
+with_outward n = record (code_of printing_unit) { instructions = coded.Return n ∷ [] }
+
+-- it is not too long; with 65,536 globals it would be, and with a number that has no room in its byte
+abbrev pub LimitsKept : Type 0
+LimitsKept = (is_too_long (code_of printing_unit) ≡ false)
+    × (is_too_long (with_globals 65536) ≡ true) × (is_too_long (with_globals 65535) ≡ false)
+    × (is_too_long (with_outward 256) ≡ true) × (is_too_long (with_outward 255) ≡ false)
+
+-- (P), where P is the first parameter
+abbrev of_p : TypedArguments
+of_p = ByPlace first NoArgument
+
+-- S: PROC(P); CALL G(P); IF F(P) THEN ; END S;
+abbrev calling : TypedProcedure
+calling = record {
+  head = head 0 1;
+  parent = None;
+  parameters = 1;
+  function_end = None;
+  statements =
+      StatementThen (Statement 3 (Call (OfEntry 3) of_p))
+      (StatementThen (Statement 4 (If (Called (OfEntry 1) of_p) (Statement 5 Null) NoElse)) NoStatement);
+}
+
+-- its unit, with DCL P CHAR(2), N FIXED BIN(15) STATIC EXTERNAL, F ENTRY(CHAR(2)) RETURNS(BIT(1)), V CHAR(2)
+-- STATIC, G ENTRY(CHAR(2)) EXTERNAL
+abbrev calling_unit : TypedUnit
+calling_unit = record {
+  name = codes "S";
+  procedure = codes "S";
+  is_main = false;
+  signature = record { parameters = Character 2 ∷ []; result = None };
+  globals =
+      ExternalVariable (codes "N") (record { description = FixedBinary 15; initial = [] })
+      ∷ EntryPoint (codes "F") (record { parameters = Character 2 ∷ []; result = Some (Bit 1) })
+      ∷ OwnVariable (record { description = Character 2; initial = [] })
+      ∷ EntryPoint (codes "G") (record { parameters = Character 2 ∷ []; result = None }) ∷ [];
+  procedures = calling ∷ [];
+}
+
+-- the parameter's description comes first; then those of the globals
+abbrev pub GlobalsNumbered : Type 0
+GlobalsNumbered =
+    ((code_of calling_unit).signature ≡ record { parameters = 0 ∷ []; result = None })
+    × ((code_of calling_unit).descriptions ≡ Character 2 ∷ FixedBinary 15 ∷ Bit 1 ∷ [])
+    × ((code_of calling_unit).templates
+    ≡ record { description = 1; initial = [] } ∷ record { description = 0; initial = [] } ∷ [])
+    × ((code_of calling_unit).globals
+    ≡ tables.ExternalVariable (codes "N") Static 0
+    ∷ tables.EntryPoint (codes "F") (record { parameters = 0 ∷ []; result = Some 2 })
+    ∷ tables.OwnVariable Static 1 ∷ tables.EntryPoint (codes "G") (record { parameters = 0 ∷ []; result = None })
+    ∷ [])
+
+-- an entry is called by its number among them
+abbrev pub EntriesCalled : Type 0
+EntriesCalled = (code_of calling_unit).instructions
+    ≡ coded.Step 3 ∷ coded.Local 0 0 ∷ coded.CallExternal 3 1
+    ∷ coded.Step 4 ∷ coded.Local 0 0 ∷ coded.CallExternal 1 1 ∷ coded.JumpUnless 8 ∷ coded.Step 5
+    ∷ coded.Return 0 ∷ []
+
+-- with the numbers of the units that have F and G
+abbrev pub EntriesLinked : Type 0
+EntriesLinked = (unit_code calling_unit (4 ∷ 2 ∷ [])).globals
+    ≡ op.ExternalVariable (codes "N") (record { description = FixedBinary 15; initial = Number (pos 0) ∷ [] })
+    ∷ op.EntryPoint 4
+    ∷ op.OwnVariable (record { description = Character 2; initial = Characters (codes "  ") ∷ [] })
+    ∷ op.EntryPoint 2 ∷ []

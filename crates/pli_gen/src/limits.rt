@@ -1,0 +1,192 @@
+//! Which code is too long.
+ghost use Rattle.std.specs.Prelude.{◌≡◌, ◌+◌, ◌≤◌, ◌||◌, ◌&&◌, not, nat_lt, min, map, length};
+ghost use Rattle.std.specs.List.{list_all, list_any, sum_by, AllByRecursion};
+ghost use Rattle.pli_map.specs.views.DescriptionView.{description_view, members_view};
+ghost use Rattle.pli_type_tree.specs.views.GlobalView.{global_group_view, globals_view};
+ghost use Rattle.pli_type_tree.specs.views.TemplateView.{groups_view};
+ghost use Rattle.pli_type_tree.specs.views.TypedView.{unit_view};
+ghost use Rattle.pli_gen.specs.Encoding.{coded_unit};
+ghost use Rattle.pli_gen.specs.Limits.{is_over, has_many_members, one_has_many, is_too_long};
+ghost use Rattle.pli_gen.specs.answers.Pieces.{takes_many_slots, template_bytes, HaveDescriptions};
+ghost use Rattle.pli_gen.specs.answers.Pieces.{block_fits, instruction_fits};
+ghost use Rattle.pli_gen_emit.specs.views.BlockView.{block_tree, block_trees};
+ghost use Rattle.pli_type_keys.specs.views.KeyView.{templated};
+ghost use Rattle.pli_gen_emit.specs.views.NamingView.{naming_code};
+ghost use Rattle.pli_gen.specs.views.TableView.{tables_view};
+
+use crate::fields::has_wide_number;
+use crate::table::NumberedTables;
+use pli_gen_emit::{BlockSource, Emitted};
+use pli_map::{Description, far_size};
+use pli_type_keys::TemplateKey;
+use pli_type_tree::{GlobalGroup, TypedUnit, VariableGroup};
+
+/// The greatest number of entries of a table of a unit, of slots of a block and of members of a structure (own).
+const ENTRY_LIMIT: usize = 65_535;
+
+/// The greatest number of bytes of templates that have initial values (own).
+const INITIAL_LIMIT: u64 = 16_777_216;
+
+/// Whether so many slots and these variables come to more than the limit.
+fn has_many_variables(slots: u32, groups: &[VariableGroup]) -> bool
+    ensures { result ≡ nat_lt 65535 (slots + length (groups_view groups.now)) }
+{
+    let mut count = u64::from(slots);
+    for group in groups {
+        if count > ENTRY_LIMIT as u64 {
+            return true;
+        }
+        count += u64::from(group.count);
+    }
+    count > ENTRY_LIMIT as u64
+}
+
+/// Whether a block has too many slots.
+fn has_wide_block(blocks: &[BlockSource<'_>]) -> bool
+    ensures { result ≡ list_any takes_many_slots (block_trees blocks.now) }
+{
+    for block in blocks {
+        if has_many_variables(block.parameters, block.head.variables.as_slice()) {
+            return true;
+        }
+    }
+    false
+}
+
+/// Whether a structure somewhere in a description has too many members.
+#[cycle(members)]
+fn has_many_members(description: &Description) -> bool
+    ensures { result ≡ has_many_members (description_view description.now) }
+{
+    match description {
+        Description::Array { element, .. } => has_many_members(element),
+        Description::Structure(members) => members.len() > ENTRY_LIMIT || one_has_many(members),
+        _ => false,
+    }
+}
+
+/// Whether one of the structures somewhere in descriptions has too many members.
+#[cycle(members)]
+fn one_has_many(members: &[Description]) -> bool
+    ensures { result ≡ one_has_many (members_view members.now) }
+{
+    for member in members {
+        if has_many_members(member) {
+            return true;
+        }
+    }
+    false
+}
+
+/// Whether a description in a table has too many members somewhere.
+fn has_wide_structure(tables: &NumberedTables<'_>) -> bool
+    ensures { result ≡ list_any has_many_members (tables_view tables.now).descriptions }
+{
+    for key in tables.descriptions.as_slice() {
+        if has_many_members(key.description) {
+            return true;
+        }
+    }
+    false
+}
+
+/// The bytes of a template that has initial values; 4,294,967,296 stands for every greater number.
+fn template_bytes(template: TemplateKey<'_>) -> u64
+    ensures { result ≡ min (template_bytes (templated template.entry)) 4294967296 }
+{
+    if template.initial.is_empty() {
+        0
+    } else {
+        far_size(template.description)
+    }
+}
+
+/// Whether templates with initial values have too many bytes.
+fn has_many_bytes(tables: &NumberedTables<'_>) -> bool
+    ensures { result ≡ nat_lt 16777216 (sum_by template_bytes (tables_view tables.now).templates) }
+{
+    let mut bytes: u64 = 0;
+    for template in tables.templates.as_slice() {
+        bytes += template_bytes(*template);
+        if bytes > INITIAL_LIMIT {
+            return true;
+        }
+    }
+    false
+}
+
+/// Whether one of a unit's tables has too many entries.
+fn has_long_table(tables: &NumberedTables<'_>) -> bool
+    ensures { let t = tables_view tables.now in
+        result ≡ is_over t.descriptions || is_over t.templates || is_over t.values }
+{
+    tables.descriptions.len() > ENTRY_LIMIT
+        || tables.templates.len() > ENTRY_LIMIT
+        || tables.values.len() > ENTRY_LIMIT
+}
+
+/// How many globals a group has.
+fn global_count(group: &GlobalGroup) -> u64
+    ensures { result ≡ length (global_group_view group.now) }
+{
+    match group {
+        GlobalGroup::OwnVariables(variables) => u64::from(variables.count),
+        GlobalGroup::ExternalVariables { names, .. } => names.len() as u64,
+        GlobalGroup::EntryPoints { names, .. } => names.len() as u64,
+    }
+}
+
+/// Whether there are too many globals.
+fn has_many_globals(groups: &[GlobalGroup]) -> bool
+    ensures { result ≡ is_over (globals_view groups.now) }
+{
+    let mut left = ENTRY_LIMIT as u64;
+    for group in groups {
+        let count = global_count(group);
+        if count > left {
+            return true;
+        }
+        left -= count;
+    }
+    false
+}
+
+/// Whether a unit has too many globals, too many blocks or too many instructions.
+fn has_long_list(groups: &[GlobalGroup], emitted: &Emitted<'_>) -> bool
+    ensures { result
+        ≡ is_over (globals_view groups.now) || is_over emitted.now.blocks.items || is_over emitted.now.code.items }
+{
+    has_many_globals(groups)
+        || emitted.blocks.len() > ENTRY_LIMIT
+        || emitted.code.len() > ENTRY_LIMIT
+}
+
+/// Whether a part of a unit is too large: a block, a structure, all initial values, or a number.
+fn has_large_part(emitted: &Emitted<'_>, tables: &NumberedTables<'_>) -> bool
+    ensures { let t = tables_view tables.now in
+        let blocks = block_trees emitted.now.blocks.items in
+        result
+        ≡ list_any takes_many_slots blocks || list_any has_many_members t.descriptions
+        || nat_lt 16777216 (sum_by template_bytes t.templates)
+        || not (list_all block_fits blocks && list_all instruction_fits (naming_code emitted.now.code.items)) }
+{
+    has_wide_block(emitted.blocks.as_slice())
+        || has_wide_structure(tables)
+        || has_many_bytes(tables)
+        || has_wide_number(emitted)
+}
+
+/// Whether a unit's code is too long (G1).
+pub(crate) fn is_too_long(
+    unit: &TypedUnit,
+    emitted: &Emitted<'_>,
+    tables: &NumberedTables<'_>,
+) -> bool
+    requires { HaveDescriptions (tables_view tables.now) }
+    ensures { let blocks = block_trees emitted.now.blocks.items in
+        result ≡ is_too_long (coded_unit (tables_view tables.now) (unit_view unit.now) blocks (naming_code emitted.now.code.items)) }
+{
+    has_long_table(tables)
+        || has_long_list(unit.globals.as_slice(), emitted)
+        || has_large_part(emitted, tables)
+}

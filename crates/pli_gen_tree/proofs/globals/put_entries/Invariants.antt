@@ -1,9 +1,0 @@
-use Rattle.std.proofs.Common.{◌≡◌, ◌++◌, map, drop}
-use Rattle.pli_unit_code.specs.CodeTables as plain
-use Rattle.pli_unit_code.specs.views.CodeView.{global_view}
-use Rattle.pli_gen_tree.proofs.globals.put_entries.Given as goal
-
-abbrev pub invariant-loop-name : goal.invariant-loop-name
-invariant-loop-name l =
-    let code = map (λ name. plain.EntryPoint name (record { parameters = l.taken; result = l.given })) in
-    map global_view l.globals.items ++ code (drop l.name-index l.names) ≡ map global_view l.initial.globals.items ++ code l.names

@@ -1,5 +1,0 @@
-use Rattle.pli_gen_tree.proofs.TablesLookUp.{looked_up_is_unit_code}
-use Rattle.pli_gen_tree.proofs.laws.code_is_looked_up.Goals as goal
-
-pub returns : goal.returns
-returns c = looked_up_is_unit_code

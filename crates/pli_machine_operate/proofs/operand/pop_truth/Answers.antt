@@ -1,0 +1,15 @@
+use Rattle.std.proofs.Common.{◌-◌, length, sym, ap, ◌∙◌, arith}
+use Rattle.std.specs.List.{slice_get}
+use Rattle.std.specs.Option.{option_copied}
+use Rattle.pli_machine_operate.specs.views.OperandView.{stack, operand_view}
+use Rattle.pli_machine_operate.proofs.StackLemmas.{one_taken, has_newest}
+use Rattle.pli_machine_operate.proofs.operand.pop_truth.Goals as goal
+
+pub returns : goal.returns
+returns c =
+    let operands = c.args.operands.now in
+    has_newest c.in_ok-truth.truth (stack operands.items) (stack c.truncate.new.self.items) (operand_view c.in_ok-newest.newest.now)
+    (one_taken operands.items c.truncate.new.self.items c.len.result c.in_ok-newest.newest.now (omega (arith, operands.ok.0))
+    (sym (ap option_copied c.in_ok-newest.was) ∙ c.last.ensures.value ∙ ap (λ xs. slice_get xs (length xs - 1)) c.deref.ensures.value)
+    c.truncate.ensures.items)
+    c.in_ok-truth.ensures

@@ -1,0 +1,624 @@
+//! Operations on values: operators, built-in functions and conversions.
+ghost use Rattle.std.specs.Prelude.{◌≡◌, ◌∷◌, [], pos, Result, IfOk, None, Some};
+ghost use Rattle.pli_map.specs.views.DescriptionView.{description_view};
+ghost use Rattle.pli_operation.specs.Operations as calculate;
+ghost use Rattle.pli_operation.specs.Operations.{calculated_from, calculated_with, calculated_by, are_comparable, as_number, compared, stands, fitted_to};
+ghost use Rattle.pli_operation.specs.views.OperationView.{relation_view};
+ghost use Rattle.std.specs.Option.{option_copied};
+ghost use Rattle.pli_value.specs.Numbers.{within, quotient};
+ghost use Rattle.pli_value.specs.Value as plain;
+ghost use Rattle.pli_value.specs.Value.{value_view};
+ghost use Rattle.pli_machine_operate.specs.views.CalculationView.{calculation_view, immediate_view, prefix_view, infix_view, ternary_view};
+
+use pli_map::Description;
+use pli_operation::Relation;
+use pli_value::bit::{self, Bits};
+use pli_value::character::{self, STRING_LIMIT};
+use pli_value::number::{self, Raised};
+use pli_value::{Locator, Value};
+use std::alloc::{AllocError, Global};
+use std::cmp::Ordering;
+
+/// The greatest precision of a number (own).
+pub const GREATEST_PRECISION: u8 = 31;
+
+/// How many binary digits each number of 64 bits has at most, but for the least one, which has one more.
+const WIDEST_PRECISION: u8 = 63;
+
+/// The most bits of a string (own).
+const BIT_LIMIT: u16 = 32_767;
+
+/// What an operation comes to: a value, or a bit; a condition; a string over the limit, or a part that a string has
+/// not; or nothing, where operands are not of its kinds.
+#[derive(Drop)]
+pub enum Calculation {
+    Gives(Value),
+    GivesBit(bool),
+    RaisesCondition(Raised),
+    OutOfString,
+    Misfits,
+}
+
+/// What an operation comes to that takes no memory and holds none: a number, or a bit; a condition; or nothing, where
+/// operands are not of its kinds.
+#[derive(Clone, Copy)]
+pub enum Immediate {
+    Number(i64),
+    Bit(bool),
+    Raises(Raised),
+    Misfits,
+}
+
+/// An operation on one value, but for those that need a description.
+#[derive(Clone, Copy)]
+pub enum Prefix {
+    Negate,
+    Absolute,
+    Sign,
+    Not,
+    LengthOf,
+    FromBits,
+    ToCharacters { width: u8 },
+}
+
+/// An operation on two values.
+#[derive(Clone, Copy)]
+pub enum Infix {
+    Add,
+    Subtract,
+    Multiply,
+    Modulo,
+    Greatest,
+    Least,
+    Divide { precision: u8 },
+    Compare(Relation),
+    Concatenate,
+    And,
+    Or,
+    Index,
+    Rest,
+}
+
+/// An operation on three values.
+#[derive(Clone, Copy)]
+pub enum Ternary {
+    /// SUBSTR with a length.
+    Substring,
+    /// Whether a number has not passed a limit, with the step that it is counted on by.
+    Within,
+}
+
+/// A number, or the condition that is raised.
+#[inline]
+fn as_number(number: Result<i64, Raised>) -> Immediate
+    ensures { immediate_view result ≡ as_number number }
+{
+    match number {
+        Ok(number) => Immediate::Number(number),
+        Err(raised) => Immediate::Raises(raised),
+    }
+}
+
+/// The same as any operation comes to it.
+#[inline]
+fn as_calculation(immediate: Immediate) -> Calculation
+    ensures { calculation_view result ≡ immediate_view immediate }
+{
+    match immediate {
+        Immediate::Number(number) => Calculation::Gives(Value::Number(number)),
+        Immediate::Bit(bit) => Calculation::GivesBit(bit),
+        Immediate::Raises(raised) => Calculation::RaisesCondition(raised),
+        Immediate::Misfits => Calculation::Misfits,
+    }
+}
+
+/// Characters, where there are any.
+fn as_characters(alloc: Global, text: Option<&[u8]>) -> Result<Calculation, AllocError>
+    ensures { IfOk result (λ c. calculation_view c ≡ calculate.as_characters (option_copied text.entry)) }
+{
+    match text {
+        Some(text) => Ok(Calculation::Gives(Value::Characters(Vec::from_slice(alloc, text)?))),
+        None => Ok(Calculation::OutOfString),
+    }
+}
+
+/// Whether an order is the one that is asked for.
+#[inline]
+pub fn stands(relation: Relation, order: Ordering) -> bool
+    ensures { result ≡ stands (relation_view relation) order }
+{
+    match (relation, order) {
+        (Relation::Equal, Ordering::Less) => false,
+        (Relation::Equal, Ordering::Equal) => true,
+        (Relation::Equal, Ordering::Greater) => false,
+        (Relation::Unequal, Ordering::Less) => true,
+        (Relation::Unequal, Ordering::Equal) => false,
+        (Relation::Unequal, Ordering::Greater) => true,
+        (Relation::Less, Ordering::Less) => true,
+        (Relation::Less, Ordering::Equal) => false,
+        (Relation::Less, Ordering::Greater) => false,
+        (Relation::AtMost, Ordering::Less) => true,
+        (Relation::AtMost, Ordering::Equal) => true,
+        (Relation::AtMost, Ordering::Greater) => false,
+        (Relation::Greater, Ordering::Less) => false,
+        (Relation::Greater, Ordering::Equal) => false,
+        (Relation::Greater, Ordering::Greater) => true,
+        (Relation::AtLeast, Ordering::Less) => false,
+        (Relation::AtLeast, Ordering::Equal) => true,
+        (Relation::AtLeast, Ordering::Greater) => true,
+    }
+}
+
+/// A number held against a precision, also against one that no number passes.
+#[inline]
+fn fitted(precision: u8, number: i64) -> Result<i64, Raised>
+    ensures { result ≡ within precision number }
+{
+    if precision > WIDEST_PRECISION {
+        Ok(number)
+    } else {
+        number::fit(number, precision)
+    }
+}
+
+/// A place in a string, or how many elements it has.
+#[inline]
+fn as_place(place: usize) -> Result<Calculation, AllocError>
+    ensures { IfOk result (λ c. calculation_view c ≡ calculate.Calculates (plain.Number (pos place))) }
+{
+    match i64::try_from(place) {
+        Ok(number) => Ok(Calculation::Gives(Value::Number(number))),
+        Err(_) => Err(AllocError),
+    }
+}
+
+/// A quotient of at most so many binary digits. Want of memory is answered where it has more than 64 bits.
+fn divide(left: i64, right: i64, precision: u8) -> Result<Immediate, AllocError>
+    ensures { IfOk result (λ i. immediate_view i ≡ as_number (quotient precision left right)) }
+{
+    if precision <= WIDEST_PRECISION {
+        return Ok(as_number(number::divide(left, right, precision)));
+    }
+    match number::divide(left, right, WIDEST_PRECISION) {
+        Ok(number) => Ok(Immediate::Number(number)),
+        Err(Raised::ZeroDivide) => Ok(Immediate::Raises(Raised::ZeroDivide)),
+        Err(Raised::Overflow) => Err(AllocError),
+    }
+}
+
+/// A number at the right of so many columns, where they hold it.
+fn in_columns(alloc: Global, width: u8, number: i64) -> Result<Calculation, AllocError>
+    ensures { IfOk result (λ c. calculation_view c ≡ calculate.in_columns width number) }
+{
+    let width = width as usize;
+    if character::is_held(number, width) {
+        Ok(Calculation::Gives(Value::Characters(character::to_char(alloc, number, width)?)))
+    } else {
+        Ok(Calculation::Misfits)
+    }
+}
+
+/// An operation on a number. Want of memory is answered where the result has more than 64 bits, as it may only where
+/// the number has more than 31 digits.
+fn of_number(alloc: Global, operation: Prefix, number: i64) -> Result<Calculation, AllocError>
+    ensures { IfOk result (λ c. calculation_view c ≡ calculated_from (prefix_view operation) (plain.Number number)) }
+{
+    match operation {
+        Prefix::Negate if number == i64::MIN => Err(AllocError),
+        Prefix::Negate => Ok(Calculation::Gives(Value::Number(number::negate(number)))),
+        Prefix::Absolute if number == i64::MIN => Err(AllocError),
+        Prefix::Absolute => Ok(Calculation::Gives(Value::Number(number::absolute(number)))),
+        Prefix::Sign => Ok(Calculation::Gives(Value::Number(number::sign(number)))),
+        Prefix::ToCharacters { width } => in_columns(alloc, width, number),
+        Prefix::Not => Ok(Calculation::Misfits),
+        Prefix::LengthOf => Ok(Calculation::Misfits),
+        Prefix::FromBits => Ok(Calculation::Misfits),
+    }
+}
+
+/// An operation on bits.
+fn of_bits(alloc: Global, operation: Prefix, bits: &Bits) -> Result<Calculation, AllocError>
+    ensures { IfOk result (λ c. calculation_view c ≡ calculated_from (prefix_view operation) (plain.Bits bits.now)) }
+{
+    match operation {
+        Prefix::Not => Ok(Calculation::Gives(Value::Bits(bit::not(alloc, bits)?))),
+        Prefix::LengthOf => Ok(Calculation::Gives(Value::Number(bits.length() as i64))),
+        Prefix::FromBits => Ok(Calculation::Gives(Value::Characters(bit::bits_to_char(
+            alloc, bits,
+        )?))),
+        Prefix::Negate => Ok(Calculation::Misfits),
+        Prefix::Absolute => Ok(Calculation::Misfits),
+        Prefix::Sign => Ok(Calculation::Misfits),
+        Prefix::ToCharacters { .. } => Ok(Calculation::Misfits),
+    }
+}
+
+/// An operation on characters.
+fn of_characters(operation: Prefix, text: &Vec<u8>) -> Calculation
+    ensures { calculation_view result ≡ calculated_from (prefix_view operation) (plain.Characters text.now.items) }
+{
+    match operation {
+        Prefix::LengthOf => Calculation::Gives(Value::Number(text.len() as i64)),
+        Prefix::Not => Calculation::Misfits,
+        Prefix::FromBits => Calculation::Misfits,
+        Prefix::Negate => Calculation::Misfits,
+        Prefix::Absolute => Calculation::Misfits,
+        Prefix::Sign => Calculation::Misfits,
+        Prefix::ToCharacters { .. } => Calculation::Misfits,
+    }
+}
+
+/// An operation on a locator: there is none of one alone.
+fn of_locator(operation: Prefix, _locator: Locator) -> Calculation
+    ensures { calculation_view result ≡ calculated_from (prefix_view operation) (plain.Located _locator) }
+{
+    match operation {
+        Prefix::Negate => Calculation::Misfits,
+        Prefix::Absolute => Calculation::Misfits,
+        Prefix::Sign => Calculation::Misfits,
+        Prefix::Not => Calculation::Misfits,
+        Prefix::LengthOf => Calculation::Misfits,
+        Prefix::FromBits => Calculation::Misfits,
+        Prefix::ToCharacters { .. } => Calculation::Misfits,
+    }
+}
+
+/// An operation on one value. Want of memory is answered also where a number has more than 64 bits.
+pub fn calculate_from(
+    alloc: Global,
+    operation: Prefix,
+    value: &Value,
+) -> Result<Calculation, AllocError>
+    ensures { IfOk result (λ c. calculation_view c ≡ calculated_from (prefix_view operation) (value_view value.now)) }
+{
+    match value {
+        Value::Number(number) => of_number(alloc, operation, *number),
+        Value::Characters(text) => Ok(of_characters(operation, text)),
+        Value::Bits(bits) => of_bits(alloc, operation, bits),
+        Value::Locator(locator) => Ok(of_locator(operation, *locator)),
+    }
+}
+
+/// A number fitted to a description.
+#[inline]
+pub fn fit_number(description: &Description, number: i64) -> Immediate
+    ensures { immediate_view result ≡ fitted_to (description_view description.now) (plain.Number number) }
+{
+    match description {
+        Description::FixedBinary(precision) => as_number(fitted(*precision, number)),
+        _ => Immediate::Misfits,
+    }
+}
+
+/// Characters fitted to a description. Takes memory only where they are extended.
+fn fit_text(description: &Description, mut text: Vec<u8>) -> Result<Calculation, AllocError>
+    ensures { IfOk result (λ c. calculation_view c ≡ fitted_to (description_view description.now) (plain.Characters text.items)) }
+{
+    match description {
+        Description::Character(size) => {
+            let size = *size as usize;
+            text.truncate(size);
+            text.resize(size, b' ')?;
+            Ok(Calculation::Gives(Value::Characters(text)))
+        }
+        Description::Varying(size) => {
+            text.truncate(*size as usize);
+            Ok(Calculation::Gives(Value::Characters(text)))
+        }
+        _ => Ok(Calculation::Misfits),
+    }
+}
+
+/// Bits fitted to a description. Want of memory is answered also where it has more than 32,767 bits.
+fn fit_bits(
+    alloc: Global,
+    description: &Description,
+    bits: &Bits,
+) -> Result<Calculation, AllocError>
+    ensures { IfOk result (λ c. calculation_view c ≡ fitted_to (description_view description.now) (plain.Bits bits.now)) }
+{
+    match description {
+        Description::Bit(size) if *size > BIT_LIMIT => Err(AllocError),
+        Description::Bit(size) => {
+            Ok(Calculation::Gives(Value::Bits(bit::fit(alloc, bits, *size as usize)?)))
+        }
+        _ => Ok(Calculation::Misfits),
+    }
+}
+
+/// A value fitted to a description. Want of memory is answered also where it has more than 32,767 bits.
+#[tactic(auto, using(crate::proofs::LocatorLemmas::none_fitted))]
+pub fn fit(
+    alloc: Global,
+    description: &Description,
+    value: Value,
+) -> Result<Calculation, AllocError>
+    ensures { IfOk result (λ c. calculation_view c ≡ fitted_to (description_view description.now) (value_view value)) }
+{
+    match value {
+        Value::Number(number) => Ok(as_calculation(fit_number(description, number))),
+        Value::Characters(text) => fit_text(description, text),
+        Value::Bits(bits) => fit_bits(alloc, description, &bits),
+        Value::Locator(_) => Ok(Calculation::Misfits),
+    }
+}
+
+/// An operation on two numbers. Want of memory is answered where the result has more than 64 bits.
+#[inline]
+pub fn calculate_numbers(operation: Infix, left: i64, right: i64) -> Result<Immediate, AllocError>
+    ensures { IfOk result (λ i. immediate_view i
+        ≡ calculated_with 31 (infix_view operation) (plain.Number left) (plain.Number right)) }
+{
+    match operation {
+        Infix::Add => Ok(as_number(number::add(left, right, GREATEST_PRECISION))),
+        Infix::Subtract => Ok(as_number(number::subtract(left, right, GREATEST_PRECISION))),
+        Infix::Multiply => Ok(as_number(number::multiply(left, right, GREATEST_PRECISION))),
+        Infix::Modulo => Ok(as_number(number::modulo(left, right))),
+        Infix::Greatest => Ok(Immediate::Number(number::greatest(left, right))),
+        Infix::Least => Ok(Immediate::Number(number::least(left, right))),
+        Infix::Divide { precision } => divide(left, right, precision),
+        Infix::Compare(relation) => Ok(Immediate::Bit(stands(
+            relation,
+            number::compare(left, right),
+        ))),
+        Infix::Concatenate => Ok(Immediate::Misfits),
+        Infix::And => Ok(Immediate::Misfits),
+        Infix::Or => Ok(Immediate::Misfits),
+        Infix::Index => Ok(Immediate::Misfits),
+        Infix::Rest => Ok(Immediate::Misfits),
+    }
+}
+
+/// An operation on two strings of characters.
+fn of_texts(
+    alloc: Global,
+    operation: Infix,
+    left: &Vec<u8>,
+    right: &Vec<u8>,
+) -> Result<Calculation, AllocError>
+    ensures { IfOk result (λ c. calculation_view c
+        ≡ calculated_with 31 (infix_view operation) (plain.Characters left.now.items) (plain.Characters right.now.items)) }
+{
+    match operation {
+        Infix::Compare(relation) => {
+            Ok(Calculation::GivesBit(stands(relation, character::compare(left, right))))
+        }
+        Infix::Concatenate => match character::concat(alloc, left, right)? {
+            Some(both) => Ok(Calculation::Gives(Value::Characters(both))),
+            None => Ok(Calculation::OutOfString),
+        },
+        Infix::Index => as_place(character::index(left, right)),
+        Infix::Add => Ok(Calculation::Misfits),
+        Infix::Subtract => Ok(Calculation::Misfits),
+        Infix::Multiply => Ok(Calculation::Misfits),
+        Infix::Modulo => Ok(Calculation::Misfits),
+        Infix::Greatest => Ok(Calculation::Misfits),
+        Infix::Least => Ok(Calculation::Misfits),
+        Infix::Divide { .. } => Ok(Calculation::Misfits),
+        Infix::And => Ok(Calculation::Misfits),
+        Infix::Or => Ok(Calculation::Misfits),
+        Infix::Rest => Ok(Calculation::Misfits),
+    }
+}
+
+/// An operation on two strings of bits.
+fn of_bit_strings(
+    alloc: Global,
+    operation: Infix,
+    left: &Bits,
+    right: &Bits,
+) -> Result<Calculation, AllocError>
+    ensures { IfOk result (λ c. calculation_view c
+        ≡ calculated_with 31 (infix_view operation) (plain.Bits left.now) (plain.Bits right.now)) }
+{
+    match operation {
+        Infix::Compare(relation) => Ok(Calculation::GivesBit(stands(
+            relation,
+            bit::compare(left, right),
+        ))),
+        Infix::Concatenate => match bit::concat(alloc, left, right)? {
+            Some(both) => Ok(Calculation::Gives(Value::Bits(both))),
+            None => Ok(Calculation::OutOfString),
+        },
+        Infix::And => Ok(Calculation::Gives(Value::Bits(bit::and(alloc, left, right)?))),
+        Infix::Or => Ok(Calculation::Gives(Value::Bits(bit::or(alloc, left, right)?))),
+        Infix::Index => as_place(bit::index(left, right)),
+        Infix::Add => Ok(Calculation::Misfits),
+        Infix::Subtract => Ok(Calculation::Misfits),
+        Infix::Multiply => Ok(Calculation::Misfits),
+        Infix::Modulo => Ok(Calculation::Misfits),
+        Infix::Greatest => Ok(Calculation::Misfits),
+        Infix::Least => Ok(Calculation::Misfits),
+        Infix::Divide { .. } => Ok(Calculation::Misfits),
+        Infix::Rest => Ok(Calculation::Misfits),
+    }
+}
+
+/// One string of characters behind another, where they are short enough together. The first is extended.
+fn join(mut left: Vec<u8>, right: &Vec<u8>) -> Result<Calculation, AllocError>
+    ensures { IfOk result (λ c. calculation_view c
+        ≡ calculated_with 31 calculate.Concatenate (plain.Characters left.items) (plain.Characters right.now.items)) }
+{
+    if left.len() + right.len() > STRING_LIMIT {
+        return Ok(Calculation::OutOfString);
+    }
+    left.extend_from_slice(right)?;
+    Ok(Calculation::Gives(Value::Characters(left)))
+}
+
+/// An operation on characters and another value.
+fn with_text(
+    alloc: Global,
+    operation: Infix,
+    left: Vec<u8>,
+    right: &Value,
+) -> Result<Calculation, AllocError>
+    ensures { IfOk result (λ c. calculation_view c
+        ≡ calculated_with 31 (infix_view operation) (plain.Characters left.items) (value_view right.now)) }
+{
+    match (operation, right) {
+        (Infix::Concatenate, Value::Characters(right)) => join(left, right),
+        (_, Value::Characters(right)) => of_texts(alloc, operation, &left, right),
+        (Infix::Rest, Value::Number(first)) => {
+            as_characters(alloc, character::rest(&left, *first))
+        }
+        _ => Ok(Calculation::Misfits),
+    }
+}
+
+/// An operation on bits and another value.
+fn with_bits(
+    alloc: Global,
+    operation: Infix,
+    left: &Bits,
+    right: &Value,
+) -> Result<Calculation, AllocError>
+    ensures { IfOk result (λ c. calculation_view c
+        ≡ calculated_with 31 (infix_view operation) (plain.Bits left.now) (value_view right.now)) }
+{
+    match (operation, right) {
+        (_, Value::Bits(right)) => of_bit_strings(alloc, operation, left, right),
+        (Infix::Rest, Value::Number(first)) => match bit::rest(alloc, left, *first)? {
+            Some(part) => Ok(Calculation::Gives(Value::Bits(part))),
+            None => Ok(Calculation::OutOfString),
+        },
+        _ => Ok(Calculation::Misfits),
+    }
+}
+
+/// Whether both are pointers, or both are offsets.
+fn are_comparable(left: Locator, right: Locator) -> bool
+    ensures { result ≡ are_comparable left right }
+{
+    match (left, right) {
+        (Locator::Offset(_), Locator::Offset(_)) => true,
+        (Locator::Offset(_), Locator::Null) => false,
+        (Locator::Offset(_), Locator::Pointer { .. }) => false,
+        (Locator::Null, Locator::Offset(_)) => false,
+        (Locator::Null, Locator::Null) => true,
+        (Locator::Null, Locator::Pointer { .. }) => true,
+        (Locator::Pointer { .. }, Locator::Offset(_)) => false,
+        (Locator::Pointer { .. }, Locator::Null) => true,
+        (Locator::Pointer { .. }, Locator::Pointer { .. }) => true,
+    }
+}
+
+/// A comparison of two locators.
+#[tactic(auto, using(crate::proofs::LocatorLemmas::none_compared))]
+fn compare_locators(relation: Relation, left: Locator, right: Locator) -> Calculation
+    ensures { calculation_view result ≡ compared (relation_view relation) left right }
+{
+    if !are_comparable(left, right) {
+        return Calculation::Misfits;
+    }
+    match relation {
+        Relation::Equal => Calculation::GivesBit(left.equals(right)),
+        Relation::Unequal => Calculation::GivesBit(!left.equals(right)),
+        Relation::Less => Calculation::Misfits,
+        Relation::AtMost => Calculation::Misfits,
+        Relation::Greater => Calculation::Misfits,
+        Relation::AtLeast => Calculation::Misfits,
+    }
+}
+
+/// An operation on a locator and another value.
+fn with_locator(operation: Infix, left: Locator, right: &Value) -> Calculation
+    ensures { calculation_view result
+        ≡ calculated_with 31 (infix_view operation) (plain.Located left) (value_view right.now) }
+{
+    match (operation, right) {
+        (Infix::Compare(relation), Value::Locator(right)) => {
+            compare_locators(relation, left, *right)
+        }
+        _ => Calculation::Misfits,
+    }
+}
+
+/// An operation on two values; the left one is extended where it may be. Want of memory is answered also where a number
+/// has more than 64 bits.
+pub fn calculate_with(
+    alloc: Global,
+    operation: Infix,
+    left: Value,
+    right: &Value,
+) -> Result<Calculation, AllocError>
+    ensures { IfOk result (λ c. calculation_view c
+        ≡ calculated_with 31 (infix_view operation) (value_view left) (value_view right.now)) }
+{
+    match left {
+        Value::Number(left) => match right {
+            Value::Number(right) => Ok(as_calculation(calculate_numbers(operation, left, *right)?)),
+            _ => Ok(Calculation::Misfits),
+        },
+        Value::Characters(left) => with_text(alloc, operation, left, right),
+        Value::Bits(left) => with_bits(alloc, operation, &left, right),
+        Value::Locator(left) => Ok(with_locator(operation, left, right)),
+    }
+}
+
+/// SUBSTR with a length.
+fn substring(
+    alloc: Global,
+    string: &Value,
+    first: &Value,
+    count: &Value,
+) -> Result<Calculation, AllocError>
+    ensures { IfOk result (λ c. calculation_view c
+        ≡ calculated_by calculate.Substring (value_view string.now) (value_view first.now) (value_view count.now)) }
+{
+    let (Value::Number(first), Value::Number(count)) = (first, count) else {
+        return Ok(Calculation::Misfits);
+    };
+    match string {
+        Value::Number(_) => Ok(Calculation::Misfits),
+        Value::Locator(_) => Ok(Calculation::Misfits),
+        Value::Characters(text) => as_characters(alloc, character::substr(text, *first, *count)),
+        Value::Bits(bits) => match bit::substr(alloc, bits, *first, *count)? {
+            Some(part) => Ok(Calculation::Gives(Value::Bits(part))),
+            None => Ok(Calculation::OutOfString),
+        },
+    }
+}
+
+/// Whether a number has not passed a limit: it is at most the limit where the step is not negative, else at least.
+#[inline]
+pub fn is_within(number: i64, limit: i64, step: i64) -> bool
+    ensures { calculate.Calculates (plain.Bits (result ∷ []))
+        ≡ calculated_by calculate.Within (plain.Number number) (plain.Number limit) (plain.Number step) }
+{
+    if step >= 0 {
+        number <= limit
+    } else {
+        limit <= number
+    }
+}
+
+/// The same of values.
+fn within_limit(number: &Value, limit: &Value, step: &Value) -> Calculation
+    ensures { calculation_view result
+        ≡ calculated_by calculate.Within (value_view number.now) (value_view limit.now) (value_view step.now) }
+{
+    match (number, limit, step) {
+        (Value::Number(number), Value::Number(limit), Value::Number(step)) => {
+            Calculation::GivesBit(is_within(*number, *limit, *step))
+        }
+        _ => Calculation::Misfits,
+    }
+}
+
+/// An operation on three values.
+pub fn calculate_by(
+    alloc: Global,
+    operation: Ternary,
+    first: &Value,
+    second: &Value,
+    third: &Value,
+) -> Result<Calculation, AllocError>
+    ensures { IfOk result (λ c. calculation_view c
+        ≡ calculated_by (ternary_view operation) (value_view first.now) (value_view second.now) (value_view third.now)) }
+{
+    match operation {
+        Ternary::Substring => substring(alloc, first, second, third),
+        Ternary::Within => Ok(within_limit(first, second, third)),
+    }
+}

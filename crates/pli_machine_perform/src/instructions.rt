@@ -1,0 +1,192 @@
+//! Instructions on the operands of the newest activation.
+ghost use Rattle.std.specs.Prelude.{ℕ, map, slice_get, IfOk};
+ghost use Rattle.pli_map.specs.views.DescriptionView.{description_view};
+ghost use Rattle.pli_operation.specs.Operations.{Fit, Within};
+ghost use Rattle.pli_program.specs.Program.{Jump, JumpUnless, Load, Store, Copy, Field, Subscript, Operate};
+ghost use Rattle.pli_code.specs.CodeTables.{looked_up};
+ghost use Rattle.pli_code.specs.declared.instruction.Instruction.TheVariants as coded;
+ghost use Rattle.pli_code.specs.views.CodeView.{code_view};
+ghost use Rattle.pli_machine_operate.specs.views.CalculationView.{prefix_view, infix_view, ternary_view};
+ghost use Rattle.pli_machine_perform.specs.views.MachineView.{Does};
+
+use crate::keeping::put_constant;
+use crate::machine::{Machine, Stop};
+use crate::operate::{operate_by, operate_fit, operate_from, operate_with, operate_within};
+use crate::variables::template_of;
+use crate::{dummies, jumping, places, storing};
+use pli_code::Code;
+use pli_machine_operate::{Infix, Prefix, Ternary};
+use pli_map::Description;
+use std::alloc::{AllocError, Global};
+
+/// A jump.
+#[inline]
+pub fn jump(machine: &mut Machine, target: u16) -> Option<Stop>
+    ensures { Does (Jump target) machine.old machine.new result }
+{
+    jumping::jump(&mut machine.here, machine.steps, target as usize)
+}
+
+/// A jump unless a bit of the newest operand is one.
+#[inline]
+pub fn jump_unless(machine: &mut Machine, target: u16) -> Option<Stop>
+    ensures { Does (JumpUnless target) machine.old machine.new result }
+{
+    jumping::jump_unless(&mut machine.here, machine.steps, target as usize)
+}
+
+/// Leads the newest place on to a part of a description.
+#[inline]
+fn field_at<'m>(
+    machine: &mut Machine<'m>,
+    offset: u32,
+    description: &'m Description,
+) -> Result<Option<Stop>, AllocError>
+    ensures { IfOk result (Does (Field offset (description_view description.now)) machine.old machine.new) }
+{
+    places::field(&mut machine.here.operands, offset, description)
+}
+
+/// Leads the newest place on to a part of a description of the tables.
+pub fn field<'m>(
+    code: &'m Code,
+    machine: &mut Machine<'m>,
+    offset: u32,
+    description: u16,
+) -> Result<Option<Stop>, AllocError>
+    ensures { IfOk result (Does (looked_up (code_view code.now) (coded.Field offset description)) machine.old machine.new) }
+{
+    match code.descriptions.get(description as usize) {
+        Some(description) => field_at(machine, offset, description),
+        None => Ok(Some(Stop::Fault)),
+    }
+}
+
+/// Leads the newest place on by a subscript.
+pub fn subscript(
+    machine: &mut Machine,
+    low: i32,
+    high: i32,
+    multiplier: u32,
+) -> Result<Option<Stop>, AllocError>
+    ensures { IfOk result (Does (Subscript low high multiplier) machine.old machine.new) }
+{
+    places::subscript(&mut machine.here.operands, low, high, multiplier)
+}
+
+/// Puts a constant of the tables upon the operands.
+pub fn constant<'m>(
+    code: &'m Code,
+    machine: &mut Machine<'m>,
+    value: u16,
+) -> Result<Option<Stop>, AllocError>
+    ensures { IfOk result (Does (looked_up (code_view code.now) (coded.Constant value)) machine.old machine.new) }
+{
+    match code.values.get(value as usize) {
+        Some(value) => put_constant(machine, value),
+        None => Ok(Some(Stop::Fault)),
+    }
+}
+
+/// What the newest place holds.
+pub fn load(alloc: Global, machine: &mut Machine) -> Result<Option<Stop>, AllocError>
+    ensures { IfOk result (Does Load machine.old machine.new) }
+{
+    storing::load(alloc, &mut machine.here.operands, &machine.storage)
+}
+
+/// Puts the newest value at the place below it.
+pub fn store(alloc: Global, machine: &mut Machine) -> Result<Option<Stop>, AllocError>
+    ensures { IfOk result (Does Store machine.old machine.new) }
+{
+    storing::store(alloc, &mut machine.here.operands, &mut machine.storage)
+}
+
+/// Copies what the newest place holds to the place below it.
+pub fn copy(machine: &mut Machine) -> Result<Option<Stop>, AllocError>
+    ensures { IfOk result (Does Copy machine.old machine.new) }
+{
+    storing::copy(&mut machine.here.operands, &mut machine.storage)
+}
+
+/// A dummy argument of a template of the tables.
+pub fn make_dummy<'m>(
+    alloc: Global,
+    code: &'m Code,
+    machine: &mut Machine<'m>,
+    template: u16,
+) -> Result<Option<Stop>, AllocError>
+    ensures { IfOk result (Does (looked_up (code_view code.now) (coded.MakeDummy template)) machine.old machine.new) }
+{
+    match template_of(code, template) {
+        Some((description, _)) => dummies::make_dummy(alloc, machine, description),
+        None => Ok(Some(Stop::Fault)),
+    }
+}
+
+/// Fits the newest operand to a description.
+#[inline]
+fn fit_at(
+    alloc: Global,
+    machine: &mut Machine,
+    description: &Description,
+) -> Result<Option<Stop>, AllocError>
+    ensures { IfOk result (Does (Operate (Fit (description_view description.now))) machine.old machine.new) }
+{
+    operate_fit(alloc, &mut machine.here.operands, description)
+}
+
+/// Fits the newest operand to a description of the tables.
+pub fn fit(
+    alloc: Global,
+    code: &Code,
+    machine: &mut Machine,
+    description: u16,
+) -> Result<Option<Stop>, AllocError>
+    ensures { IfOk result (Does (looked_up (code_view code.now) (coded.Fit description)) machine.old machine.new) }
+{
+    match code.descriptions.get(description as usize) {
+        Some(description) => fit_at(alloc, machine, description),
+        None => Ok(Some(Stop::Fault)),
+    }
+}
+
+/// An operation on the newest operand.
+pub fn from_one(
+    alloc: Global,
+    machine: &mut Machine,
+    operation: Prefix,
+) -> Result<Option<Stop>, AllocError>
+    ensures { IfOk result (Does (Operate (prefix_view operation)) machine.old machine.new) }
+{
+    operate_from(alloc, &mut machine.here.operands, operation)
+}
+
+/// An operation on the newest two operands.
+pub fn from_two(
+    alloc: Global,
+    machine: &mut Machine,
+    operation: Infix,
+) -> Result<Option<Stop>, AllocError>
+    ensures { IfOk result (Does (Operate (infix_view operation)) machine.old machine.new) }
+{
+    operate_with(alloc, &mut machine.here.operands, operation)
+}
+
+/// An operation on the newest three operands.
+pub fn from_three(
+    alloc: Global,
+    machine: &mut Machine,
+    operation: Ternary,
+) -> Result<Option<Stop>, AllocError>
+    ensures { IfOk result (Does (Operate (ternary_view operation)) machine.old machine.new) }
+{
+    operate_by(alloc, &mut machine.here.operands, operation)
+}
+
+/// Whether the newest number has not passed a limit, with the step that it is counted on by.
+pub fn within(alloc: Global, machine: &mut Machine) -> Result<Option<Stop>, AllocError>
+    ensures { IfOk result (Does (Operate Within) machine.old machine.new) }
+{
+    operate_within(alloc, &mut machine.here.operands)
+}

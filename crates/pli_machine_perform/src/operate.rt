@@ -1,0 +1,186 @@
+//! Instructions that calculate.
+ghost use Rattle.std.specs.Prelude.{IfOk};
+ghost use Rattle.pli_map.specs.views.DescriptionView.{description_view};
+ghost use Rattle.pli_operation.specs.Operations.{Fit, Within};
+ghost use Rattle.pli_machine_operate.specs.views.CalculationView.{calculation_view, immediate_view, prefix_view, infix_view, ternary_view};
+ghost use Rattle.pli_machine_perform.specs.views.MachineView.{Acts};
+ghost use Rattle.pli_machine_perform.specs.views.ActView.{calculated_as, operated_as};
+
+use crate::machine::Stop;
+use pli_machine_operate::{
+    Calculation, Immediate, Infix, Operand, Prefix, Ternary, calculate_by, calculate_from,
+    calculate_numbers, calculate_with, fit, fit_number, is_within, pop_number, pop_three,
+    pop_value, push, take_three_numbers, take_two_numbers, take_value,
+};
+use pli_map::Description;
+use pli_run::RunError;
+use pli_value::Value;
+use pli_value::number::Raised;
+use std::alloc::{AllocError, Global};
+
+/// Puts what an operation comes to upon the operands, or raises an error.
+#[inline]
+fn give(operands: &mut Vec<Operand>, calculation: Calculation) -> Result<Option<Stop>, AllocError>
+    ensures { IfOk result (Acts (calculated_as (calculation_view calculation)) operands.old.items operands.new.items) }
+{
+    match calculation {
+        Calculation::Gives(value) => {
+            push(operands, Operand::OfValue(value))?;
+            Ok(None)
+        }
+        Calculation::GivesBit(bit) => {
+            push(operands, Operand::OneBit(bit))?;
+            Ok(None)
+        }
+        Calculation::RaisesCondition(Raised::Overflow) => Ok(Some(Stop::Raised(
+            RunError::FixedOverflow,
+        ))),
+        Calculation::RaisesCondition(Raised::ZeroDivide) => Ok(Some(Stop::Raised(
+            RunError::ZeroDivide,
+        ))),
+        Calculation::OutOfString => Ok(Some(Stop::Raised(RunError::StringRange))),
+        Calculation::Misfits => Ok(Some(Stop::Fault)),
+    }
+}
+
+/// The same of what takes no memory.
+#[inline]
+fn give_immediate(
+    operands: &mut Vec<Operand>,
+    immediate: Immediate,
+) -> Result<Option<Stop>, AllocError>
+    ensures { IfOk result (Acts (calculated_as (immediate_view immediate)) operands.old.items operands.new.items) }
+{
+    match immediate {
+        Immediate::Number(number) => {
+            push(operands, Operand::OfValue(Value::Number(number)))?;
+            Ok(None)
+        }
+        Immediate::Bit(bit) => {
+            push(operands, Operand::OneBit(bit))?;
+            Ok(None)
+        }
+        Immediate::Raises(Raised::Overflow) => Ok(Some(Stop::Raised(RunError::FixedOverflow))),
+        Immediate::Raises(Raised::ZeroDivide) => Ok(Some(Stop::Raised(RunError::ZeroDivide))),
+        Immediate::Misfits => Ok(Some(Stop::Fault)),
+    }
+}
+
+/// An operation on the newest operand.
+pub fn operate_from(
+    alloc: Global,
+    operands: &mut Vec<Operand>,
+    operation: Prefix,
+) -> Result<Option<Stop>, AllocError>
+    ensures { IfOk result (Acts (operated_as (prefix_view operation)) operands.old.items operands.new.items) }
+{
+    let Some(value) = pop_value(alloc, operands)? else {
+        return Ok(Some(Stop::Fault));
+    };
+    let calculation = calculate_from(alloc, operation, &value)?;
+    give(operands, calculation)
+}
+
+/// An operation on the newest two operands. Numbers are not moved.
+#[inline]
+pub fn operate_with(
+    alloc: Global,
+    operands: &mut Vec<Operand>,
+    operation: Infix,
+) -> Result<Option<Stop>, AllocError>
+    ensures { IfOk result (Acts (operated_as (infix_view operation)) operands.old.items operands.new.items) }
+{
+    match take_two_numbers(operands) {
+        Some((left, right)) => {
+            let immediate = calculate_numbers(operation, left, right)?;
+            give_immediate(operands, immediate)
+        }
+        None => operate_with_values(alloc, operands, operation),
+    }
+}
+
+/// An operation on the newest two operands, whatever they are.
+fn operate_with_values(
+    alloc: Global,
+    operands: &mut Vec<Operand>,
+    operation: Infix,
+) -> Result<Option<Stop>, AllocError>
+    ensures { IfOk result (Acts (operated_as (infix_view operation)) operands.old.items operands.new.items) }
+{
+    let Some(right) = take_value(alloc, operands)? else {
+        return Ok(Some(Stop::Fault));
+    };
+    let Some(left) = pop_value(alloc, operands)? else {
+        drop(right);
+        return Ok(Some(Stop::Fault));
+    };
+    let outcome = calculate_with(alloc, operation, left, right.value());
+    drop(right);
+    let calculation = outcome?;
+    give(operands, calculation)
+}
+
+/// Whether the newest number has not passed a limit. Numbers are not moved.
+#[inline]
+pub fn operate_within(
+    alloc: Global,
+    operands: &mut Vec<Operand>,
+) -> Result<Option<Stop>, AllocError>
+    ensures { IfOk result (Acts (operated_as Within) operands.old.items operands.new.items) }
+{
+    match take_three_numbers(operands) {
+        Some((number, limit, step)) => {
+            give_immediate(operands, Immediate::Bit(is_within(number, limit, step)))
+        }
+        None => operate_by(alloc, operands, Ternary::Within),
+    }
+}
+
+/// An operation on the newest three operands.
+pub fn operate_by(
+    alloc: Global,
+    operands: &mut Vec<Operand>,
+    operation: Ternary,
+) -> Result<Option<Stop>, AllocError>
+    ensures { IfOk result (Acts (operated_as (ternary_view operation)) operands.old.items operands.new.items) }
+{
+    let Some((first, second, third)) = pop_three(alloc, operands)? else {
+        return Ok(Some(Stop::Fault));
+    };
+    let outcome = calculate_by(alloc, operation, &first, &second, &third);
+    drop(first);
+    drop(second);
+    drop(third);
+    let calculation = outcome?;
+    give(operands, calculation)
+}
+
+/// Fits the newest operand to a description. A number is not moved.
+#[inline]
+pub fn operate_fit(
+    alloc: Global,
+    operands: &mut Vec<Operand>,
+    description: &Description,
+) -> Result<Option<Stop>, AllocError>
+    ensures { IfOk result (Acts (operated_as (Fit (description_view description.now))) operands.old.items operands.new.items) }
+{
+    match pop_number(operands) {
+        Some(number) => give_immediate(operands, fit_number(description, number)),
+        None => fit_to(alloc, operands, description),
+    }
+}
+
+/// Fits the newest operand to a description, whatever it is.
+fn fit_to(
+    alloc: Global,
+    operands: &mut Vec<Operand>,
+    description: &Description,
+) -> Result<Option<Stop>, AllocError>
+    ensures { IfOk result (Acts (operated_as (Fit (description_view description.now))) operands.old.items operands.new.items) }
+{
+    let Some(value) = pop_value(alloc, operands)? else {
+        return Ok(Some(Stop::Fault));
+    };
+    let calculation = fit(alloc, description, value)?;
+    give(operands, calculation)
+}

@@ -1,4 +1,0 @@
-pub mod CodeFields
-pub mod CodeTables
-pub mod Modules
-pub mod views

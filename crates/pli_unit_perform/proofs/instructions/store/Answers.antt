@@ -1,8 +1,0 @@
-use Rattle.std.proofs.lemmas.Result.{IfOk-weaker}
-use Rattle.pli_unit_perform.specs.views.MachineView.{frame_view, frames_of, world_of, left_of}
-use Rattle.pli_unit_perform.proofs.instructions.store.Goals as goal
-
-pub returns : goal.returns
-returns c =
-    let m = c.args.machine.now in
-    IfOk-weaker c.store.result _ _ (λ s works u image put. works (frame_view m.here) (frames_of m.waiting.items) (world_of image m put) (left_of m)) c.store.ensures
