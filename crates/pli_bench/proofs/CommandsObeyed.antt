@@ -17,7 +17,8 @@ use Rattle.pli_members.specs.declared.refusal.Refusal.TheVariants.{NoSuchMember}
 use Rattle.pli_code.specs.Modules.{Module, program_of}
 use Rattle.pli_bench.specs.answers.Standing.{IsOfMembers, IsStanding}
 use Rattle.pli_bench.specs.declared.stored.StoredModule.{StoredModule}
-use Rattle.pli_deck_load.specs.LinkedBytes.{IsLinked}
+use Rattle.pli_deck_write.specs.ModuleSpelling.{SpellsModule}
+use Rattle.pli_deck_write.specs.declared.fault.DeckFault.{DeckFault}
 use Rattle.pli_run.specs.declared.ending.Ending.{Ending}
 use Rattle.pli_run.specs.declared.ending.Ran.{Ran}
 use Rattle.pli_meaning.specs.Scratch.{Built, Made, scratch}
@@ -174,9 +175,15 @@ standing_built s store standing steps m is some h = record {
   of = subst (λ t. IsOfMembers t.store.entries m.bytes.items) is (subst (IsStanding store.entries) some h);
 }
 
+abbrev read_as : Module → Result Module DeckFault
+read_as m = Ok m
+
 -- so is what is loaded of its bytes
-pub loaded_built : (s : State) (bytes slice : List ℕ) (m : Module) → Stands s bytes → slice ≡ bytes → ((n : Module) → IsLinked slice n → m ≡ n) → scratch s.store.entries ≡ Made m
-loaded_built s bytes slice m at same loads = at.of.is ∙ ap Made (sym (loads at.of.made (subst (λ bs. IsLinked bs at.of.made) (sym same) at.of.linked)))
+pub loaded_built : (s : State) (bytes slice : List ℕ) (m : Module) → Stands s bytes → slice ≡ bytes → ((n : Module) → SpellsModule slice n → read_as n ≡ read_as m) → scratch s.store.entries ≡ Made m
+loaded_built s bytes slice m at same loads =
+    let loaded = loads at.of.made (subst (λ bs. SpellsModule bs at.of.made) (sym same) at.of.spelled) in
+    let one : at.of.made ≡ m = cc in
+    at.of.is ∙ ap Made one
 
 module _ (s : State) (n k : ℕ) (same : n ≡ k) (m : Module) (stands : s.stands ≡ true) (built : scratch s.store.entries ≡ Made m) where
   pub run_done_at : {A E : Type 0} (a b c : Option (List ℕ)) (ran : Ran) (r : Result A E) → RanTo m n ran a b → Writes b c (end_answer ran.column ran.ending) r

@@ -1,8 +1,5 @@
 -- What is shown of a module's bytes: each as two digits in base 16, 32 to a line (own).
 use Rattle.std.specs.Prelude.{ℕ, ◌+◌, ◌/◌, ◌%◌, nat_eq, nat_lt, List, [], ◌∷◌, ◌++◌, if◌then◌else◌}
-use Rattle.pli_deck_write.specs.ModuleSpelling.{module_bytes}
-use Rattle.pli_deck_code.specs.CodeModules.{module_of}
-use Rattle.pli_code.specs.Modules.{Module}
 
 -- 0 to 9, then a to f
 abbrev pub digit_of : ℕ → ℕ
@@ -24,7 +21,3 @@ next_column column = if nat_eq column 31 then 0 else column + 1
 abbrev pub hex_from : (column : ℕ) → List ℕ → List ℕ
 hex_from column [] = if nat_eq column 0 then [] else 10 ∷ []
 hex_from column (b ∷ bs) = digits_of b ++ end_at column ++ hex_from (next_column column) bs
-
--- the bytes of a module
-abbrev pub bytes_of : Module → List ℕ
-bytes_of m = module_bytes (module_of m)

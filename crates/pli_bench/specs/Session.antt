@@ -20,8 +20,8 @@ use Rattle.pli_code.specs.Modules.{Module}
 use Rattle.pli_bench.specs.Exchanges.{Exchange}
 use Rattle.pli_bench.specs.Commands.{Command, Add, Delete, Insert, Replace, Remove, ListLines, ListMembers}
 use Rattle.pli_bench.specs.Commands.{Build, Dump, Run, Quit, command_of}
-use Rattle.pli_bench.specs.Dumps.{bytes_of, hex_from}
-use Rattle.pli_deck_load.specs.LinkedBytes.{IsLinked}
+use Rattle.pli_bench.specs.Dumps.{hex_from}
+use Rattle.pli_deck_write.specs.ModuleSpelling.{module_bytes, SpellsModule}
 
 -- the members, whether a module of them stands, and the steps of a bare RUN
 pub record State : Type 0 where
@@ -109,12 +109,13 @@ Builds e =
     × (e.after ≡ left_by (scratch e.before.store.entries) e.before))
     ⊎ ((e.answer ≡ no_memory) × (e.after ≡ without_module e.before))
 
--- the bytes of the members' module are shown, if a module of them stands; they are that module, and no other
+-- the bytes of the members' module are shown, if a module of them stands; they spell that module, and no
+-- other
 abbrev pub Dumps : Bool → Exchange State → Type 0
 Dumps false e = Says not_built e
 Dumps true e =
-    (m : Module) × (scratch e.before.store.entries ≡ Made m) × IsLinked (bytes_of m) m
-    × Says (hex_from 0 (bytes_of m) ++ okay) e
+    (m : Module) × (scratch e.before.store.entries ≡ Made m) × SpellsModule (module_bytes m) m
+    × Says (hex_from 0 (module_bytes m) ++ okay) e
 
 -- a run broke off: some first bytes of the output, a line end, and that memory was refused
 pub record Breaks (output answer : List ℕ) : Type 0 where

@@ -1,16 +1,18 @@
 //! The module of a build, as its bytes.
-ghost use Rattle.std.specs.Prelude.{◌≡◌, ◌<◌, length, map, IfOk};
+ghost use Rattle.std.specs.Prelude.{◌≡◌, true, map, IfOk};
 ghost use Rattle.std.specs.List.{AllByRecursion};
+ghost use Rattle.pli_code.specs.views.CodeView.{lent_member_view, lent_module_view};
 ghost use Rattle.pli_deck_write.specs.ModuleSpelling.{module_bytes};
-ghost use Rattle.pli_deck_code.specs.CodeModules.{module_of};
-ghost use Rattle.pli_deck_code.specs.views.LinkedView.{lent_view, linked_view};
 ghost use Rattle.pli_deck_laws.specs.UnitTypes.{IsTypedUnit};
+ghost use Rattle.pli_link_laws.specs.LinkedModules.{HasShortDeck};
 
-use pli_deck_code::Linked;
+use pli_code::LentMember;
 use pli_deck_laws::units_are_typed;
+use pli_deck_write::write_deck;
+use pli_link::Linked;
 use std::alloc::{AllocError, Global};
 
-/// The greatest number of bytes of a module: the length of a deck in it has four bytes (own).
+/// The greatest number of bytes of a deck: its length in a module has four bytes (own).
 const BYTE_LIMIT: usize = 4_294_967_295;
 
 /// A module as its bytes.
@@ -19,16 +21,28 @@ pub struct StoredModule {
     pub bytes: Vec<u8>,
 }
 
-/// The bytes of linked units. An error comes where memory runs out, as it does for a module of 4 GiB.
-pub fn stored(alloc: Global, linked: &Linked<'_>) -> Result<StoredModule, AllocError>
-    ensures bytes { IfOk result (λ s. s.bytes.items ≡ module_bytes (module_of (linked_view linked.now))) }
-    ensures few { IfOk result (λ s. length s.bytes.items < 4294967296) }
-    ensures typed { AllByRecursion IsTypedUnit (map lent_view linked.now.units.items) }
+/// Whether each deck has so few bytes that four can count them.
+fn have_short_decks(alloc: Global, units: &[LentMember<'_>]) -> Result<bool, AllocError>
+    ensures { IfOk result (λ short. short ≡ true → AllByRecursion HasShortDeck (map lent_member_view units.now)) }
 {
-    units_are_typed(linked.units.as_slice());
-    let bytes = linked.bytes(alloc)?;
-    if bytes.len() > BYTE_LIMIT {
+    for unit in units {
+        if write_deck(alloc, unit.deck)?.len() > BYTE_LIMIT {
+            return Ok(false);
+        }
+    }
+    Ok(true)
+}
+
+/// The bytes of linked units. An error comes where memory runs out, as it does for a deck of 4 GiB.
+pub fn stored(alloc: Global, linked: &Linked<'_>) -> Result<StoredModule, AllocError>
+    ensures bytes { IfOk result (λ s. s.bytes.items ≡ module_bytes (lent_module_view linked.now.program)) }
+    ensures short { IfOk result (λ s. AllByRecursion HasShortDeck (map lent_member_view linked.now.program.units.items)) }
+    ensures typed { AllByRecursion IsTypedUnit (map lent_member_view linked.now.program.units.items) }
+{
+    units_are_typed(linked.program.units.as_slice());
+    if !have_short_decks(alloc, linked.program.units.as_slice())? {
         return Err(AllocError);
     }
+    let bytes = linked.bytes(alloc)?;
     Ok(StoredModule { bytes })
 }

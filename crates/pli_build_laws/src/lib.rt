@@ -3,4 +3,4 @@
 
 mod laws;
 
-pub use laws::built_modules_are_loaded;
+pub use laws::built_modules_are_spelled;

@@ -50,7 +50,7 @@ pub struct CodedSignature {
 pub enum VariableKind {
     /// One is made before the program begins.
     Static,
-    /// A program stacks them.
+    /// ALLOCATE stacks them, and FREE removes the newest.
     Controlled,
 }
 
@@ -96,23 +96,4 @@ pub struct Deck {
     pub name: Name,
     pub is_main: bool,
     pub code: Code,
-}
-
-/// A unit of a module.
-#[derive(Drop)]
-pub struct LinkedUnit {
-    /// The name of its member.
-    pub unit: Name,
-    /// The name of its external procedure.
-    pub procedure: Name,
-    pub code: Code,
-    /// For each entry among its globals, in their order: the number of the unit that has its procedure.
-    pub entries: Vec<u16>,
-}
-
-/// A module: units, and the number of the one whose external procedure is the main procedure.
-#[derive(Drop)]
-pub struct Module {
-    pub units: Vec<LinkedUnit>,
-    pub main: u16,
 }

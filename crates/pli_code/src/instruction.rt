@@ -1,6 +1,6 @@
 //! Instructions of the stack machine.
 use pli_base::statement::Condition;
-use pli_operation::Relation;
+use pli_operation::Operation;
 use pli_run::RunError;
 
 /// An instruction of the stack machine, with numbers as wide as its bytes have them (own). Operands on its list are
@@ -97,34 +97,8 @@ pub enum Instruction {
     Fit {
         description: u16,
     },
-    /// Makes characters of a number, at the right of so many columns.
-    ToCharacters {
-        width: u8,
-    },
-    /// Makes characters of bits.
-    FromBits,
-    Add,
-    Subtract,
-    Multiply,
-    Negate,
-    /// To so many binary digits, from 1 to 31.
-    Divide {
-        precision: u8,
-    },
-    Modulo,
-    Absolute,
-    Sign,
-    Greatest,
-    Least,
-    Compare(Relation),
-    Concatenate,
-    And,
-    Or,
-    Not,
-    LengthOf,
-    Index,
-    Substring,
-    Rest,
+    /// Takes as many operands as the operation has, and gives its value.
+    Operate(Operation),
     /// Takes a place and gives a pointer to it.
     AddressOf,
     /// Takes an area's place and an offset, and gives the pointer.
@@ -184,6 +158,4 @@ pub enum Instruction {
     TakeTemporary {
         number: u16,
     },
-    /// Takes a step, a limit and a number, and gives a bit, which is one unless the number has passed the limit.
-    Within,
 }

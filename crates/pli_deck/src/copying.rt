@@ -1,4 +1,4 @@
-//! Copies of code.
+//! Copies of decks.
 ghost use Rattle.std.specs.Prelude.{◌≡◌, map, IfOk};
 ghost use Rattle.pli_map.specs.Description as described;
 ghost use Rattle.pli_map.specs.views.DescriptionView.{description_view};

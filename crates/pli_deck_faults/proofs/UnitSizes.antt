@@ -4,8 +4,8 @@ use Rattle.std.specs.Global.{Global}
 use Rattle.std.specs.List.{sum_by}
 use Rattle.std.proofs.lemmas.List.{at_drop_more}
 use Rattle.std.proofs.lemmas.List.Sums.{sum_by-cons}
-use Rattle.pli_deck_write.specs.declared.module.Member.{Member}
-use Rattle.pli_deck_write.specs.ModuleView.{member_view}
+use Rattle.pli_code.specs.declared.module.Member.{Member}
+use Rattle.pli_code.specs.views.CodeView.{member_view}
 use Rattle.pli_deck_faults.specs.CutSizes.{unit_sizes}
 
 pub sizes_at : (all : List (Vec ℕ Global)) (units : List Member) (k : ℕ) (sizes : Vec ℕ Global) (other : Member) → map (λ s. s.items) all ≡ map unit_sizes units → k < length units

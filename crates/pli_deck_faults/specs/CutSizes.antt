@@ -3,7 +3,7 @@ use Rattle.std.specs.Prelude.{ℕ, List, map, min}
 use Rattle.pli_map.specs.Sizes.{size_of}
 use Rattle.pli_map.specs.declared.description.Description.{Description}
 use Rattle.pli_map.specs.views.DescriptionView.{description_view}
-use Rattle.pli_deck_write.specs.declared.module.Member.{Member}
+use Rattle.pli_code.specs.declared.module.Member.{Member}
 
 -- the size of a description, 2^32 standing for every greater one
 abbrev pub cut_size : Description → ℕ

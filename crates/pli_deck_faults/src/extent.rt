@@ -1,14 +1,12 @@
 //! Whether a module keeps the limits.
 ghost use Rattle.std.specs.Prelude.{◌≡◌, ◌≤◌, min, nat_le, length, map, get_or, slice_get, option_map, IfOk};
 ghost use Rattle.std.specs.List.{sum_by};
-ghost use Rattle.pli_code.specs.views.CodeView.{code_view, coded_template_view, global_view};
+ghost use Rattle.pli_code.specs.views.CodeView.{code_view, coded_template_view, external_view, global_view, member_view, module_view};
 ghost use Rattle.pli_deck_write.specs.ModuleSpelling as spelling;
-ghost use Rattle.pli_deck_write.specs.ModuleView.{external_view, member_view, module_view};
 ghost use Rattle.pli_deck_faults.specs.CutSizes.{cut_sizes, unit_sizes};
 ghost use Rattle.pli_deck_faults.specs.Remains.{Remains};
 
-use pli_code::{Code, CodedGlobal, VariableKind};
-use pli_deck_write::{DeckModule, External, Member};
+use pli_code::{Code, CodedGlobal, External, Member, Module, VariableKind};
 use pli_map::{Description, far_size};
 use std::alloc::{AllocError, Global};
 
@@ -179,7 +177,7 @@ fn behind_externals(
 }
 
 /// Whether a module keeps the limits. An error comes where memory runs out.
-pub fn module_within(alloc: Global, program: &DeckModule) -> Result<bool, AllocError>
+pub fn module_within(alloc: Global, program: &Module) -> Result<bool, AllocError>
     ensures { IfOk result (λ good. good ≡ spelling.module_within_limits (module_view program.now)) }
 {
     let units = program.units.as_slice();

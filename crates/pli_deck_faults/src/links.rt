@@ -1,13 +1,11 @@
 //! Whether what the external names of a module stand for is there.
 ghost use Rattle.std.specs.Prelude.{◌≡◌, map, nat_eq, Some, slice_get};
 ghost use Rattle.std.specs.List.{filter, list_all};
-ghost use Rattle.pli_code.specs.views.CodeView.{global_view};
+ghost use Rattle.pli_code.specs.views.CodeView.{external_view, global_view, kind_number, member_view, module_view};
 ghost use Rattle.pli_deck_write.specs.ModuleFields as module_fields;
 ghost use Rattle.pli_deck_write.specs.ModuleSpelling as spelling;
-ghost use Rattle.pli_deck_write.specs.ModuleView.{kind_number, external_view, member_view, module_view};
 
-use pli_code::{CodedGlobal, VariableKind};
-use pli_deck_write::{DeckModule, External, Member};
+use pli_code::{CodedGlobal, External, Member, Module, VariableKind};
 
 /// Whether a global is of a kind of externals.
 fn has_kind(kind: VariableKind, global: &CodedGlobal) -> bool
@@ -70,7 +68,7 @@ fn variable_stands(externals: &[External], global: &CodedGlobal, link: u16) -> b
 
 /// Whether what an external global stands for is there: a unit for an entry, and an external of its kind for a
 /// variable.
-fn link_stands(program: &DeckModule, global: &CodedGlobal, link: u16) -> bool
+fn link_stands(program: &Module, global: &CodedGlobal, link: u16) -> bool
     ensures { result ≡ spelling.is_good_link (module_view program.now) (global_view global.now) link }
 {
     match global {
@@ -90,7 +88,7 @@ pub fn is_external(global: &CodedGlobal) -> bool
 }
 
 /// Whether what the external globals of a unit stand for is there.
-fn globals_linked(program: &DeckModule, globals: &[CodedGlobal], links: &[u16]) -> bool
+fn globals_linked(program: &Module, globals: &[CodedGlobal], links: &[u16]) -> bool
     ensures { result ≡ spelling.are_good_links (module_view program.now) (filter module_fields.is_external (map global_view globals.now)) links.now }
 {
     let mut at: usize = 0;
@@ -109,7 +107,7 @@ fn globals_linked(program: &DeckModule, globals: &[CodedGlobal], links: &[u16]) 
 }
 
 /// Whether what the external globals of units stand for is there.
-fn units_linked(program: &DeckModule, units: &[Member]) -> bool
+fn units_linked(program: &Module, units: &[Member]) -> bool
     ensures { result ≡ list_all (λ u. spelling.are_good_links (module_view program.now) (filter module_fields.is_external u.deck.code.globals) u.links) (map member_view units.now) }
 {
     for unit in units {
@@ -121,7 +119,7 @@ fn units_linked(program: &DeckModule, units: &[Member]) -> bool
 }
 
 /// Whether the main unit, the first declarations of externals, and what external globals stand for are there.
-pub fn links_stand(program: &DeckModule) -> bool
+pub fn links_stand(program: &Module) -> bool
     ensures { result ≡ spelling.links_stand (module_view program.now) }
 {
     usize::from(program.main) < program.units.len()

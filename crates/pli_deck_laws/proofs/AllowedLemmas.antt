@@ -1,14 +1,14 @@
 -- Instructions whose numbers are within limits, and the code of expressions and of groups with a control variable.
 use Rattle.std.proofs.Common.{◌≡◌, ℕ, suc, ◌+◌, ◌<◌, ◌≤◌, Bool, true, false, Option, Some, None, List, [], ◌∷◌, ◌++◌, length, arith}
 use Rattle.std.specs.List.{AllByRecursion}
-use Rattle.pli_gen_emit.specs.TreeTranslation.{argument_count, root_code, call_instruction, value_code, place_code, operands_code, subscripts_code, arguments_code, call_code, skip_code, items_code}
+use Rattle.pli_gen_emit.specs.TreeTranslation.{argument_count, operation_code, root_code, call_instruction, value_code, place_code, operands_code, subscripts_code, arguments_code, call_code, skip_code, items_code}
 use Rattle.pli_gen_emit.specs.TreeTranslation.{keeps_code, conversion_code, sets_code, start_code, test_against, limit_test, while_test, guarded, tests_code, counted_code, advances_code, back_code}
 use Rattle.pli_gen.proofs.SimpleCode.{all_both}
 use Rattle.pli_gen.specs.WellNumbered.{next_temporary}
 use Rattle.pli_program.specs.Program as op
-use Rattle.pli_operation.specs.Operations as calculate
+use Rattle.pli_operation.specs.declared.operation.Operation.TheVariants as calculate
 use Rattle.pli_type_tree.specs.Iterations.{kept_by, limit_number, step_number, temporaries_of}
-use Rattle.pli_type_tree.specs.TypedTree.{Root, InSlot, OfProgram, Callee, OfBlock, OfEntry, TypedExpression, Literal, Held, Calculated, Called, TypedReference, Whole, Part}
+use Rattle.pli_type_tree.specs.TypedTree.{Root, InSlot, OfProgram, Callee, OfBlock, OfEntry, TypedExpression, Literal, TypedOperation, Fit, Operate, Held, Calculated, Called, TypedReference, Whole, Part}
 use Rattle.pli_type_tree.specs.TypedTree.{Operands, NoOperand, OperandThen, Subscripts, NoSubscript, SubscriptThen, TypedArguments, NoArgument, ByPlace, ByDummy}
 use Rattle.pli_type_tree.specs.TypedTree.{TypedRange, Once, ToBy, ByTo, Repeated, Iteration, TypedUnit}
 use Rattle.pli_deck_laws.specs.Limits.{link_limit, parameter_limit, word_limit, IfThere, IsBound, IsDescription, IsConstant, IsMade, IsOperation}
@@ -38,7 +38,8 @@ module _ (globals blocks last : ℕ) where
   Allowed op.Store = Unit {0}
   Allowed op.Copy = Unit {0}
   Allowed (op.MakeDummy d) = IsMade d
-  Allowed (op.Operate operation) = IsOperation operation
+  Allowed (op.Fit d) = IsDescription d
+  Allowed (op.Operate operation) = IsOperation (Operate operation)
   Allowed op.Put = Unit {0}
   Allowed op.Skip = Unit {0}
   Allowed (op.SetTemporary number) = number ≤ 65535
@@ -63,11 +64,15 @@ module _ (globals blocks last : ℕ) where
     call_allowed (OfBlock block) n h k = (named block h, k)
     call_allowed (OfEntry number) n h k = (there number h, k)
 
+    operation_allowed : (o : TypedOperation) → IsOperation o → Allowed (operation_code o)
+    operation_allowed (Fit d) h = h
+    operation_allowed (Operate operation) h = h
+
     mutual
       pub value_allowed : (e : TypedExpression) → IsExpression t e → AllAllowed (value_code e)
       value_allowed (Literal v) h = (h, tt)
       value_allowed (Held r) h = joined (place_code r) (op.Load ∷ []) (place_allowed r h) (tt, tt)
-      value_allowed (Calculated operation operands) h = joined (operands_code operands) (op.Operate operation ∷ []) (operands_allowed operands h.1) (h.0, tt)
+      value_allowed (Calculated operation operands) h = joined (operands_code operands) (operation_code operation ∷ []) (operands_allowed operands h.1) (operation_allowed operation h.0, tt)
       value_allowed (Called callee arguments) h =
           joined (arguments_code arguments) (call_instruction callee (argument_count arguments) ∷ []) (arguments_allowed arguments h.2)
           (call_allowed callee (argument_count arguments) h.0 h.1, tt)
@@ -111,9 +116,9 @@ module _ (globals blocks last : ℕ) where
         joined (value_code e) (op.SetTemporary temporary ∷ keeps_code (suc temporary) es) (value_allowed e h.0)
         (omega (arith, room), keeps_allowed (suc temporary) es (omega (arith, room)) h.1)
 
-    conversion_allowed : (os : List calculate.Operation) → AllByRecursion IsOperation os → AllAllowed (conversion_code os)
+    conversion_allowed : (os : List TypedOperation) → AllByRecursion IsOperation os → AllAllowed (conversion_code os)
     conversion_allowed [] h = tt
-    conversion_allowed (o ∷ os) h = (h.0, conversion_allowed os h.1)
+    conversion_allowed (o ∷ os) h = (operation_allowed o h.0, conversion_allowed os h.1)
 
     sets_allowed : (i : Iteration) (value : List op.Instruction) → IsReference t i.control → AllByRecursion IsOperation i.conversion → AllAllowed value
         → AllAllowed (sets_code i value)

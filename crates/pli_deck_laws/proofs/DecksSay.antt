@@ -339,6 +339,6 @@ module _ (t : TypedUnit) (well : IsWellNumbered t) (formed : IsWellFormed t) (fi
   said n is_main named = let r = code_within t well formed few in good_is_deck tables G B r.0 (code_of t) (good_code r.0 r.1) n is_main (fits_name n named)
 
 pub units_are_said : UnitsAreSaid
-units_are_said t u is_main well formed fits_in of typed =
-    subst (λ (c : Code). IsDeck (record { name = u.procedure; is_main = is_main; code = c })) (sym of)
-    (said t well formed fits_in (subst IsTypedCode of typed.code) u.procedure is_main typed.procedure)
+units_are_said t d well formed fits_in of typed =
+    subst (λ (c : Code). IsDeck (record { name = d.name; is_main = d.is_main; code = c })) (sym of)
+    (said t well formed fits_in (subst IsTypedCode of typed.code) d.name d.is_main typed.name)

@@ -5,13 +5,17 @@ use Rattle.pli_run.specs.declared.ending.RunError.{RunError}
 use Rattle.pli_run.specs.declared.ending.RunError.TheVariants as errors
 use Rattle.pli_map.specs.Description.{Description}
 use Rattle.pli_program.specs.Program as op
-use Rattle.pli_operation.specs.Operations as calculate
-use Rattle.pli_operation.specs.Operations.{Operation, Relation}
+use Rattle.pli_operation.specs.declared.operation.Operation.{Operation}
+use Rattle.pli_operation.specs.declared.operation.Operation.TheVariants as calculate
+use Rattle.pli_operation.specs.declared.operation.Relation.{Relation}
+use Rattle.pli_operation.specs.declared.operation.Relation.TheVariants.{Equal}
 use Rattle.pli_type_tree.specs.Templates.{Template}
+use Rattle.pli_type_tree.specs.TypedTree.{Operate}
 use Rattle.pli_value.specs.Value.{Value}
 use Rattle.pli_code.specs.declared.instruction.Instruction.{Instruction}
+use Rattle.pli_code.specs.declared.instruction.Instruction.TheVariants as coded
 use Rattle.pli_type_keys.specs.Same.{same_value}
-use Rattle.pli_gen.specs.Encoding.{NumberedTables, number_in, dummy, fitted_by, descriptions_named, templates_named, values_named, relation_code, description_number, template_number, operation_code, instruction_code}
+use Rattle.pli_gen.specs.Encoding.{NumberedTables, number_in, dummy, descriptions_named, templates_named, values_named, description_number, template_number, instruction_code}
 use Rattle.pli_deck_write.specs.Fields.{u1, u2, u4, ◌⊗◌}
 use Rattle.pli_deck_write.specs.Descriptions.{bound}
 use Rattle.pli_deck_write.specs.Instructions.{error, relation, instruction}
@@ -25,8 +29,8 @@ error_fits : (e : RunError) → error.fits e ≡ true
 error_fits errors.SubscriptRange = refl
 error_fits e = refl
 
-relation_fits : (r : Relation) → relation.fits (relation_code r) ≡ true
-relation_fits calculate.Equal = refl
+relation_fits : (r : Relation) → relation.fits r ≡ true
+relation_fits Equal = refl
 relation_fits r = refl
 
 module _ (tables : NumberedTables) (globals blocks last : ℕ) where
@@ -60,13 +64,12 @@ module _ (tables : NumberedTables) (globals blocks last : ℕ) where
     description_fits : (n : ℕ) → n < length tables.descriptions → u2.fits n ≡ true
     description_fits n h = fits_short n (omega (arith, h, few_descriptions))
 
-    operation_good : (o : Operation) → IsOperation o → AllByRecursion HasDescription (fitted_by o) → GoodInstruction (operation_code tables o)
+    operation_good : (o : Operation) → IsOperation (Operate o) → GoodInstruction (coded.Operate o)
     unfolding instruction
-    operation_good (calculate.Fit d) h has = record { fits = description_fits (description_number tables d) has.0; jumps = tt; names = (has.0, tt) }
-    operation_good (calculate.ToCharacters width) h has = record { fits = fits_byte width h; jumps = tt; names = tt }
-    operation_good (calculate.Divide p) h has = record { fits = fits_precision p h; jumps = tt; names = tt }
-    operation_good (calculate.Compare r) h has = record { fits = relation_fits r; jumps = tt; names = tt }
-    operation_good o h has = record { fits = refl; jumps = tt; names = tt }
+    operation_good (calculate.ToCharacters width) h = record { fits = fits_byte width h; jumps = tt; names = tt }
+    operation_good (calculate.Divide p) h = record { fits = fits_precision p h; jumps = tt; names = tt }
+    operation_good (calculate.Compare r) h = record { fits = relation_fits r; jumps = tt; names = tt }
+    operation_good o h = record { fits = refl; jumps = tt; names = tt }
 
     link : (n : ℕ) → n ≤ link_limit → u1.fits n ≡ true
     link n h = fits_byte n (omega (arith, h))
@@ -125,7 +128,8 @@ module _ (tables : NumberedTables) (globals blocks last : ℕ) where
     instruction_good (op.MakeDummy d) h to ds ts vs =
         let has = ts.0 in
         record { fits = fits_short (template_number tables (dummy d)) (omega (arith, has, few_templates)); jumps = tt; names = (has, tt) }
-    instruction_good (op.Operate operation) h to ds ts vs = operation_good operation h ds
+    instruction_good (op.Fit d) h to ds ts vs = record { fits = description_fits (description_number tables d) ds.0; jumps = tt; names = (ds.0, tt) }
+    instruction_good (op.Operate operation) h to ds ts vs = operation_good operation h
     instruction_good op.Put h to ds ts vs = record { fits = refl; jumps = tt; names = tt }
     instruction_good op.Skip h to ds ts vs = record { fits = refl; jumps = tt; names = tt }
     instruction_good (op.SetTemporary number) h to ds ts vs = record { fits = fits_short number h; jumps = tt; names = tt }

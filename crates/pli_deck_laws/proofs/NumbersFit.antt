@@ -5,13 +5,11 @@ use Rattle.std.specs.List.{list_all, AllByRecursion}
 use Rattle.std.proofs.lemmas.Bool.{le-leb, lt-ltb}
 use Rattle.std.proofs.lemmas.List.{length-map}
 use Rattle.pli_program.specs.Program as op
-use Rattle.pli_operation.specs.Operations as calculate
-use Rattle.pli_operation.specs.Operations.{Operation}
 use Rattle.pli_type_tree.specs.TypedTree.{TypedUnit}
 use Rattle.pli_code.specs.CodeFields.{is_byte, is_short, instruction_fits, parent_fits, block_fits}
 use Rattle.pli_code.specs.declared.instruction.Instruction.{Instruction}
 use Rattle.pli_gen_emit.specs.TreeTranslation.{BlockTree, behind, block_code, blocks_code, blocks_of, instructions_of}
-use Rattle.pli_gen.specs.Encoding.{NumberedTables, tables_for, operation_code, instruction_code, global_code, coded_block, coded_blocks, code_of}
+use Rattle.pli_gen.specs.Encoding.{NumberedTables, tables_for, instruction_code, global_code, coded_block, coded_blocks, code_of}
 use Rattle.pli_gen.proofs.CodeEnds.{both_within}
 use Rattle.pli_gen.proofs.LimitLemmas.{few, blocks_counted}
 use Rattle.pli_deck_laws.specs.DeckLaws.{HasShortTables, NumbersFit}
@@ -36,10 +34,6 @@ module _ (tables : NumberedTables) (globals blocks last : ℕ) (few_globals : gl
   abbrev Fits : Instruction → Type 0
   Fits i = instruction_fits i ≡ true
 
-  operation_narrow : (o : Operation) → Fits (operation_code tables o)
-  operation_narrow (calculate.Fit d) = refl
-  operation_narrow o = refl
-
   block_number : (n : ℕ) → n < blocks → is_short n ≡ true
   block_number n h = short n (omega (arith, h, few_blocks))
 
@@ -60,7 +54,6 @@ module _ (tables : NumberedTables) (globals blocks last : ℕ) (few_globals : gl
   instruction_narrow (op.Global n) h = global_number n h
   instruction_narrow (op.SetTemporary n) h = short n h
   instruction_narrow (op.TakeTemporary n) h = short n h
-  instruction_narrow (op.Operate operation) h = operation_narrow operation
   instruction_narrow i h = refl
 
   parent_narrow : (o : Option ℕ) → IfThere (λ n. n < blocks) o → parent_fits o ≡ true

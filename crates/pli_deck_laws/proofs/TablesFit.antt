@@ -7,14 +7,12 @@ use Rattle.pli_map.specs.Description.{Description}
 use Rattle.pli_map.specs.Same.{same}
 use Rattle.pli_map.specs.laws.SameLaws.{same_decides}
 use Rattle.pli_program.specs.Program as op
-use Rattle.pli_operation.specs.Operations as calculate
-use Rattle.pli_operation.specs.Operations.{Operation}
 use Rattle.pli_type_tree.specs.Templates.{Template}
 use Rattle.pli_type_tree.specs.TypedTree.{Signature, Global, OwnVariable, ExternalVariable, EntryPoint, TypedUnit}
 use Rattle.pli_code.specs.CodeTables.{there}
 use Rattle.pli_value.specs.Value.{Value}
 use Rattle.pli_gen_emit.specs.TreeTranslation.{BlockTree, behind, block_code}
-use Rattle.pli_gen.specs.Encoding.{number_in, fitted_by, descriptions_named, templates_named, values_named, signature_descriptions, global_descriptions, global_templates, block_templates}
+use Rattle.pli_gen.specs.Encoding.{number_in, descriptions_named, templates_named, values_named, signature_descriptions, global_descriptions, global_templates, block_templates}
 use Rattle.pli_gen.specs.Encoding.{NumberedTables, tables_for, description_number, template_number, coded_blocks}
 use Rattle.pli_gen.specs.Limits.{has_many_slots}
 use Rattle.pli_type_keys.specs.Same.{same_value, same_template}
@@ -24,7 +22,7 @@ use Rattle.pli_gen.proofs.SimpleCode.{all_both}
 use Rattle.pli_gen.proofs.TableNumbers.{Has, number_stands, has_all}
 use Rattle.pli_gen.proofs.UnitLemmas.{put_all}
 use Rattle.pli_gen.proofs.LimitLemmas.{few}
-use Rattle.pli_deck_laws.specs.Limits.{IfThere, IsDescription, IsConstant, IsTemplate, IsOperation, IsSignature, IsGlobal}
+use Rattle.pli_deck_laws.specs.Limits.{IfThere, IsDescription, IsConstant, IsTemplate, IsSignature, IsGlobal}
 use Rattle.pli_deck_laws.specs.WellFormed.{slots_of, IsHead}
 use Rattle.pli_deck_laws.proofs.AllowedLemmas.{Allowed}
 use Rattle.pli_deck_laws.proofs.FieldsFit.{neither}
@@ -58,16 +56,12 @@ templates_described : (ts : List Template) → AllByRecursion IsTemplate ts → 
 templates_described [] h = tt
 templates_described (t ∷ ts) h = (h.0.0.0, templates_described ts h.1)
 
-fitted_described : (o : Operation) → IsOperation o → AllByRecursion IsDescription (fitted_by o)
-fitted_described (calculate.Fit d) h = (h, tt)
-fitted_described o h = tt
-
 -- what instructions name
 module _ (globals blocks last : ℕ) where
   code_described : (i : op.Instruction) → Allowed globals blocks last i → AllByRecursion IsDescription (descriptions_named i)
   code_described (op.Field offset d) h = (h.1, tt)
   code_described (op.MakeDummy d) h = (h.0, tt)
-  code_described (op.Operate o) h = fitted_described o h
+  code_described (op.Fit d) h = (h, tt)
   code_described i h = tt
 
   code_made : (i : op.Instruction) → Allowed globals blocks last i → AllByRecursion IsTemplate (templates_named i)

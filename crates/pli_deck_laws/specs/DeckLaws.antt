@@ -1,21 +1,19 @@
 -- What a deck says of its unit: where units are well formed, no number is wider than its field, and the deck
 -- is one that bytes spell.
-use Rattle.std.specs.Prelude.{◌≡◌, ℕ, Bool, false, Some}
+use Rattle.std.specs.Prelude.{◌≡◌, ℕ, false, Some}
 use Rattle.std.specs.List.{list_any}
 use Rattle.pli_deck_write.specs.DeckFaults.{scalar_at}
 use Rattle.pli_deck_write.specs.Spelling.{IsDeck}
-use Rattle.pli_deck_code.specs.CodeModules.{deck_of}
 use Rattle.pli_bytes.specs.Contents.{scalar_on, scalars_at}
 use Rattle.pli_map.specs.Parts.{PlacedPart}
-use Rattle.pli_deck_laws.specs.UnitTypes.{IsTypedUnit}
+use Rattle.pli_deck_laws.specs.UnitTypes.{IsTypedDeck}
 use Rattle.pli_deck_laws.specs.WellFormed.{IsWellFormed}
 use Rattle.pli_gen.specs.Encoding.{code_of}
 use Rattle.pli_gen.specs.Limits.{is_over, has_many_slots, has_wide_number, is_too_long}
 use Rattle.pli_gen.specs.WellNumbered.{IsWellNumbered}
 use Rattle.pli_map.specs.Description.{Description}
 use Rattle.pli_type_tree.specs.TypedTree.{TypedUnit}
-use Rattle.pli_code.specs.CodeTables.{Code}
-use Rattle.pli_code.specs.Modules.{LinkedUnit}
+use Rattle.pli_code.specs.CodeTables.{Code, Deck}
 
 -- the scalar that begins on a byte is the one that decks find there
 abbrev pub ScalarsAreFound : Type 0
@@ -39,5 +37,5 @@ NumbersFit =
 -- the deck of a unit that is numbered well, well formed and not too long is a deck
 abbrev pub UnitsAreSaid : Type 0
 UnitsAreSaid =
-    (t : TypedUnit) (u : LinkedUnit) (is_main : Bool) → IsWellNumbered t → IsWellFormed t
-    → is_too_long (code_of t) ≡ false → u.code ≡ code_of t → IsTypedUnit u → IsDeck (deck_of is_main u)
+    (t : TypedUnit) (d : Deck) → IsWellNumbered t → IsWellFormed t → is_too_long (code_of t) ≡ false
+    → d.code ≡ code_of t → IsTypedDeck d → IsDeck d

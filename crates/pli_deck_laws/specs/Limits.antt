@@ -8,11 +8,10 @@ use Rattle.pli_map.specs.Description.{Description, FixedBinary, Character, Varyi
 use Rattle.pli_map.specs.Description.{Area, Array, Structure, Members, NoMembers, MemberThen}
 use Rattle.pli_map.specs.Sizes.{size_of}
 use Rattle.pli_map.specs.Values.{holds}
-use Rattle.pli_operation.specs.Operations as calculate
-use Rattle.pli_operation.specs.Operations.{Operation}
+use Rattle.pli_operation.specs.declared.operation.Operation.TheVariants.{ToCharacters, Divide}
 use Rattle.pli_type_tree.specs.Templates.{InitialScalar, Template}
 use Rattle.pli_type_tree.specs.TypedTree.{Stride, Signature, Global, OwnVariable, ExternalVariable}
-use Rattle.pli_type_tree.specs.TypedTree.{EntryPoint}
+use Rattle.pli_type_tree.specs.TypedTree.{EntryPoint, TypedOperation, Fit, Operate}
 use Rattle.pli_bytes.specs.Contents.{scalar_on, scalars_at}
 use Rattle.pli_map.specs.Parts.{PlacedPart}
 use Rattle.pli_value.specs.Value.{Value, Number, Characters, Bits, Located}
@@ -113,10 +112,10 @@ IsTemplate t =
 -- operations and subscripts
 
 -- what an operation has beside its operands is within the limits
-abbrev pub IsOperation : Operation → Type 0
-IsOperation (calculate.Fit d) = IsDescription d
-IsOperation (calculate.ToCharacters width) = width ≤ 255
-IsOperation (calculate.Divide precision) = IsPrecision precision
+abbrev pub IsOperation : TypedOperation → Type 0
+IsOperation (Fit d) = IsDescription d
+IsOperation (Operate (ToCharacters width)) = width ≤ 255
+IsOperation (Operate (Divide precision)) = IsPrecision precision
 IsOperation operation = Unit {0}
 
 -- bounds of a subscript, and a multiplier of less than 2^32

@@ -5,8 +5,8 @@ use Rattle.std.specs.List.{AllByRecursion}
 use Rattle.pli_base.specs.Name.{Name, name_of}
 use Rattle.pli_type_tree.specs.Templates.{InitialScalar}
 use Rattle.pli_code.specs.CodeTables.{Code, CodedTemplate, CodedGlobal, OwnVariable, ExternalVariable}
-use Rattle.pli_code.specs.CodeTables.{EntryPoint}
-use Rattle.pli_code.specs.Modules.{LinkedUnit}
+use Rattle.pli_code.specs.CodeTables.{EntryPoint, Deck}
+use Rattle.pli_code.specs.Modules.{Member}
 use Rattle.pli_value.specs.Value.{Value, Characters}
 
 -- a name as it is written in upper case
@@ -38,8 +38,12 @@ pub record IsTypedCode (c : Code) : Type 0 where
   pub values : AllByRecursion HasBytes c.values
   pub templates : AllByRecursion BeginsWithBytes c.templates
 
--- the same of a linked unit, with its own name and its procedure's
-pub record IsTypedUnit (u : LinkedUnit) : Type 0 where
-  pub unit : IsName u.unit
-  pub procedure : IsName u.procedure
-  pub code : IsTypedCode u.code
+-- the same of a deck, with its procedure's name
+pub record IsTypedDeck (d : Deck) : Type 0 where
+  pub name : IsName d.name
+  pub code : IsTypedCode d.code
+
+-- the same of a unit of a module, with its member's name
+pub record IsTypedUnit (m : Member) : Type 0 where
+  pub name : IsName m.name
+  pub deck : IsTypedDeck m.deck

@@ -1,12 +1,10 @@
-//! What the types of the program say of linked units, whatever they were compiled from.
+//! What the types of the program say of the units of a module, whatever they were compiled from.
 ghost use Rattle.std.specs.Prelude.{map};
 ghost use Rattle.std.specs.List.{AllByRecursion};
-ghost use Rattle.pli_deck_code.specs.views.LinkedView.{lent_view};
-ghost use Rattle.pli_code.specs.views.CodeView.{code_view};
-ghost use Rattle.pli_deck_laws.specs.UnitTypes.{IsByte, IsTypedCode, IsTypedUnit};
+ghost use Rattle.pli_code.specs.views.CodeView.{code_view, deck_view, lent_member_view};
+ghost use Rattle.pli_deck_laws.specs.UnitTypes.{IsByte, IsTypedCode, IsTypedDeck, IsTypedUnit};
 
-use pli_code::{Code, CodedGlobal, CodedTemplate};
-use pli_deck_code::LentUnit;
+use pli_code::{Code, CodedGlobal, CodedTemplate, Deck, LentMember};
 use pli_type_tree::InitialScalar;
 use pli_value::Value;
 
@@ -138,19 +136,26 @@ fn code_is_typed(code: &Code)
     tell_all(&Templates, code.templates.as_slice());
 }
 
-/// So are those of a unit.
-fn unit_is_typed(unit: &LentUnit<'_>)
-    ensures { IsTypedUnit (lent_view unit.now) }
+/// So are those of a deck.
+fn deck_is_typed(deck: &Deck)
+    ensures { IsTypedDeck (deck_view deck.now) }
 {
-    unit.unit.reads_as_itself();
-    unit.procedure.reads_as_itself();
-    code_is_typed(unit.code);
+    deck.name.reads_as_itself();
+    code_is_typed(&deck.code);
 }
 
-/// A law: the names of linked units are names, and their characters are bytes. It does nothing; it goes over the units
-/// since their types tell it of each name and each value.
-pub fn units_are_typed(units: &[LentUnit<'_>])
-    ensures { AllByRecursion IsTypedUnit (map lent_view units.now) }
+/// So are those of a unit.
+fn unit_is_typed(unit: &LentMember<'_>)
+    ensures { IsTypedUnit (lent_member_view unit.now) }
+{
+    unit.name.reads_as_itself();
+    deck_is_typed(unit.deck);
+}
+
+/// A law: the names of the units of a module are names, and their characters are bytes. It does nothing; it goes over
+/// the units since their types tell it of each name and each value.
+pub fn units_are_typed(units: &[LentMember<'_>])
+    ensures { AllByRecursion IsTypedUnit (map lent_member_view units.now) }
 {
     for unit in units {
         unit_is_typed(unit);

@@ -74,7 +74,7 @@ fn area_size_of(bytes: &[u8]) -> Result<(u32, &[u8]), ReadError>
 }
 
 /// The scalar of a tag that is neither an array's nor a structure's.
-#[tactic(auto, unfolding(pli_deck_write::specs::Descriptions::described), using(pli_deck_write::proofs::DescriptionViews::area_said, pli_deck_write::proofs::DescriptionViews::fixed_said, pli_deck_write::proofs::DescriptionViews::character_said, pli_deck_write::proofs::DescriptionViews::varying_said, pli_deck_write::proofs::DescriptionViews::bit_said, pli_deck_write::proofs::DescriptionViews::pointer_said, pli_deck_write::proofs::DescriptionViews::offset_said))]
+#[tactic(auto, unfolding(pli_deck_write::specs::Descriptions::described), using(pli_deck_write::proofs::DescriptionViews::scalars_said))]
 fn scalar_of(tag: u8, bytes: &[u8]) -> Result<(Description, &[u8]), ReadError>
     requires { (1 ≤ tag) × (tag ≤ 7) }
     ensures { (inner : Field plain.Description) →

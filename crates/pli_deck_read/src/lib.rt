@@ -4,11 +4,11 @@
 mod constants;
 mod described;
 mod error;
+mod instructions;
 mod module;
 mod modules;
 mod numbered;
 mod operands;
-mod operations;
 mod read;
 mod reading;
 mod tables;

@@ -1,20 +1,21 @@
 //! Modules from bytes.
 ghost use Rattle.std.specs.Prelude.{◌≡◌, ◌<◌, ℕ, Ok, IfOk, slice_index};
-ghost use Rattle.pli_deck_write.specs.ModuleFields as plain;
+ghost use Rattle.pli_code.specs.Modules as plain;
+ghost use Rattle.pli_code.specs.views.CodeView.{module_view};
 ghost use Rattle.pli_deck_write.specs.ModuleSpelling.{SpellsModule, module_fault, module_read};
-ghost use Rattle.pli_deck_write.specs.ModuleView.{module_view};
 ghost use Rattle.pli_deck_write.specs.Whole.{whole};
 ghost use Rattle.pli_base.specs.answers.FailureAnswers.{Gives};
 
 use crate::error::ReadError;
 use crate::modules::module_at;
+use pli_code::Module;
 use pli_deck_faults::module_fault;
-use pli_deck_write::{DeckFault, DeckModule};
+use pli_deck_write::DeckFault;
 use std::alloc::Global;
 
 /// A module, if no bytes stand behind it and it has no fault.
 #[tactic(auto, using(crate::proofs::WholeReading::more_left, crate::proofs::WholeReading::none_left))]
-fn whole(alloc: Global, program: DeckModule, rest: &[u8]) -> Result<DeckModule, ReadError>
+fn whole(alloc: Global, program: Module, rest: &[u8]) -> Result<Module, ReadError>
     ensures { Gives module_view result (whole module_fault (module_view program) rest.now) }
 {
     if !rest.is_empty() {
@@ -28,7 +29,7 @@ fn whole(alloc: Global, program: DeckModule, rest: &[u8]) -> Result<DeckModule, 
 
 /// The module that bytes are, or the first fault.
 #[tactic(auto, unfolding(pli_deck_write::specs::ModuleSpelling::module_read))]
-fn read(alloc: Global, bytes: &[u8]) -> Result<DeckModule, ReadError>
+fn read(alloc: Global, bytes: &[u8]) -> Result<Module, ReadError>
     ensures exact { Gives module_view result (module_read bytes.now) }
     ensures bytes { (place : ℕ) → slice_index bytes.now place < 256 }
 {
@@ -40,11 +41,11 @@ fn read(alloc: Global, bytes: &[u8]) -> Result<DeckModule, ReadError>
 
 /// The module that bytes spell; each deck is read whole where it stands. An error is the first fault, or that memory
 /// ran out. Takes memory in proportion to the bytes, and no call is deeper than the 512 levels of descriptions.
-pub fn read_module(alloc: Global, bytes: &[u8]) -> Result<DeckModule, ReadError>
+pub fn read_module(alloc: Global, bytes: &[u8]) -> Result<Module, ReadError>
     // What is read is spelled so.
     ensures read { IfOk result (λ m. SpellsModule bytes.now (module_view m)) }
     // What is spelled so is read, unless memory runs out.
-    ensures spelled { (m : plain.DeckModule) → SpellsModule bytes.now m → Gives module_view result (Ok m) }
+    ensures spelled { (m : plain.Module) → SpellsModule bytes.now m → Gives module_view result (Ok m) }
     // Which fault it is.
     ensures exact { Gives module_view result (module_read bytes.now) }
 {

@@ -3,9 +3,9 @@ ghost use Rattle.std.specs.Prelude.{◌≡◌, None, length, map};
 ghost use Rattle.std.specs.List.{filter};
 ghost use Rattle.pli_deck_write.specs.Fields.{u1, from_to};
 ghost use Rattle.pli_deck_write.specs.DeckFields as deck_fields;
-ghost use Rattle.pli_code.specs.views.CodeView.{deck_view, global_view};
+ghost use Rattle.pli_code.specs.Modules as plain;
+ghost use Rattle.pli_code.specs.views.CodeView.{deck_view, external_view, global_view, kind_number, member_view, module_view};
 ghost use Rattle.pli_deck_write.specs.ModuleFields as module_fields;
-ghost use Rattle.pli_deck_write.specs.ModuleView.{kind_number, external_view, member_view, module_view};
 ghost use Rattle.pli_deck_read.specs.Earlier.{last_of};
 ghost use Rattle.pli_base.specs.answers.FailureAnswers.{Gives};
 
@@ -18,9 +18,9 @@ use crate::reading::{
 use crate::tables::numbers_of;
 use crate::whole::behind;
 use pli_base::Name;
-use pli_code::{CodedGlobal, Deck, VariableKind};
+use pli_code::{CodedGlobal, Deck, External, Member, Module, VariableKind};
 use pli_deck_faults::is_external;
-use pli_deck_write::{DeckFault, DeckModule, External, Member};
+use pli_deck_write::DeckFault;
 use std::alloc::Global;
 use std::cmp::Ordering;
 
@@ -154,7 +154,7 @@ struct Members;
 impl ReadsOne for Members {
     type Value = Member;
 
-    ghost Said = { module_fields.Member };
+    ghost Said = { plain.Member };
 
     ghost say = { member_view };
 
@@ -173,7 +173,7 @@ impl ReadsOne for Members {
 }
 
 /// What a module has behind its version.
-fn contents_of(alloc: Global, bytes: &[u8]) -> Result<(DeckModule, &[u8]), ReadError>
+fn contents_of(alloc: Global, bytes: &[u8]) -> Result<(Module, &[u8]), ReadError>
     ensures { Gives (λ x. (module_view x.0, x.1.now)) result (module_fields.module_contents.read bytes.now) }
 {
     let (count, rest) = short_within(bytes, 1, 999)?;
@@ -181,7 +181,7 @@ fn contents_of(alloc: Global, bytes: &[u8]) -> Result<(DeckModule, &[u8]), ReadE
     let (externals, rest) = externals_of(alloc, rest)?;
     let (units, rest) = many_of(alloc, &Members, u32::from(count), rest)?;
     Ok((
-        DeckModule {
+        Module {
             main,
             externals,
             units,
@@ -191,7 +191,7 @@ fn contents_of(alloc: Global, bytes: &[u8]) -> Result<(DeckModule, &[u8]), ReadE
 }
 
 /// The version, which is 1, and what a module has behind it.
-fn versioned_of(alloc: Global, bytes: &[u8]) -> Result<(DeckModule, &[u8]), ReadError>
+fn versioned_of(alloc: Global, bytes: &[u8]) -> Result<(Module, &[u8]), ReadError>
     ensures { Gives (λ x. (module_view x.0, x.1.now)) result (deck_fields.versioned module_fields.module_contents.read bytes.now) }
 {
     let (version, rest) = byte_of(bytes)?;
@@ -204,7 +204,7 @@ fn versioned_of(alloc: Global, bytes: &[u8]) -> Result<(DeckModule, &[u8]), Read
 
 /// A module.
 #[tactic(auto, unfolding(pli_deck_write::specs::ModuleFields::module_field))]
-pub fn module_at(alloc: Global, bytes: &[u8]) -> Result<(DeckModule, &[u8]), ReadError>
+pub fn module_at(alloc: Global, bytes: &[u8]) -> Result<(Module, &[u8]), ReadError>
     ensures { Gives (λ x. (module_view x.0, x.1.now)) result (module_fields.module_field.read bytes.now) }
 {
     match behind(bytes, b"PLIM") {

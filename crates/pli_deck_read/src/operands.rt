@@ -116,7 +116,7 @@ impl<'a> Operands<'a> {
         condition_of(self.byte_within(0, 2))
     }
 
-    /// No instruction has the code: that is an error, and any instruction stands for it.
+    /// No instruction has the opcode: that is an error, and any instruction stands for it.
     pub fn unknown(&mut self) -> Instruction
         ensures { Reads unknown (operands_view self.old) result (operands_view self.new) }
     {

@@ -9,8 +9,8 @@ ghost use Rattle.pli_code.specs.views.CodeView.{kind_view, block_view, signature
 ghost use Rattle.pli_base.specs.answers.FailureAnswers.{Gives};
 
 use crate::error::ReadError;
+use crate::instructions::instruction_of;
 use crate::numbered::kind_of;
-use crate::operations::operation_of;
 use crate::reading::{
     ReadsOne, byte_of, byte_within, count_within, list_at, many_of, name_text_of, optional_of,
     short_of, upper_name, word_of,
@@ -204,7 +204,7 @@ impl ReadsOne for Instructions {
         bytes: &'a [u8],
     ) -> Result<(Instruction, &'a [u8]), ReadError> {
         let (code, rest) = byte_of(bytes)?;
-        operation_of(code, rest)
+        instruction_of(code, rest)
     }
 }
 

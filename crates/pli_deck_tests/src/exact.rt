@@ -65,7 +65,7 @@ fn is_refused_longer(alloc: Global, kind: Kind, bytes: &[u8]) -> Result<bool, Al
 /// Whether bytes are the one spelling of what they are read as, or are refused for a fault of a number from 1 to 8.
 fn is_exact(alloc: Global, kind: Kind, bytes: &[u8]) -> bool {
     match outcome_of(alloc, kind, bytes) {
-        Outcome::Same | Outcome::NotLinked => true,
+        Outcome::Same => true,
         Outcome::Fault(number) => number >= 1 && number <= 8,
         Outcome::Other | Outcome::OutOfMemory => false,
     }

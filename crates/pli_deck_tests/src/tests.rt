@@ -2,7 +2,7 @@
 
 mod built;
 mod compiled;
-mod loaded;
+mod modules;
 mod spelled;
 
 use crate::{Kind, Tries, first_inexact, first_inexact_deck};

@@ -39,6 +39,9 @@ area_said n even =
     ap description_view (sym (made.rolls-Area n)) ∙ folds.fold-roll-Description Description level_view (program.Description-F.Area n)
     ∙ ap Area same
 
+-- what scalars say
+pub ruleset scalars_said = (area_said, fixed_said, character_said, varying_said, bit_said, pointer_said, offset_said)
+
 pub array_said : (bounds : Vec Bounds Global) (element : Box program.Description)
     → description_view (made.Array bounds element) ≡ Array bounds.items (description_view element.value)
 array_said bounds element =

@@ -1,18 +1,23 @@
 -- The laws of the field of instructions.
 use Rattle.std.proofs.Common.{◌≡◌, ℕ, true, List, ◌++◌, get_or, Ok, refl}
+use Rattle.pli_operation.specs.declared.operation.Operation.{Operation}
+use Rattle.pli_operation.specs.declared.operation.Operation.TheVariants as calculate
 use Rattle.pli_code.specs.declared.instruction.Instruction.{Instruction}
 use Rattle.pli_code.specs.declared.instruction.Instruction.TheVariants as op
 use Rattle.pli_deck_write.specs.Fields.{BothWays, nothing, ◌⊗◌, form, made, unknown, u1, u2, u4}
 use Rattle.pli_deck_write.specs.Descriptions.{precision, bound}
-use Rattle.pli_deck_write.specs.Instructions.{error, relation, condition, instruction_form, instruction_readers, instruction}
+use Rattle.pli_deck_write.specs.Instructions.{error, relation, condition, operation_form, instruction_form, alone, instruction_readers, instruction}
 use Rattle.pli_deck_write.proofs.FieldLaws.{IsField, byte_law, u2_law, u4_law, nothing_law, pair_law, both_ways}
 use Rattle.pli_deck_write.proofs.FormLaws.{AllRead, Reads, unknown_reads, made_reads, made_again, tagged_law}
 use Rattle.pli_deck_write.proofs.DescriptionLaws.{precision_law, bound_law}
 use Rattle.pli_deck_write.proofs.NumberedLaws.{error_law, relation_law, condition_law}
 
 -- what has no operand
-bare : (i : Instruction) (tag : ℕ) → instruction_form i ≡ form tag nothing tt → Reads instruction_form tag (made (λ (u : Unit {0}). i) nothing)
+bare : (i : Instruction) (tag : ℕ) → instruction_form i ≡ form tag nothing tt → Reads instruction_form tag (alone i)
 bare i tag same = made_reads nothing nothing_law (λ (u : Unit {0}). i) instruction_form tag (λ x. same)
+
+operated : (o : Operation) (tag : ℕ) → operation_form o ≡ form tag nothing tt → Reads instruction_form tag (alone (op.Operate o))
+operated o tag same = bare (op.Operate o) tag same
 
 -- what has one operand of two bytes
 short : (to : ℕ → Instruction) (tag : ℕ) → ((n : ℕ) → instruction_form (to n) ≡ form tag u2 n) → Reads instruction_form tag (made to u2)
@@ -50,27 +55,16 @@ forms_read =
     & bare op.Copy 21 refl
     & short op.MakeDummy 22 (λ n. refl)
     & short op.Fit 23 (λ n. refl)
-    & made_reads u1 byte_law op.ToCharacters f 24 (λ x. refl)
-    & bare op.FromBits 25 refl
-    & bare op.Add 26 refl
-    & bare op.Subtract 27 refl
-    & bare op.Multiply 28 refl
-    & bare op.Negate 29 refl
-    & made_reads precision precision_law op.Divide f 30 (λ x. refl)
-    & bare op.Modulo 31 refl
-    & bare op.Absolute 32 refl
-    & bare op.Sign 33 refl
-    & bare op.Greatest 34 refl
-    & bare op.Least 35 refl
-    & made_reads relation relation_law op.Compare f 36 (λ x. refl)
-    & bare op.Concatenate 37 refl
-    & bare op.And 38 refl
-    & bare op.Or 39 refl
-    & bare op.Not 40 refl
-    & bare op.LengthOf 41 refl
-    & bare op.Index 42 refl
-    & bare op.Substring 43 refl
-    & bare op.Rest 44 refl
+    & made_reads u1 byte_law (λ width. op.Operate (calculate.ToCharacters width)) f 24 (λ x. refl)
+    & operated calculate.FromBits 25 refl & operated calculate.Add 26 refl & operated calculate.Subtract 27 refl
+    & operated calculate.Multiply 28 refl & operated calculate.Negate 29 refl
+    & made_reads precision precision_law (λ p. op.Operate (calculate.Divide p)) f 30 (λ x. refl)
+    & operated calculate.Modulo 31 refl & operated calculate.Absolute 32 refl & operated calculate.Sign 33 refl
+    & operated calculate.Greatest 34 refl & operated calculate.Least 35 refl
+    & made_reads relation relation_law (λ k. op.Operate (calculate.Compare k)) f 36 (λ x. refl)
+    & operated calculate.Concatenate 37 refl & operated calculate.And 38 refl & operated calculate.Or 39 refl
+    & operated calculate.Not 40 refl & operated calculate.LengthOf 41 refl & operated calculate.Index 42 refl
+    & operated calculate.Substring 43 refl & operated calculate.Rest 44 refl
     & bare op.AddressOf 45 refl
     & bare op.ToPointer 46 refl
     & bare op.ToOffset 47 refl
@@ -89,8 +83,14 @@ forms_read =
     & bare op.Skip 60 refl
     & short op.SetTemporary 61 (λ n. refl)
     & short op.TakeTemporary 62 (λ n. refl)
-    & bare op.Within 63 refl
+    & operated calculate.Within 63 refl
     & tt
+
+operation_again : (o : Operation) (rest : List ℕ) → (operation_form o).fits ≡ true → get_or instruction_readers (operation_form o).tag unknown ((operation_form o).bytes ++ rest) ≡ Ok (op.Operate o, rest)
+operation_again (calculate.ToCharacters width) rest h = made_again u1 byte_law (λ w. op.Operate (calculate.ToCharacters w)) width rest h
+operation_again (calculate.Divide p) rest h = made_again precision precision_law (λ p. op.Operate (calculate.Divide p)) p rest h
+operation_again (calculate.Compare k) rest h = made_again relation relation_law (λ k. op.Operate (calculate.Compare k)) k rest h
+operation_again plain rest h = refl
 
 again : (i : Instruction) (rest : List ℕ) → (instruction_form i).fits ≡ true → get_or instruction_readers (instruction_form i).tag unknown ((instruction_form i).bytes ++ rest) ≡ Ok (i, rest)
 again (op.Step statement) rest h = made_again u4 u4_law op.Step statement rest h
@@ -112,9 +112,7 @@ again (op.Subscript low high multiplier) rest h = made_again (bound ⊗ bound �
 again (op.Constant value) rest h = made_again u2 u2_law op.Constant value rest h
 again (op.MakeDummy template) rest h = made_again u2 u2_law op.MakeDummy template rest h
 again (op.Fit description) rest h = made_again u2 u2_law op.Fit description rest h
-again (op.ToCharacters width) rest h = made_again u1 byte_law op.ToCharacters width rest h
-again (op.Divide p) rest h = made_again precision precision_law op.Divide p rest h
-again (op.Compare k) rest h = made_again relation relation_law op.Compare k rest h
+again (op.Operate o) rest h = operation_again o rest h
 again (op.AllocateControlled global) rest h = made_again u2 u2_law op.AllocateControlled global rest h
 again (op.FreeControlled global) rest h = made_again u2 u2_law op.FreeControlled global rest h
 again (op.CountGenerations global) rest h = made_again u2 u2_law op.CountGenerations global rest h

@@ -12,3 +12,4 @@ pub mod NumberedLaws
 pub mod PutLemmas
 pub mod SpellingLaws
 pub mod WholeLaws
+pub mod Worked

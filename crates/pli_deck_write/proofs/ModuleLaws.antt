@@ -8,10 +8,11 @@ use Rattle.pli_deck_write.specs.declared.fault.DeckFault.TheVariants.{Truncated}
 use Rattle.pli_base.specs.Results.{◌>>=◌}
 use Rattle.pli_deck_write.specs.Fields.{AreBytes, Field, many, checked, followed, ◌⊗◌, shaped, u1, u2, u4, from_to}
 use Rattle.pli_code.specs.CodeTables.{Deck}
+use Rattle.pli_code.specs.Modules.{External, Member}
 use Rattle.pli_deck_write.specs.DeckFields.{name, after_version, deck}
 use Rattle.pli_deck_write.specs.DeckFaults.{fault_of}
 use Rattle.pli_deck_write.specs.Spelling.{deck_bytes, deck_read, SpellsDeck}
-use Rattle.pli_deck_write.specs.ModuleFields.{External, Member, comes_after, external_of, external_parts, external_behind, bytes_behind, fit_behind, many_behind, chain, is_none, and_rest, deck_in, sized_deck, is_external, links_of, member_of, member_parts, member, exactly, module_of, module_parts, module_field}
+use Rattle.pli_deck_write.specs.ModuleFields.{comes_after, external_of, external_parts, external_behind, bytes_behind, fit_behind, many_behind, chain, is_none, and_rest, deck_in, sized_deck, is_external, links_of, member_of, member_parts, member, exactly, module_of, module_parts, module_field}
 use Rattle.pli_deck_write.specs.ModuleSpelling.{module_fault, module_read, ReadModuleIsSpelled, SpelledModuleIsRead, OneModule}
 use Rattle.pli_deck_write.proofs.FieldLaws.{AreBytes-drop, AreBytes-take, bind_ok, ok_is, guard_ok, both_true, Taken, IsField, byte_law, u2_law, u4_law, checked_law, followed_law, ◌⊠◌, shaped_law, list_law, from_to_law, many_takes, many_again}
 use Rattle.pli_deck_write.proofs.DeckLaws.{name_law, magic_law, version_law}

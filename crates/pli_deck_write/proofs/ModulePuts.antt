@@ -1,7 +1,8 @@
 -- The bytes of externals, which do not depend on those before them.
 use Rattle.std.proofs.Common.{◌≡◌, ℕ, List, [], ◌∷◌, ◌++◌, Option, Some, None, refl, ap, ◌∙◌}
 use Rattle.std.specs.List.{flat_map}
-use Rattle.pli_deck_write.specs.ModuleFields.{External, external_behind, bytes_behind}
+use Rattle.pli_code.specs.Modules.{External}
+use Rattle.pli_deck_write.specs.ModuleFields.{external_behind, bytes_behind}
 
 abbrev pub external_bytes : External → List ℕ
 external_bytes = (external_behind None).bytes_of

@@ -20,9 +20,8 @@ use Rattle.pli_code.specs.CodeTables.{CodedGlobal, OwnVariable, ExternalVariable
 use Rattle.pli_code.specs.declared.instruction.Instruction.{Instruction}
 use Rattle.pli_base.specs.Results.{◌>>=◌}
 use Rattle.pli_deck_write.specs.Fields.{Field, Form, Reader, byte_at, nothing, checked, held, signed, ◌⊗◌}
-use Rattle.pli_deck_write.specs.Fields.{shaped, list_of, form, made, unknown, tagged, byte, u1, u2, u4, from_to}
-use Rattle.pli_deck_write.specs.Fields.{count_of_one}
-use Rattle.pli_deck_write.specs.Fields.{list}
+use Rattle.pli_deck_write.specs.Fields.{shaped, list_of, form, made, unknown, tagged, byte, u1, u2, u4}
+use Rattle.pli_deck_write.specs.Fields.{from_to, count_of_one, list}
 use Rattle.pli_deck_write.specs.Descriptions.{description}
 use Rattle.pli_deck_write.specs.Instructions.{instruction}
 use Rattle.pli_deck_write.specs.Numbered.{kind_number, kind_of}

@@ -3,7 +3,8 @@ use Rattle.std.specs.Prelude.{ℕ}
 use Rattle.pli_deck_write.specs.declared.fault.DeckFault.{DeckFault}
 use Rattle.pli_deck_write.specs.declared.fault.DeckFault.TheVariants as faults
 
--- the first four and the fifth are met in reading from the front; then the others are looked for in this order
+-- the first four and the fifth are met in reading from the front; then the others are looked for in this
+-- order
 abbrev pub fault_number : DeckFault → ℕ
 fault_number faults.BadMagic = 1
 fault_number faults.BadVersion = 2

@@ -6,7 +6,6 @@ pub mod Fields
 pub mod Instructions
 pub mod ModuleFields
 pub mod ModuleSpelling
-pub mod ModuleView
 pub mod Numbered
 pub mod Spelling
 pub mod Whole

@@ -8,6 +8,7 @@ use Rattle.std.specs.declared.cmp.Ordering.{Ordering}
 use Rattle.std.specs.declared.cmp.Ordering.TheVariants.{Less}
 use Rattle.std.specs.Ordering.{nat_cmp}
 use Rattle.pli_base.specs.Name.{Name}
+use Rattle.pli_code.specs.Modules.{External, Member, Module}
 use Rattle.pli_deck_write.specs.declared.fault.DeckFault.{DeckFault}
 use Rattle.pli_deck_write.specs.declared.fault.DeckFault.TheVariants.{Truncated}
 use Rattle.pli_base.specs.Results.{◌>>=◌}
@@ -18,27 +19,6 @@ use Rattle.pli_deck_write.specs.DeckFaults.{fault_of}
 use Rattle.pli_deck_write.specs.Spelling.{deck_bytes, deck_read}
 use Rattle.pli_code.specs.CodeTables.{Deck, CodedGlobal, OwnVariable, ExternalVariable, EntryPoint}
 use Rattle.pli_code.specs.declared.code.VariableKind.TheVariants.{Static, Controlled}
-
--- an external variable: its name, whether it is 2, static, or 3, controlled, and the unit and the global of
--- its first declaration
-pub record External : Type 0 where
-  pub name : Name
-  pub kind : ℕ
-  pub unit : ℕ
-  pub global : ℕ
-
--- a unit: its member's name, its deck, and for each of its external globals what it stands for: the number of
--- an external or, for an entry, of a unit
-pub record Member : Type 0 where
-  pub name : Name
-  pub deck : Deck
-  pub links : List ℕ
-
--- units, the number of the main one, and externals
-pub record DeckModule : Type 0 where
-  pub main : ℕ
-  pub externals : List External
-  pub units : List Member
 
 -- ---- externals, in the order of their names
 
@@ -153,18 +133,18 @@ exactly count f = record {
 }
 
 -- a module of its parts
-abbrev pub module_of : (ℕ × (ℕ × List External)) × List Member → DeckModule
+abbrev pub module_of : (ℕ × (ℕ × List External)) × List Member → Module
 module_of p = record { main = p.0.1.0; externals = p.0.1.1; units = p.1 }
 
 -- its parts, in the order of their bytes
-abbrev pub module_parts : DeckModule → (ℕ × (ℕ × List External)) × List Member
+abbrev pub module_parts : Module → (ℕ × (ℕ × List External)) × List Member
 module_parts m = ((length m.units, (m.main, m.externals)), m.units)
 
 -- how many units there are, from 1 to 999, the main unit, externals, and the units
-abbrev pub module_contents : Field DeckModule
+abbrev pub module_contents : Field Module
 module_contents = shaped module_of module_parts
     (followed (from_to 1 999 u2 ⊗ u2 ⊗ chain external_behind) (λ h. exactly h.0 member))
 
 -- PLIM, the version, and the contents
-unfoldable pub module_field : Field DeckModule
+unfoldable pub module_field : Field Module
 module_field = after_magic (80 ∷ 76 ∷ 73 ∷ 77 ∷ []) (after_version module_contents)

@@ -8,8 +8,9 @@ use Rattle.pli_map.specs.Sizes.{size_of}
 use Rattle.pli_deck_write.specs.declared.fault.DeckFault.{DeckFault}
 use Rattle.pli_deck_write.specs.declared.fault.DeckFault.TheVariants.{BadNumber, OverLimit}
 use Rattle.pli_deck_write.specs.Fields.{AreBytes}
-use Rattle.pli_deck_write.specs.ModuleFields.{External, Member, DeckModule, global_tag, is_external, module_field}
+use Rattle.pli_deck_write.specs.ModuleFields.{global_tag, is_external, module_field}
 use Rattle.pli_deck_write.specs.Whole.{whole_read}
+use Rattle.pli_code.specs.Modules.{External, Member, Module}
 use Rattle.pli_code.specs.CodeTables.{Code, CodedTemplate}
 use Rattle.pli_code.specs.CodeTables.{CodedGlobal, OwnVariable, ExternalVariable, EntryPoint}
 use Rattle.pli_code.specs.declared.code.VariableKind.TheVariants.{Static}
@@ -37,19 +38,19 @@ is_of_kind kind (Some e) = nat_eq kind e.kind
 
 -- what an external global stands for is there: a unit for an entry, and an external of the same kind for a
 -- variable
-abbrev pub is_good_link : DeckModule → CodedGlobal → (link : ℕ) → Bool
+abbrev pub is_good_link : Module → CodedGlobal → (link : ℕ) → Bool
 is_good_link m (EntryPoint _ _) link = nat_lt link (length m.units)
 is_good_link m variable link = is_of_kind (global_tag variable) (slice_get m.externals link)
 
 -- what each external global of a unit stands for is there
-abbrev pub are_good_links : DeckModule → List CodedGlobal → List ℕ → Bool
+abbrev pub are_good_links : Module → List CodedGlobal → List ℕ → Bool
 are_good_links m [] links = true
 are_good_links m (g ∷ gs) [] = true
 are_good_links m (g ∷ gs) (l ∷ ls) = is_good_link m g l && are_good_links m gs ls
 
 -- the main unit is there; externals are declared where they say, and have that kind; and what external
 -- globals stand for is there
-abbrev pub links_stand : DeckModule → Bool
+abbrev pub links_stand : Module → Bool
 links_stand m =
     nat_lt m.main (length m.units)
     && list_all (λ e. has_kind e.kind (global_at m.units e.unit e.global)) m.externals
@@ -91,14 +92,14 @@ abbrev pub external_bytes : List Member → External → ℕ
 external_bytes units e = bytes_in_unit (slice_get units e.unit) e.global
 
 -- at most 1,000,000 instructions, and at most 16,777,216 bytes of static variables
-abbrev pub module_within_limits : DeckModule → Bool
+abbrev pub module_within_limits : Module → Bool
 module_within_limits m =
     nat_le (sum_by (λ u. length u.deck.code.instructions) m.units) 1000000
     && nat_le (sum_by (λ u. sum_by (static_bytes u.deck.code) u.deck.code.globals) m.units
     + sum_by (external_bytes m.units) m.externals) 16777216
 
 -- the first of these faults
-abbrev pub module_fault : DeckModule → Option DeckFault
+abbrev pub module_fault : Module → Option DeckFault
 module_fault m =
     if not (links_stand m) then Some BadNumber
     else if not (module_within_limits m) then Some OverLimit
@@ -107,28 +108,28 @@ module_fault m =
 -- ---- spelling and reading
 
 -- the bytes that a module is written as
-abbrev pub module_bytes : DeckModule → List ℕ
+abbrev pub module_bytes : Module → List ℕ
 module_bytes m = module_field.bytes_of m
 
 -- bytes spell a module that fits and has no fault
-pub record SpellsModule (bytes : List ℕ) (m : DeckModule) : Type 0 where
+pub record SpellsModule (bytes : List ℕ) (m : Module) : Type 0 where
   pub fits : module_field.fits m ≡ true
   pub faultless : module_fault m ≡ None
   pub spelled : bytes ≡ module_bytes m
 
 -- the module that bytes spell, or the first fault
-unfoldable pub module_read : List ℕ → Result DeckModule DeckFault
+unfoldable pub module_read : List ℕ → Result Module DeckFault
 module_read bytes = whole_read module_fault module_field bytes
 
 -- a module that is read is spelled by what it is read from
 abbrev pub ReadModuleIsSpelled : Type 0
 ReadModuleIsSpelled =
-    (bytes : List ℕ) (m : DeckModule) → AreBytes bytes → module_read bytes ≡ Ok m → SpellsModule bytes m
+    (bytes : List ℕ) (m : Module) → AreBytes bytes → module_read bytes ≡ Ok m → SpellsModule bytes m
 
 -- a module is read from bytes that spell it
 abbrev pub SpelledModuleIsRead : Type 0
-SpelledModuleIsRead = (bytes : List ℕ) (m : DeckModule) → SpellsModule bytes m → module_read bytes ≡ Ok m
+SpelledModuleIsRead = (bytes : List ℕ) (m : Module) → SpellsModule bytes m → module_read bytes ≡ Ok m
 
 -- bytes spell one module at most
 abbrev pub OneModule : Type 0
-OneModule = (bytes : List ℕ) (m n : DeckModule) → SpellsModule bytes m → SpellsModule bytes n → m ≡ n
+OneModule = (bytes : List ℕ) (m n : Module) → SpellsModule bytes m → SpellsModule bytes n → m ≡ n

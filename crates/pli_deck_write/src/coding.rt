@@ -7,9 +7,10 @@ ghost use Rattle.pli_deck_write.specs.Instructions as instruction_fields;
 use crate::numbered::{condition_number, error_number, relation_number};
 use crate::writing::{PutsOne, put_byte, put_short, put_with_byte, put_with_short, put_word};
 use pli_code::Instruction;
+use pli_operation::Operation;
 use std::alloc::AllocError;
 
-/// Puts a code with an operand of four bytes.
+/// Puts an opcode with an operand of four bytes.
 fn put_with_word(out: &mut Vec<u8>, code: u8, number: u32) -> Result<(), AllocError>
     ensures { OnOk result (out.new.items ≡ out.old.items ++ (code ∷ big_bytes 4 number)) }
 {
@@ -17,7 +18,7 @@ fn put_with_word(out: &mut Vec<u8>, code: u8, number: u32) -> Result<(), AllocEr
     put_word(out, number)
 }
 
-/// Puts a code with operands of one and two bytes.
+/// Puts an opcode with operands of one and two bytes.
 fn put_byte_short(out: &mut Vec<u8>, code: u8, first: u8, second: u16) -> Result<(), AllocError>
     ensures { OnOk result (out.new.items ≡ out.old.items ++ (code ∷ first ∷ big_bytes 2 second)) }
 {
@@ -25,7 +26,7 @@ fn put_byte_short(out: &mut Vec<u8>, code: u8, first: u8, second: u16) -> Result
     put_short(out, second)
 }
 
-/// Puts a code with operands of two bytes and one.
+/// Puts an opcode with operands of two bytes and one.
 fn put_short_byte(out: &mut Vec<u8>, code: u8, first: u16, second: u8) -> Result<(), AllocError>
     ensures { OnOk result (out.new.items ≡ out.old.items ++ (code ∷ (big_bytes 2 first ++ (second ∷ [])))) }
 {
@@ -33,7 +34,7 @@ fn put_short_byte(out: &mut Vec<u8>, code: u8, first: u16, second: u8) -> Result
     put_byte(out, second)
 }
 
-/// Puts a code with two operands of two bytes.
+/// Puts an opcode with two operands of two bytes.
 fn put_two_shorts(out: &mut Vec<u8>, code: u8, first: u16, second: u16) -> Result<(), AllocError>
     ensures { OnOk result (out.new.items ≡ out.old.items ++ (code ∷ (big_bytes 2 first ++ big_bytes 2 second))) }
 {
@@ -41,7 +42,7 @@ fn put_two_shorts(out: &mut Vec<u8>, code: u8, first: u16, second: u16) -> Resul
     put_short(out, second)
 }
 
-/// Puts a code with operands of four bytes and two.
+/// Puts an opcode with operands of four bytes and two.
 fn put_word_short(out: &mut Vec<u8>, code: u8, first: u32, second: u16) -> Result<(), AllocError>
     ensures { OnOk result (out.new.items ≡ out.old.items ++ (code ∷ (big_bytes 4 first ++ big_bytes 2 second))) }
 {
@@ -49,7 +50,7 @@ fn put_word_short(out: &mut Vec<u8>, code: u8, first: u32, second: u16) -> Resul
     put_short(out, second)
 }
 
-/// Puts a subscript's code, its bounds and its multiplier.
+/// Puts a subscript's opcode, its bounds and its multiplier.
 fn put_subscript(out: &mut Vec<u8>, low: i32, high: i32, multiplier: u32) -> Result<(), AllocError>
     ensures { OnOk result (out.new.items ≡ out.old.items ++ (17 ∷ (big_bytes 4 (cast_unsigned w32 low) ++ (big_bytes 4 (cast_unsigned w32 high) ++ big_bytes 4 multiplier)))) }
 {
@@ -57,6 +58,36 @@ fn put_subscript(out: &mut Vec<u8>, low: i32, high: i32, multiplier: u32) -> Res
     put_word(out, low.cast_unsigned())?;
     put_word(out, high.cast_unsigned())?;
     put_word(out, multiplier)
+}
+
+/// Puts an operation: its opcode, and its width, precision or relation.
+fn put_operation(out: &mut Vec<u8>, operation: Operation) -> Result<(), AllocError>
+    ensures { OnOk result (let form = instruction_fields.operation_form operation in out.new.items ≡ out.old.items ++ (form.tag ∷ form.bytes)) }
+{
+    match operation {
+        Operation::ToCharacters { width } => put_with_byte(out, 24, width),
+        Operation::FromBits => put_byte(out, 25),
+        Operation::Add => put_byte(out, 26),
+        Operation::Subtract => put_byte(out, 27),
+        Operation::Multiply => put_byte(out, 28),
+        Operation::Negate => put_byte(out, 29),
+        Operation::Divide { precision } => put_with_byte(out, 30, precision),
+        Operation::Modulo => put_byte(out, 31),
+        Operation::Absolute => put_byte(out, 32),
+        Operation::Sign => put_byte(out, 33),
+        Operation::Greatest => put_byte(out, 34),
+        Operation::Least => put_byte(out, 35),
+        Operation::Compare(relation) => put_with_byte(out, 36, relation_number(relation)),
+        Operation::Concatenate => put_byte(out, 37),
+        Operation::And => put_byte(out, 38),
+        Operation::Or => put_byte(out, 39),
+        Operation::Not => put_byte(out, 40),
+        Operation::LengthOf => put_byte(out, 41),
+        Operation::Index => put_byte(out, 42),
+        Operation::Substring => put_byte(out, 43),
+        Operation::Rest => put_byte(out, 44),
+        Operation::Within => put_byte(out, 63),
+    }
 }
 
 /// Puts an instruction: the byte that says which, and its operands.
@@ -97,27 +128,7 @@ fn put_instruction(out: &mut Vec<u8>, instruction: Instruction) -> Result<(), Al
         Instruction::Copy => put_byte(out, 21),
         Instruction::MakeDummy { template } => put_with_short(out, 22, template),
         Instruction::Fit { description } => put_with_short(out, 23, description),
-        Instruction::ToCharacters { width } => put_with_byte(out, 24, width),
-        Instruction::FromBits => put_byte(out, 25),
-        Instruction::Add => put_byte(out, 26),
-        Instruction::Subtract => put_byte(out, 27),
-        Instruction::Multiply => put_byte(out, 28),
-        Instruction::Negate => put_byte(out, 29),
-        Instruction::Divide { precision } => put_with_byte(out, 30, precision),
-        Instruction::Modulo => put_byte(out, 31),
-        Instruction::Absolute => put_byte(out, 32),
-        Instruction::Sign => put_byte(out, 33),
-        Instruction::Greatest => put_byte(out, 34),
-        Instruction::Least => put_byte(out, 35),
-        Instruction::Compare(relation) => put_with_byte(out, 36, relation_number(relation)),
-        Instruction::Concatenate => put_byte(out, 37),
-        Instruction::And => put_byte(out, 38),
-        Instruction::Or => put_byte(out, 39),
-        Instruction::Not => put_byte(out, 40),
-        Instruction::LengthOf => put_byte(out, 41),
-        Instruction::Index => put_byte(out, 42),
-        Instruction::Substring => put_byte(out, 43),
-        Instruction::Rest => put_byte(out, 44),
+        Instruction::Operate(operation) => put_operation(out, operation),
         Instruction::AddressOf => put_byte(out, 45),
         Instruction::ToPointer => put_byte(out, 46),
         Instruction::ToOffset => put_byte(out, 47),
@@ -140,7 +151,6 @@ fn put_instruction(out: &mut Vec<u8>, instruction: Instruction) -> Result<(), Al
         Instruction::Skip => put_byte(out, 60),
         Instruction::SetTemporary { number } => put_with_short(out, 61, number),
         Instruction::TakeTemporary { number } => put_with_short(out, 62, number),
-        Instruction::Within => put_byte(out, 63),
     }
 }
 

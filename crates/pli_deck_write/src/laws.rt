@@ -40,7 +40,7 @@ pub fn modules_both_ways()
 {}
 
 /// Worked examples: decks with their bytes, and bytes that are none.
-#[tactic(auto, unfolding(crate::specs::Fields::byte_at, crate::specs::Fields::number_at, crate::specs::Fields::many, crate::specs::Descriptions::description_within, crate::specs::Instructions::instruction, crate::specs::DeckFields::name, crate::specs::DeckFields::optional, crate::specs::DeckFields::bits_at, crate::specs::DeckFields::bit_string, crate::specs::DeckFields::characters, crate::specs::DeckFields::constant, crate::specs::DeckFields::initial, crate::specs::DeckFields::template, crate::specs::DeckFields::signature, crate::specs::DeckFields::global, crate::specs::DeckFields::block, crate::specs::DeckFields::code, crate::specs::DeckFields::contents, crate::specs::DeckFields::deck, crate::specs::Spelling::deck_read))]
+#[tactic(auto, using(crate::proofs::Worked::written_so, crate::proofs::Worked::numbered_so, crate::proofs::Worked::read_so))]
 pub fn worked_decks()
     ensures written { WrittenSo }
     ensures numbered { NumberedSo }
@@ -49,7 +49,7 @@ pub fn worked_decks()
 {}
 
 /// Worked examples: modules with their bytes, and bytes that are none.
-#[tactic(auto, unfolding(crate::specs::Fields::byte_at, crate::specs::Fields::number_at, crate::specs::Fields::many, crate::specs::Descriptions::description_within, crate::specs::Instructions::instruction, crate::specs::DeckFields::name, crate::specs::DeckFields::optional, crate::specs::DeckFields::bits_at, crate::specs::DeckFields::bit_string, crate::specs::DeckFields::characters, crate::specs::DeckFields::constant, crate::specs::DeckFields::initial, crate::specs::DeckFields::template, crate::specs::DeckFields::signature, crate::specs::DeckFields::global, crate::specs::DeckFields::block, crate::specs::DeckFields::code, crate::specs::DeckFields::contents, crate::specs::DeckFields::deck, crate::specs::Spelling::deck_read, crate::specs::ModuleFields::external_behind, crate::specs::ModuleFields::many_behind, crate::specs::ModuleFields::deck_in, crate::specs::ModuleFields::member, crate::specs::ModuleFields::module_field, crate::specs::ModuleSpelling::module_read))]
+#[tactic(auto, using(crate::proofs::Worked::modules_written_so, crate::proofs::Worked::modules_read_so, crate::proofs::Worked::module_faults_are))]
 pub fn worked_modules()
     ensures written { ModulesWrittenSo }
     ensures read { ModulesReadSo }

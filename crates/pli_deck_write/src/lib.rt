@@ -5,7 +5,6 @@ mod coding;
 mod describing;
 mod fault;
 mod laws;
-mod module;
 mod modules;
 mod numbered;
 mod putting;
@@ -18,6 +17,5 @@ pub use laws::{
     decks_both_ways, descriptions_both_ways, instructions_both_ways, modules_both_ways,
     worked_decks, worked_modules,
 };
-pub use module::{DeckModule, External, LentDeck, LentMember, LentModule, Member};
 pub use modules::write_module;
 pub use write::write_deck;

@@ -2,17 +2,17 @@
 ghost use Rattle.std.specs.Prelude.{◌≡◌, ◌++◌, None, true, length, map, IfOk, OnOk};
 ghost use Rattle.std.specs.List.{flat_map};
 ghost use Rattle.byteorder.specs.Endian.{big_bytes};
+ghost use Rattle.pli_code.specs.Modules as modules;
+ghost use Rattle.pli_code.specs.views.CodeView.{kind_number, external_view, lent_member_view, lent_module_view};
 ghost use Rattle.pli_deck_write.specs.ModuleFields as module_fields;
 ghost use Rattle.pli_deck_write.specs.ModuleSpelling.{module_bytes, module_fault, SpellsModule};
-ghost use Rattle.pli_deck_write.specs.ModuleView.{kind_number, external_view, lent_member_view, lent_module_view};
 
-use crate::module::{External, LentMember, LentModule};
 use crate::putting::put_numbers;
-use crate::write::written;
+use crate::write::write_deck;
 use crate::writing::{
     PutsOne, put_byte, put_bytes, put_count, put_large_count, put_list, put_name, put_short,
 };
-use pli_code::VariableKind;
+use pli_code::{External, LentMember, LentModule, VariableKind};
 use std::alloc::{AllocError, Global};
 
 /// The number of a kind.
@@ -31,7 +31,7 @@ struct Externals;
 impl PutsOne for Externals {
     type Value = External;
 
-    ghost Said = { module_fields.External };
+    ghost Said = { modules.External };
 
     ghost say = { external_view };
 
@@ -51,7 +51,7 @@ impl PutsOne for Externals {
 fn put_member(alloc: Global, out: &mut Vec<u8>, unit: &LentMember<'_>) -> Result<(), AllocError>
     ensures { OnOk result (out.new.items ≡ out.old.items ++ module_fields.member.bytes_of (lent_member_view unit.now)) }
 {
-    let deck = written(alloc, &unit.deck)?;
+    let deck = write_deck(alloc, unit.deck)?;
     put_name(out, &unit.name)?;
     put_large_count(out, deck.len())?;
     put_bytes(out, &deck)?;

@@ -1,13 +1,11 @@
 //! Decks as bytes.
 ghost use Rattle.std.specs.Prelude.{◌≡◌, ◌++◌, IfOk, OnOk};
 ghost use Rattle.pli_deck_write.specs.DeckFields as deck_fields;
-ghost use Rattle.pli_deck_write.specs.ModuleView.{lent_deck_view};
 ghost use Rattle.pli_deck_write.specs.Spelling.{deck_bytes, IsDeck, SpellsDeck};
 ghost use Rattle.pli_code.specs.views.CodeView.{code_view, deck_view};
 
 use crate::coding::Instructions;
 use crate::describing::Descriptions;
-use crate::module::{LentDeck, lent_deck};
 use crate::putting::{Blocks, Constants, Globals, Templates, put_signature};
 use crate::writing::{put_byte, put_bytes, put_flag, put_list, put_name};
 use pli_code::{Code, Deck};
@@ -29,31 +27,22 @@ fn put_code(out: &mut Vec<u8>, code: &Code) -> Result<(), AllocError>
 
 /// Puts the contents of a deck.
 #[tactic(auto, unfolding(crate::specs::DeckFields::contents))]
-fn put_contents(out: &mut Vec<u8>, deck: &LentDeck<'_>) -> Result<(), AllocError>
-    ensures { OnOk result (out.new.items ≡ out.old.items ++ deck_fields.contents.bytes_of (lent_deck_view deck.now)) }
+fn put_contents(out: &mut Vec<u8>, deck: &Deck) -> Result<(), AllocError>
+    ensures { OnOk result (out.new.items ≡ out.old.items ++ deck_fields.contents.bytes_of (deck_view deck.now)) }
 {
     put_name(out, &deck.name)?;
     put_flag(out, deck.is_main)?;
-    put_code(out, deck.code)
+    put_code(out, &deck.code)
 }
 
 /// Puts a deck: PLID, the version, and the contents.
 #[tactic(auto, unfolding(crate::specs::DeckFields::deck))]
-fn put_deck(out: &mut Vec<u8>, deck: &LentDeck<'_>) -> Result<(), AllocError>
-    ensures { OnOk result (out.new.items ≡ out.old.items ++ deck_bytes (lent_deck_view deck.now)) }
+fn put_deck(out: &mut Vec<u8>, deck: &Deck) -> Result<(), AllocError>
+    ensures { OnOk result (out.new.items ≡ out.old.items ++ deck_bytes (deck_view deck.now)) }
 {
     put_bytes(out, b"PLID")?;
     put_byte(out, 1)?;
     put_contents(out, deck)
-}
-
-/// The bytes of a deck whose code is lent.
-pub fn written(alloc: Global, deck: &LentDeck<'_>) -> Result<Vec<u8>, AllocError>
-    ensures { IfOk result (λ v. v.items ≡ deck_bytes (lent_deck_view deck.now)) }
-{
-    let mut out = Vec::new(alloc);
-    put_deck(&mut out, deck)?;
-    Ok(out)
 }
 
 /// The bytes of a deck, which are its one spelling where it has one. An error comes where memory runs out.
@@ -61,5 +50,7 @@ pub fn write_deck(alloc: Global, deck: &Deck) -> Result<Vec<u8>, AllocError>
     ensures bytes { IfOk result (λ v. v.items ≡ deck_bytes (deck_view deck.now)) }
     ensures spelled { IsDeck (deck_view deck.now) → IfOk result (λ v. SpellsDeck v.items (deck_view deck.now)) }
 {
-    written(alloc, &lent_deck(deck))
+    let mut out = Vec::new(alloc);
+    put_deck(&mut out, deck)?;
+    Ok(out)
 }

@@ -1,11 +1,10 @@
 -- Numbers of blocks and instructions are within their fields before what they name is numbered as behind it.
 use Rattle.std.proofs.Common.{◌≡◌, ℕ, zero, suc, ◌<◌, ◌&&◌, Bool, true, false, true≢false, List, [], ◌∷◌, map, get_or, length, refl, sym, ap, ◌∙◌, arith}
 use Rattle.std.specs.List.{list_all}
-use Rattle.pli_operation.specs.Operations as calculate
 use Rattle.pli_program.specs.Program as op
 use Rattle.pli_code.specs.CodeFields as fields
 use Rattle.pli_gen_emit.specs.TreeTranslation.{BlockTree, behind, block_code}
-use Rattle.pli_gen.specs.Encoding.{NumberedTables, operation_code, instruction_code, coded_blocks}
+use Rattle.pli_gen.specs.Encoding.{NumberedTables, instruction_code, coded_blocks}
 use Rattle.pli_gen.specs.answers.Pieces.{block_fits, instruction_fits}
 
 pub both_of : (x y : Bool) → (x && y) ≡ true → (x ≡ true) × (y ≡ true)
@@ -23,34 +22,8 @@ module _ (t : NumberedTables) where
   blocks_as_coded [] p = refl
   blocks_as_coded (b ∷ bs) p = ap (λ r. block_fits b && r) (blocks_as_coded bs (behind (block_code b p) p))
 
-  -- an operation has no such number
-  operation_fits : (o : calculate.Operation) → fields.instruction_fits (operation_code t o) ≡ true
-  operation_fits calculate.Negate = refl
-  operation_fits calculate.Absolute = refl
-  operation_fits calculate.Sign = refl
-  operation_fits calculate.Not = refl
-  operation_fits calculate.LengthOf = refl
-  operation_fits calculate.FromBits = refl
-  operation_fits (calculate.ToCharacters width) = refl
-  operation_fits (calculate.Fit d) = refl
-  operation_fits calculate.Add = refl
-  operation_fits calculate.Subtract = refl
-  operation_fits calculate.Multiply = refl
-  operation_fits calculate.Modulo = refl
-  operation_fits calculate.Greatest = refl
-  operation_fits calculate.Least = refl
-  operation_fits (calculate.Divide precision) = refl
-  operation_fits (calculate.Compare relation) = refl
-  operation_fits calculate.Concatenate = refl
-  operation_fits calculate.And = refl
-  operation_fits calculate.Or = refl
-  operation_fits calculate.Index = refl
-  operation_fits calculate.Rest = refl
-  operation_fits calculate.Substring = refl
-  operation_fits calculate.Within = refl
-
   one_as_coded : (i : op.Instruction) → fields.instruction_fits (instruction_code t i) ≡ instruction_fits i
-  one_as_coded (op.Operate operation) = operation_fits operation
+  one_as_coded (op.Operate operation) = refl
   one_as_coded i = refl
 
   pub instructions_as_coded : (is : List op.Instruction) → list_all fields.instruction_fits (map (instruction_code t) is) ≡ list_all instruction_fits is

@@ -3,10 +3,10 @@ use Rattle.std.proofs.Common.{◌≡◌, ℕ, suc, nat_eq, if◌then◌else◌, 
 use Rattle.std.specs.List.{AllByRecursion}
 use Rattle.pli_program.specs.Program as op
 use Rattle.pli_type_tree.specs.TypedTree.{Callee, OfBlock, OfEntry}
-use Rattle.pli_type_tree.specs.TypedTree.{Root, InSlot, OfProgram, TypedExpression, Literal, Held, Calculated, Called, TypedReference, Whole, Part}
+use Rattle.pli_type_tree.specs.TypedTree.{Root, InSlot, OfProgram, TypedOperation, Fit, Operate, TypedExpression, Literal, Held, Calculated, Called, TypedReference, Whole, Part}
 use Rattle.pli_type_tree.specs.TypedTree.{Operands, NoOperand, OperandThen, Subscripts, NoSubscript, SubscriptThen, TypedArguments, NoArgument, ByPlace, ByDummy}
 use Rattle.pli_type_tree.specs.TypedTree.{Form, Null, Assign, AssignAggregate, Put, If, Begin, Group, While, Iterate, Call, Goto, Return, ReturnValue, Stop}
-use Rattle.pli_gen_emit.specs.TreeTranslation.{argument_count, root_code, call_instruction, value_code, place_code, operands_code, subscripts_code, arguments_code, skip_code, items_code, behind}
+use Rattle.pli_gen_emit.specs.TreeTranslation.{argument_count, root_code, call_instruction, operation_code, value_code, place_code, operands_code, subscripts_code, arguments_code, skip_code, items_code, behind}
 use Rattle.pli_gen_emit.specs.answers.Pieces.{simple_code}
 use Rattle.pli_gen.specs.answers.Pieces.{step_place, Fits}
 
@@ -36,11 +36,15 @@ call_simple : (callee : Callee) (arguments : ℕ) → IsSimple (call_instruction
 call_simple (OfBlock block) arguments = tt
 call_simple (OfEntry number) arguments = tt
 
+pub operation_simple : (o : TypedOperation) → IsSimple (operation_code o)
+operation_simple (Fit d) = tt
+operation_simple (Operate o) = tt
+
 mutual
   pub value_simple : (e : TypedExpression) → AllSimple (value_code e)
   value_simple (Literal value) = (tt, tt)
   value_simple (Held variable) = simple_both (place_code variable) (op.Load ∷ []) (place_simple variable) (tt, tt)
-  value_simple (Calculated operation operands) = simple_both (operands_code operands) (op.Operate operation ∷ []) (operands_simple operands) (tt, tt)
+  value_simple (Calculated operation operands) = simple_both (operands_code operands) (operation_code operation ∷ []) (operands_simple operands) (operation_simple operation, tt)
   value_simple (Called callee arguments) =
       let count = argument_count arguments in
       simple_both (arguments_code arguments) (call_instruction callee count ∷ []) (arguments_simple arguments) (call_simple callee count, tt)

@@ -5,9 +5,6 @@ use Rattle.std.proofs.Common.{ap, ◌∙◌, option_map}
 use Rattle.std.proofs.lemmas.Option.{slice_get-map}
 use Rattle.pli_map.specs.Description.{Description}
 use Rattle.pli_map.specs.Same.{same}
-use Rattle.pli_operation.specs.Operations as calculate
-use Rattle.pli_operation.specs.Operations.{Operation, Relation}
-use Rattle.pli_operation.specs.views.OperationView.{relation_view}
 use Rattle.pli_map.specs.Variables.{Variable}
 use Rattle.pli_program.specs.Program as op
 use Rattle.pli_program.specs.Program.{Block, UnitCode}
@@ -16,10 +13,10 @@ use Rattle.pli_type_tree.specs.TypedTree.{Global, OwnVariable, ExternalVariable,
 use Rattle.pli_code.specs.CodeTables.{Code, looked_up, template_at, variables_at, block_looked_up, program_of, there, naming, with_description, described}
 use Rattle.pli_code.specs.CodeTables.{global_before, globals_linked}
 use Rattle.pli_gen_emit.specs.TreeTranslation.{BlockTree, blocks_of, blocks_at, block_at, block_code, behind, instructions_of, globals_code, unit_code}
-use Rattle.pli_gen.specs.Encoding.{NumberedTables, tables_for, descriptions_named, templates_named, values_named, dummy, fitted_by}
+use Rattle.pli_gen.specs.Encoding.{NumberedTables, tables_for, descriptions_named, templates_named, values_named, dummy}
 use Rattle.pli_type_keys.specs.Same.{same_value, same_template}
 use Rattle.pli_gen.specs.Encoding.{signature_descriptions, global_descriptions, global_templates, block_templates}
-use Rattle.pli_gen.specs.Encoding.{description_number, template_number, relation_code, operation_code, instruction_code, template_code, global_code, coded_blocks, coded_unit, code_of}
+use Rattle.pli_gen.specs.Encoding.{description_number, template_number, instruction_code, template_code, global_code, coded_blocks, coded_unit, code_of}
 use Rattle.pli_gen.specs.laws.ListLaws.{all_front, all_back}
 use Rattle.pli_map.specs.laws.SameLaws.{same_decides}
 use Rattle.pli_type_keys.specs.laws.KeyLaws.{value_decides, template_decides}
@@ -60,26 +57,18 @@ module _ (tables : NumberedTables) (u : TypedUnit) (bs : List BlockTree) (code :
   variables_there : (ts : List Template) → AllByRecursion InTables ts → variables_at c (map (template_number tables) ts) ≡ map variable_of ts
   variables_there ts h = ap (map variable_of) (templates_there ts h)
 
-  globals_there : (gs : List Global) (entries : List ℕ) → AllByRecursion InTables (flat_map global_templates gs)
-      → globals_linked c (map (global_code tables) gs) entries ≡ globals_code gs entries
-  globals_there [] entries h = refl
-  globals_there (OwnVariable t ∷ gs) entries h =
-      ap (λ o. global_before c (option_map op.OwnVariable (option_map variable_of o)) (globals_linked c (map (global_code tables) gs) entries)) (template_there t h.0.0 h.0.1)
-      ∙ ap (λ gs. op.OwnVariable (variable_of t) ∷ gs) (globals_there gs entries h.1)
-  globals_there (ExternalVariable name t ∷ gs) entries h =
-      ap (λ o. global_before c (option_map (op.ExternalVariable name) (option_map variable_of o)) (globals_linked c (map (global_code tables) gs) entries)) (template_there t h.0.0 h.0.1)
-      ∙ ap (λ gs. op.ExternalVariable name (variable_of t) ∷ gs) (globals_there gs entries h.1)
+  globals_there : (gs : List Global) (links : List ℕ) → AllByRecursion InTables (flat_map global_templates gs)
+      → globals_linked c (map (global_code tables) gs) links ≡ globals_code gs links
+  globals_there [] links h = refl
+  globals_there (OwnVariable t ∷ gs) links h =
+      ap (λ o. global_before c (option_map op.OwnVariable (option_map variable_of o)) (globals_linked c (map (global_code tables) gs) links)) (template_there t h.0.0 h.0.1)
+      ∙ ap (λ gs. op.OwnVariable (variable_of t) ∷ gs) (globals_there gs links h.1)
+  globals_there (ExternalVariable name t ∷ gs) [] h = globals_there gs [] h.1
+  globals_there (ExternalVariable name t ∷ gs) (link ∷ links) h =
+      ap (λ o. global_before c (option_map (op.ExternalVariable link) (option_map variable_of o)) (globals_linked c (map (global_code tables) gs) links)) (template_there t h.0.0 h.0.1)
+      ∙ ap (λ gs. op.ExternalVariable link (variable_of t) ∷ gs) (globals_there gs links h.1)
   globals_there (EntryPoint name s ∷ gs) [] h = globals_there gs [] h
-  globals_there (EntryPoint name s ∷ gs) (unit ∷ units) h = ap (λ gs. op.EntryPoint unit ∷ gs) (globals_there gs units h)
-
-  relation_back : (r : Relation) → relation_view (relation_code r) ≡ r
-  relation_back calculate.Equal = refl
-  relation_back r = refl
-
-  operation_there : (o : Operation) → AllByRecursion HasDescription (fitted_by o) → looked_up c (operation_code tables o) ≡ op.Operate o
-  operation_there (calculate.Fit d) h = ap (naming (λ d. op.Operate (calculate.Fit d))) (description_there d h.0)
-  operation_there (calculate.Compare r) h = ap (λ r. op.Operate (calculate.Compare r)) (relation_back r)
-  operation_there o h = refl
+  globals_there (EntryPoint name s ∷ gs) (link ∷ links) h = ap (λ gs. op.EntryPoint link ∷ gs) (globals_there gs links h)
 
   -- behind the last entry there is none
   none_behind : {X : Type 0} (xs : List X) → slice_get xs (length xs) ≡ None
@@ -91,7 +80,7 @@ module _ (tables : NumberedTables) (u : TypedUnit) (bs : List BlockTree) (code :
   instruction_there (op.Field offset d) ds ts vs = ap (naming (op.Field offset)) (description_there d ds.0)
   instruction_there (op.Constant v) ds ts vs = ap (naming op.Constant) (number_stands same_value value_decides tables.values v vs.0)
   instruction_there (op.MakeDummy d) ds ts vs = ap (naming (λ t. op.MakeDummy t.description)) (template_there (dummy d) ts.0 ds.0)
-  instruction_there (op.Operate o) ds ts vs = operation_there o ds
+  instruction_there (op.Fit d) ds ts vs = ap (naming op.Fit) (description_there d ds.0)
   instruction_there op.Nothing ds ts vs = ap (naming op.Constant) (none_behind tables.values)
   instruction_there i ds ts vs = refl
 
@@ -117,8 +106,8 @@ module _ (tables : NumberedTables) (u : TypedUnit) (bs : List BlockTree) (code :
       ap (λ vs. block_with b p vs ∷ map (block_looked_up c) (coded_blocks tables bs q)) (variables_there vs (all_front InTables vs more h))
       ∙ ap (λ blocks. block_at b p ∷ blocks) (blocks_there bs q (all_back InTables vs more h))
 
-pub looked_up_is_unit_code : (u : TypedUnit) (entries : List ℕ) → program_of (code_of u) u.name entries ≡ unit_code u entries
-looked_up_is_unit_code u entries =
+pub looked_up_is_unit_code : (u : TypedUnit) (links : List ℕ) → program_of (code_of u) u.name links ≡ unit_code u links
+looked_up_is_unit_code u links =
     let bs = blocks_of u in
     let code = instructions_of bs in
     let t = tables_for u bs code in
@@ -138,14 +127,14 @@ looked_up_is_unit_code u entries =
     let globals_in = both t u bs code outside (all_front has_template outside inside templates_front)
     (globals_described t.descriptions u.globals (all_back has from_signature from_globals (all_front has (from_signature ++ from_globals) from_blocks described_front))) in
     let blocks_in = both t u bs code inside (all_back has_template outside inside templates_front) (all_back has (from_signature ++ from_globals) from_blocks described_front) in
-    let globals = globals_there t u bs code u.globals entries globals_in in
+    let globals = globals_there t u bs code u.globals links globals_in in
     let blocks = blocks_there t u bs code bs 0 blocks_in in
     let instructions = instructions_there t u bs code code
     (all_back has (from_signature ++ from_globals ++ from_blocks) from_code described_all)
     (all_back has_template (outside ++ inside) (flat_map templates_named code) templates_all)
     values_all in
     let with : List op.GlobalCode → List Block → List op.Instruction → UnitCode = λ g b i. record { name = u.name; globals = g; blocks = b; instructions = i } in
-    let p = program_of (code_of u) u.name entries in
+    let p = program_of (code_of u) u.name links in
     ap (λ g. with g p.blocks p.instructions) globals
-    ∙ ap (λ b. with (globals_code u.globals entries) b p.instructions) blocks
-    ∙ ap (with (globals_code u.globals entries) (blocks_at bs 0)) instructions
+    ∙ ap (λ b. with (globals_code u.globals links) b p.instructions) blocks
+    ∙ ap (with (globals_code u.globals links) (blocks_at bs 0)) instructions

@@ -6,10 +6,6 @@ use Rattle.std.specs.Prelude.{length, if◌then◌else◌}
 use Rattle.std.specs.List.{flat_map, list_any}
 use Rattle.pli_map.specs.Description.{Description}
 use Rattle.pli_map.specs.Same.{same}
-use Rattle.pli_operation.specs.Operations as calculate
-use Rattle.pli_operation.specs.Operations.{Operation, Relation}
-use Rattle.pli_operation.specs.declared.operation.Relation.TheVariants as relations
-use Rattle.pli_operation.specs.declared.operation.Relation as declared_relation
 use Rattle.pli_value.specs.Value.{Value}
 use Rattle.pli_program.specs.Program as op
 use Rattle.pli_type_tree.specs.Templates.{Template}
@@ -39,16 +35,11 @@ number_in alike (y ∷ ys) x = if alike x y then 0 else suc (number_in alike ys 
 abbrev pub dummy : Description → Template
 dummy d = record { description = d; initial = [] }
 
--- the description to which an operation fits
-abbrev pub fitted_by : Operation → List Description
-fitted_by (calculate.Fit d) = d ∷ []
-fitted_by operation = []
-
 -- the descriptions that an instruction names
 abbrev pub descriptions_named : op.Instruction → List Description
 descriptions_named (op.Field offset d) = d ∷ []
 descriptions_named (op.MakeDummy d) = d ∷ []
-descriptions_named (op.Operate operation) = fitted_by operation
+descriptions_named (op.Fit d) = d ∷ []
 descriptions_named i = []
 
 -- the templates that it names
@@ -100,15 +91,6 @@ tables_for u bs code = record {
   values = numbered same_value [] (flat_map values_named code);
 }
 
--- an asked relation as code has it
-abbrev pub relation_code : Relation → declared_relation.Relation
-relation_code calculate.Equal = relations.Equal
-relation_code calculate.Unequal = relations.Unequal
-relation_code calculate.Less = relations.Less
-relation_code calculate.AtMost = relations.AtMost
-relation_code calculate.Greater = relations.Greater
-relation_code calculate.AtLeast = relations.AtLeast
-
 -- with these tables
 module _ (tables : NumberedTables) where
   -- the number of a description
@@ -118,32 +100,6 @@ module _ (tables : NumberedTables) where
   -- the number of a template
   abbrev pub template_number : Template → ℕ
   template_number t = number_in same_template tables.templates t
-
-  -- the instruction of an operation
-  abbrev pub operation_code : Operation → Instruction
-  operation_code calculate.Negate = coded.Negate
-  operation_code calculate.Absolute = coded.Absolute
-  operation_code calculate.Sign = coded.Sign
-  operation_code calculate.Not = coded.Not
-  operation_code calculate.LengthOf = coded.LengthOf
-  operation_code calculate.FromBits = coded.FromBits
-  operation_code (calculate.ToCharacters width) = coded.ToCharacters width
-  operation_code (calculate.Fit d) = coded.Fit (description_number d)
-  operation_code calculate.Add = coded.Add
-  operation_code calculate.Subtract = coded.Subtract
-  operation_code calculate.Multiply = coded.Multiply
-  operation_code calculate.Modulo = coded.Modulo
-  operation_code calculate.Greatest = coded.Greatest
-  operation_code calculate.Least = coded.Least
-  operation_code (calculate.Divide precision) = coded.Divide precision
-  operation_code (calculate.Compare relation) = coded.Compare (relation_code relation)
-  operation_code calculate.Concatenate = coded.Concatenate
-  operation_code calculate.And = coded.And
-  operation_code calculate.Or = coded.Or
-  operation_code calculate.Index = coded.Index
-  operation_code calculate.Rest = coded.Rest
-  operation_code calculate.Substring = coded.Substring
-  operation_code calculate.Within = coded.Within
 
   -- an instruction with numbers in place of what it names; what names no entry has the number of one that its
   -- table has not
@@ -169,7 +125,8 @@ module _ (tables : NumberedTables) where
   instruction_code op.Store = coded.Store
   instruction_code op.Copy = coded.Copy
   instruction_code (op.MakeDummy d) = coded.MakeDummy (template_number (dummy d))
-  instruction_code (op.Operate operation) = operation_code operation
+  instruction_code (op.Fit d) = coded.Fit (description_number d)
+  instruction_code (op.Operate operation) = coded.Operate operation
   instruction_code op.Put = coded.Put
   instruction_code op.Skip = coded.Skip
   instruction_code (op.SetTemporary number) = coded.SetTemporary number

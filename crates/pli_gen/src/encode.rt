@@ -2,8 +2,7 @@
 ghost use Rattle.std.specs.Prelude.{◌≡◌, ◌++◌, ℕ, true, nat_eq, unwrap_or, map, OnOk};
 ghost use Rattle.std.specs.List.{list_all, AllByRecursion};
 ghost use Rattle.std.specs.HashMap.{get};
-ghost use Rattle.pli_operation.specs.views.OperationView.{operation_view};
-ghost use Rattle.pli_gen.specs.Encoding.{operation_code, instruction_code};
+ghost use Rattle.pli_gen.specs.Encoding.{instruction_code};
 ghost use Rattle.pli_gen.specs.answers.Pieces.{retargeted, Fits, instruction_fits};
 ghost use Rattle.pli_gen_emit.specs.views.NamingView.{naming_view, naming_code};
 ghost use Rattle.pli_gen.specs.views.TableView.{tables_view};
@@ -11,44 +10,8 @@ ghost use Rattle.pli_gen.specs.views.TableView.{tables_view};
 use crate::numbers::Numbers;
 use pli_code::Instruction;
 use pli_gen_emit::NamingInstruction;
-use pli_operation::Operation;
 use pli_type_keys::TemplateKey;
 use std::alloc::AllocError;
-
-/// The instruction of an operation.
-fn encode_operation<'a>(numbers: Numbers<'_, 'a>, operation: &'a Operation) -> Instruction
-    ensures { result ≡ operation_code (tables_view numbers.entry.tables.now) (operation_view operation.now) }
-{
-    match operation {
-        Operation::Negate => Instruction::Negate,
-        Operation::Absolute => Instruction::Absolute,
-        Operation::Sign => Instruction::Sign,
-        Operation::Not => Instruction::Not,
-        Operation::LengthOf => Instruction::LengthOf,
-        Operation::FromBits => Instruction::FromBits,
-        Operation::ToCharacters { width } => Instruction::ToCharacters { width: *width },
-        Operation::Fit(description) => Instruction::Fit {
-            description: numbers.description(description),
-        },
-        Operation::Add => Instruction::Add,
-        Operation::Subtract => Instruction::Subtract,
-        Operation::Multiply => Instruction::Multiply,
-        Operation::Modulo => Instruction::Modulo,
-        Operation::Greatest => Instruction::Greatest,
-        Operation::Least => Instruction::Least,
-        Operation::Divide { precision } => Instruction::Divide {
-            precision: *precision,
-        },
-        Operation::Compare(relation) => Instruction::Compare(*relation),
-        Operation::Concatenate => Instruction::Concatenate,
-        Operation::And => Instruction::And,
-        Operation::Or => Instruction::Or,
-        Operation::Index => Instruction::Index,
-        Operation::Rest => Instruction::Rest,
-        Operation::Substring => Instruction::Substring,
-        Operation::Within => Instruction::Within,
-    }
-}
 
 /// An instruction with its numbers.
 fn encode_instruction<'a>(
@@ -123,18 +86,19 @@ fn encode_instruction<'a>(
                 initial: &[],
             }),
         },
-        NamingInstruction::Operate(operation) => encode_operation(numbers, operation),
-        NamingInstruction::SetTemporary { number } => Instruction::SetTemporary {
-            number: number as u16,
+        NamingInstruction::Fit(description) => Instruction::Fit {
+            description: numbers.description(description),
         },
-        NamingInstruction::TakeTemporary { number } => Instruction::TakeTemporary {
-            number: number as u16,
+        NamingInstruction::Operate(operation) => Instruction::Operate(operation),
+        NamingInstruction::SetTemporary { first, behind } => Instruction::SetTemporary {
+            number: first as u16 + u16::from(behind),
+        },
+        NamingInstruction::TakeTemporary { first, behind } => Instruction::TakeTemporary {
+            number: first as u16 + u16::from(behind),
         },
         NamingInstruction::One => Instruction::Constant {
             value: numbers.value(numbers.one.value),
         },
-        NamingInstruction::Add => Instruction::Add,
-        NamingInstruction::Within => Instruction::Within,
         NamingInstruction::Put => Instruction::Put,
         NamingInstruction::Skip => Instruction::Skip,
     }

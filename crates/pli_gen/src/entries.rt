@@ -82,7 +82,7 @@ pub(crate) fn encode_templates(
 }
 
 /// Appends a number so many times.
-fn put_times(list: &mut Vec<u16>, number: u16, count: u32) -> Result<(), AllocError>
+fn put_times(list: &mut Vec<u16>, number: u16, count: usize) -> Result<(), AllocError>
     ensures { OnOk result (list.new.items ≡ list.old.items ++ replicate count number) }
 {
     for _ in 0..count {

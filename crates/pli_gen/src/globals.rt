@@ -46,7 +46,7 @@ pub(crate) fn result_number<'a>(
 }
 
 /// Appends so many variables of the unit's own.
-fn put_own(globals: &mut Vec<CodedGlobal>, template: u16, count: u32) -> Result<(), AllocError>
+fn put_own(globals: &mut Vec<CodedGlobal>, template: u16, count: usize) -> Result<(), AllocError>
     ensures { OnOk result
         (map global_view globals.new.items
         ≡ map global_view globals.old.items ++ replicate count (plain.OwnVariable Static template)) }

@@ -28,17 +28,20 @@ const ENTRY_LIMIT: usize = 65_535;
 const INITIAL_LIMIT: u64 = 16_777_216;
 
 /// Whether so many slots and these variables come to more than the limit.
-fn has_many_variables(slots: u32, groups: &[VariableGroup]) -> bool
+fn has_many_variables(slots: usize, groups: &[VariableGroup]) -> bool
     ensures { result ≡ nat_lt 65535 (slots + length (groups_view groups.now)) }
 {
-    let mut count = u64::from(slots);
+    if slots > ENTRY_LIMIT {
+        return true;
+    }
+    let mut left = ENTRY_LIMIT - slots;
     for group in groups {
-        if count > ENTRY_LIMIT as u64 {
+        if group.count > left {
             return true;
         }
-        count += u64::from(group.count);
+        left -= group.count;
     }
-    count > ENTRY_LIMIT as u64
+    false
 }
 
 /// Whether a block has too many slots.
@@ -126,13 +129,13 @@ fn has_long_table(tables: &NumberedTables<'_>) -> bool
 }
 
 /// How many globals a group has.
-fn global_count(group: &GlobalGroup) -> u64
+fn global_count(group: &GlobalGroup) -> usize
     ensures { result ≡ length (global_group_view group.now) }
 {
     match group {
-        GlobalGroup::OwnVariables(variables) => u64::from(variables.count),
-        GlobalGroup::ExternalVariables { names, .. } => names.len() as u64,
-        GlobalGroup::EntryPoints { names, .. } => names.len() as u64,
+        GlobalGroup::OwnVariables(variables) => variables.count,
+        GlobalGroup::ExternalVariables { names, .. } => names.len(),
+        GlobalGroup::EntryPoints { names, .. } => names.len(),
     }
 }
 
@@ -140,7 +143,7 @@ fn global_count(group: &GlobalGroup) -> u64
 fn has_many_globals(groups: &[GlobalGroup]) -> bool
     ensures { result ≡ is_over (globals_view groups.now) }
 {
-    let mut left = ENTRY_LIMIT as u64;
+    let mut left = ENTRY_LIMIT;
     for group in groups {
         let count = global_count(group);
         if count > left {

@@ -22,7 +22,6 @@ use indexmap::IndexSet;
 use pli_base::Name;
 use pli_gen_emit::{BlockSource, Emitted, NamingInstruction};
 use pli_map::Description;
-use pli_operation::Operation;
 use pli_type_keys::{DescriptionKey, TemplateKey, ValueKey};
 use pli_type_tree::{GlobalGroup, Signature, Template, TypedUnit, VariableGroup};
 use pli_value::Value;
@@ -205,9 +204,7 @@ fn number_named<'a>(
             };
             number_template(tables, template);
         }
-        NamingInstruction::Operate(Operation::Fit(description)) => {
-            number_description(tables, description);
-        }
+        NamingInstruction::Fit(description) => number_description(tables, description),
         NamingInstruction::Constant(value) => number_value(tables, value),
         NamingInstruction::One => number_value(tables, one.value),
         _ => {}

@@ -26,7 +26,7 @@ use pli_type_tree::TypedUnit;
 use std::alloc::{AllocError, Global};
 
 /// The block around another, by a number of two bytes.
-fn short_parent(parent: Option<u32>) -> Option<u16>
+fn short_parent(parent: Option<usize>) -> Option<u16>
     requires { parent_fits parent ≡ true }
     ensures { result ≡ parent }
 {

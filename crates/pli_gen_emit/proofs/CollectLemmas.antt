@@ -1,5 +1,5 @@
 -- Blocks that were collected, unless memory was wanting.
-use Rattle.std.proofs.Common.{◌≡◌, ◌<◌, ◌+◌, ◌++◌, ◌∷◌, ℕ, List, false, length, drop, get_or, sym, ap, ◌∙◌, append_assoc}
+use Rattle.std.proofs.Common.{◌≡◌, ◌<◌, ◌+◌, ◌++◌, ◌∷◌, ℕ, List, None, length, drop, get_or, sym, ap, ◌∙◌, append_assoc}
 use Rattle.std.proofs.lemmas.List.{at_drop_more}
 use Rattle.pli_gen_emit.specs.TreeTranslation.{BlockTree}
 use Rattle.pli_gen_emit.specs.answers.Collecting.{Collects}
@@ -19,8 +19,8 @@ then_collects old mid new first second all e f is =
 -- in a loop: what was collected so far and what is left come to the whole
 abbrev pub IsCollecting : (initial now : Collected) → (left whole : List BlockTree) → Type 0
 IsCollecting initial now left whole =
-    (now.lacks_memory ≡ false → initial.lacks_memory ≡ false)
-    × (now.lacks_memory ≡ false → block_trees now.blocks.items ++ left ≡ block_trees initial.blocks.items ++ whole)
+    (now.refused ≡ None → initial.refused ≡ None)
+    × (now.refused ≡ None → block_trees now.blocks.items ++ left ≡ block_trees initial.blocks.items ++ whole)
 
 -- and the next element
 pub collecting_next : {X : Type 0} (all : List X → List BlockTree) (each : X → List BlockTree) → ((x : X) (ys : List X) → all (x ∷ ys) ≡ each x ++ all ys)

@@ -1,5 +1,5 @@
 -- Instructions that were emitted, unless memory was wanting.
-use Rattle.std.proofs.Common.{◌≡◌, ◌<◌, ◌+◌, ◌++◌, ◌∷◌, ℕ, List, false, length, drop, get_or, ap, ◌∙◌, sym}
+use Rattle.std.proofs.Common.{◌≡◌, ◌<◌, ◌+◌, ◌++◌, ◌∷◌, ℕ, List, None, length, drop, get_or, ap, ◌∙◌, sym}
 use Rattle.std.proofs.lemmas.List.{append_assoc, at_drop_more}
 use Rattle.pli_program.specs.Program.{Instruction}
 use Rattle.pli_gen_emit.specs.answers.Emitting.{Emits}
@@ -21,8 +21,8 @@ then_emits old mid new first second whole e f is = emits_as old new (first ++ se
 -- in a loop: what was emitted so far and what is left come to the whole
 abbrev pub IsAmid : (initial now : Emitter) → (left whole : List Instruction) → Type 0
 IsAmid initial now left whole =
-    (now.lacks_memory ≡ false → initial.lacks_memory ≡ false)
-    × (now.lacks_memory ≡ false → naming_code now.code.items ++ left ≡ naming_code initial.code.items ++ whole)
+    (now.refused ≡ None → initial.refused ≡ None)
+    × (now.refused ≡ None → naming_code now.code.items ++ left ≡ naming_code initial.code.items ++ whole)
 
 pub amid_more : (initial now new : Emitter) (here rest left whole : List Instruction) → Emits now new here → left ≡ here ++ rest
     → IsAmid initial now left whole → IsAmid initial new rest whole

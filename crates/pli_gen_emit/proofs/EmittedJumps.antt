@@ -1,5 +1,5 @@
 -- Code with jumps that was emitted, unless memory was wanting.
-use Rattle.std.proofs.Common.{◌≡◌, ◌<◌, ◌+◌, ◌++◌, ◌∷◌, [], ℕ, List, false, length, drop, get_or, slice_set, ap, ◌∙◌, sym}
+use Rattle.std.proofs.Common.{◌≡◌, ◌<◌, ◌+◌, ◌++◌, ◌∷◌, [], ℕ, List, None, length, drop, get_or, slice_set, ap, ◌∙◌, sym}
 use Rattle.pli_program.specs.Program as op
 use Rattle.pli_type_tree.specs.Iterations.{is_iterated}
 use Rattle.pli_type_tree.specs.TypedTree.{Iteration}
@@ -19,7 +19,7 @@ use Rattle.pli_gen_emit.proofs.JumpLemmas.{one_way_made, two_ways_made, turns_ma
 -- an IF without an ELSE part
 pub one_way_emitted : (old tested jumping done all : Emitter) (test : List op.Instruction) (part : ℕ → List op.Instruction)
     → Emits old tested test → Emits tested jumping (op.JumpUnless 0 ∷ []) → Emits jumping done (part (length jumping.code.items))
-    → all.code.items ≡ slice_set done.code.items (length tested.code.items) (naming.JumpUnless (length done.code.items)) → all.lacks_memory ≡ done.lacks_memory
+    → all.code.items ≡ slice_set done.code.items (length tested.code.items) (naming.JumpUnless (length done.code.items)) → all.refused ≡ done.refused
     → Emits old all (one_way test part (length old.code.items))
 one_way_emitted old tested jumping done all test part t j d a m = (
   λ h. t.0 (j.0 (d.0 (sym m ∙ h))),
@@ -31,14 +31,14 @@ one_way_emitted old tested jumping done all test part t j d a m = (
 pub two_ways_emitted : (old tested jumping done over put last all : Emitter) (test : List op.Instruction) (part other : ℕ → List op.Instruction)
     → Emits old tested test → Emits tested jumping (op.JumpUnless 0 ∷ []) → Emits jumping done (part (length jumping.code.items))
     → Emits done over (op.Jump 0 ∷ [])
-    → put.code.items ≡ slice_set over.code.items (length tested.code.items) (naming.JumpUnless (length over.code.items)) → put.lacks_memory ≡ over.lacks_memory
+    → put.code.items ≡ slice_set over.code.items (length tested.code.items) (naming.JumpUnless (length over.code.items)) → put.refused ≡ over.refused
     → Emits put last (other (length put.code.items))
-    → all.code.items ≡ slice_set last.code.items (length done.code.items) (naming.Jump (length last.code.items)) → all.lacks_memory ≡ last.lacks_memory
+    → all.code.items ≡ slice_set last.code.items (length done.code.items) (naming.Jump (length last.code.items)) → all.refused ≡ last.refused
     → Emits old all (two_ways test part other (length old.code.items))
 two_ways_emitted old tested jumping done over put last all test part other t j d o p pm l a am = (
   λ h. t.0 (j.0 (d.0 (o.0 (sym pm ∙ l.0 (sym am ∙ h))))),
   λ h. let late = sym am ∙ h in
-      let mid : over.lacks_memory ≡ false = sym pm ∙ l.0 late in
+      let mid : over.refused ≡ None = sym pm ∙ l.0 late in
       let early = o.0 mid in
       two_ways_made old.code.items tested.code.items jumping.code.items done.code.items over.code.items put.code.items last.code.items all.code.items test part other
       (t.1 (j.0 (d.0 early))) (j.1 (d.0 early)) (d.1 early) (o.1 mid) p (l.1 late) a,
@@ -49,7 +49,7 @@ pub turns_emitted : (old lined tested jumping stepping done back all : Emitter) 
     → Emits old lined (op.Line number ∷ []) → Emits lined tested test → Emits tested jumping (op.JumpUnless 0 ∷ [])
     → Emits jumping stepping (op.Step number ∷ []) → Emits stepping done (list (length stepping.code.items))
     → Emits done back (op.Jump (length old.code.items) ∷ [])
-    → all.code.items ≡ slice_set back.code.items (length tested.code.items) (naming.JumpUnless (length back.code.items)) → all.lacks_memory ≡ back.lacks_memory
+    → all.code.items ≡ slice_set back.code.items (length tested.code.items) (naming.JumpUnless (length back.code.items)) → all.refused ≡ back.refused
     → Emits old all (turns_code number test list (length old.code.items))
 turns_emitted old lined tested jumping stepping done back all number test list n t j s d b a m = (
   λ h. n.0 (t.0 (j.0 (s.0 (d.0 (b.0 (sym m ∙ h)))))),
@@ -64,10 +64,10 @@ turns_emitted old lined tested jumping stepping done back all number test list n
 
 -- an iteration
 pub iterate_emitted : (old started tested stepping done back all : Emitter) (number : ℕ) (i : Iteration) (list : ℕ → List op.Instruction) (turn : Turn)
-    → Emits old started (start_code i) → Emits started tested (tests_code i 0) → (tested.lacks_memory ≡ false → IsTurn i (length started.code.items) turn)
+    → Emits old started (start_code i) → Emits started tested (tests_code i 0) → (tested.refused ≡ None → IsTurn i (length started.code.items) turn)
     → Emits tested stepping (op.Step number ∷ []) → Emits stepping done (list (length stepping.code.items))
     → Emits done back (back_code (is_iterated i.range) number (advances_code i.range i) turn.place)
-    → all.code.items ≡ landed (landed back.code.items turn.limit (length back.code.items)) turn.condition (length back.code.items) → all.lacks_memory ≡ back.lacks_memory
+    → all.code.items ≡ landed (landed back.code.items turn.limit (length back.code.items)) turn.condition (length back.code.items) → all.refused ≡ back.refused
     → Emits old all (iterate_code number i list (length old.code.items))
 iterate_emitted old started tested stepping done back all number i list turn s t is j d b a m = (
   λ h. s.0 (t.0 (j.0 (d.0 (b.0 (sym m ∙ h))))),

@@ -3,22 +3,21 @@ use Rattle.std.proofs.Common.{◌≡◌, ◌++◌, ◌∷◌, [], ℕ, suc, List
 use Rattle.std.proofs.lemmas.List.{append-nil, append_assoc}
 use Rattle.pli_map.specs.declared.description.Description.{Description}
 use Rattle.pli_map.specs.views.DescriptionView.{description_view}
-use Rattle.pli_operation.specs.declared.operation.Operation.{Operation}
-use Rattle.pli_operation.specs.views.OperationView.{operation_view}
 use Rattle.pli_program.specs.Program as op
 use Rattle.pli_type_tree.specs.TypedTree.{TypedArguments, NoArgument}
-use Rattle.pli_type_tree.specs.views.TypedView.{root_view, callee_view, expression_view, reference_view, argument_before, operands_view, subscripts_view, arguments_view}
+use Rattle.pli_type_tree.specs.views.TypedView.{root_view, callee_view, operation_view, expression_view, reference_view, argument_before, operands_view, subscripts_view, arguments_view}
 use Rattle.pli_type_tree.specs.laws.TypedTreeLaws.{calculated_made, called_made, part_made}
 use Rattle.pli_type_tree.specs.declared.expression.Callee.{Callee}
 use Rattle.pli_type_tree.specs.declared.expression.Root.{Root}
 use Rattle.pli_type_tree.specs.declared.expression.TypedExpression.{TypedExpression, Calculated, Called}
+use Rattle.pli_type_tree.specs.declared.expression.TypedOperation.{TypedOperation}
 use Rattle.pli_type_tree.specs.declared.expression.TypedReference.{Part}
 use Rattle.pli_type_tree.specs.declared.expression.TypedSubscript.{TypedSubscript}
 use Rattle.pli_type_tree.specs.declared.expression.TypedArgument.{TypedArgument, ByPlace, ByDummy}
-use Rattle.pli_gen_emit.specs.TreeTranslation.{argument_count, root_code, call_instruction, value_code, place_code, operands_code, subscripts_code, arguments_code}
+use Rattle.pli_gen_emit.specs.TreeTranslation.{argument_count, root_code, call_instruction, operation_code, value_code, place_code, operands_code, subscripts_code, arguments_code}
 
-pub operation_code_made : (operation : Operation) (operands : Vec TypedExpression Global)
-    → value_code (expression_view (Calculated operation operands)) ≡ operands_code (operands_view operands.items) ++ op.Operate (operation_view operation) ∷ []
+pub operation_code_made : (operation : TypedOperation) (operands : Vec TypedExpression Global)
+    → value_code (expression_view (Calculated operation operands)) ≡ operands_code (operands_view operands.items) ++ operation_code (operation_view operation) ∷ []
 operation_code_made operation operands = ap value_code (calculated_made operation operands)
 
 one_more : (a : TypedArgument) (more : TypedArguments) → argument_count (argument_before a more) ≡ suc (argument_count more)

@@ -10,7 +10,7 @@ use Rattle.pli_program.specs.Program.{Subscript, Constant, Load, Store, Copy, Ma
 use Rattle.pli_program.specs.Program.{Raise}
 use Rattle.pli_program.specs.Program.{BlockKind, Procedure, BeginBlock, Block, GlobalCode, UnitCode}
 use Rattle.pli_program.specs.Program as op
-use Rattle.pli_operation.specs.Operations.{Operation, Add, Within}
+use Rattle.pli_operation.specs.declared.operation.Operation.TheVariants.{Add, Within}
 use Rattle.pli_type_tree.specs.Iterations.{kept_by, limit_number, step_number, is_iterated}
 use Rattle.pli_type_tree.specs.Templates.{variable_of}
 use Rattle.pli_type_tree.specs.TypedTree.{Root, InSlot, OfProgram, TypedExpression, Literal, Held, Calculated}
@@ -22,7 +22,8 @@ use Rattle.pli_type_tree.specs.TypedTree.{Iterate, TypedRange, Once, ToBy, ByTo,
 use Rattle.pli_type_tree.specs.TypedTree.{Call, Goto, Return, ReturnValue, Stop, OtherWise, NoElse, Else}
 use Rattle.pli_type_tree.specs.TypedTree.{TypedStatements, NoStatement, StatementThen, TypedProcedure}
 use Rattle.pli_type_tree.specs.TypedTree.{Callee, OfBlock, OfEntry, Global, OwnVariable, ExternalVariable}
-use Rattle.pli_type_tree.specs.TypedTree.{EntryPoint, TypedUnit}
+use Rattle.pli_type_tree.specs.TypedTree.{EntryPoint, TypedUnit, TypedOperation}
+use Rattle.pli_type_tree.specs.TypedTree as tree
 
 -- how many arguments there are
 abbrev pub argument_count : TypedArguments → ℕ
@@ -42,13 +43,18 @@ abbrev pub call_instruction : Callee → (arguments : ℕ) → Instruction
 call_instruction (OfBlock block) arguments = op.Call block arguments
 call_instruction (OfEntry number) arguments = op.CallExternal number arguments
 
+-- an operation's
+abbrev pub operation_code : TypedOperation → Instruction
+operation_code (tree.Fit description) = op.Fit description
+operation_code (tree.Operate operation) = Operate operation
+
 abbrev mutual
   -- the value of an expression: a constant; a variable's place and what it holds; the operands and the
   -- operation; the arguments and the call
   pub value_code : TypedExpression → List Instruction
   value_code (Literal value) = Constant value ∷ []
   value_code (Held variable) = place_code variable ++ Load ∷ []
-  value_code (Calculated operation operands) = operands_code operands ++ Operate operation ∷ []
+  value_code (Calculated operation operands) = operands_code operands ++ operation_code operation ∷ []
   value_code (Called callee arguments) =
       arguments_code arguments ++ call_instruction callee (argument_count arguments) ∷ []
 
@@ -130,9 +136,9 @@ keeps_code temporary [] = []
 keeps_code temporary (e ∷ es) = value_code e ++ op.SetTemporary temporary ∷ keeps_code (suc temporary) es
 
 -- one operation after the other
-abbrev pub conversion_code : List Operation → List Instruction
+abbrev pub conversion_code : List TypedOperation → List Instruction
 conversion_code [] = []
-conversion_code (operation ∷ more) = Operate operation ∷ conversion_code more
+conversion_code (operation ∷ more) = operation_code operation ∷ conversion_code more
 
 -- the control variable gets a value, converted to it
 abbrev pub sets_code : Iteration → (value : List Instruction) → List Instruction
@@ -398,22 +404,24 @@ with_target places i = i
 abbrev pub instructions_of : List BlockTree → List Instruction
 instructions_of bs = map (with_target (places_of bs 0)) (blocks_code bs 0)
 
--- the globals of a unit, where its entries are the units of these numbers in turn
-abbrev pub globals_code : List Global → (entries : List ℕ) → List GlobalCode
-globals_code [] entries = []
-globals_code (OwnVariable t ∷ gs) entries = op.OwnVariable (variable_of t) ∷ globals_code gs entries
-globals_code (ExternalVariable name t ∷ gs) entries =
-    op.ExternalVariable name (variable_of t) ∷ globals_code gs entries
+-- the globals of a unit; each external one takes the next link: the number of an external variable in the
+-- program, or that of an entry's unit
+abbrev pub globals_code : List Global → (links : List ℕ) → List GlobalCode
+globals_code [] links = []
+globals_code (OwnVariable t ∷ gs) links = op.OwnVariable (variable_of t) ∷ globals_code gs links
+globals_code (ExternalVariable name t ∷ gs) [] = globals_code gs []
+globals_code (ExternalVariable name t ∷ gs) (link ∷ links) =
+    op.ExternalVariable link (variable_of t) ∷ globals_code gs links
 globals_code (EntryPoint name signature ∷ gs) [] = globals_code gs []
-globals_code (EntryPoint name signature ∷ gs) (unit ∷ units) = op.EntryPoint unit ∷ globals_code gs units
+globals_code (EntryPoint name signature ∷ gs) (link ∷ links) = op.EntryPoint link ∷ globals_code gs links
 
--- the code of a unit, and of its entries the numbers of their units
-abbrev pub unit_code : TypedUnit → (entries : List ℕ) → UnitCode
-unit_code u entries =
+-- the code of a unit with the links of its globals
+abbrev pub unit_code : TypedUnit → (links : List ℕ) → UnitCode
+unit_code u links =
     let bs = blocks_of u in
     record {
       name = u.name;
-      globals = globals_code u.globals entries;
+      globals = globals_code u.globals links;
       blocks = blocks_at bs 0;
       instructions = instructions_of bs;
     }

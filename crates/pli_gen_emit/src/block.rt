@@ -14,32 +14,32 @@ use std::alloc::{AllocError, Global};
 #[derive(Clone, Copy)]
 pub struct BlockSource<'a> {
     pub kind: BlockKind,
-    pub parent: Option<u32>,
-    pub parameters: u32,
+    pub parent: Option<usize>,
+    pub parameters: usize,
     pub head: &'a BlockHead,
     pub function_end: Option<u32>,
     pub statements: &'a [TypedStatement],
 }
 
-/// Blocks as they are collected, and whether memory was wanting for one of them, which is asked once, at the end.
+/// Blocks as they are collected, and the error of one for which memory was refused, which is asked for once, at the end.
 #[derive(Drop)]
 pub(crate) struct Collected<'a> {
     pub blocks: Vec<BlockSource<'a>>,
-    pub lacks_memory: bool,
+    pub refused: Option<AllocError>,
 }
 
 /// Collects a block.
 fn collect<'a>(blocks: &mut Collected<'a>, block: BlockSource<'a>)
     ensures { Collects blocks.old blocks.new (block_tree block.entry ∷ []) }
 {
-    if blocks.blocks.push(block).is_err() {
-        blocks.lacks_memory = true;
+    if let Err(error) = blocks.blocks.push(block) {
+        blocks.refused = Some(error.into());
     }
 }
 
 /// Collects the BEGIN blocks inside statements of a block.
 #[cycle(collect)]
-fn collect_among<'a>(parent: u32, statements: &'a [TypedStatement], blocks: &mut Collected<'a>)
+fn collect_among<'a>(parent: usize, statements: &'a [TypedStatement], blocks: &mut Collected<'a>)
     ensures { Collects blocks.old blocks.new (blocks_among parent (statements_view statements.now)) }
 {
     for statement in statements {
@@ -49,7 +49,7 @@ fn collect_among<'a>(parent: u32, statements: &'a [TypedStatement], blocks: &mut
 
 /// Collects the BEGIN blocks inside a statement.
 #[cycle(collect)]
-fn collect_in<'a>(parent: u32, statement: &'a TypedStatement, blocks: &mut Collected<'a>)
+fn collect_in<'a>(parent: usize, statement: &'a TypedStatement, blocks: &mut Collected<'a>)
     ensures { Collects blocks.old blocks.new (blocks_in parent (statement_view statement.now)) }
 {
     match &statement.form {
@@ -118,15 +118,15 @@ fn collect_all<'a>(
 {
     let mut collected = Collected {
         blocks: Vec::new(alloc),
-        lacks_memory: false,
+        refused: None,
     };
     for procedure in procedures {
         collect_procedure(procedure, &mut collected);
     }
-    if collected.lacks_memory {
-        return Err(AllocError);
+    match collected.refused {
+        None => Ok(collected.blocks),
+        Some(error) => Err(error),
     }
-    Ok(collected.blocks)
 }
 
 /// So many lists without blocks.
@@ -151,7 +151,7 @@ fn put_by_number<'a>(
         map (λ list. block_trees list.items) lists.new.items
         ≡ slice_set before tree.head.number (get_or before tree.head.number [] ++ tree ∷ [])) }
 {
-    let Some(list) = lists.get_mut(block.head.number as usize) else {
+    let Some(list) = lists.get_mut(block.head.number) else {
         return Ok(());
     };
     list.push(block)?;

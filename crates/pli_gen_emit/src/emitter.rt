@@ -1,16 +1,17 @@
 //! Instructions as they are emitted.
-ghost use Rattle.std.specs.Prelude.{◌≡◌, ◌++◌, ◌∷◌, [], false, length, slice_set};
+ghost use Rattle.std.specs.Prelude.{◌≡◌, ◌++◌, ◌∷◌, [], length, slice_set};
 ghost use Rattle.pli_gen_emit.specs.answers.Emitting.{Emits};
 ghost use Rattle.pli_gen_emit.specs.views.NamingView.{naming_view};
 
 use crate::naming::NamingInstruction;
+use std::alloc::AllocError;
 
-/// Instructions as they are appended, and whether memory was wanting for one of them. So emitting has no path that
-/// fails: what was emitted counts only if memory was not wanting, which is asked once, at the end.
+/// Instructions as they are appended, and the error of one for which memory was refused. So emitting has no path that
+/// fails: what was emitted counts only if there is no error, which is asked for once, at the end.
 #[derive(Drop)]
 pub(crate) struct Emitter<'a> {
     pub code: Vec<NamingInstruction<'a>>,
-    pub lacks_memory: bool,
+    pub refused: Option<AllocError>,
 }
 
 impl<'a> Emitter<'a> {
@@ -18,8 +19,8 @@ impl<'a> Emitter<'a> {
     pub(crate) fn emit(&mut self, instruction: NamingInstruction<'a>)
         ensures { Emits self.old self.new (naming_view instruction.entry ∷ []) }
     {
-        if self.code.push(instruction).is_err() {
-            self.lacks_memory = true;
+        if let Err(error) = self.code.push(instruction) {
+            self.refused = Some(error.into());
         }
     }
 
@@ -33,7 +34,7 @@ impl<'a> Emitter<'a> {
     /// Puts an instruction in the place of another, if there is one.
     pub(crate) fn replace(&mut self, place: usize, instruction: NamingInstruction<'a>)
         ensures code { self.new.code.items ≡ slice_set self.old.code.items place instruction.entry }
-        ensures memory { self.new.lacks_memory ≡ self.old.lacks_memory }
+        ensures memory { self.new.refused ≡ self.old.refused }
     {
         if place < self.code.len() {
             self.code[place] = instruction;

@@ -29,16 +29,16 @@ pub fn emit_procedures(
     let blocks = blocks_by_number(alloc, procedures)?;
     let mut code = Emitter {
         code: Vec::new(alloc),
-        lacks_memory: false,
+        refused: None,
     };
     let mut entries = Vec::new(alloc);
     emit_blocks(blocks.as_slice(), &mut code, &mut entries);
-    if code.lacks_memory {
-        return Err(AllocError);
+    match code.refused {
+        None => Ok(Emitted {
+            blocks,
+            code: code.code,
+            entries,
+        }),
+        Some(error) => Err(error),
     }
-    Ok(Emitted {
-        blocks,
-        code: code.code,
-        entries,
-    })
 }

@@ -1,17 +1,19 @@
 //! The code of references and expressions.
 ghost use Rattle.std.specs.Prelude.{◌≡◌, ◌∷◌, []};
-ghost use Rattle.pli_type_tree.specs.views.TypedView.{root_view, callee_view, expression_view, reference_view};
+ghost use Rattle.pli_type_tree.specs.views.TypedView.{root_view, callee_view, operation_view, expression_view, reference_view};
 ghost use Rattle.pli_type_tree.specs.views.TypedView.{argument_before};
 ghost use Rattle.pli_type_tree.specs.views.TypedView.{operands_view, subscripts_view, arguments_view};
 ghost use Rattle.pli_type_tree.specs.TypedTree.{NoArgument};
-ghost use Rattle.pli_gen_emit.specs.TreeTranslation.{root_code, call_instruction, value_code, place_code};
-ghost use Rattle.pli_gen_emit.specs.TreeTranslation.{operands_code, subscripts_code, arguments_code};
+ghost use Rattle.pli_gen_emit.specs.TreeTranslation.{root_code, call_instruction, operation_code};
+ghost use Rattle.pli_gen_emit.specs.TreeTranslation.{value_code, place_code, operands_code, subscripts_code, arguments_code};
 ghost use Rattle.pli_gen_emit.specs.answers.Emitting.{Emits};
 ghost use Rattle.pli_gen_emit.specs.views.NamingView.{naming_view, naming_code};
 
 use crate::emitter::Emitter;
 use crate::naming::NamingInstruction;
-use pli_type_tree::{Callee, Root, TypedArgument, TypedExpression, TypedReference, TypedSubscript};
+use pli_type_tree::{
+    Callee, Root, TypedArgument, TypedExpression, TypedOperation, TypedReference, TypedSubscript,
+};
 
 /// The instruction for the place at which a reference begins.
 fn root_instruction<'a>(root: Root) -> NamingInstruction<'a>
@@ -20,6 +22,16 @@ fn root_instruction<'a>(root: Root) -> NamingInstruction<'a>
     match root {
         Root::InSlot { outward, slot } => NamingInstruction::Local { outward, slot },
         Root::OfProgram { number } => NamingInstruction::Global { number },
+    }
+}
+
+/// The instruction of an operation.
+pub(crate) fn operation_instruction<'a>(operation: &'a TypedOperation) -> NamingInstruction<'a>
+    ensures { naming_view result ≡ operation_code (operation_view operation.now) }
+{
+    match operation {
+        TypedOperation::Fit(description) => NamingInstruction::Fit(description),
+        TypedOperation::Operate(operation) => NamingInstruction::Operate(*operation),
     }
 }
 
@@ -52,7 +64,7 @@ pub(crate) fn emit_value<'a>(expression: &'a TypedExpression, code: &mut Emitter
             operands,
         } => {
             emit_operands(operands.as_slice(), code);
-            code.emit(NamingInstruction::Operate(operation))
+            code.emit(operation_instruction(operation))
         }
         TypedExpression::Called { callee, arguments } => {
             let arguments = arguments.as_slice();

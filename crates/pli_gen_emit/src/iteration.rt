@@ -1,10 +1,9 @@
 //! The code of groups with a control variable, round their lists.
-ghost use Rattle.std.specs.Prelude.{◌≡◌, ◌++◌, ◌∷◌, [], false, suc, map, length};
+ghost use Rattle.std.specs.Prelude.{◌≡◌, ◌++◌, ◌∷◌, [], None, suc, map, length};
 ghost use Rattle.pli_program.specs.Program as op;
-ghost use Rattle.pli_operation.specs.views.OperationView.{operation_view};
 ghost use Rattle.pli_type_tree.specs.Iterations as plain;
 ghost use Rattle.pli_type_tree.specs.Iterations.{kept_by};
-ghost use Rattle.pli_type_tree.specs.views.TypedView.{iteration_view, range_view};
+ghost use Rattle.pli_type_tree.specs.views.TypedView.{iteration_view, operation_view, range_view};
 ghost use Rattle.pli_gen_emit.specs.TreeTranslation.{keeps_code, conversion_code, start_code};
 ghost use Rattle.pli_gen_emit.specs.TreeTranslation.{limit_test, while_test, guarded, tests_code};
 ghost use Rattle.pli_gen_emit.specs.TreeTranslation.{counted_code, advances_code, back_code};
@@ -12,11 +11,11 @@ ghost use Rattle.pli_gen_emit.specs.answers.Emitting.{Emits};
 ghost use Rattle.pli_gen_emit.specs.answers.Pieces.{jump_place, landed, IsTurn};
 
 use crate::emitter::Emitter;
-use crate::expression::{emit_place, emit_value};
+use crate::expression::{emit_place, emit_value, operation_instruction};
 use crate::jump::land_guard;
 use crate::naming::NamingInstruction;
 use pli_operation::Operation;
-use pli_type_tree::{Iteration, TypedRange};
+use pli_type_tree::{Iteration, TypedOperation, TypedRange};
 
 /// Where the tests before a turn stand, and the jumps out of the group behind the limit's and behind WHILE's.
 #[derive(Clone, Copy)]
@@ -27,39 +26,37 @@ pub(crate) struct Turn {
 }
 
 /// Emits what keeps TO and BY, behind the temporary of the start.
-fn emit_kept<'a>(range: &'a TypedRange, start: u32, code: &mut Emitter<'a>)
-    ensures { Emits code.old code.new (keeps_code (suc start) (kept_by (range_view range.now))) }
+fn emit_kept<'a>(range: &'a TypedRange, first: usize, code: &mut Emitter<'a>)
+    ensures { Emits code.old code.new (keeps_code (suc first) (kept_by (range_view range.now))) }
 {
-    let first = u64::from(start) + 1;
-    let second = u64::from(start) + 2;
     match range {
         TypedRange::Once | TypedRange::Repeated(_) => {}
         TypedRange::ToBy { to, by } => {
             emit_value(to, code);
-            code.emit(NamingInstruction::SetTemporary { number: first });
+            code.emit(NamingInstruction::SetTemporary { first, behind: 1 });
             match by {
                 None => code.emit(NamingInstruction::One),
                 Some(by) => emit_value(by, code),
             }
-            code.emit(NamingInstruction::SetTemporary { number: second });
+            code.emit(NamingInstruction::SetTemporary { first, behind: 2 });
         }
         TypedRange::ByTo { by, to } => {
             emit_value(by, code);
-            code.emit(NamingInstruction::SetTemporary { number: first });
+            code.emit(NamingInstruction::SetTemporary { first, behind: 1 });
             if let Some(to) = to {
                 emit_value(to, code);
-                code.emit(NamingInstruction::SetTemporary { number: second });
+                code.emit(NamingInstruction::SetTemporary { first, behind: 2 });
             }
         }
     }
 }
 
 /// Emits the conversion to the control variable and the store.
-fn emit_store<'a>(conversion: &'a [Operation], code: &mut Emitter<'a>)
+fn emit_store<'a>(conversion: &'a [TypedOperation], code: &mut Emitter<'a>)
     ensures { Emits code.old code.new (conversion_code (map operation_view conversion.now) ++ op.Store ∷ []) }
 {
     for operation in conversion {
-        code.emit(NamingInstruction::Operate(operation));
+        code.emit(operation_instruction(operation));
     }
     code.emit(NamingInstruction::Store);
 }
@@ -68,12 +65,12 @@ fn emit_store<'a>(conversion: &'a [Operation], code: &mut Emitter<'a>)
 pub(crate) fn emit_start<'a>(iteration: &'a Iteration, code: &mut Emitter<'a>)
     ensures { Emits code.old code.new (start_code (iteration_view iteration.now)) }
 {
-    let number = u64::from(iteration.temporary);
+    let first = iteration.temporary;
     emit_value(&iteration.start, code);
-    code.emit(NamingInstruction::SetTemporary { number });
-    emit_kept(&iteration.range, iteration.temporary, code);
+    code.emit(NamingInstruction::SetTemporary { first, behind: 0 });
+    emit_kept(&iteration.range, first, code);
     emit_place(&iteration.control, code);
-    code.emit(NamingInstruction::TakeTemporary { number });
+    code.emit(NamingInstruction::TakeTemporary { first, behind: 0 });
     emit_store(iteration.conversion.as_slice(), code);
 }
 
@@ -105,20 +102,25 @@ fn step_number(range: &TypedRange) -> u8
 /// Emits the test against the limit, if there is one, and says where its jump stands.
 fn emit_limit<'a>(iteration: &'a Iteration, code: &mut Emitter<'a>) -> Option<usize>
     ensures code { Emits code.old code.new (guarded (limit_test (iteration_view iteration.now)) 0) }
-    ensures place { code.new.lacks_memory ≡ false →
+    ensures place { code.new.refused ≡ None →
         result ≡ jump_place (limit_test (iteration_view iteration.now)) (length code.old.code.items) }
 {
     let Some(limit) = limit_number(&iteration.range) else {
         return None;
     };
-    let first = u64::from(iteration.temporary);
-    let limit = first + u64::from(limit);
-    let step = first + u64::from(step_number(&iteration.range));
+    let first = iteration.temporary;
+    let step = step_number(&iteration.range);
     emit_place(&iteration.control, code);
     code.emit(NamingInstruction::Load);
-    code.emit(NamingInstruction::TakeTemporary { number: limit });
-    code.emit(NamingInstruction::TakeTemporary { number: step });
-    code.emit(NamingInstruction::Within);
+    code.emit(NamingInstruction::TakeTemporary {
+        first,
+        behind: limit,
+    });
+    code.emit(NamingInstruction::TakeTemporary {
+        first,
+        behind: step,
+    });
+    code.emit(NamingInstruction::Operate(Operation::Within));
     let test = code.place();
     code.emit(NamingInstruction::JumpUnless { target: 0 });
     Some(test)
@@ -127,7 +129,7 @@ fn emit_limit<'a>(iteration: &'a Iteration, code: &mut Emitter<'a>) -> Option<us
 /// Emits the test of WHILE, if there is one, and says where its jump stands.
 fn emit_while<'a>(iteration: &'a Iteration, code: &mut Emitter<'a>) -> Option<usize>
     ensures code { Emits code.old code.new (guarded (while_test (iteration_view iteration.now).condition) 0) }
-    ensures place { code.new.lacks_memory ≡ false →
+    ensures place { code.new.refused ≡ None →
         result ≡ jump_place (while_test (iteration_view iteration.now).condition) (length code.old.code.items) }
 {
     match &iteration.condition {
@@ -144,7 +146,7 @@ fn emit_while<'a>(iteration: &'a Iteration, code: &mut Emitter<'a>) -> Option<us
 /// Emits the tests before a turn, whose jumps have no targets yet.
 pub(crate) fn emit_tests<'a>(iteration: &'a Iteration, code: &mut Emitter<'a>) -> Turn
     ensures code { Emits code.old code.new (tests_code (iteration_view iteration.now) 0) }
-    ensures turn { code.new.lacks_memory ≡ false →
+    ensures turn { code.new.refused ≡ None →
         IsTurn (iteration_view iteration.now) (length code.old.code.items) result }
 {
     let place = code.place();
@@ -161,12 +163,14 @@ pub(crate) fn emit_tests<'a>(iteration: &'a Iteration, code: &mut Emitter<'a>) -
 fn emit_count<'a>(iteration: &'a Iteration, step: u8, code: &mut Emitter<'a>)
     ensures { Emits code.old code.new (counted_code (iteration_view iteration.now) step) }
 {
-    let number = u64::from(iteration.temporary) + u64::from(step);
     emit_place(&iteration.control, code);
     emit_place(&iteration.control, code);
     code.emit(NamingInstruction::Load);
-    code.emit(NamingInstruction::TakeTemporary { number });
-    code.emit(NamingInstruction::Add);
+    code.emit(NamingInstruction::TakeTemporary {
+        first: iteration.temporary,
+        behind: step,
+    });
+    code.emit(NamingInstruction::Operate(Operation::Add));
     emit_store(iteration.conversion.as_slice(), code);
 }
 
@@ -216,7 +220,7 @@ pub(crate) fn emit_back<'a>(
 pub(crate) fn land_tests(code: &mut Emitter<'_>, turn: Turn)
     ensures code { let behind = length code.old.code.items in
         code.new.code.items ≡ landed (landed code.old.code.items turn.limit behind) turn.condition behind }
-    ensures memory { code.new.lacks_memory ≡ code.old.lacks_memory }
+    ensures memory { code.new.refused ≡ code.old.refused }
 {
     let limit = turn.limit;
     land_guard(code, limit);

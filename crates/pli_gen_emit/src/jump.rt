@@ -10,7 +10,7 @@ use crate::naming::NamingInstruction;
 pub(crate) fn land_test(code: &mut Emitter<'_>, test: usize)
     ensures code { code.new.code.items
         ≡ slice_set code.old.code.items test (naming.JumpUnless (length code.old.code.items)) }
-    ensures memory { code.new.lacks_memory ≡ code.old.lacks_memory }
+    ensures memory { code.new.refused ≡ code.old.refused }
 {
     let target = code.place();
     code.replace(test, NamingInstruction::JumpUnless { target });
@@ -19,7 +19,7 @@ pub(crate) fn land_test(code: &mut Emitter<'_>, test: usize)
 /// The same, if there is a test.
 pub(crate) fn land_guard(code: &mut Emitter<'_>, test: Option<usize>)
     ensures code { code.new.code.items ≡ landed code.old.code.items test (length code.old.code.items) }
-    ensures memory { code.new.lacks_memory ≡ code.old.lacks_memory }
+    ensures memory { code.new.refused ≡ code.old.refused }
 {
     if let Some(test) = test {
         land_test(code, test);

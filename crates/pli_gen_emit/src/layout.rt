@@ -1,5 +1,5 @@
 //! The code of a unit's blocks, one behind the other.
-ghost use Rattle.std.specs.Prelude.{◌≡◌, ◌++◌, false, length};
+ghost use Rattle.std.specs.Prelude.{◌≡◌, ◌++◌, None, length};
 ghost use Rattle.pli_gen_emit.specs.TreeTranslation.{block_code, blocks_code};
 ghost use Rattle.pli_gen_emit.specs.answers.Emitting.{Emits};
 ghost use Rattle.pli_gen_emit.specs.answers.Pieces.{entries_of};
@@ -32,12 +32,12 @@ pub(crate) fn emit_blocks<'a>(
     entries: &mut Vec<usize>,
 )
     ensures code { Emits code.old code.new (blocks_code (block_trees blocks.now) (length code.old.code.items)) }
-    ensures entries { code.new.lacks_memory ≡ false →
+    ensures entries { code.new.refused ≡ None →
         entries.new.items ≡ entries.old.items ++ entries_of (block_trees blocks.now) (length code.old.code.items) }
 {
     for block in blocks {
-        if entries.push(code.place()).is_err() {
-            code.lacks_memory = true;
+        if let Err(error) = entries.push(code.place()) {
+            code.refused = Some(error.into());
         }
         emit_block(*block, code);
     }

@@ -22,34 +22,34 @@ pub enum NamingInstruction<'a> {
         target: usize,
     },
     Goto {
-        outward: u32,
+        outward: usize,
         label: u32,
     },
     Call {
-        block: u32,
+        block: usize,
         arguments: usize,
     },
     CallExternal {
-        global: u32,
+        global: usize,
         arguments: usize,
     },
     Begin {
-        block: u32,
+        block: usize,
     },
     Return {
-        outward: u32,
+        outward: usize,
     },
     ReturnValue {
-        outward: u32,
+        outward: usize,
     },
     Raise(RunError),
     Stop,
     Local {
-        outward: u32,
-        slot: u32,
+        outward: usize,
+        slot: usize,
     },
     Global {
-        number: u32,
+        number: usize,
     },
     Field {
         offset: u32,
@@ -61,20 +61,20 @@ pub enum NamingInstruction<'a> {
     Store,
     CopyParts,
     MakeDummy(&'a Description),
-    Operate(&'a Operation),
-    /// Takes a value and keeps it as a temporary.
+    Operate(Operation),
+    Fit(&'a Description),
+    /// Takes a value and keeps it as the temporary so many behind the first one of a group.
     SetTemporary {
-        number: u64,
+        first: usize,
+        behind: u8,
     },
+    /// The value that is kept as the temporary so many behind the first one of a group.
     TakeTemporary {
-        number: u64,
+        first: usize,
+        behind: u8,
     },
     /// The constant 1: the step of a group where BY is absent.
     One,
-    /// The control variable of a group and its step.
-    Add,
-    /// Whether the control variable of a group has not passed its limit.
-    Within,
     Put,
     Skip,
 }

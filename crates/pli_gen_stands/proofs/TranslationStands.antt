@@ -6,16 +6,17 @@ use Rattle.std.proofs.Common.{arith, ap, ◌∙◌, sym, subst, true≢false}
 use Rattle.std.proofs.lemmas.Bool.{eq-eqb}
 use Rattle.pli_run.specs.declared.ending.RunError.TheVariants.{NoReturnedValue}
 use Rattle.pli_program.specs.Program as op
-use Rattle.pli_operation.specs.Operations.{Operation, Add, Within}
+use Rattle.pli_base.specs.Name.{Name}
+use Rattle.pli_operation.specs.declared.operation.Operation.TheVariants.{Add, Within}
 use Rattle.pli_program.specs.Program.{Instruction, Block, UnitCode}
-use Rattle.pli_type_tree.specs.TypedTree.{Root, InSlot, OfProgram, TypedExpression, Literal, Held, Calculated, Called, TypedReference, Whole, Part, Operands, NoOperand, OperandThen}
+use Rattle.pli_type_tree.specs.TypedTree.{TypedOperation, Fit, Operate, Root, InSlot, OfProgram, TypedExpression, Literal, Held, Calculated, Called, TypedReference, Whole, Part, Operands, NoOperand, OperandThen}
 use Rattle.pli_type_tree.specs.TypedTree.{Subscripts, NoSubscript, SubscriptThen, TypedArguments, NoArgument, ByPlace, ByDummy, TypedStatement, Statement}
 use Rattle.pli_type_tree.specs.TypedTree.{Form, Null, Assign, AssignAggregate, Put, If, Begin, Group, While, Iterate, Call, Goto, Return, ReturnValue, Stop}
 use Rattle.pli_type_tree.specs.Iterations.{kept_by, limit_number, step_number, is_iterated}
 use Rattle.pli_type_tree.specs.TypedTree.{Iteration, TypedRange, Once, ToBy, ByTo, Repeated}
 use Rattle.pli_type_tree.specs.TypedTree.{Callee, OfBlock, OfEntry, Global, OwnVariable, ExternalVariable, EntryPoint}
 use Rattle.pli_type_tree.specs.TypedTree.{OtherWise, NoElse, Else, TypedStatements, NoStatement, StatementThen, TypedProcedure, TypedUnit}
-use Rattle.pli_gen_emit.specs.TreeTranslation.{argument_count, root_code, call_instruction, value_code, place_code, operands_code, subscripts_code, arguments_code, call_code, skip_code, items_code, behind}
+use Rattle.pli_gen_emit.specs.TreeTranslation.{argument_count, root_code, call_instruction, operation_code, value_code, place_code, operands_code, subscripts_code, arguments_code, call_code, skip_code, items_code, behind}
 use Rattle.pli_gen_emit.specs.TreeTranslation.{statement_code, form_code, list_code, places_in, places_in_form, places_in_else, places_among, statement_place, with_target, BlockTree, begin_block}
 use Rattle.pli_gen_emit.specs.TreeTranslation.{blocks_in, blocks_of_form, blocks_among, blocks_of_procedure, blocks_of, end_code, block_code, blocks_code, places_of, block_at, blocks_at, globals_code, unit_code}
 use Rattle.pli_gen_emit.specs.TreeTranslation.{keeps_code, conversion_code, sets_code, start_code, test_against, limit_test, while_test, guarded, tests_code, advances_code, back_code}
@@ -29,7 +30,7 @@ use Rattle.pli_meaning_tree.specs.Effects.{Label}
 use Rattle.pli_meaning_tree.specs.TreeMeaning.{number_of}
 use Rattle.pli_meaning_simulation.specs.CodeStands as stand
 use Rattle.pli_meaning_simulation.specs.CodeStands.{Span, Empty, Then, Context, arguments_in, UnitStands}
-use Rattle.pli_gen_stands.specs.Linked.{AreEntries}
+use Rattle.pli_gen_stands.specs.Linked.{AreLinks}
 
 -- what is there, or else this
 abbrev or_else : {X : Type 0} → X → Option X → X
@@ -114,12 +115,17 @@ module _ (u : UnitCode) (places : List (ℕ × ℕ)) (unit : ℕ) (at : Label �
       joined (arguments_code args) (call_instruction callee (argument_count args) ∷ []) (stand.ArgumentsStand u args) (stand.Is u (stand.call_of callee (arguments_in args)))
       a (called callee args)
 
+  operation_stands : (o : TypedOperation) → Made (operation_code o ∷ []) (stand.Is u (stand.operation_code o))
+  operation_stands (Fit d) = one (op.Fit d)
+  operation_stands (Operate o) = one (op.Operate o)
+
   mutual
     value_stands : (e : TypedExpression) → Made (value_code e) (stand.ValueStands u e)
     value_stands (Literal v) p h = one (op.Constant v) p h
     value_stands (Held r) p h = joined (place_code r) (op.Load ∷ []) (stand.PlaceStands u r) (stand.Is u op.Load) (λ p h. place_stands r p h) (one op.Load) p h
     value_stands (Calculated operation operands) p h =
-        joined (operands_code operands) (op.Operate operation ∷ []) (stand.OperandsStand u operands) (stand.Is u (op.Operate operation)) (λ p h. operands_stand operands p h) (one (op.Operate operation)) p h
+        joined (operands_code operands) (operation_code operation ∷ []) (stand.OperandsStand u operands) (stand.Is u (stand.operation_code operation))
+        (λ p h. operands_stand operands p h) (operation_stands operation) p h
     value_stands (Called callee args) p h = call_stands callee args (λ p h. arguments_stand args p h) p h
 
     operands_stand : (es : Operands) → Made (operands_code es) (stand.OperandsStand u es)
@@ -221,9 +227,10 @@ module _ (u : UnitCode) (places : List (ℕ × ℕ)) (unit : ℕ) (at : Label �
       joined (value_code e) (op.SetTemporary t ∷ keeps_code (suc t) es) (stand.ValueStands u e) (Then (stand.Is u (op.SetTemporary t)) (stand.KeepsStand u (suc t) es)) (value_stands e)
       (before (op.SetTemporary t) (keeps_code (suc t) es) (stand.KeepsStand u (suc t) es) (keeps_stand (suc t) es))
 
-  conversion_stands : (os : List Operation) → Made (conversion_code os) (stand.ConversionStands u os)
+  conversion_stands : (os : List TypedOperation) → Made (conversion_code os) (stand.ConversionStands u os)
   conversion_stands [] = nothing
-  conversion_stands (o ∷ os) = before (op.Operate o) (conversion_code os) (stand.ConversionStands u os) (conversion_stands os)
+  conversion_stands (o ∷ os) =
+      joined (operation_code o ∷ []) (conversion_code os) (stand.Is u (stand.operation_code o)) (stand.ConversionStands u os) (operation_stands o) (conversion_stands os)
 
   sets_stand : (i : Iteration) (value : List Instruction) (A : Span) → Made value A → Made (sets_code i value) (stand.SetsStand u i A)
   sets_stand i value A a =
@@ -625,28 +632,31 @@ numbered_blocks (b ∷ bs) p =
     let q = behind (block_code b p) p in
     both_numbered (places_among b.statements p) (places_of bs q) (numbers_among b.statements) (numbers_of bs) (numbered_among b.statements p) (numbered_blocks bs q)
 
--- the globals of a unit, where its entries are the units of these numbers
-globals_stand : (program : List TypedUnit) (gs : List Global) (entries : List ℕ) → AreEntries program gs entries → stand.GlobalsStand program gs (globals_code gs entries)
-globals_stand program [] [] h = tt
-globals_stand program [] (n ∷ ns) h = absurd h
-globals_stand program (OwnVariable t ∷ gs) entries h = (refl, globals_stand program gs entries h)
-globals_stand program (ExternalVariable name t ∷ gs) entries h = (refl, globals_stand program gs entries h)
-globals_stand program (EntryPoint name s ∷ gs) [] h = absurd h
-globals_stand program (EntryPoint name s ∷ gs) (n ∷ ns) h =
-    (record { unit = n; is = refl; named = h.0 }, globals_stand program gs ns h.1)
+-- the globals of a unit with these links
+globals_stand : (program : List TypedUnit) (names : List Name) (gs : List Global) (links : List ℕ) → AreLinks program names gs links
+    → stand.GlobalsStand program names gs (globals_code gs links)
+globals_stand program names [] [] h = tt
+globals_stand program names [] (n ∷ ns) h = absurd h
+globals_stand program names (OwnVariable t ∷ gs) links h = (refl, globals_stand program names gs links h)
+globals_stand program names (ExternalVariable name t ∷ gs) [] h = absurd h
+globals_stand program names (ExternalVariable name t ∷ gs) (n ∷ ns) h =
+    (record { external = n; is = refl; named = h.0 }, globals_stand program names gs ns h.1)
+globals_stand program names (EntryPoint name s ∷ gs) [] h = absurd h
+globals_stand program names (EntryPoint name s ∷ gs) (n ∷ ns) h =
+    (record { unit = n; is = refl; named = h.0 }, globals_stand program names gs ns h.1)
 
-pub unit_stands : (program : List TypedUnit) (at : Label → ℕ) (unit : ℕ) (t : TypedUnit) (entries : List ℕ) → IsWellNumbered t → AreEntries program t.globals entries
-    → Lead at unit (places_of (blocks_of t) 0) → UnitStands program at unit t (unit_code t entries)
-unit_stands program at unit t entries well linked lead =
+pub unit_stands : (program : List TypedUnit) (names : List Name) (at : Label → ℕ) (unit : ℕ) (t : TypedUnit) (links : List ℕ) → IsWellNumbered t → AreLinks program names t.globals links
+    → Lead at unit (places_of (blocks_of t) 0) → UnitStands program names at unit t (unit_code t links)
+unit_stands program names at unit t links well linked lead =
     let bs = blocks_of t in
     let places = places_of bs 0 in
-    let u = unit_code t entries in
+    let u = unit_code t links in
     let code = blocks_code bs 0 in
     let zero_and : (k : ℕ) → 0 + k ≡ k = λ k. omega arith in
     let all = stand_all u places unit at lead code 0 (λ k. ap (slice_get u.instructions) (zero_and k)) in
     let find = found u places unit at lead bs 0 (slice_get u.blocks) all (λ i. refl) (each_has_its_place places (subst AreDistinct (sym (numbered_blocks bs 0)) well.statements)) in
     record {
       names = refl;
-      globals = globals_stand program t.globals entries linked;
+      globals = globals_stand program names t.globals links linked;
       procedures = procedures_stand u places unit at lead t.procedures (all_placed u places unit at lead bs (flat_map blocks_of_procedure t.procedures) find well.blocks well.loops well.temporaries);
     }

@@ -19,7 +19,8 @@ AreWellNumbered (t ∷ ts) = IsWellNumbered t × AreWellNumbered ts
 -- where units are numbered so
 abbrev pub CodeStands : Type 0
 CodeStands =
-    (t : TypedProgram) (m : Module) → AreWellNumbered t.units → IsModuleOf t m → ProgramStands t (program_of m)
+    (t : TypedProgram) (m : Module) → AreWellNumbered t.units → IsModuleOf t m
+    → ProgramStands t (program_of m)
 
 -- with so many steps a program has a meaning, and the run of its module gives just that
 pub record RunsAsMeant (t : TypedProgram) (m : Module) (steps : ℕ) : Type 0 where

@@ -1,36 +1,46 @@
--- The module of a program: the code of each unit, and for each of its entries the number of the unit whose
--- external procedure it names.
-use Rattle.std.specs.Prelude.{◌≡◌, ℕ, Some, List, [], ◌∷◌}
+-- The module of a program: the code of each unit; for each of its external variables the number of its name
+-- among the module's externals; and for each of its entries the number of the unit whose external procedure
+-- it names.
+use Rattle.std.specs.Prelude.{◌≡◌, ℕ, Some, List, [], ◌∷◌, map, position}
+use Rattle.pli_base.specs.Name.{Name}
+use Rattle.pli_base.specs.Words.{same_name}
 use Rattle.pli_type_tree.specs.TypedTree.{Global, OwnVariable, ExternalVariable, EntryPoint, TypedUnit}
-use Rattle.pli_code.specs.Modules.{LinkedUnit, Module, greatest_precision}
+use Rattle.pli_code.specs.Modules.{Member, Module, greatest_precision}
 use Rattle.pli_gen.specs.Encoding.{code_of}
 use Rattle.pli_meaning_tree.specs.TreeMeaning.{TypedProgram, unit_named}
 
--- the units of the entries among globals have these numbers, in the order of the globals
-abbrev pub AreEntries : (program : List TypedUnit) → List Global → (entries : List ℕ) → Type 0
-AreEntries program [] [] = Unit {0}
-AreEntries program [] (n ∷ ns) = ⊥
-AreEntries program (OwnVariable t ∷ gs) entries = AreEntries program gs entries
-AreEntries program (ExternalVariable name t ∷ gs) entries = AreEntries program gs entries
-AreEntries program (EntryPoint name signature ∷ gs) [] = ⊥
-AreEntries program (EntryPoint name signature ∷ gs) (n ∷ ns) =
-    (unit_named program name ≡ Some n) × AreEntries program gs ns
+-- the names of a module's external variables
+abbrev pub external_names : Module → List Name
+external_names m = map (λ e. e.name) m.externals
 
--- a unit in the module of a program
-pub record IsUnitOf (program : List TypedUnit) (t : TypedUnit) (u : LinkedUnit) : Type 0 where
-  pub name : u.unit ≡ t.name
-  pub code : u.code ≡ code_of t
-  pub entries : AreEntries program t.globals u.entries
+-- in a program of these units, whose external variables have these names
+module _ (program : List TypedUnit) (names : List Name) where
+  -- globals have these links: the external variables and the entries among them, in their order
+  abbrev pub AreLinks : List Global → (links : List ℕ) → Type 0
+  AreLinks [] [] = Unit {0}
+  AreLinks [] (n ∷ ns) = ⊥
+  AreLinks (OwnVariable t ∷ gs) links = AreLinks gs links
+  AreLinks (ExternalVariable name t ∷ gs) [] = ⊥
+  AreLinks (ExternalVariable name t ∷ gs) (n ∷ ns) =
+      (position (same_name name) names ≡ Some n) × AreLinks gs ns
+  AreLinks (EntryPoint name signature ∷ gs) [] = ⊥
+  AreLinks (EntryPoint name signature ∷ gs) (n ∷ ns) = (unit_named program name ≡ Some n) × AreLinks gs ns
 
--- units in the module of a program, one for one
-abbrev pub AreUnitsOf : (program : List TypedUnit) → List TypedUnit → List LinkedUnit → Type 0
-AreUnitsOf program [] [] = Unit {0}
-AreUnitsOf program [] (u ∷ us) = ⊥
-AreUnitsOf program (t ∷ ts) [] = ⊥
-AreUnitsOf program (t ∷ ts) (u ∷ us) = IsUnitOf program t u × AreUnitsOf program ts us
+  -- a unit in the module of the program
+  pub record IsUnitOf (t : TypedUnit) (m : Member) : Type 0 where
+    pub name : m.name ≡ t.name
+    pub code : m.deck.code ≡ code_of t
+    pub links : AreLinks t.globals m.links
+
+  -- units in it, one for one
+  abbrev pub AreUnitsOf : List TypedUnit → List Member → Type 0
+  AreUnitsOf [] [] = Unit {0}
+  AreUnitsOf [] (m ∷ ms) = ⊥
+  AreUnitsOf (t ∷ ts) [] = ⊥
+  AreUnitsOf (t ∷ ts) (m ∷ ms) = IsUnitOf t m × AreUnitsOf ts ms
 
 -- the module has the units of the program in their order, and the same main one
 pub record IsModuleOf (t : TypedProgram) (m : Module) : Type 0 where
-  pub units : AreUnitsOf t.units t.units m.units
+  pub units : AreUnitsOf t.units (external_names m) t.units m.units
   pub main : m.main ≡ t.main
   pub greatest : greatest_precision ≡ t.greatest

@@ -3,14 +3,15 @@
 
 ghost use Rattle.pli_gen_stands.specs.Laws.{CodeStands, ProgramsRunAsMeant};
 
-/// The code of a program whose units are numbered well stands, form by form, as the simulation asks, and so do its globals,
-/// where entries have the numbers of the units that have their procedures.
+/// The code of a program whose units are numbered well stands, form by form, as the simulation asks, and so do its
+/// globals, where external variables have the numbers of their names, and entries those of the units that have their
+/// procedures.
 pub fn code_stands()
     ensures { CodeStands }
 {}
 
 /// For a well-typed program whose units are numbered well, and every number of steps: the program has a meaning, and the
-/// run of its module, with the code of each unit and the units of their entries, gives that, and nothing else.
+/// run of its module, with the code of each unit and the links of its globals, gives that, and nothing else.
 pub fn programs_run_as_meant()
     ensures { ProgramsRunAsMeant }
 {}

@@ -20,7 +20,7 @@ use Rattle.pli_link.specs.answers.Counting.{counted, counted_one, if_counted}
 abbrev pub shown : List KnownExternal → List Template
 shown es = flat_map there (map (λ e. option_map templated e.template) es)
 
-pub shown_values : (es : List (Name × KnownExternal)) → shown (values_of es) ≡ flat_map there (values_of (externals_view es))
+pub shown_values : (es : List (Name × KnownExternal)) → shown (values_of es) ≡ flat_map (λ d. there d.template) (values_of (externals_view es))
 shown_values [] = refl
 shown_values (e ∷ es) = ap (λ ts. there (option_map templated e.1.template) ++ ts) (shown_values es)
 

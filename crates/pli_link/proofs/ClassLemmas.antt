@@ -1,7 +1,7 @@
 -- Classes of templates: what is known stays known, and templates of one class are equal.
-use Rattle.std.proofs.Common.{◌≡◌, ℕ, zero, suc, ◌+◌, ◌<◌, ◌≤◌, Bool, true, false, not, ◌||◌, cond, if◌then◌else◌, Option, Some, None, option_map, List, [], ◌∷◌, ◌++◌, map, length, get_or, slice_get, refl, sym, ap, ◌∙◌, subst, arith, true≢false}
+use Rattle.std.proofs.Common.{◌≡◌, ℕ, zero, suc, ◌+◌, ◌<◌, ◌≤◌, Bool, true, false, not, ◌||◌, cond, if◌then◌else◌, Option, Some, None, option_map, List, [], ◌∷◌, ◌++◌, map, length, get_or, slice_get, refl, sym, ap, ◌∙◌, subst, arith}
 use Rattle.std.specs.List.{list_any, position_or_len}
-use Rattle.std.specs.Map.{keys_of, lookup}
+use Rattle.std.specs.Map.{lookup}
 use Rattle.std.specs.Option.{option_copied, option_eq}
 use Rattle.std.specs.Ordering.{on}
 use Rattle.std.specs.Prelude.{nat_eq, nat_lt}
@@ -11,7 +11,6 @@ use Rattle.std.proofs.lemmas.Option.{slice_get-map, slice_get-get_or}
 use Rattle.indexmap.specs.IndexSet.{insert_key}
 use denote.Ref.{Bor}
 use Rattle.pli_base.specs.Name.{Name}
-use Rattle.pli_base.specs.Words.{same_name, is_among}
 use Rattle.pli_type_tree.specs.Templates.{Template}
 use Rattle.pli_code.specs.CodeTables.{Code, template_at, with_description}
 use Rattle.pli_code.specs.declared.code.CodedTemplate.{CodedTemplate}
@@ -224,17 +223,6 @@ all_classes known code classes long all number = by (nat_lt number (length code.
         let past : length code.templates ≤ number = grind (arith, nat_tests) in
         subst (IsClass known (template_at code number)) (sym (ap class_in (none_behind classes number (omega (arith, past, long)))))
         (subst (λ o. IsClass known (with_description code o) None) (sym (none_behind code.templates number past)) tt)
-
--- a table of external variables with one more
-
-pub classed_put : (known : List Template) (es : List (Name × KnownExternal)) (n : Name) (x : KnownExternal) → is_among n (keys_of es) ≡ false → AreClassed known es
-    → IsClass known (option_map templated x.template) x.class → AreClassed known (es ++ (n, x) ∷ [])
-classed_put known [] n x new all one = (one, tt)
-classed_put known (e ∷ es) n x new all one = (all.0, by (same_name n e.0) new (λ h. classed_put known es n x h all.1 one))
-  where
-    by : (b : Bool) → b || is_among n (keys_of es) ≡ false → (is_among n (keys_of es) ≡ false → AreClassed known (es ++ (n, x) ∷ [])) → AreClassed known (es ++ (n, x) ∷ [])
-    by true h rest = absurd (true≢false h)
-    by false h rest = rest h
 
 -- what is looked up in it has its class
 

@@ -76,7 +76,7 @@ faultless cs none =
 -- how many units there are, and how large the variables
 pub record IsSmall (cs : List Compiled) : Type 0 where
   pub variables : are_too_large (map (λ t. t.description) (variables_made cs)) ≡ false
-  pub externals : nat_lt 65535 (length (externals cs)) ≡ false
+  pub externals : length (externals cs) ≤ 65535
   pub units : length cs ≤ 65535
 
 parts_false : (a b c d : Bool) → a || b || c || d ≡ false → (a ≡ false) × (b ≡ false) × (d ≡ false)
@@ -92,4 +92,4 @@ pub small : (cs : List Compiled) → is_too_large cs ≡ false → IsSmall cs
 small cs e =
     let parts = parts_false (are_too_large (map (λ (t : Template). t.description) (variables_made cs))) (nat_lt 65535 (length (externals cs)))
     (nat_lt 1000000 (sum_by (λ (c : Compiled). length c.deck.code.instructions) cs)) (nat_lt 65535 (length cs)) e in
-    record { variables = parts.0; externals = parts.1; units = few (length cs) parts.2 }
+    record { variables = parts.0; externals = few (length (externals cs)) parts.1; units = few (length cs) parts.2 }

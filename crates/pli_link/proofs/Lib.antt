@@ -1,10 +1,12 @@
-pub mod OwnBytesLemmas
-pub mod ClassLemmas
 pub mod ByteCountLemmas
+pub mod ClassLemmas
+pub mod ExternalNumbers
 pub mod Faultless
 pub mod LinkedUnits
 pub mod LoopLemmas
 pub mod MeantFirst
 pub mod MismatchLemmas
 pub mod NameTables
+pub mod OwnBytesLemmas
 pub mod RepeatedNames
+pub mod Tables

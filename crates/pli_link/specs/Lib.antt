@@ -1,5 +1,6 @@
 pub mod Alike
 pub mod Link
+pub mod Links
 pub mod Mismatches
 pub mod ModuleSize
 pub mod Names

@@ -2,16 +2,16 @@
 use Rattle.std.specs.Prelude.{ℕ, Bool, Option, Some, Result, Ok, Err, List, [], ◌∷◌, ◌++◌, map, position}
 use Rattle.std.specs.Prelude.{if◌then◌else◌}
 use Rattle.std.specs.Cmp.Lexicographic.{slice_cmp}
-use Rattle.std.specs.List.{filter, flat_map}
+use Rattle.std.specs.List.{filter}
 use Rattle.std.specs.Ordering.{nat_cmp}
 use Rattle.pli_base.specs.Name.{Name}
 use Rattle.pli_base.specs.Words.{is_among}
 use Rattle.pli_sort.specs.Sorting as sorting
-use Rattle.pli_code.specs.CodeTables.{CodedGlobal, OwnVariable, ExternalVariable, EntryPoint, there}
-use Rattle.pli_code.specs.Modules.{Module, LinkedUnit}
+use Rattle.pli_code.specs.Modules.{Module}
+use Rattle.pli_link.specs.Links.{module_of}
 use Rattle.pli_link.specs.Mismatches.{faulty_linked}
 use Rattle.pli_link.specs.ModuleSize.{is_too_large}
-use Rattle.pli_link.specs.Names.{with_name, meant, procedures}
+use Rattle.pli_link.specs.Names.{with_name}
 use Rattle.pli_link.specs.Units.{Compiled, procedure_of}
 use Rattle.pli_link.specs.declared.global_fault.GlobalFault.TheVariants as globals
 use Rattle.pli_link.specs.declared.linking.LinkFault.{LinkFault}
@@ -60,29 +60,6 @@ link_faults cs =
     ++ map Unresolved (in_order (faulty_linked cs globals.Unresolved cs))
     ++ map DefinedTwice (in_order (defined_again [] cs))
     ++ map Mismatch (in_order (faulty_linked cs globals.Mismatch cs)) ++ too_large_if (is_too_large cs)
-
--- the unit of an entry, among these procedures
-abbrev pub entry_in : List (Name × ℕ) → CodedGlobal → List ℕ
-entry_in procedures (OwnVariable kind t) = []
-entry_in procedures (ExternalVariable name kind t) = []
-entry_in procedures (EntryPoint name signature) = there (meant procedures name)
-
--- the units of the entries among globals, in their order
-abbrev pub entries_of : List (Name × ℕ) → List CodedGlobal → List ℕ
-entries_of procedures gs = flat_map (entry_in procedures) gs
-
--- a unit in a module, with the units of its entries
-abbrev pub linked_unit : List (Name × ℕ) → Compiled → LinkedUnit
-linked_unit procedures c = record {
-  unit = c.unit;
-  procedure = c.deck.name;
-  code = c.deck.code;
-  entries = entries_of procedures c.deck.code.globals;
-}
-
--- the module of all units, of which this is the main one
-abbrev pub module_of : List Compiled → (main : ℕ) → Module
-module_of cs main = record { units = map (linked_unit (procedures cs)) cs; main = main }
 
 -- the module, where there are no faults and a main procedure
 abbrev pub module_or : List LinkFault → (main : Option ℕ) → List Compiled → Result Module (List LinkFault)

@@ -10,7 +10,7 @@ use Rattle.pli_code.specs.CodeTables.{template_at}
 use Rattle.pli_code.specs.declared.code.VariableKind.TheVariants.{Static, Controlled}
 use Rattle.pli_link.specs.Alike.{FoundSignature, same_signature, signature_at}
 use Rattle.pli_type_keys.specs.Same.{same_template}
-use Rattle.pli_link.specs.Names.{with_name, meant, procedures, externals, unit_named}
+use Rattle.pli_link.specs.Names.{with_name, meant, procedures, first_template, unit_named}
 use Rattle.pli_link.specs.Units.{Compiled}
 use Rattle.pli_link.specs.declared.global_fault.GlobalFault.{GlobalFault}
 use Rattle.pli_link.specs.declared.global_fault.GlobalFault.TheVariants.{Unresolved, Mismatch}
@@ -43,7 +43,7 @@ has_fault cs Unresolved code (ExternalVariable name Controlled t) = true
 has_fault cs Unresolved code (EntryPoint name s) = is_none (meant (procedures cs) name)
 has_fault cs Mismatch code (OwnVariable kind t) = false
 has_fault cs Mismatch code (ExternalVariable name Static t) =
-    is_unlike (template_at code t) (unit_named cs name) (meant (externals cs) name)
+    is_unlike (template_at code t) (unit_named cs name) (first_template cs name)
 has_fault cs Mismatch code (ExternalVariable name Controlled t) = false
 has_fault cs Mismatch code (EntryPoint name s) =
     is_unlike_procedure (signature_at code s) (unit_named cs name)

@@ -29,7 +29,7 @@ all_own cs = flat_map (λ c. own_of c.deck.code c.deck.code.globals) cs
 
 -- the variables that are made before a program begins: each unit's own, and each external one once
 abbrev pub variables_made : List Compiled → List Template
-variables_made cs = all_own cs ++ flat_map there (values_of (externals cs))
+variables_made cs = all_own cs ++ flat_map (λ d. there d.template) (values_of (externals cs))
 
 -- one that has more bytes than a variable may have
 abbrev pub is_oversized : Description → Bool

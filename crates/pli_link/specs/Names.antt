@@ -1,13 +1,16 @@
 -- What names mean to all units of a module (own): external procedures, and variables that units share.
-use Rattle.std.specs.Prelude.{ℕ, ◌+◌, Option, Some, None, List, [], ◌∷◌, ◌++◌, slice_get, if◌then◌else◌}
-use Rattle.std.specs.List.{flat_map}
+use Rattle.std.specs.Prelude.{ℕ, ◌+◌, Option, Some, None, is_some, option_map, List, [], ◌∷◌, ◌++◌, slice_get}
+use Rattle.std.specs.Prelude.{if◌then◌else◌}
+use Rattle.std.specs.BTreeMap.{insert_entry}
+use Rattle.std.specs.Cmp.Lexicographic.{slice_cmp}
 use Rattle.std.specs.Map.{keys_of, lookup}
+use Rattle.std.specs.Ordering.{nat_cmp}
 use Rattle.pli_base.specs.Name.{Name}
 use Rattle.pli_base.specs.Words.{same_name, is_among}
 use Rattle.pli_type_tree.specs.Templates.{Template}
-use Rattle.pli_code.specs.CodeTables.{Code, CodedGlobal, OwnVariable, ExternalVariable, EntryPoint}
+use Rattle.pli_code.specs.CodeTables.{Code, CodedGlobal, ExternalVariable}
 use Rattle.pli_code.specs.CodeTables.{template_at}
-use Rattle.pli_code.specs.declared.code.VariableKind.TheVariants.{Static, Controlled}
+use Rattle.pli_code.specs.declared.code.VariableKind.TheVariants.{Static}
 use Rattle.pli_link.specs.Units.{Compiled}
 
 -- one name more, unless it is there
@@ -36,25 +39,44 @@ procedures_from number (c ∷ cs) = (c.deck.name, number) ∷ procedures_from (n
 abbrev pub procedures : List Compiled → List (Name × ℕ)
 procedures cs = firsts [] (procedures_from 0 cs)
 
--- the STATIC variable that units share, if a global is one, with its template as the unit's tables have it
-abbrev pub shared_in : Code → CodedGlobal → List (Name × Option Template)
-shared_in code (OwnVariable kind t) = []
-shared_in code (ExternalVariable name Static t) = (name, template_at code t) ∷ []
-shared_in code (ExternalVariable name Controlled t) = []
-shared_in code (EntryPoint name signature) = []
+-- where a variable that units share is declared, and its template as the tables of that unit have it
+pub record Declaration : Type 0 where
+  pub template : Option Template
+  pub unit : ℕ
+  pub global : ℕ
 
--- those among globals
-abbrev pub shared_by : Code → List CodedGlobal → List (Name × Option Template)
-shared_by code gs = flat_map (shared_in code) gs
+-- the STATIC variables that units share, among the globals of a unit, from this global on
+abbrev pub shared_from : Code → (unit global : ℕ) → List CodedGlobal → List (Name × Declaration)
+shared_from code unit global [] = []
+shared_from code unit global (ExternalVariable name Static t ∷ gs) =
+    (name, record { template = template_at code t; unit = unit; global = global })
+    ∷ shared_from code unit (global + 1) gs
+shared_from code unit global (other ∷ gs) = shared_from code unit (global + 1) gs
 
--- those of all units, in the order of the units
-abbrev pub all_shared : List Compiled → List (Name × Option Template)
-all_shared cs = flat_map (λ c. shared_by c.deck.code c.deck.code.globals) cs
+-- those of all units, from this unit on
+abbrev pub all_shared : (unit : ℕ) → List Compiled → List (Name × Declaration)
+all_shared unit [] = []
+all_shared unit (c ∷ cs) =
+    shared_from c.deck.code unit 0 c.deck.code.globals ++ all_shared (unit + 1) cs
 
--- the external variables, each with the template of its first declaration, in the order of the units and of
--- their texts
-abbrev pub externals : List Compiled → List (Name × Option Template)
-externals cs = firsts [] (all_shared cs)
+-- declarations in the order of their names, with one more, unless there is one of its name
+abbrev pub with_declaration : List (Name × Declaration) → Name × Declaration → List (Name × Declaration)
+with_declaration before d =
+    if is_some (meant before d.0) then before else insert_entry (slice_cmp nat_cmp) before d.0 d.1
+
+-- of those of one name the first, in the order of the names
+abbrev pub first_declared : (before : List (Name × Declaration)) → List (Name × Declaration)
+    → List (Name × Declaration)
+first_declared before [] = before
+first_declared before (d ∷ ds) = first_declared (with_declaration before d) ds
+
+-- the external variables, each with its first declaration, in the order of their names
+abbrev pub externals : List Compiled → List (Name × Declaration)
+externals cs = first_declared [] (all_shared 0 cs)
+
+-- the template of the first declaration of a name, if there is one
+abbrev pub first_template : List Compiled → Name → Option (Option Template)
+first_template cs name = option_map (λ d. d.template) (meant (externals cs) name)
 
 -- the unit of a number
 abbrev pub unit_at : List Compiled → Option ℕ → Option Compiled

@@ -1,7 +1,8 @@
 //! Laws of linking.
 ghost use Rattle.pli_link.specs.laws.Sorting.{NamesAreSorted};
 ghost use Rattle.pli_link.specs.examples.Examples.{TwoUnits, OneOfThree, NoneOfTwo, NoneCalled, OtherShared};
-ghost use Rattle.pli_link.specs.examples.Examples.{SameShared, ControlledShared, OtherTaken, EntryAndVariables};
+ghost use Rattle.pli_link.specs.examples.Examples.{SameShared, ByName, ControlledShared, OtherTaken};
+ghost use Rattle.pli_link.specs.examples.Examples.{EntryAndVariables};
 ghost use Rattle.pli_link.specs.examples.Examples.{ToldOnce, TooLarge, NotTooLarge, SharedOnce};
 
 /// A law: the order of names with their units is a stable sort of them by name.
@@ -10,7 +11,8 @@ pub fn names_are_sorted()
 {}
 
 /// Worked examples: two main procedures, one of three units, none of two; an entry without a procedure, and with
-/// another one; external variables that are alike or not, or CONTROLLED; and modules that are too large or not.
+/// another one; external variables that are alike or not, in the order of their names, or CONTROLLED; and modules that
+/// are too large or not.
 pub fn worked_examples()
     ensures two_units { TwoUnits }
     ensures one_of_three { OneOfThree }
@@ -18,6 +20,7 @@ pub fn worked_examples()
     ensures none_called { NoneCalled }
     ensures other_shared { OtherShared }
     ensures same_shared { SameShared }
+    ensures by_name { ByName }
     ensures controlled_shared { ControlledShared }
     ensures other_taken { OtherTaken }
     ensures entry_and_variables { EntryAndVariables }

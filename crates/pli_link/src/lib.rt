@@ -1,4 +1,4 @@
-//! The linker: a module from the code of units.
+//! The linker: the module of units, whose decks are lent, or the faults of linking.
 #![tactic(auto)]
 
 mod alike;
@@ -7,6 +7,7 @@ mod global_fault;
 mod laws;
 mod linked;
 mod linking;
+mod links;
 mod mismatches;
 mod names;
 mod order;
@@ -14,5 +15,6 @@ mod sizes;
 mod units;
 
 pub use laws::{names_are_sorted, worked_examples};
+pub use linked::Linked;
 pub use linking::{LinkError, LinkFault, link};
 pub use units::{LinkedName, NamedUnit};

@@ -1,21 +1,19 @@
-//! Modules of units that are lent.
+//! The module of units, or the faults of linking.
 ghost use Rattle.std.specs.Prelude.{◌≡◌, ◌++◌, map, OnOk, IfOk};
 ghost use Rattle.pli_link.specs.Link as link;
-ghost use Rattle.pli_link.specs.Names as meaning;
 ghost use Rattle.pli_link.specs.answers.Linking.{Links, fault_of, main_faults_of};
 ghost use Rattle.pli_link.specs.answers.Tables.{AreNames, HaveClasses, units_in};
 ghost use Rattle.pli_link.specs.views.UnitView.{compiled_view};
 
 use crate::global_fault::GlobalFault;
-use crate::linked::{linked_units, main_at};
+use crate::linked::{Linked, main_at, module_of};
 use crate::mismatches::faulty_names;
 use crate::names::{Names, externals, procedures};
 use crate::order::{main_names, repeated_names, sort};
 use crate::sizes::is_too_large;
 use crate::units::{LinkedName, NamedUnit};
-use indexmap::{IndexMap, IndexSet};
-use pli_base::{Failure, Name};
-use pli_deck_code::Linked;
+use indexmap::IndexSet;
+use pli_base::Failure;
 use pli_type_keys::TemplateKey;
 use std::alloc::{AllocError, Global};
 
@@ -34,42 +32,49 @@ pub enum LinkFault {
     /// or of a STATIC external variable that has a procedure's name, or another description or other initial values
     /// than the first variable of its name.
     Mismatch(LinkedName),
-    /// N6, where the module has more than 1,000,000 instructions, 65,535 external variables or 16,777,216 bytes of
-    /// variables that are made before the program begins.
+    /// N6, where the module has more than 1,000,000 instructions, 65,535 external variables, 65,535 units or 16,777,216
+    /// bytes of variables that are made before the program begins, or one of these has more than 1,000,000 bytes.
     ModuleTooLarge,
 }
 
 /// Why units are not linked: all faults, by code, name and unit, or want of memory.
 pub type LinkError = Failure<Vec<LinkFault>>;
 
-/// The module of units, which are lent and come in the order of their names; or all faults.
+/// The module of units, whose decks are lent and which come in the order of their names; or all faults.
 pub fn link<'a>(alloc: Global, units: &[NamedUnit<'a>]) -> Result<Linked<'a>, LinkError>
     ensures { Links result (link.link_of (map compiled_view units.now)) }
 {
     let procedures = procedures(alloc, units)?;
-    link_by(alloc, &procedures, units)
+    let mut known = IndexSet::new(alloc);
+    let externals = externals(alloc, &mut known, units)?;
+    let names = Names {
+        units,
+        procedures: &procedures,
+        externals: &externals,
+    };
+    link_by(alloc, &mut known, &names)
 }
 
-/// The same, where these are the procedures of the units.
+/// The same of units whose names these are.
 fn link_by<'a>(
     alloc: Global,
-    procedures: &IndexMap<Name, usize>,
-    units: &[NamedUnit<'a>],
+    known: &mut IndexSet<TemplateKey<'a>>,
+    names: &Names<'a, '_>,
 ) -> Result<Linked<'a>, LinkError>
-    requires { procedures.now.entries ≡ meaning.procedures (map compiled_view units.now) }
-    ensures { Links result (link.link_of (map compiled_view units.now)) }
+    requires names { AreNames names.now }
+    requires classes { HaveClasses known.old.keys names.now }
+    ensures { Links result (link.link_of (units_in names.now)) }
 {
-    let faults = faults_of(alloc, units, procedures)?;
+    let faults = faults_among(alloc, known, names)?;
     if !faults.is_empty() {
         return Err(LinkError::Fault(faults));
     }
-    let Some(main) = main_at(units) else {
+    let Some(main) = main_at(names.units) else {
         return Err(LinkError::Fault(faults));
     };
     drop(faults);
     Ok(Linked {
-        units: linked_units(alloc, procedures, units)?,
-        main: main as u16,
+        program: module_of(alloc, names, main as u16)?,
     })
 }
 
@@ -158,23 +163,4 @@ fn faults_among<'a>(
         faults.push(LinkFault::ModuleTooLarge)?;
     }
     Ok(faults)
-}
-
-/// The faults of units, by code, name and unit.
-fn faults_of(
-    alloc: Global,
-    units: &[NamedUnit<'_>],
-    procedures: &IndexMap<Name, usize>,
-) -> Result<Vec<LinkFault>, AllocError>
-    requires { procedures.now.entries ≡ meaning.procedures (map compiled_view units.now) }
-    ensures { IfOk result (λ found. found.items ≡ link.link_faults (map compiled_view units.now)) }
-{
-    let mut known = IndexSet::new(alloc);
-    let externals = externals(alloc, &mut known, units)?;
-    let names = Names {
-        units,
-        procedures,
-        externals: &externals,
-    };
-    faults_among(alloc, &mut known, &names)
 }

@@ -4,7 +4,7 @@ ghost use Rattle.pli_type_tree.specs.Templates.{Template};
 ghost use Rattle.pli_link.specs.answers.Classes.{AreClassed, AreClasses, IsClass, known_in};
 ghost use Rattle.pli_link.specs.Names as spec;
 ghost use Rattle.pli_link.specs.views.UnitView.{compiled_view};
-ghost use Rattle.pli_link.specs.views.NameView.{externals_view};
+ghost use Rattle.pli_link.specs.views.NameView.{declaration_view, externals_view};
 ghost use Rattle.pli_type_keys.specs.views.KeyView.{templated};
 ghost use Rattle.pli_code.specs.views.CodeView.{code_view, global_view};
 
@@ -16,13 +16,16 @@ use pli_base::Name;
 use pli_code::{Code, CodedGlobal, VariableKind};
 use pli_type_keys::TemplateKey;
 use std::alloc::{AllocError, Global};
+use std::collections::BTreeMap;
 
-/// An external variable: the template of its first declaration, if the unit's tables have it, and its class among the
-/// templates that are known.
+/// An external variable: the template of its first declaration, if the unit's tables have it, its class among the
+/// templates that are known, and the unit and the global of that declaration.
 #[derive(Clone, Copy)]
 pub(crate) struct KnownExternal<'a> {
     pub template: Option<TemplateKey<'a>>,
     pub class: Option<usize>,
+    pub unit: usize,
+    pub global: usize,
 }
 
 /// What names mean to all units of a module.
@@ -31,7 +34,7 @@ pub(crate) struct Names<'a, 'b> {
     pub units: &'b [NamedUnit<'a>],
     /// External procedures, by the numbers of the first units that have one of their names.
     pub procedures: &'b IndexMap<Name, usize>,
-    pub externals: &'b IndexMap<Name, KnownExternal<'a>>,
+    pub externals: &'b BTreeMap<Name, KnownExternal<'a>>,
 }
 
 /// Notes the number of a unit for the name of its procedure, unless one before has the name.
@@ -65,11 +68,11 @@ pub(crate) fn procedures(
 
 /// Notes a declaration for its name, unless one before has the name.
 fn note_external<'a>(
-    externals: &mut IndexMap<Name, KnownExternal<'a>>,
+    externals: &mut BTreeMap<Name, KnownExternal<'a>>,
     name: Name,
     external: KnownExternal<'a>,
 ) -> Result<(), AllocError>
-    ensures first { OnOk result (externals_view externals.new.entries ≡ spec.with_first (externals_view externals.old.entries) (name, option_map templated external.entry.template)) }
+    ensures first { OnOk result (externals_view externals.new.entries ≡ spec.with_declaration (externals_view externals.old.entries) (name, declaration_view external.entry)) }
     ensures classed { OnOk result ((known : List Template) → AreClassed known externals.old.entries → IsClass known (option_map templated external.entry.template) external.entry.class → AreClassed known externals.new.entries) }
 {
     if externals.contains_key(&name) {
@@ -81,17 +84,18 @@ fn note_external<'a>(
     Ok(())
 }
 
-/// Notes the external STATIC variables of a unit whose templates have these classes.
+/// Notes the external STATIC variables of the unit of this number, whose templates have these classes.
 fn note_shared<'a>(
-    externals: &mut IndexMap<Name, KnownExternal<'a>>,
+    externals: &mut BTreeMap<Name, KnownExternal<'a>>,
     code: &'a Code,
+    unit: usize,
     classes: &[Option<usize>],
     globals: &'a [CodedGlobal],
 ) -> Result<(), AllocError>
-    ensures first { OnOk result (externals_view externals.new.entries ≡ spec.firsts (externals_view externals.old.entries) (spec.shared_by (code_view code.now) (map global_view globals.now))) }
+    ensures first { OnOk result (externals_view externals.new.entries ≡ spec.first_declared (externals_view externals.old.entries) (spec.shared_from (code_view code.now) unit 0 (map global_view globals.now))) }
     ensures classed { OnOk result ((known : List Template) → AreClasses known (code_view code.now) classes.now → AreClassed known externals.old.entries → AreClassed known externals.new.entries) }
 {
-    for global in globals {
+    for (number, global) in globals.iter().enumerate() {
         if let CodedGlobal::ExternalVariable {
             name,
             kind: VariableKind::Static,
@@ -101,6 +105,8 @@ fn note_shared<'a>(
             let external = KnownExternal {
                 template: template_at(code, *template),
                 class: class_at(classes, *template),
+                unit,
+                global: number,
             };
             note_external(externals, *name, external)?;
         }
@@ -108,21 +114,22 @@ fn note_shared<'a>(
     Ok(())
 }
 
-/// The external variables, each with the template of its first declaration; the templates of all units become known.
+/// The external variables, each with its first declaration; the templates of all units become known.
 pub(crate) fn externals<'a>(
     alloc: Global,
     known: &mut IndexSet<TemplateKey<'a>>,
     units: &[NamedUnit<'a>],
-) -> Result<IndexMap<Name, KnownExternal<'a>>, AllocError>
+) -> Result<BTreeMap<Name, KnownExternal<'a>>, AllocError>
     ensures first { IfOk result (λ found. externals_view found.entries ≡ spec.externals (map compiled_view units.now)) }
     ensures classed { IfOk result (λ found. AreClassed (known_in known.new.keys) found.entries) }
 {
-    let mut found = IndexMap::new(alloc);
-    for unit in units {
+    let mut found = BTreeMap::new(alloc);
+    for (number, unit) in units.iter().enumerate() {
         let classes = classes_of(alloc, known, &unit.deck.code)?;
         note_shared(
             &mut found,
             &unit.deck.code,
+            number,
             &classes,
             &unit.deck.code.globals,
         )?;

@@ -16,11 +16,11 @@ ghost use Rattle.pli_type_keys.specs.views.KeyView.{templated};
 use crate::alike::template_at;
 use crate::names::{KnownExternal, Names};
 use crate::units::NamedUnit;
-use indexmap::IndexMap;
 use pli_base::Name;
 use pli_code::{Code, CodedGlobal, VariableKind};
 use pli_map::{Description, size};
 use pli_type_keys::TemplateKey;
+use std::collections::BTreeMap;
 
 /// The most bytes that live at once (own).
 const BYTE_LIMIT: u32 = 16_777_216;
@@ -91,9 +91,9 @@ fn with_all_own(units: &[NamedUnit<'_>]) -> Option<u32>
 }
 
 /// Bytes with those of the external variables, unless they are too many.
-fn with_externals(bytes: u32, externals: &IndexMap<Name, KnownExternal<'_>>) -> Option<u32>
+fn with_externals(bytes: u32, externals: &BTreeMap<Name, KnownExternal<'_>>) -> Option<u32>
     requires { bytes ≤ 16777216 }
-    ensures counts { result ≡ counted bytes (flat_map there (values_of (externals_view externals.now.entries))) }
+    ensures counts { result ≡ counted bytes (flat_map (λ d. there d.template) (values_of (externals_view externals.now.entries))) }
     ensures within { IfSome result (λ more. more ≤ 16777216) }
 {
     let mut bytes = bytes;

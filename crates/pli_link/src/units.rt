@@ -1,4 +1,4 @@
-//! Compiled units, and the names of units that faults of linking tell.
+//! Units to be linked, and the names that faults of linking tell, with their units.
 ghost use Rattle.std.specs.Prelude.{◌≡◌};
 ghost use Rattle.pli_link.specs.Units.{procedure_of};
 ghost use Rattle.pli_link.specs.views.UnitView.{compiled_view};

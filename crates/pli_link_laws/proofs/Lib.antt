@@ -1,13 +1,9 @@
 pub mod DeckParts
-pub mod FirstDeclarations
-pub mod KeptDecks
 pub mod LinkedFrom
 pub mod ModuleFits
 pub mod ModuleLimits
 pub mod ModulesSay
 pub mod ResolvedEntries
-pub mod ShortDecks
 pub mod Sums
-pub mod Tables
 pub mod UnitDeclarations
 pub mod UnitLinks

@@ -6,15 +6,16 @@ use Rattle.pli_base.specs.Name.{Name}
 use Rattle.pli_deck_write.specs.DeckFields.{name, deck}
 use Rattle.pli_deck_write.specs.DeckFaults.{fault_of}
 use Rattle.pli_deck_write.specs.Fields.{u1, u2, u4, from_to}
-use Rattle.pli_deck_write.specs.ModuleFields.{External, Member, DeckModule, is_less, comes_after, external_behind, fit_behind, is_none, is_external, member, module_field}
-use Rattle.pli_deck_write.specs.ModuleSpelling.{has_kind, global_at, are_good_links, links_stand, module_within_limits}
+use Rattle.pli_code.specs.Modules.{External, Member, Module}
+use Rattle.pli_deck_write.specs.ModuleFields.{is_less, comes_after, external_behind, fit_behind, is_none, is_external, member, module_field}
+use Rattle.pli_deck_write.specs.ModuleSpelling.{has_kind, global_at, are_good_links, links_stand, module_within_limits, module_bytes, SpellsModule}
 use Rattle.pli_deck_write.specs.Spelling.{deck_bytes}
 use Rattle.pli_deck_write.specs.declared.fault.DeckFault.TheVariants.{BadNumber, OverLimit}
-use Rattle.pli_deck_code.specs.CodeModules.{external_of}
-use Rattle.pli_deck_code.specs.declared.externals.ExternalDeclaration.{ExternalDeclaration}
-use Rattle.pli_link_laws.specs.LinkedModules.{IsSaidAlone, IsModule}
+use Rattle.pli_link.specs.Links.{short, external_of}
+use Rattle.pli_link.specs.Names.{Declaration}
+use Rattle.pli_link_laws.specs.LinkedModules.{IsSaidAlone}
 use Rattle.pli_link_laws.proofs.Sums.{both_hold}
-use Rattle.pli_link_laws.proofs.Tables.{Above, Rises}
+use Rattle.pli_link.proofs.Tables.{Above, Rises}
 use Rattle.pli_link_laws.proofs.DeckParts.{globals_fit}
 use Rattle.pli_link_laws.proofs.UnitDeclarations.{IsDeclared}
 
@@ -30,25 +31,25 @@ after : (before : Option External) (n : Name) → Above (option_map (λ (e : Ext
 after None n h = refl
 after (Some e) n h = ap is_less h
 
-externals_fit : (members : List Member) (before : Option External) (ds : List (Name × ExternalDeclaration)) → Rises (option_map (λ (e : External). e.name) before) ds → AllByRecursion (IsDeclared members) ds
+externals_fit : (members : List Member) (before : Option External) (ds : List (Name × Declaration)) → Rises (option_map (λ (e : External). e.name) before) ds → AllByRecursion (IsDeclared members) ds
     → fit_behind external_behind before (map external_of ds) ≡ true
 unfolding external_behind
 externals_fit members before [] up all = refl
 externals_fit members before (d ∷ ds) up all =
-    let place = u2.fits d.1.unit && u2.fits d.1.global in
+    let place = u2.fits (short d.1.unit) && u2.fits (short d.1.global) in
     let kind = (from_to 2 3 u1).fits 2 in
     let rest = fit_behind external_behind (Some (external_of d)) (map external_of ds) in
     both_hold ((name.fits d.0 && comes_after before d.0) && (kind && place)) rest
     (both_hold (name.fits d.0 && comes_after before d.0) (kind && place)
     (both_hold (name.fits d.0) (comes_after before d.0) all.0.named (after before d.0 up.0))
-    (both_hold kind place refl (both_hold (u2.fits d.1.unit) (u2.fits d.1.global) (fits_short d.1.unit all.0.unit) (fits_short d.1.global all.0.number))))
+    (both_hold kind place refl (both_hold (u2.fits (short d.1.unit)) (u2.fits (short d.1.global)) (fits_short (short d.1.unit) (omega arith)) (fits_short (short d.1.global) (omega arith)))))
     (externals_fit members (Some (external_of d)) ds up.1 all.1)
 
-externals_stand : (members : List Member) (ds : List (Name × ExternalDeclaration)) → AllByRecursion (IsDeclared members) ds
+externals_stand : (members : List Member) (ds : List (Name × Declaration)) → AllByRecursion (IsDeclared members) ds
     → list_all (λ (e : External). has_kind e.kind (global_at members e.unit e.global)) (map external_of ds) ≡ true
 externals_stand members [] all = refl
 externals_stand members (d ∷ ds) all =
-    both_hold (has_kind 2 (global_at members d.1.unit d.1.global)) (list_all (λ (e : External). has_kind e.kind (global_at members e.unit e.global)) (map external_of ds)) all.0.kind
+    both_hold (has_kind 2 (global_at members (short d.1.unit) (short d.1.global))) (list_all (λ (e : External). has_kind e.kind (global_at members e.unit e.global)) (map external_of ds)) all.0.kind
     (externals_stand members ds all.1)
 
 -- ---- units
@@ -62,12 +63,12 @@ no_more test (x ∷ xs) = by (test x) (no_more test xs)
     by false h = omega (arith, h)
 
 -- what is asked of the links of a unit
-pub record Leads (m : DeckModule) (u : Member) : Type 0 where
+pub record Leads (m : Module) (u : Member) : Type 0 where
   pub good : are_good_links m (filter is_external u.deck.code.globals) u.links ≡ true
   pub counted : length u.links ≡ length (filter is_external u.deck.code.globals)
   pub short : list_all u2.fits u.links ≡ true
 
-unit_fits : (m : DeckModule) (u : Member) → IsSaidAlone u → Leads m u → member.fits u ≡ true
+unit_fits : (m : Module) (u : Member) → IsSaidAlone u → Leads m u → member.fits u ≡ true
 unfolding member
 unit_fits m u said leads =
     let few = (globals_fit u.deck said.is_deck.fits).few in
@@ -82,11 +83,11 @@ unit_fits m u said leads =
     (both_hold ((from_to k k u2).fits (length u.links)) (list_all u2.fits u.links)
     (fits_range k k (length u.links) (omega (arith, within, leads.counted)) (omega (arith, leads.counted)) (omega (arith, leads.counted))) leads.short)
 
-units_fit : (m : DeckModule) (us : List Member) → AllByRecursion IsSaidAlone us → AllByRecursion (Leads m) us → list_all member.fits us ≡ true
+units_fit : (m : Module) (us : List Member) → AllByRecursion IsSaidAlone us → AllByRecursion (Leads m) us → list_all member.fits us ≡ true
 units_fit m [] said leads = refl
 units_fit m (u ∷ us) said leads = both_hold (member.fits u) (list_all member.fits us) (unit_fits m u said.0 leads.0) (units_fit m us said.1 leads.1)
 
-units_stand : (m : DeckModule) (us : List Member) → AllByRecursion (Leads m) us → list_all (λ (u : Member). are_good_links m (filter is_external u.deck.code.globals) u.links) us ≡ true
+units_stand : (m : Module) (us : List Member) → AllByRecursion (Leads m) us → list_all (λ (u : Member). are_good_links m (filter is_external u.deck.code.globals) u.links) us ≡ true
 units_stand m [] leads = refl
 units_stand m (u ∷ us) leads =
     both_hold (are_good_links m (filter is_external u.deck.code.globals) u.links) (list_all (λ (u : Member). are_good_links m (filter is_external u.deck.code.globals) u.links) us) leads.0.good
@@ -94,7 +95,7 @@ units_stand m (u ∷ us) leads =
 
 -- ---- the module
 
-pub record HasParts (m : DeckModule) (ds : List (Name × ExternalDeclaration)) : Type 0 where
+pub record HasParts (m : Module) (ds : List (Name × Declaration)) : Type 0 where
   pub externals : m.externals ≡ map external_of ds
   pub few : length m.externals ≤ 65535
   pub rising : Rises None ds
@@ -105,7 +106,7 @@ pub record HasParts (m : DeckModule) (ds : List (Name × ExternalDeclaration)) :
   pub leads : AllByRecursion (Leads m) m.units
   pub limits : module_within_limits m ≡ true
 
-module _ (m : DeckModule) (ds : List (Name × ExternalDeclaration)) (h : HasParts m ds) where
+module _ (m : Module) (ds : List (Name × Declaration)) (h : HasParts m ds) where
   fits : module_field.fits m ≡ true
   unfolding module_field
   fits =
@@ -126,8 +127,9 @@ module _ (m : DeckModule) (ds : List (Name × ExternalDeclaration)) (h : HasPart
       (both_hold (nat_lt m.main (length m.units)) (declared m.externals) (lt-ltb m.main (length m.units) h.main) (ap declared h.externals ∙ externals_stand m.units ds h.declared))
       (units_stand m m.units h.leads)
 
-  pub module_stands : IsModule m
+  pub module_stands : SpellsModule (module_bytes m) m
   module_stands = record {
     fits = fits;
     faultless = ap (λ b. if not b then Some BadNumber else if not (module_within_limits m) then Some OverLimit else None) stand ∙ ap (λ b. if not b then Some OverLimit else None) h.limits;
+    spelled = refl;
   }

@@ -1,35 +1,28 @@
 -- Linked modules are ones that bytes can say.
-use Rattle.std.proofs.Common.{◌≡◌, ℕ, suc, ◌+◌, ◌<◌, ◌≤◌, nat_lt, Bool, true, false, cond, Some, None, List, [], ◌∷◌, length, map, filter, slice_get, position, refl, ap, sym, subst, ◌∙◌, arith, ltb-true}
+use Rattle.std.proofs.Common.{◌≡◌, ℕ, ◌+◌, ◌<◌, ◌≤◌, nat_lt, Bool, true, false, cond, Some, None, List, [], ◌∷◌, length, filter, slice_get, position, refl, ap, sym, subst, arith, ltb-true}
 use Rattle.std.specs.List.{position_or_len, AllByRecursion}
 use Rattle.std.specs.Map.{keys_of}
 use Rattle.std.proofs.lemmas.List.{length-map}
 use Rattle.pli_base.specs.Name.{Name}
-use Rattle.pli_code.specs.Modules as unit
-use Rattle.pli_code.specs.Modules.{LinkedUnit}
-use Rattle.pli_link.specs.Link as link
-use Rattle.pli_link.specs.Link.{linked_unit, link_faults}
-use Rattle.pli_link.specs.Names.{all_shared, externals, procedures}
+use Rattle.pli_code.specs.Modules.{Member, Module}
+use Rattle.pli_link.specs.Link.{link_faults}
+use Rattle.pli_link.specs.Names.{Declaration, all_shared, externals, procedures}
 use Rattle.pli_link.specs.Units.{Compiled}
-use Rattle.pli_link.proofs.Faultless.{IsFaultless, faultless}
+use Rattle.pli_link.proofs.Faultless.{IsFaultless, faultless, small}
 use Rattle.pli_link.proofs.MeantFirst.{procedures_within}
-use Rattle.pli_deck_write.specs.ModuleFields as deck
-use Rattle.pli_deck_write.specs.ModuleFields.{Member, is_external}
-use Rattle.pli_deck_code.specs.CodeModules.{declarations, all_declared, external_of, members_of, module_of}
-use Rattle.pli_deck_code.specs.declared.externals.ExternalDeclaration.{ExternalDeclaration}
-use Rattle.pli_link_laws.specs.LinkedModules.{IsSaidAlone, IsModule, LinkedModulesAreSaid}
-use Rattle.pli_link_laws.proofs.FirstDeclarations.{Alike, tables_alike, all_found}
+use Rattle.pli_deck_write.specs.ModuleFields.{is_external}
+use Rattle.pli_deck_write.specs.ModuleSpelling.{module_bytes, SpellsModule}
+use Rattle.pli_link.specs.Links.{external_of, linked_unit, module_of}
+use Rattle.pli_link_laws.specs.LinkedModules.{IsSaidAlone, LinkedModulesAreSpelled}
+use Rattle.pli_link.proofs.Tables.{declared_rise, all_declared, all_found}
 use Rattle.pli_link_laws.proofs.LinkedFrom.{of_faultless}
 use Rattle.pli_link_laws.proofs.ModuleFits.{Leads, HasParts, module_stands}
 use Rattle.pli_link_laws.proofs.ModuleLimits.{counted, within_limits}
 use Rattle.pli_link_laws.proofs.ResolvedEntries.{units_resolved}
-use Rattle.pli_link_laws.proofs.UnitDeclarations.{IsDeclared, shared_bytes, bytes_where, units_paired}
+use Rattle.pli_link_laws.proofs.UnitDeclarations.{IsDeclared, units_declared}
 use Rattle.pli_link_laws.proofs.UnitLinks.{LeadsOf, links_good, links_counted, links_fit, units_lead}
 
--- ---- how many units, and which is the main one
-
-units_counted : (main : ℕ) (names : List Name) (number : ℕ) (us : List LinkedUnit) → length (members_of main names number us) ≡ length us
-units_counted main names number [] = refl
-units_counted main names number (u ∷ us) = ap (λ n. suc n) (units_counted main names (number + 1) us)
+-- ---- which unit is the main one
 
 within : (k n i : ℕ) → cond (nat_lt k n) (Some k) None ≡ Some i → i < n
 within k n i e = by (nat_lt k n) refl e
@@ -47,66 +40,61 @@ few_found bound bound_is es e h = subst (λ b. AllByRecursion (λ p. p.1 < b) es
 -- ---- a module of units without faults
 
 module _ (cs : List Compiled) (main : ℕ) (few : length cs ≤ 999) (here : position (λ (c : Compiled). c.deck.is_main) cs ≡ Some main) (good : IsFaultless cs) where
-  abbrev m : deck.DeckModule
-  m = module_of (link.module_of cs main)
+  abbrev m : Module
+  m = module_of cs main
 
-  abbrev us : List LinkedUnit
-  us = map (linked_unit (procedures cs)) cs
-
-  abbrev ds : List (Name × ExternalDeclaration)
-  ds = declarations us
+  abbrev ds : List (Name × Declaration)
+  ds = externals cs
 
   units : length m.units ≡ length cs
-  units = units_counted main (keys_of ds) 0 us ∙ length-map cs (linked_unit (procedures cs))
+  units = length-map cs (linked_unit (keys_of ds) (procedures cs))
 
-  alike : AllByRecursion IsSaidAlone m.units → Alike shared_bytes (bytes_where m.units) (IsDeclared m.units) (externals cs) ds
-  alike said =
-      tables_alike shared_bytes (bytes_where m.units) (IsDeclared m.units) (all_shared cs) (all_declared 0 us)
-      (units_paired (procedures cs) main (keys_of ds) m.units cs 0 (λ k. let e : k ≡ 0 + k = omega arith in ap (slice_get m.units) e) (omega (arith, few)) said)
+  few_externals : length ds ≤ 65535
+  few_externals = (small cs good.small).externals
 
-  few_externals : AllByRecursion IsSaidAlone m.units → length ds ≤ 65535
-  few_externals said = omega (arith, (alike said).count, (counted cs good.small).externals)
+  few_units : length m.units ≤ 999
+  few_units = omega (arith, units, few)
+
+  numbers : AllByRecursion (λ p. p.1 < length m.units) (procedures cs)
+  numbers = few_found (length cs) (length m.units) (procedures cs) (sym units) (procedures_within cs)
 
   module _ (said : AllByRecursion IsSaidAlone m.units) where
-    small : length m.units ≤ 999
-    small = omega (arith, units, few)
+    declared : AllByRecursion (IsDeclared m.units) ds
+    declared =
+        all_declared (IsDeclared m.units) [] (all_shared 0 cs) tt
+        (units_declared (keys_of ds) (procedures cs) m.units cs 0 (λ k. let e : k ≡ 0 + k = omega arith in ap (slice_get m.units) e) (omega (arith, few)) said)
 
-    numbers : AllByRecursion (λ p. p.1 < length m.units) (procedures cs)
-    numbers = few_found (length cs) (length m.units) (procedures cs) (sym units) (procedures_within cs)
-
-    leads_each : (some : List Member) → AllByRecursion (LeadsOf m ds cs refl (few_externals said) small numbers) some → AllByRecursion (Leads m) some
+    leads_each : (some : List Member) → AllByRecursion (LeadsOf m ds cs refl few_externals few_units numbers) some → AllByRecursion (Leads m) some
     leads_each [] h = tt
     leads_each (u ∷ some) h =
         let gs = filter is_external u.deck.code.globals in (
           record {
-            good = links_good m ds cs refl (few_externals said) small numbers gs u.links h.0;
-            counted = links_counted m ds cs refl (few_externals said) small numbers gs u.links h.0;
-            short = links_fit m ds cs refl (few_externals said) small numbers gs u.links h.0;
+            good = links_good m ds cs refl few_externals few_units numbers gs u.links h.0;
+            counted = links_counted m ds cs refl few_externals few_units numbers gs u.links h.0;
+            short = links_fit m ds cs refl few_externals few_units numbers gs u.links h.0;
           },
           leads_each some h.1,
         )
 
     parts : HasParts m ds
-    parts =
-        let tables = alike said in
-        record {
-          externals = refl;
-          few = omega (arith, length-map ds external_of, few_externals said);
-          rising = tables.rising;
-          declared = tables.good;
-          main = omega (arith, units, main_within cs main here);
-          units = small;
-          said = said;
-          leads = leads_each m.units (units_lead m ds cs refl (few_externals said) small numbers main cs 0 (all_found [] (all_declared 0 us)) (units_resolved cs cs good.resolved));
-          limits = within_limits (procedures cs) main (keys_of ds) cs ds m refl refl (counted cs good.small) tables.size;
-        }
+    parts = record {
+      externals = refl;
+      few = omega (arith, length-map ds external_of, few_externals);
+      rising = declared_rise [] (all_shared 0 cs) tt;
+      declared = declared;
+      main = omega (arith, units, main_within cs main here);
+      units = few_units;
+      said = said;
+      leads = leads_each m.units (units_lead m ds cs refl few_externals few_units numbers cs 0 (all_found [] (all_shared 0 cs)) (units_resolved cs cs good.resolved));
+      limits = within_limits (keys_of ds) (procedures cs) cs m refl refl (counted cs good.small) declared;
+    }
 
-    stands : IsModule m
+    stands : SpellsModule (module_bytes m) m
     stands = module_stands m ds parts
 
 -- ---- what linking gives
 
-pub linked_modules_are_said : LinkedModulesAreSaid
-linked_modules_are_said cs m linked few said =
+pub linked_modules_are_spelled : LinkedModulesAreSpelled
+linked_modules_are_spelled cs m linked few said =
     let o = of_faultless (link_faults cs) (position (λ (c : Compiled). c.deck.is_main) cs) cs m linked in
-    subst (λ (n : unit.Module). AllByRecursion IsSaidAlone (module_of n).units → IsModule (module_of n)) o.is (λ h. stands cs o.main few o.here (faultless cs o.none) h) said
+    subst (λ (n : Module). AllByRecursion IsSaidAlone n.units → SpellsModule (module_bytes n) n) o.is (λ h. stands cs o.main few o.here (faultless cs o.none) h) said

@@ -1,7 +1,7 @@
 -- Sums over lists, and what holds of all items of a list.
 use Rattle.std.proofs.Common.{◌≡◌, ℕ, ◌+◌, Bool, true, false, ◌&&◌, List, [], ◌∷◌, ◌++◌, map, refl, ap, sym, ◌∙◌, arith, true≢false}
 use Rattle.std.specs.Prelude.{fold}
-use Rattle.std.specs.List.{flat_map, list_all, sum_by, AllByRecursion}
+use Rattle.std.specs.List.{sum_by, AllByRecursion}
 
 -- the sum with its first item first
 abbrev pub total : {X : Type 0} → (X → ℕ) → List X → ℕ
@@ -23,14 +23,6 @@ pub total_mapped : {X Y : Type 0} (f : Y → ℕ) (g : X → Y) (xs : List X) �
 total_mapped f g [] = refl
 total_mapped f g (x ∷ xs) = ap (λ n. f (g x) + n) (total_mapped f g xs)
 
-pub total_alike : {X : Type 0} (f g : X → ℕ) → ((x : X) → f x ≡ g x) → (xs : List X) → total f xs ≡ total g xs
-total_alike f g same [] = refl
-total_alike f g same (x ∷ xs) = omega (arith, same x, total_alike f g same xs)
-
-pub total_flat : {X Y : Type 0} (f : Y → ℕ) (g : X → List Y) (xs : List X) → total f (flat_map g xs) ≡ total (λ x. total f (g x)) xs
-total_flat f g [] = refl
-total_flat f g (x ∷ xs) = total_joined f (g x) (flat_map g xs) ∙ ap (λ n. total f (g x) + n) (total_flat f g xs)
-
 -- ---- all items
 
 pub both_hold : (a b : Bool) → a ≡ true → b ≡ true → (a && b) ≡ true
@@ -40,10 +32,6 @@ pub both_of : (a b : Bool) → (a && b) ≡ true → (a ≡ true) × (b ≡ true
 both_of true b h = (refl, h)
 both_of false b h = absurd (true≢false (sym h))
 
-pub each_holds : {X : Type 0} (f : X → Bool) (P : X → Type 0) → ((x : X) → P x → f x ≡ true) → (xs : List X) → AllByRecursion P xs → list_all f xs ≡ true
-each_holds f P one [] h = refl
-each_holds f P one (x ∷ xs) h = both_hold (f x) (list_all f xs) (one x h.0) (each_holds f P one xs h.1)
-
 pub all_front : {X : Type 0} (P : X → Type 0) (xs ys : List X) → AllByRecursion P (xs ++ ys) → AllByRecursion P xs
 all_front P [] ys h = tt
 all_front P (x ∷ xs) ys h = (h.0, all_front P xs ys h.1)
@@ -51,3 +39,7 @@ all_front P (x ∷ xs) ys h = (h.0, all_front P xs ys h.1)
 pub all_back : {X : Type 0} (P : X → Type 0) (xs ys : List X) → AllByRecursion P (xs ++ ys) → AllByRecursion P ys
 all_back P [] ys h = h
 all_back P (x ∷ xs) ys h = all_back P xs ys h.1
+
+pub all_both : {X : Type 0} (P : X → Type 0) (xs ys : List X) → AllByRecursion P xs → AllByRecursion P ys → AllByRecursion P (xs ++ ys)
+all_both P [] ys h k = k
+all_both P (x ∷ xs) ys h k = (h.0, all_both P xs ys h.1 k)

@@ -1,2 +1,1 @@
 pub mod LinkedModules
-pub mod UnitDecks

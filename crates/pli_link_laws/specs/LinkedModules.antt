@@ -1,22 +1,14 @@
--- Linked modules that bytes can say.
-use Rattle.std.specs.Prelude.{◌≡◌, ◌≤◌, ◌<◌, true, None, Ok, List, length}
+-- Linked modules: which bytes spell them, and which decks they have.
+use Rattle.std.specs.Prelude.{◌≡◌, ◌≤◌, ◌<◌, true, Ok, List, length, map}
 use Rattle.std.specs.List.{AllByRecursion}
 use Rattle.pli_deck_write.specs.DeckFields.{name}
-use Rattle.pli_deck_write.specs.ModuleFields as deck
-use Rattle.pli_deck_write.specs.ModuleFields.{Member, module_field}
-use Rattle.pli_deck_write.specs.ModuleSpelling.{module_bytes, module_fault}
+use Rattle.pli_deck_write.specs.ModuleSpelling.{module_bytes, SpellsModule}
 use Rattle.pli_deck_write.specs.Spelling.{IsDeck, deck_bytes}
-use Rattle.pli_deck_code.specs.CodeModules.{module_of}
 use Rattle.pli_link.specs.Link.{link_of}
 use Rattle.pli_link.specs.Units.{Compiled}
-use Rattle.pli_code.specs.Modules.{Module}
+use Rattle.pli_code.specs.Modules.{Member, Module}
 
--- modules that have a spelling: all numbers are in their ranges, and name what is there
-pub record IsModule (m : deck.DeckModule) : Type 0 where
-  pub fits : module_field.fits m ≡ true
-  pub faultless : module_fault m ≡ None
-
--- a unit of a module with a deck in fewer bytes than a number of four bytes can count
+-- a unit of a module, where a number of four bytes can count the bytes of its deck
 abbrev pub HasShortDeck : Member → Type 0
 HasShortDeck u = length (deck_bytes u.deck) < 4294967296
 
@@ -26,13 +18,16 @@ pub record IsSaidAlone (u : Member) : Type 0 where
   pub is_deck : IsDeck u.deck
   pub short : HasShortDeck u
 
--- what linking gives of units that have a spelling each has one: the linker's own faults say the rest
-abbrev pub LinkedModulesAreSaid : Type 0
-LinkedModulesAreSaid =
+-- what linking gives of units that have a spelling each is spelled by its bytes: the linker's own faults say
+-- the rest
+abbrev pub LinkedModulesAreSpelled : Type 0
+LinkedModulesAreSpelled =
     (cs : List Compiled) (m : Module) → link_of cs ≡ Ok m → length cs ≤ 999
-    → AllByRecursion IsSaidAlone (module_of m).units → IsModule (module_of m)
+    → AllByRecursion IsSaidAlone m.units → SpellsModule (module_bytes m) m
 
--- where all bytes of a module are so few, those of each deck are
-abbrev pub ShortModulesHaveShortDecks : Type 0
-ShortModulesHaveShortDecks =
-    (m : deck.DeckModule) → length (module_bytes m) < 4294967296 → AllByRecursion HasShortDeck m.units
+-- the decks of the module that linking gives are those of the compiled units, whole and in order: linking
+-- takes nothing from a unit's deck and adds nothing to it
+abbrev pub LinkingKeepsDecks : Type 0
+LinkingKeepsDecks =
+    (cs : List Compiled) (m : Module) → link_of cs ≡ Ok m
+    → map (λ (u : Member). u.deck) m.units ≡ map (λ (c : Compiled). c.deck) cs

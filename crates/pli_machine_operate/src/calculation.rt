@@ -3,15 +3,14 @@ ghost use Rattle.std.specs.Prelude.{◌≡◌, ◌∷◌, [], pos, Result, IfOk,
 ghost use Rattle.pli_map.specs.views.DescriptionView.{description_view};
 ghost use Rattle.pli_operation.specs.Operations as calculate;
 ghost use Rattle.pli_operation.specs.Operations.{calculated_from, calculated_with, calculated_by, are_comparable, as_number, compared, stands, fitted_to};
-ghost use Rattle.pli_operation.specs.views.OperationView.{relation_view};
 ghost use Rattle.std.specs.Option.{option_copied};
 ghost use Rattle.pli_value.specs.Numbers.{within, quotient};
 ghost use Rattle.pli_value.specs.Value as plain;
 ghost use Rattle.pli_value.specs.Value.{value_view};
-ghost use Rattle.pli_machine_operate.specs.views.CalculationView.{calculation_view, immediate_view, prefix_view, infix_view, ternary_view};
+ghost use Rattle.pli_machine_operate.specs.views.CalculationView.{calculation_view, immediate_view};
 
 use pli_map::Description;
-use pli_operation::Relation;
+use pli_operation::{Operation, Relation};
 use pli_value::bit::{self, Bits};
 use pli_value::character::{self, STRING_LIMIT};
 use pli_value::number::{self, Raised};
@@ -47,45 +46,6 @@ pub enum Immediate {
     Bit(bool),
     Raises(Raised),
     Misfits,
-}
-
-/// An operation on one value, but for those that need a description.
-#[derive(Clone, Copy)]
-pub enum Prefix {
-    Negate,
-    Absolute,
-    Sign,
-    Not,
-    LengthOf,
-    FromBits,
-    ToCharacters { width: u8 },
-}
-
-/// An operation on two values.
-#[derive(Clone, Copy)]
-pub enum Infix {
-    Add,
-    Subtract,
-    Multiply,
-    Modulo,
-    Greatest,
-    Least,
-    Divide { precision: u8 },
-    Compare(Relation),
-    Concatenate,
-    And,
-    Or,
-    Index,
-    Rest,
-}
-
-/// An operation on three values.
-#[derive(Clone, Copy)]
-pub enum Ternary {
-    /// SUBSTR with a length.
-    Substring,
-    /// Whether a number has not passed a limit, with the step that it is counted on by.
-    Within,
 }
 
 /// A number, or the condition that is raised.
@@ -125,7 +85,7 @@ fn as_characters(alloc: Global, text: Option<&[u8]>) -> Result<Calculation, Allo
 /// Whether an order is the one that is asked for.
 #[inline]
 pub fn stands(relation: Relation, order: Ordering) -> bool
-    ensures { result ≡ stands (relation_view relation) order }
+    ensures { result ≡ stands relation order }
 {
     match (relation, order) {
         (Relation::Equal, Ordering::Less) => false,
@@ -200,82 +160,58 @@ fn in_columns(alloc: Global, width: u8, number: i64) -> Result<Calculation, Allo
 
 /// An operation on a number. Want of memory is answered where the result has more than 64 bits, as it may only where
 /// the number has more than 31 digits.
-fn of_number(alloc: Global, operation: Prefix, number: i64) -> Result<Calculation, AllocError>
-    ensures { IfOk result (λ c. calculation_view c ≡ calculated_from (prefix_view operation) (plain.Number number)) }
+fn of_number(alloc: Global, operation: Operation, number: i64) -> Result<Calculation, AllocError>
+    ensures { IfOk result (λ c. calculation_view c ≡ calculated_from operation (plain.Number number)) }
 {
     match operation {
-        Prefix::Negate if number == i64::MIN => Err(AllocError),
-        Prefix::Negate => Ok(Calculation::Gives(Value::Number(number::negate(number)))),
-        Prefix::Absolute if number == i64::MIN => Err(AllocError),
-        Prefix::Absolute => Ok(Calculation::Gives(Value::Number(number::absolute(number)))),
-        Prefix::Sign => Ok(Calculation::Gives(Value::Number(number::sign(number)))),
-        Prefix::ToCharacters { width } => in_columns(alloc, width, number),
-        Prefix::Not => Ok(Calculation::Misfits),
-        Prefix::LengthOf => Ok(Calculation::Misfits),
-        Prefix::FromBits => Ok(Calculation::Misfits),
+        Operation::Negate if number == i64::MIN => Err(AllocError),
+        Operation::Negate => Ok(Calculation::Gives(Value::Number(number::negate(number)))),
+        Operation::Absolute if number == i64::MIN => Err(AllocError),
+        Operation::Absolute => Ok(Calculation::Gives(Value::Number(number::absolute(number)))),
+        Operation::Sign => Ok(Calculation::Gives(Value::Number(number::sign(number)))),
+        Operation::ToCharacters { width } => in_columns(alloc, width, number),
+        _ => Ok(Calculation::Misfits),
     }
 }
 
 /// An operation on bits.
-fn of_bits(alloc: Global, operation: Prefix, bits: &Bits) -> Result<Calculation, AllocError>
-    ensures { IfOk result (λ c. calculation_view c ≡ calculated_from (prefix_view operation) (plain.Bits bits.now)) }
+fn of_bits(alloc: Global, operation: Operation, bits: &Bits) -> Result<Calculation, AllocError>
+    ensures { IfOk result (λ c. calculation_view c ≡ calculated_from operation (plain.Bits bits.now)) }
 {
     match operation {
-        Prefix::Not => Ok(Calculation::Gives(Value::Bits(bit::not(alloc, bits)?))),
-        Prefix::LengthOf => Ok(Calculation::Gives(Value::Number(bits.length() as i64))),
-        Prefix::FromBits => Ok(Calculation::Gives(Value::Characters(bit::bits_to_char(
+        Operation::Not => Ok(Calculation::Gives(Value::Bits(bit::not(alloc, bits)?))),
+        Operation::LengthOf => Ok(Calculation::Gives(Value::Number(bits.length() as i64))),
+        Operation::FromBits => Ok(Calculation::Gives(Value::Characters(bit::bits_to_char(
             alloc, bits,
         )?))),
-        Prefix::Negate => Ok(Calculation::Misfits),
-        Prefix::Absolute => Ok(Calculation::Misfits),
-        Prefix::Sign => Ok(Calculation::Misfits),
-        Prefix::ToCharacters { .. } => Ok(Calculation::Misfits),
+        _ => Ok(Calculation::Misfits),
     }
 }
 
 /// An operation on characters.
-fn of_characters(operation: Prefix, text: &Vec<u8>) -> Calculation
-    ensures { calculation_view result ≡ calculated_from (prefix_view operation) (plain.Characters text.now.items) }
+fn of_characters(operation: Operation, text: &Vec<u8>) -> Calculation
+    ensures { calculation_view result ≡ calculated_from operation (plain.Characters text.now.items) }
 {
     match operation {
-        Prefix::LengthOf => Calculation::Gives(Value::Number(text.len() as i64)),
-        Prefix::Not => Calculation::Misfits,
-        Prefix::FromBits => Calculation::Misfits,
-        Prefix::Negate => Calculation::Misfits,
-        Prefix::Absolute => Calculation::Misfits,
-        Prefix::Sign => Calculation::Misfits,
-        Prefix::ToCharacters { .. } => Calculation::Misfits,
-    }
-}
-
-/// An operation on a locator: there is none of one alone.
-fn of_locator(operation: Prefix, _locator: Locator) -> Calculation
-    ensures { calculation_view result ≡ calculated_from (prefix_view operation) (plain.Located _locator) }
-{
-    match operation {
-        Prefix::Negate => Calculation::Misfits,
-        Prefix::Absolute => Calculation::Misfits,
-        Prefix::Sign => Calculation::Misfits,
-        Prefix::Not => Calculation::Misfits,
-        Prefix::LengthOf => Calculation::Misfits,
-        Prefix::FromBits => Calculation::Misfits,
-        Prefix::ToCharacters { .. } => Calculation::Misfits,
+        Operation::LengthOf => Calculation::Gives(Value::Number(text.len() as i64)),
+        _ => Calculation::Misfits,
     }
 }
 
 /// An operation on one value. Want of memory is answered also where a number has more than 64 bits.
+#[tactic(auto, using(crate::proofs::LocatorLemmas::none_of_one))]
 pub fn calculate_from(
     alloc: Global,
-    operation: Prefix,
+    operation: Operation,
     value: &Value,
 ) -> Result<Calculation, AllocError>
-    ensures { IfOk result (λ c. calculation_view c ≡ calculated_from (prefix_view operation) (value_view value.now)) }
+    ensures { IfOk result (λ c. calculation_view c ≡ calculated_from operation (value_view value.now)) }
 {
     match value {
         Value::Number(number) => of_number(alloc, operation, *number),
         Value::Characters(text) => Ok(of_characters(operation, text)),
         Value::Bits(bits) => of_bits(alloc, operation, bits),
-        Value::Locator(locator) => Ok(of_locator(operation, *locator)),
+        Value::Locator(_) => Ok(Calculation::Misfits),
     }
 }
 
@@ -345,99 +281,83 @@ pub fn fit(
 
 /// An operation on two numbers. Want of memory is answered where the result has more than 64 bits.
 #[inline]
-pub fn calculate_numbers(operation: Infix, left: i64, right: i64) -> Result<Immediate, AllocError>
+pub fn calculate_numbers(
+    operation: Operation,
+    left: i64,
+    right: i64,
+) -> Result<Immediate, AllocError>
     ensures { IfOk result (λ i. immediate_view i
-        ≡ calculated_with 31 (infix_view operation) (plain.Number left) (plain.Number right)) }
+        ≡ calculated_with 31 operation (plain.Number left) (plain.Number right)) }
 {
     match operation {
-        Infix::Add => Ok(as_number(number::add(left, right, GREATEST_PRECISION))),
-        Infix::Subtract => Ok(as_number(number::subtract(left, right, GREATEST_PRECISION))),
-        Infix::Multiply => Ok(as_number(number::multiply(left, right, GREATEST_PRECISION))),
-        Infix::Modulo => Ok(as_number(number::modulo(left, right))),
-        Infix::Greatest => Ok(Immediate::Number(number::greatest(left, right))),
-        Infix::Least => Ok(Immediate::Number(number::least(left, right))),
-        Infix::Divide { precision } => divide(left, right, precision),
-        Infix::Compare(relation) => Ok(Immediate::Bit(stands(
+        Operation::Add => Ok(as_number(number::add(left, right, GREATEST_PRECISION))),
+        Operation::Subtract => Ok(as_number(number::subtract(left, right, GREATEST_PRECISION))),
+        Operation::Multiply => Ok(as_number(number::multiply(left, right, GREATEST_PRECISION))),
+        Operation::Modulo => Ok(as_number(number::modulo(left, right))),
+        Operation::Greatest => Ok(Immediate::Number(number::greatest(left, right))),
+        Operation::Least => Ok(Immediate::Number(number::least(left, right))),
+        Operation::Divide { precision } => divide(left, right, precision),
+        Operation::Compare(relation) => Ok(Immediate::Bit(stands(
             relation,
             number::compare(left, right),
         ))),
-        Infix::Concatenate => Ok(Immediate::Misfits),
-        Infix::And => Ok(Immediate::Misfits),
-        Infix::Or => Ok(Immediate::Misfits),
-        Infix::Index => Ok(Immediate::Misfits),
-        Infix::Rest => Ok(Immediate::Misfits),
+        _ => Ok(Immediate::Misfits),
     }
 }
 
 /// An operation on two strings of characters.
 fn of_texts(
     alloc: Global,
-    operation: Infix,
+    operation: Operation,
     left: &Vec<u8>,
     right: &Vec<u8>,
 ) -> Result<Calculation, AllocError>
     ensures { IfOk result (λ c. calculation_view c
-        ≡ calculated_with 31 (infix_view operation) (plain.Characters left.now.items) (plain.Characters right.now.items)) }
+        ≡ calculated_with 31 operation (plain.Characters left.now.items) (plain.Characters right.now.items)) }
 {
     match operation {
-        Infix::Compare(relation) => {
+        Operation::Compare(relation) => {
             Ok(Calculation::GivesBit(stands(relation, character::compare(left, right))))
         }
-        Infix::Concatenate => match character::concat(alloc, left, right)? {
+        Operation::Concatenate => match character::concat(alloc, left, right)? {
             Some(both) => Ok(Calculation::Gives(Value::Characters(both))),
             None => Ok(Calculation::OutOfString),
         },
-        Infix::Index => as_place(character::index(left, right)),
-        Infix::Add => Ok(Calculation::Misfits),
-        Infix::Subtract => Ok(Calculation::Misfits),
-        Infix::Multiply => Ok(Calculation::Misfits),
-        Infix::Modulo => Ok(Calculation::Misfits),
-        Infix::Greatest => Ok(Calculation::Misfits),
-        Infix::Least => Ok(Calculation::Misfits),
-        Infix::Divide { .. } => Ok(Calculation::Misfits),
-        Infix::And => Ok(Calculation::Misfits),
-        Infix::Or => Ok(Calculation::Misfits),
-        Infix::Rest => Ok(Calculation::Misfits),
+        Operation::Index => as_place(character::index(left, right)),
+        _ => Ok(Calculation::Misfits),
     }
 }
 
 /// An operation on two strings of bits.
 fn of_bit_strings(
     alloc: Global,
-    operation: Infix,
+    operation: Operation,
     left: &Bits,
     right: &Bits,
 ) -> Result<Calculation, AllocError>
     ensures { IfOk result (λ c. calculation_view c
-        ≡ calculated_with 31 (infix_view operation) (plain.Bits left.now) (plain.Bits right.now)) }
+        ≡ calculated_with 31 operation (plain.Bits left.now) (plain.Bits right.now)) }
 {
     match operation {
-        Infix::Compare(relation) => Ok(Calculation::GivesBit(stands(
+        Operation::Compare(relation) => Ok(Calculation::GivesBit(stands(
             relation,
             bit::compare(left, right),
         ))),
-        Infix::Concatenate => match bit::concat(alloc, left, right)? {
+        Operation::Concatenate => match bit::concat(alloc, left, right)? {
             Some(both) => Ok(Calculation::Gives(Value::Bits(both))),
             None => Ok(Calculation::OutOfString),
         },
-        Infix::And => Ok(Calculation::Gives(Value::Bits(bit::and(alloc, left, right)?))),
-        Infix::Or => Ok(Calculation::Gives(Value::Bits(bit::or(alloc, left, right)?))),
-        Infix::Index => as_place(bit::index(left, right)),
-        Infix::Add => Ok(Calculation::Misfits),
-        Infix::Subtract => Ok(Calculation::Misfits),
-        Infix::Multiply => Ok(Calculation::Misfits),
-        Infix::Modulo => Ok(Calculation::Misfits),
-        Infix::Greatest => Ok(Calculation::Misfits),
-        Infix::Least => Ok(Calculation::Misfits),
-        Infix::Divide { .. } => Ok(Calculation::Misfits),
-        Infix::Rest => Ok(Calculation::Misfits),
+        Operation::And => Ok(Calculation::Gives(Value::Bits(bit::and(alloc, left, right)?))),
+        Operation::Or => Ok(Calculation::Gives(Value::Bits(bit::or(alloc, left, right)?))),
+        Operation::Index => as_place(bit::index(left, right)),
+        _ => Ok(Calculation::Misfits),
     }
 }
 
 /// One string of characters behind another, where they are short enough together. The first is extended.
 fn join(mut left: Vec<u8>, right: &Vec<u8>) -> Result<Calculation, AllocError>
     ensures { IfOk result (λ c. calculation_view c
-        ≡ calculated_with 31 calculate.Concatenate (plain.Characters left.items) (plain.Characters right.now.items)) }
+        ≡ calculated_with 31 Operation.Concatenate (plain.Characters left.items) (plain.Characters right.now.items)) }
 {
     if left.len() + right.len() > STRING_LIMIT {
         return Ok(Calculation::OutOfString);
@@ -449,17 +369,17 @@ fn join(mut left: Vec<u8>, right: &Vec<u8>) -> Result<Calculation, AllocError>
 /// An operation on characters and another value.
 fn with_text(
     alloc: Global,
-    operation: Infix,
+    operation: Operation,
     left: Vec<u8>,
     right: &Value,
 ) -> Result<Calculation, AllocError>
     ensures { IfOk result (λ c. calculation_view c
-        ≡ calculated_with 31 (infix_view operation) (plain.Characters left.items) (value_view right.now)) }
+        ≡ calculated_with 31 operation (plain.Characters left.items) (value_view right.now)) }
 {
     match (operation, right) {
-        (Infix::Concatenate, Value::Characters(right)) => join(left, right),
+        (Operation::Concatenate, Value::Characters(right)) => join(left, right),
         (_, Value::Characters(right)) => of_texts(alloc, operation, &left, right),
-        (Infix::Rest, Value::Number(first)) => {
+        (Operation::Rest, Value::Number(first)) => {
             as_characters(alloc, character::rest(&left, *first))
         }
         _ => Ok(Calculation::Misfits),
@@ -469,16 +389,16 @@ fn with_text(
 /// An operation on bits and another value.
 fn with_bits(
     alloc: Global,
-    operation: Infix,
+    operation: Operation,
     left: &Bits,
     right: &Value,
 ) -> Result<Calculation, AllocError>
     ensures { IfOk result (λ c. calculation_view c
-        ≡ calculated_with 31 (infix_view operation) (plain.Bits left.now) (value_view right.now)) }
+        ≡ calculated_with 31 operation (plain.Bits left.now) (value_view right.now)) }
 {
     match (operation, right) {
         (_, Value::Bits(right)) => of_bit_strings(alloc, operation, left, right),
-        (Infix::Rest, Value::Number(first)) => match bit::rest(alloc, left, *first)? {
+        (Operation::Rest, Value::Number(first)) => match bit::rest(alloc, left, *first)? {
             Some(part) => Ok(Calculation::Gives(Value::Bits(part))),
             None => Ok(Calculation::OutOfString),
         },
@@ -506,7 +426,7 @@ fn are_comparable(left: Locator, right: Locator) -> bool
 /// A comparison of two locators.
 #[tactic(auto, using(crate::proofs::LocatorLemmas::none_compared))]
 fn compare_locators(relation: Relation, left: Locator, right: Locator) -> Calculation
-    ensures { calculation_view result ≡ compared (relation_view relation) left right }
+    ensures { calculation_view result ≡ compared relation left right }
 {
     if !are_comparable(left, right) {
         return Calculation::Misfits;
@@ -522,12 +442,12 @@ fn compare_locators(relation: Relation, left: Locator, right: Locator) -> Calcul
 }
 
 /// An operation on a locator and another value.
-fn with_locator(operation: Infix, left: Locator, right: &Value) -> Calculation
+fn with_locator(operation: Operation, left: Locator, right: &Value) -> Calculation
     ensures { calculation_view result
-        ≡ calculated_with 31 (infix_view operation) (plain.Located left) (value_view right.now) }
+        ≡ calculated_with 31 operation (plain.Located left) (value_view right.now) }
 {
     match (operation, right) {
-        (Infix::Compare(relation), Value::Locator(right)) => {
+        (Operation::Compare(relation), Value::Locator(right)) => {
             compare_locators(relation, left, *right)
         }
         _ => Calculation::Misfits,
@@ -538,12 +458,12 @@ fn with_locator(operation: Infix, left: Locator, right: &Value) -> Calculation
 /// has more than 64 bits.
 pub fn calculate_with(
     alloc: Global,
-    operation: Infix,
+    operation: Operation,
     left: Value,
     right: &Value,
 ) -> Result<Calculation, AllocError>
     ensures { IfOk result (λ c. calculation_view c
-        ≡ calculated_with 31 (infix_view operation) (value_view left) (value_view right.now)) }
+        ≡ calculated_with 31 operation (value_view left) (value_view right.now)) }
 {
     match left {
         Value::Number(left) => match right {
@@ -564,7 +484,7 @@ fn substring(
     count: &Value,
 ) -> Result<Calculation, AllocError>
     ensures { IfOk result (λ c. calculation_view c
-        ≡ calculated_by calculate.Substring (value_view string.now) (value_view first.now) (value_view count.now)) }
+        ≡ calculated_by Operation.Substring (value_view string.now) (value_view first.now) (value_view count.now)) }
 {
     let (Value::Number(first), Value::Number(count)) = (first, count) else {
         return Ok(Calculation::Misfits);
@@ -584,7 +504,7 @@ fn substring(
 #[inline]
 pub fn is_within(number: i64, limit: i64, step: i64) -> bool
     ensures { calculate.Calculates (plain.Bits (result ∷ []))
-        ≡ calculated_by calculate.Within (plain.Number number) (plain.Number limit) (plain.Number step) }
+        ≡ calculated_by Operation.Within (plain.Number number) (plain.Number limit) (plain.Number step) }
 {
     if step >= 0 {
         number <= limit
@@ -596,7 +516,7 @@ pub fn is_within(number: i64, limit: i64, step: i64) -> bool
 /// The same of values.
 fn within_limit(number: &Value, limit: &Value, step: &Value) -> Calculation
     ensures { calculation_view result
-        ≡ calculated_by calculate.Within (value_view number.now) (value_view limit.now) (value_view step.now) }
+        ≡ calculated_by Operation.Within (value_view number.now) (value_view limit.now) (value_view step.now) }
 {
     match (number, limit, step) {
         (Value::Number(number), Value::Number(limit), Value::Number(step)) => {
@@ -609,16 +529,17 @@ fn within_limit(number: &Value, limit: &Value, step: &Value) -> Calculation
 /// An operation on three values.
 pub fn calculate_by(
     alloc: Global,
-    operation: Ternary,
+    operation: Operation,
     first: &Value,
     second: &Value,
     third: &Value,
 ) -> Result<Calculation, AllocError>
     ensures { IfOk result (λ c. calculation_view c
-        ≡ calculated_by (ternary_view operation) (value_view first.now) (value_view second.now) (value_view third.now)) }
+        ≡ calculated_by operation (value_view first.now) (value_view second.now) (value_view third.now)) }
 {
     match operation {
-        Ternary::Substring => substring(alloc, first, second, third),
-        Ternary::Within => Ok(within_limit(first, second, third)),
+        Operation::Substring => substring(alloc, first, second, third),
+        Operation::Within => Ok(within_limit(first, second, third)),
+        _ => Ok(Calculation::Misfits),
     }
 }

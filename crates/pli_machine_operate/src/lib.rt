@@ -6,8 +6,8 @@ mod operand;
 mod texts;
 
 pub use calculation::{
-    Calculation, Immediate, Infix, Prefix, Ternary, calculate_by, calculate_from,
-    calculate_numbers, calculate_with, fit, fit_number, is_within,
+    Calculation, Immediate, calculate_by, calculate_from, calculate_numbers, calculate_with, fit,
+    fit_number, is_within,
 };
 pub use operand::{
     Operand, Taken, pop_number, pop_place, pop_three, pop_truth, pop_two, pop_value, push,

@@ -1,8 +1,8 @@
 //! Strings of characters that are looked at where they stand.
 ghost use Rattle.std.specs.Prelude.{◌≡◌, ◌∷◌, [], IfSome};
 ghost use Rattle.pli_operation.specs.Operations as calculate;
+ghost use Rattle.pli_operation.specs.declared.operation.Operation.TheVariants.{LengthOf, Substring, Compare};
 ghost use Rattle.pli_operation.specs.Operations.{calculated_from, calculated_with, calculated_by};
-ghost use Rattle.pli_operation.specs.views.OperationView.{relation_view};
 ghost use Rattle.pli_value.specs.Value as plain;
 
 use crate::calculation::stands;
@@ -12,7 +12,7 @@ use pli_value::character;
 /// LENGTH (X3.74).
 #[inline]
 pub fn text_length(text: &[u8]) -> i64
-    ensures { calculate.Calculates (plain.Number result) ≡ calculated_from calculate.LengthOf (plain.Characters text.now) }
+    ensures { calculate.Calculates (plain.Number result) ≡ calculated_from LengthOf (plain.Characters text.now) }
 {
     text.len() as i64
 }
@@ -21,7 +21,7 @@ pub fn text_length(text: &[u8]) -> i64
 #[inline]
 pub fn text_part(text: &[u8], first: i64, count: i64) -> Option<&[u8]>
     ensures { IfSome result (λ part. calculate.Calculates (plain.Characters part.now)
-        ≡ calculated_by calculate.Substring (plain.Characters text.now) (plain.Number first) (plain.Number count)) }
+        ≡ calculated_by Substring (plain.Characters text.now) (plain.Number first) (plain.Number count)) }
 {
     character::substr(text, first, count)
 }
@@ -30,7 +30,7 @@ pub fn text_part(text: &[u8], first: i64, count: i64) -> Option<&[u8]>
 #[inline]
 pub fn compare_texts(relation: Relation, left: &[u8], right: &[u8]) -> bool
     ensures { calculate.Calculates (plain.Bits (result ∷ []))
-        ≡ calculated_with 31 (calculate.Compare (relation_view relation)) (plain.Characters left.now) (plain.Characters right.now) }
+        ≡ calculated_with 31 (Compare relation) (plain.Characters left.now) (plain.Characters right.now) }
 {
     stands(relation, character::compare(left, right))
 }

@@ -3,6 +3,7 @@ pub mod DisplayLemmas
 pub mod DummyArguments
 pub mod EndLemmas
 pub mod EnteredBlocks
+pub mod ExternalPlaces
 pub mod FoundInTables
 pub mod GivenPlaces
 pub mod InitialValues

@@ -2,7 +2,7 @@
 ghost use Rattle.std.specs.Prelude.{slice_get, IfOk};
 ghost use Rattle.pli_machine_step.specs.Machine.{called_entry, called_unit};
 ghost use Rattle.pli_code.specs.Modules.{unit_of, program_of};
-ghost use Rattle.pli_code.specs.views.CodeView.{module_view, unit_view};
+ghost use Rattle.pli_code.specs.views.CodeView.{module_view, member_view};
 ghost use Rattle.pli_machine_perform.specs.views.Image.{Image};
 ghost use Rattle.pli_machine_perform.specs.views.ImageView.{image_of};
 ghost use Rattle.pli_machine_perform.specs.views.MachineView.{Moves};
@@ -30,7 +30,7 @@ fn call_unit<'m>(
     match linked_at(loaded.module, number as usize) {
         Some(linked) => {
             let ready = ReadyCode {
-                code: &linked.code,
+                code: &linked.deck.code,
                 laid: laid_at(loaded, number as usize),
             };
             call_external(alloc, &ready, machine, number as usize, arguments)
@@ -49,7 +49,7 @@ pub fn call_entry<'m>(
 ) -> Result<Option<Stop>, AllocError>
     ensures { IfOk result (Moves (image_of unit.now.loaded.now)
         (called_entry (program_of (image_of unit.now.loaded.now).linked).units arguments
-        (slice_get (unit_of (unit_view unit.now.linked.now)).globals global)) machine.old machine.new) }
+        (slice_get (unit_of (member_view unit.now.linked.now)).globals global)) machine.old machine.new) }
 {
     match entry_at(unit, global) {
         Some(number) => call_unit(alloc, unit.loaded, machine, number, arguments),

@@ -2,7 +2,7 @@
 ghost use Rattle.std.specs.Prelude.{◌≡◌, None, option_map, slice_get, MatchOption};
 ghost use Rattle.pli_world.specs.World.{static_in};
 ghost use Rattle.pli_code.specs.Modules.{unit_of};
-ghost use Rattle.pli_code.specs.views.CodeView.{unit_view};
+ghost use Rattle.pli_code.specs.views.CodeView.{member_view};
 ghost use Rattle.pli_machine_perform.specs.views.ImageView.{image_of};
 ghost use Rattle.pli_machine_perform.specs.views.TableView.{standing_view, standing_of, entry_at, entry_found};
 
@@ -36,8 +36,7 @@ fn place_at<'m>(globals: &[LinkedGlobal<'m>], number: usize) -> Option<Place<'m>
     ensures { option_map standing_view result ≡ standing_of (slice_get globals.now number) }
 {
     match globals.get(number) {
-        Some(LinkedGlobal::OwnVariable(place)) => Some(*place),
-        Some(LinkedGlobal::ExternalVariable { place, .. }) => Some(*place),
+        Some(LinkedGlobal::Variable(place)) => Some(*place),
         Some(LinkedGlobal::ControlledVariable) => None,
         Some(LinkedGlobal::EntryPoint(_)) => None,
         None => None,
@@ -58,8 +57,7 @@ fn entry_in(globals: &[LinkedGlobal<'_>], number: usize) -> Option<u16>
 {
     match globals.get(number) {
         Some(LinkedGlobal::EntryPoint(other)) => Some(*other),
-        Some(LinkedGlobal::OwnVariable(_)) => None,
-        Some(LinkedGlobal::ExternalVariable { .. }) => None,
+        Some(LinkedGlobal::Variable(_)) => None,
         Some(LinkedGlobal::ControlledVariable) => None,
         None => None,
     }
@@ -67,7 +65,7 @@ fn entry_in(globals: &[LinkedGlobal<'_>], number: usize) -> Option<u16>
 
 /// The unit of the entry of a number among the globals of a unit.
 pub fn entry_at(unit: &ActiveUnit<'_, '_>, number: usize) -> Option<u16>
-    ensures { entry_at (slice_get (unit_of (unit_view unit.now.linked.now)).globals number) ≡ result }
+    ensures { entry_at (slice_get (unit_of (member_view unit.now.linked.now)).globals number) ≡ result }
 {
     entry_in(unit.globals, number)
 }

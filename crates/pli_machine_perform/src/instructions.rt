@@ -1,22 +1,20 @@
 //! Instructions on the operands of the newest activation.
-ghost use Rattle.std.specs.Prelude.{ℕ, map, slice_get, IfOk};
+ghost use Rattle.std.specs.Prelude.{IfOk};
 ghost use Rattle.pli_map.specs.views.DescriptionView.{description_view};
-ghost use Rattle.pli_operation.specs.Operations.{Fit, Within};
-ghost use Rattle.pli_program.specs.Program.{Jump, JumpUnless, Load, Store, Copy, Field, Subscript, Operate};
+ghost use Rattle.pli_program.specs.Program.{Jump, JumpUnless, Load, Store, Copy, Field, Subscript, Fit, Operate};
 ghost use Rattle.pli_code.specs.CodeTables.{looked_up};
 ghost use Rattle.pli_code.specs.declared.instruction.Instruction.TheVariants as coded;
 ghost use Rattle.pli_code.specs.views.CodeView.{code_view};
-ghost use Rattle.pli_machine_operate.specs.views.CalculationView.{prefix_view, infix_view, ternary_view};
 ghost use Rattle.pli_machine_perform.specs.views.MachineView.{Does};
 
 use crate::keeping::put_constant;
 use crate::machine::{Machine, Stop};
-use crate::operate::{operate_by, operate_fit, operate_from, operate_with, operate_within};
+use crate::operate::{operate, operate_fit};
 use crate::variables::template_of;
 use crate::{dummies, jumping, places, storing};
 use pli_code::Code;
-use pli_machine_operate::{Infix, Prefix, Ternary};
 use pli_map::Description;
+use pli_operation::Operation;
 use std::alloc::{AllocError, Global};
 
 /// A jump.
@@ -131,7 +129,7 @@ fn fit_at(
     machine: &mut Machine,
     description: &Description,
 ) -> Result<Option<Stop>, AllocError>
-    ensures { IfOk result (Does (Operate (Fit (description_view description.now))) machine.old machine.new) }
+    ensures { IfOk result (Does (Fit (description_view description.now)) machine.old machine.new) }
 {
     operate_fit(alloc, &mut machine.here.operands, description)
 }
@@ -151,42 +149,13 @@ pub fn fit(
     }
 }
 
-/// An operation on the newest operand.
-pub fn from_one(
+/// An operation on the newest operands.
+pub fn calculate(
     alloc: Global,
     machine: &mut Machine,
-    operation: Prefix,
+    operation: Operation,
 ) -> Result<Option<Stop>, AllocError>
-    ensures { IfOk result (Does (Operate (prefix_view operation)) machine.old machine.new) }
+    ensures { IfOk result (Does (Operate operation) machine.old machine.new) }
 {
-    operate_from(alloc, &mut machine.here.operands, operation)
-}
-
-/// An operation on the newest two operands.
-pub fn from_two(
-    alloc: Global,
-    machine: &mut Machine,
-    operation: Infix,
-) -> Result<Option<Stop>, AllocError>
-    ensures { IfOk result (Does (Operate (infix_view operation)) machine.old machine.new) }
-{
-    operate_with(alloc, &mut machine.here.operands, operation)
-}
-
-/// An operation on the newest three operands.
-pub fn from_three(
-    alloc: Global,
-    machine: &mut Machine,
-    operation: Ternary,
-) -> Result<Option<Stop>, AllocError>
-    ensures { IfOk result (Does (Operate (ternary_view operation)) machine.old machine.new) }
-{
-    operate_by(alloc, &mut machine.here.operands, operation)
-}
-
-/// Whether the newest number has not passed a limit, with the step that it is counted on by.
-pub fn within(alloc: Global, machine: &mut Machine) -> Result<Option<Stop>, AllocError>
-    ensures { IfOk result (Does (Operate Within) machine.old machine.new) }
-{
-    operate_within(alloc, &mut machine.here.operands)
+    operate(alloc, &mut machine.here.operands, operation)
 }

@@ -1,5 +1,5 @@
 //! The bytes of templates, laid before a run.
-ghost use Rattle.std.specs.Prelude.{◌≡◌, ℕ, Some, IfOk, IfSome};
+ghost use Rattle.std.specs.Prelude.{◌≡◌, Some, IfOk, IfSome};
 ghost use Rattle.pli_type_tree.specs.Templates.{Template};
 ghost use Rattle.pli_code.specs.CodeTables.{template_at};
 ghost use Rattle.pli_code.specs.views.CodeView.{code_view};
@@ -66,7 +66,7 @@ pub fn lay_units(alloc: Global, module: &Module) -> Result<Vec<Vec<Option<Vec<u8
     let mut left = MODULE_BYTES;
     let mut laid = Vec::new(alloc);
     for unit in &module.units {
-        let table = lay_unit(alloc, &unit.code, &mut left)?;
+        let table = lay_unit(alloc, &unit.deck.code, &mut left)?;
         laid.push(table)?;
     }
     Ok(laid)

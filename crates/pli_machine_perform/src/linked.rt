@@ -1,15 +1,12 @@
 //! Globals of units.
 
-use pli_base::Name;
 use pli_store::Place;
 
 /// What a global of a unit leads to.
 #[derive(Clone, Copy)]
 pub enum LinkedGlobal<'m> {
-    /// A variable of the unit's own.
-    OwnVariable(Place<'m>),
-    /// A variable that all units share which have one of this name.
-    ExternalVariable { name: &'m Name, place: Place<'m> },
+    /// A variable, of the unit's own or one that units share.
+    Variable(Place<'m>),
     /// A CONTROLLED variable, which is not made yet.
     ControlledVariable,
     /// The external procedure of the unit of this number.

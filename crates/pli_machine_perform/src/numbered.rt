@@ -1,16 +1,16 @@
 //! Units of a module and their globals, by number.
 ghost use Rattle.std.specs.Prelude.{◌≡◌, None, Some, map, slice_get, MatchOption};
-ghost use Rattle.pli_code.specs.declared.code.LinkedUnit.{LinkedUnit};
+ghost use Rattle.pli_code.specs.declared.module.Member.{Member};
 ghost use Rattle.pli_code.specs.views.CodeView.{code_view};
 ghost use Rattle.pli_machine_perform.specs.answers.LaidTemplates.{AreLaid};
 
 use crate::linked::LinkedGlobal;
 use crate::loaded::Loaded;
-use pli_code::{LinkedUnit, Module};
+use pli_code::{Member, Module};
 
 /// The unit of a number.
 #[inline]
-pub fn linked_at(module: &Module, number: usize) -> Option<&LinkedUnit>
+pub fn linked_at(module: &Module, number: usize) -> Option<&Member>
     ensures { MatchOption result (slice_get «module».now.units.items number ≡ None)
         (λ u. slice_get «module».now.units.items number ≡ Some u.now) }
 {
@@ -32,7 +32,7 @@ pub fn table_at<'l, 'm>(loaded: &'l Loaded<'m>, number: usize) -> Option<&'l [Li
 /// What is laid for the templates of the unit of a number.
 #[inline]
 pub fn laid_at<'l>(loaded: &'l Loaded<'_>, number: usize) -> &'l [Option<Vec<u8>>]
-    ensures { (u : LinkedUnit) → slice_get loaded.now.«module».now.units.items number ≡ Some u → AreLaid (code_view u.code) result.now }
+    ensures { (u : Member) → slice_get loaded.now.«module».now.units.items number ≡ Some u → AreLaid (code_view u.deck.code) result.now }
 {
     match loaded.laid.get(number) {
         Some(table) => table,

@@ -1,18 +1,19 @@
 //! Instructions that calculate.
 ghost use Rattle.std.specs.Prelude.{IfOk};
 ghost use Rattle.pli_map.specs.views.DescriptionView.{description_view};
-ghost use Rattle.pli_operation.specs.Operations.{Fit, Within};
-ghost use Rattle.pli_machine_operate.specs.views.CalculationView.{calculation_view, immediate_view, prefix_view, infix_view, ternary_view};
+ghost use Rattle.pli_machine_step.specs.Machine.{fits};
+ghost use Rattle.pli_machine_operate.specs.views.CalculationView.{calculation_view, immediate_view};
 ghost use Rattle.pli_machine_perform.specs.views.MachineView.{Acts};
-ghost use Rattle.pli_machine_perform.specs.views.ActView.{calculated_as, operated_as};
+ghost use Rattle.pli_machine_perform.specs.views.ActView.{calculated_as, operated_as, operated_by};
 
 use crate::machine::Stop;
 use pli_machine_operate::{
-    Calculation, Immediate, Infix, Operand, Prefix, Ternary, calculate_by, calculate_from,
-    calculate_numbers, calculate_with, fit, fit_number, is_within, pop_number, pop_three,
-    pop_value, push, take_three_numbers, take_two_numbers, take_value,
+    Calculation, Immediate, Operand, calculate_by, calculate_from, calculate_numbers,
+    calculate_with, fit, fit_number, is_within, pop_number, pop_three, pop_value, push,
+    take_three_numbers, take_two_numbers, take_value,
 };
 use pli_map::Description;
+use pli_operation::Operation;
 use pli_run::RunError;
 use pli_value::Value;
 use pli_value::number::Raised;
@@ -66,13 +67,29 @@ fn give_immediate(
     }
 }
 
-/// An operation on the newest operand.
-pub fn operate_from(
+/// An operation on the newest operands.
+#[inline]
+pub fn operate(
     alloc: Global,
     operands: &mut Vec<Operand>,
-    operation: Prefix,
+    operation: Operation,
 ) -> Result<Option<Stop>, AllocError>
-    ensures { IfOk result (Acts (operated_as (prefix_view operation)) operands.old.items operands.new.items) }
+    ensures { IfOk result (Acts (operated_as operation) operands.old.items operands.new.items) }
+{
+    match operation.arity() {
+        1 => operate_from(alloc, operands, operation),
+        2 => operate_with(alloc, operands, operation),
+        _ => operate_by(alloc, operands, operation),
+    }
+}
+
+/// An operation on the newest operand.
+fn operate_from(
+    alloc: Global,
+    operands: &mut Vec<Operand>,
+    operation: Operation,
+) -> Result<Option<Stop>, AllocError>
+    ensures { IfOk result (Acts (operated_by 1 operation) operands.old.items operands.new.items) }
 {
     let Some(value) = pop_value(alloc, operands)? else {
         return Ok(Some(Stop::Fault));
@@ -83,12 +100,12 @@ pub fn operate_from(
 
 /// An operation on the newest two operands. Numbers are not moved.
 #[inline]
-pub fn operate_with(
+fn operate_with(
     alloc: Global,
     operands: &mut Vec<Operand>,
-    operation: Infix,
+    operation: Operation,
 ) -> Result<Option<Stop>, AllocError>
-    ensures { IfOk result (Acts (operated_as (infix_view operation)) operands.old.items operands.new.items) }
+    ensures { IfOk result (Acts (operated_by 2 operation) operands.old.items operands.new.items) }
 {
     match take_two_numbers(operands) {
         Some((left, right)) => {
@@ -103,9 +120,9 @@ pub fn operate_with(
 fn operate_with_values(
     alloc: Global,
     operands: &mut Vec<Operand>,
-    operation: Infix,
+    operation: Operation,
 ) -> Result<Option<Stop>, AllocError>
-    ensures { IfOk result (Acts (operated_as (infix_view operation)) operands.old.items operands.new.items) }
+    ensures { IfOk result (Acts (operated_by 2 operation) operands.old.items operands.new.items) }
 {
     let Some(right) = take_value(alloc, operands)? else {
         return Ok(Some(Stop::Fault));
@@ -120,29 +137,40 @@ fn operate_with_values(
     give(operands, calculation)
 }
 
-/// Whether the newest number has not passed a limit. Numbers are not moved.
-#[inline]
-pub fn operate_within(
+/// An operation on the newest three operands. Numbers of which one is held against a limit are not moved.
+fn operate_by(
     alloc: Global,
     operands: &mut Vec<Operand>,
+    operation: Operation,
 ) -> Result<Option<Stop>, AllocError>
-    ensures { IfOk result (Acts (operated_as Within) operands.old.items operands.new.items) }
+    ensures { IfOk result (Acts (operated_by 3 operation) operands.old.items operands.new.items) }
+{
+    match operation {
+        Operation::Within => operate_within(alloc, operands),
+        _ => operate_by_values(alloc, operands, operation),
+    }
+}
+
+/// Whether the newest number has not passed a limit. Numbers are not moved.
+#[inline]
+fn operate_within(alloc: Global, operands: &mut Vec<Operand>) -> Result<Option<Stop>, AllocError>
+    ensures { IfOk result (Acts (operated_by 3 Operation.Within) operands.old.items operands.new.items) }
 {
     match take_three_numbers(operands) {
         Some((number, limit, step)) => {
             give_immediate(operands, Immediate::Bit(is_within(number, limit, step)))
         }
-        None => operate_by(alloc, operands, Ternary::Within),
+        None => operate_by_values(alloc, operands, Operation::Within),
     }
 }
 
-/// An operation on the newest three operands.
-pub fn operate_by(
+/// An operation on the newest three operands, whatever they are.
+fn operate_by_values(
     alloc: Global,
     operands: &mut Vec<Operand>,
-    operation: Ternary,
+    operation: Operation,
 ) -> Result<Option<Stop>, AllocError>
-    ensures { IfOk result (Acts (operated_as (ternary_view operation)) operands.old.items operands.new.items) }
+    ensures { IfOk result (Acts (operated_by 3 operation) operands.old.items operands.new.items) }
 {
     let Some((first, second, third)) = pop_three(alloc, operands)? else {
         return Ok(Some(Stop::Fault));
@@ -162,7 +190,7 @@ pub fn operate_fit(
     operands: &mut Vec<Operand>,
     description: &Description,
 ) -> Result<Option<Stop>, AllocError>
-    ensures { IfOk result (Acts (operated_as (Fit (description_view description.now))) operands.old.items operands.new.items) }
+    ensures { IfOk result (Acts (fits (description_view description.now)) operands.old.items operands.new.items) }
 {
     match pop_number(operands) {
         Some(number) => give_immediate(operands, fit_number(description, number)),
@@ -176,7 +204,7 @@ fn fit_to(
     operands: &mut Vec<Operand>,
     description: &Description,
 ) -> Result<Option<Stop>, AllocError>
-    ensures { IfOk result (Acts (operated_as (Fit (description_view description.now))) operands.old.items operands.new.items) }
+    ensures { IfOk result (Acts (fits (description_view description.now)) operands.old.items operands.new.items) }
 {
     let Some(value) = pop_value(alloc, operands)? else {
         return Ok(Some(Stop::Fault));

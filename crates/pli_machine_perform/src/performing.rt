@@ -1,14 +1,13 @@
 //! One instruction.
 ghost use Rattle.std.specs.Prelude.{◌≡◌, IfOk};
-ghost use Rattle.pli_code.specs.views.CodeView.{unit_view};
+ghost use Rattle.pli_code.specs.views.CodeView.{member_view};
 ghost use Rattle.pli_machine_perform.specs.views.ImageView.{image_of};
 ghost use Rattle.pli_machine_perform.specs.views.MachineView.{Performs};
 
 use crate::calling::{begin, call};
 use crate::external::call_entry;
 use crate::instructions::{
-    constant, copy, field, fit, from_one, from_three, from_two, jump, jump_unless, load,
-    make_dummy, store, subscript, within,
+    calculate, constant, copy, field, fit, jump, jump_unless, load, make_dummy, store, subscript,
 };
 use crate::keeping::{set_temporary, take_temporary};
 use crate::landing::go_to;
@@ -19,7 +18,6 @@ use crate::slots::{global, local};
 use crate::stepping::{line, step};
 use crate::unit::ActiveUnit;
 use pli_code::Instruction;
-use pli_machine_operate::{Infix, Prefix, Ternary};
 use std::alloc::{AllocError, Global};
 
 /// Performs an instruction of the newest activation's unit, and answers why the run stops there, if it does. The next
@@ -32,9 +30,9 @@ pub fn perform<'m>(
     machine: &mut Machine<'m>,
 ) -> Result<Option<Stop>, AllocError>
     requires { machine.old.here.unit ≡ unit.now.number }
-    ensures { IfOk result (Performs (image_of unit.now.loaded.now) (unit_view unit.now.linked.now) instruction machine.old machine.new) }
+    ensures { IfOk result (Performs (image_of unit.now.loaded.now) (member_view unit.now.linked.now) instruction machine.old machine.new) }
 {
-    let code = &unit.linked.code;
+    let code = &unit.linked.deck.code;
     match instruction {
         Instruction::Step { statement } => Ok(step(machine, statement)),
         Instruction::Line { statement } => Ok(line(machine, statement)),
@@ -67,32 +65,7 @@ pub fn perform<'m>(
         Instruction::Copy => copy(machine),
         Instruction::MakeDummy { template } => make_dummy(alloc, code, machine, template),
         Instruction::Fit { description } => fit(alloc, code, machine, description),
-        Instruction::ToCharacters { width } => from_one(
-            alloc,
-            machine,
-            Prefix::ToCharacters { width },
-        ),
-        Instruction::FromBits => from_one(alloc, machine, Prefix::FromBits),
-        Instruction::Negate => from_one(alloc, machine, Prefix::Negate),
-        Instruction::Absolute => from_one(alloc, machine, Prefix::Absolute),
-        Instruction::Sign => from_one(alloc, machine, Prefix::Sign),
-        Instruction::Not => from_one(alloc, machine, Prefix::Not),
-        Instruction::LengthOf => from_one(alloc, machine, Prefix::LengthOf),
-        Instruction::Add => from_two(alloc, machine, Infix::Add),
-        Instruction::Subtract => from_two(alloc, machine, Infix::Subtract),
-        Instruction::Multiply => from_two(alloc, machine, Infix::Multiply),
-        Instruction::Modulo => from_two(alloc, machine, Infix::Modulo),
-        Instruction::Greatest => from_two(alloc, machine, Infix::Greatest),
-        Instruction::Least => from_two(alloc, machine, Infix::Least),
-        Instruction::Divide { precision } => from_two(alloc, machine, Infix::Divide { precision }),
-        Instruction::Compare(relation) => from_two(alloc, machine, Infix::Compare(relation)),
-        Instruction::Concatenate => from_two(alloc, machine, Infix::Concatenate),
-        Instruction::And => from_two(alloc, machine, Infix::And),
-        Instruction::Or => from_two(alloc, machine, Infix::Or),
-        Instruction::Index => from_two(alloc, machine, Infix::Index),
-        Instruction::Rest => from_two(alloc, machine, Infix::Rest),
-        Instruction::Substring => from_three(alloc, machine, Ternary::Substring),
-        Instruction::Within => within(alloc, machine),
+        Instruction::Operate(operation) => calculate(alloc, machine, operation),
         Instruction::Put => put(alloc, machine),
         Instruction::Skip => skip(machine),
         Instruction::SetTemporary { number } => set_temporary(alloc, machine, number as usize),

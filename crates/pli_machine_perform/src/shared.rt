@@ -1,12 +1,10 @@
 //! What units share while they are linked.
 
-use pli_base::Name;
 use pli_store::{Place, Storage};
-use std::collections::HashMap;
 
-/// The storage, and where the external variables are that were made already, by their names.
+/// The storage, and where the external variables are that were made already, by their numbers.
 #[derive(Drop)]
 pub struct Shared<'m> {
     pub storage: Storage<'m>,
-    pub externals: HashMap<Name, Place<'m>>,
+    pub externals: Vec<Option<Place<'m>>>,
 }

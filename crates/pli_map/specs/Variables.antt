@@ -1,6 +1,5 @@
 -- Variables (own): what their generations begin with.
 use Rattle.std.specs.Prelude.{ℕ, Option, List}
-use Rattle.pli_base.specs.Name.{Name}
 use Rattle.pli_map.specs.Description.{Description}
 use Rattle.pli_value.specs.Value.{Value}
 
@@ -9,9 +8,9 @@ pub record Variable : Type 0 where
   pub description : Description
   pub initial : List Value
 
--- one that is made before the program begins: its name, if it is external
-pub record GlobalVariable : Type 0 where
-  pub external : Option Name
+-- one that is made before the program begins: by what units know it, if they share it
+pub record GlobalVariable (K : Type 0) : Type 0 where
+  pub external : Option K
   pub variable : Variable
 
 -- how many bytes of variables may live at once (own)

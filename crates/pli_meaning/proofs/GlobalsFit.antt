@@ -1,8 +1,9 @@
 -- Of units of which no fault of linking is told, every entry has its procedure, and every external variable is like the
 -- first one of its name.
-use Rattle.std.specs.Prelude.{◌≡◌, ℕ, ◌+◌, zero, suc, Bool, true, false, not, cond, Option, Some, None, is_none, option_map, List, [], ◌∷◌, ◌++◌, map, slice_get, refl, if◌then◌else◌}
+use Rattle.std.specs.Prelude.{◌≡◌, ℕ, ◌+◌, zero, suc, Bool, true, false, not, cond, Option, Some, None, is_some, is_none, option_map, unwrap_or, List, [], ◌∷◌, ◌++◌, map, position, slice_get, refl, if◌then◌else◌}
 use Rattle.std.specs.Cmp.Lexicographic.{nat_list_eq_equiv}
 use Rattle.std.specs.List.{AllByRecursion}
+use Rattle.std.specs.Map.{keys_of}
 use Rattle.std.proofs.Common.{sym, ap, ◌∙◌, subst, arith, true≢false}
 use Rattle.std.proofs.lemmas.Option.{slice_get-map}
 use Rattle.pli_base.specs.Name.{Name}
@@ -10,24 +11,26 @@ use Rattle.pli_base.specs.Words.{same_name, is_among}
 use Rattle.pli_map.specs.Description.{Description}
 use Rattle.pli_type_tree.specs.Templates.{Template}
 use Rattle.pli_type_tree.specs.TypedTree.{Signature, Global, OwnVariable, ExternalVariable, EntryPoint, TypedUnit}
-use Rattle.pli_code.specs.CodeTables.{CodedGlobal, there}
+use Rattle.pli_code.specs.CodeTables.{CodedGlobal}
 use Rattle.pli_gen.specs.laws.ListLaws.{all_front, all_back}
-use Rattle.pli_gen_stands.specs.Linked.{AreEntries, AreUnitsOf, IsModuleOf}
+use Rattle.pli_gen_stands.specs.Linked.{AreLinks, AreUnitsOf, IsModuleOf}
 use Rattle.pli_meaning_tree.specs.TreeMeaning.{unit_named}
 use Rattle.pli_meaning_typed.specs.TypedPrograms.{IsLinked, all_globals}
 use Rattle.pli_type_keys.specs.Same.{same_template}
 use Rattle.pli_type_keys.specs.laws.KeyLaws.{template_decides}
 use Rattle.pli_link.specs.Alike.{same_signature}
-use Rattle.pli_link.specs.Link.{entries_of, linked_unit, module_of}
+use Rattle.pli_link.specs.Link.{link_faults}
+use Rattle.pli_link.specs.Links.{number_in, links_of, linked_unit, module_of}
 use Rattle.pli_link.specs.Mismatches.{is_unlike_procedure, is_unlike, has_fault, name_of, each_once, faulty_in, faulty_names, faulty_in_unit, faulty_linked}
 use Rattle.pli_link.specs.Names as meaning
-use Rattle.pli_link.specs.Names.{meant, procedures_from, procedures, externals, unit_at}
+use Rattle.pli_link.specs.Names.{Declaration, meant, procedures_from, procedures, externals, first_template, unit_at}
 use Rattle.pli_link.specs.Units.{Compiled}
 use Rattle.pli_link.specs.declared.global_fault.GlobalFault.{GlobalFault}
 use Rattle.pli_link.specs.declared.global_fault.GlobalFault.TheVariants.{Unresolved, Mismatch}
 use Rattle.pli_link.specs.laws.AlikeLaws.{option_decides, signature_decides}
 use Rattle.pli_link.proofs.Faultless.{front_empty, back_empty, map_empty}
 use Rattle.pli_link.proofs.MeantFirst.{meant_first}
+use Rattle.pli_link.proofs.ExternalNumbers.{have_numbers, names_declared}
 use Rattle.pli_meaning.specs.Programs.{program_of_units}
 use Rattle.pli_meaning.proofs.UnitTables.{found, coded_global, IsFound, all_found, own_signature_found}
 use Rattle.pli_meaning.proofs.UnitsOfTrees.{coded_tree}
@@ -176,7 +179,7 @@ module _ (us : List TypedUnit) where
   -- what is known of a global of a unit
   abbrev pub Fits : Global → Type 0
   Fits (OwnVariable t) = Unit {0}
-  Fits (ExternalVariable name t) = meant (externals (map coded_tree us)) name ≡ Some (Some t)
+  Fits (ExternalVariable name t) = first_template (map coded_tree us) name ≡ Some (Some t)
   Fits (EntryPoint name s) = (l : Leads name) × (l.unit.signature ≡ s)
 
   entry_fits : (u : TypedUnit) (name : Name) (s : Signature) → IsFound u (EntryPoint name s)
@@ -192,11 +195,11 @@ module _ (us : List TypedUnit) where
   variable_fits : (u : TypedUnit) (name : Name) (t : Template) → IsFound u (ExternalVariable name t)
       → HasNone cs Mismatch (coded_tree u) (coded_global u (ExternalVariable name t)) → Fits (ExternalVariable name t)
   variable_fits u name t f alike =
-      by (meaning.unit_named cs name) (meant (externals cs) name) refl
-      (sym (ap (λ o. is_unlike o (meaning.unit_named cs name) (meant (externals cs) name)) f) ∙ alike name refl)
+      by (meaning.unit_named cs name) (first_template cs name) refl
+      (sym (ap (λ o. is_unlike o (meaning.unit_named cs name) (first_template cs name)) f) ∙ alike name refl)
     where
-      by : (p : Option Compiled) (o : Option (Option Template)) → meant (externals (map coded_tree us)) name ≡ o → is_unlike (Some t) p o ≡ false
-          → meant (externals (map coded_tree us)) name ≡ Some (Some t)
+      by : (p : Option Compiled) (o : Option (Option Template)) → first_template (map coded_tree us) name ≡ o → is_unlike (Some t) p o ≡ false
+          → first_template (map coded_tree us) name ≡ Some (Some t)
       by (Some c) o e h = absurd (true≢false h)
       by None None e h = absurd (true≢false h)
       by None (Some first) e h = e ∙ ap Some ((option_decides same_template template_decides first (Some t)).0 (not_false _ h))
@@ -228,23 +231,38 @@ module _ (us : List TypedUnit) where
         some_is one other (some_is (Some one) (Some other) (sym first ∙ second));
   }
 
-  -- the numbers that the linker gives a unit's entries are those of their units
-  entries_are : (u : TypedUnit) (gs : List Global) → AllByRecursion Fits gs → AreEntries us gs (entries_of (procedures cs) (map (coded_global u) gs))
-  entries_are u [] all = tt
-  entries_are u (OwnVariable t ∷ gs) all = entries_are u gs all.1
-  entries_are u (ExternalVariable name t ∷ gs) all = entries_are u gs all.1
-  entries_are u (EntryPoint name s ∷ gs) all =
-      let l = all.0.0 in
-      subst (λ o. AreEntries us (EntryPoint name s ∷ gs) (there o ++ entries_of (procedures cs) (map (coded_global u) gs))) (sym l.means)
-      (l.named, entries_are u gs all.1)
+  -- where no fault of linking is told
+  module _ (clean : link_faults (map coded_tree us) ≡ []) where
+    abbrev names : List Name
+    names = keys_of (externals (map coded_tree us))
 
-  units_are : (some : List TypedUnit) → AllByRecursion Fits (all_globals some) → AreUnitsOf us some (map (linked_unit (procedures cs)) (map coded_tree some))
-  units_are [] all = tt
-  units_are (u ∷ some) all = (
-    record { name = refl; code = refl; entries = entries_are u u.globals (all_front Fits u.globals (all_globals some) all) },
-    units_are some (all_back Fits u.globals (all_globals some) all),
-  )
+    external_number : (name : Name) (t : Template) → Fits (ExternalVariable name t) → position (same_name name) names ≡ Some (number_in names name)
+    external_number name t fit = have_numbers cs clean name (by (meant (externals cs) name) fit)
+      where
+        by : (o : Option Declaration) → option_map (λ d. d.template) o ≡ Some (Some t) → is_some o ≡ true
+        by None e = let bad : ⊥ = cc in absurd bad
+        by (Some d) e = refl
 
-  -- and the module is that of their program
-  pub module_where_fit : AllByRecursion Fits (all_globals us) → (main : ℕ) → IsModuleOf (program_of_units us main) (module_of (map coded_tree us) main)
-  module_where_fit all main = record { units = units_are us all; main = refl; greatest = refl }
+    -- the links that the linker gives a unit are the numbers of its external variables and of the units of its entries
+    links_are : (u : TypedUnit) (gs : List Global) → AllByRecursion Fits gs → AreLinks us names gs (links_of names (procedures cs) (map (coded_global u) gs))
+    links_are u [] all = tt
+    links_are u (OwnVariable t ∷ gs) all = links_are u gs all.1
+    links_are u (ExternalVariable name t ∷ gs) all = (external_number name t all.0, links_are u gs all.1)
+    links_are u (EntryPoint name s ∷ gs) all =
+        let l = all.0.0 in
+        (l.named ∙ ap (λ o. Some (unwrap_or o 0)) (sym l.means), links_are u gs all.1)
+
+    units_are : (some : List TypedUnit) → AllByRecursion Fits (all_globals some) → AreUnitsOf us names some (map (linked_unit names (procedures cs)) (map coded_tree some))
+    units_are [] all = tt
+    units_are (u ∷ some) all = (
+      record { name = refl; code = refl; links = links_are u u.globals (all_front Fits u.globals (all_globals some) all) },
+      units_are some (all_back Fits u.globals (all_globals some) all),
+    )
+
+    -- and the module is that of their program
+    pub module_where_fit : AllByRecursion Fits (all_globals us) → (main : ℕ) → IsModuleOf (program_of_units us main) (module_of (map coded_tree us) main)
+    module_where_fit all main = record {
+      units = subst (λ known. AreUnitsOf us known us (module_of cs main).units) (sym (names_declared (externals cs))) (units_are us all);
+      main = refl;
+      greatest = refl;
+    }

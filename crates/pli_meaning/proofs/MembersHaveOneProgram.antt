@@ -5,7 +5,8 @@ use Rattle.std.proofs.Common.{sym, ◌∙◌, ap, subst, arith}
 use Rattle.std.proofs.lemmas.List.{length-map}
 use Rattle.pli_base.specs.Name.{Name}
 use Rattle.pli_members.specs.Members.{Member}
-use Rattle.pli_link.specs.Link.{mains, later, none_among, link_faults, module_of, module_or}
+use Rattle.pli_link.specs.Link.{mains, later, none_among, link_faults, module_or}
+use Rattle.pli_link.specs.Links.{module_of}
 use Rattle.pli_link.specs.Units.{Compiled}
 use Rattle.pli_link.specs.declared.linking.LinkFault.{LinkFault}
 use Rattle.pli_link.proofs.Faultless.{faultless, small}
@@ -149,7 +150,7 @@ program_of_trees entries us m spelled all made =
             main = subst HasMain (sym there) ((of_member_at entries us stands.place stands.unit all stands.there).main stands.main);
           };
       numbered = all_numbered entries us all;
-      module_is = subst (IsModuleOf (program_of_units us made.main)) (sym made.module_is) (module_where_fit us fit made.main);
+      module_is = subst (IsModuleOf (program_of_units us made.main)) (sym made.module_is) (module_where_fit us made.clean fit made.main);
     }
 
 program_built : (entries : List (Name × Member)) (text : List ℕ) (m : Module) → all_text entries entries ≡ text → built text (all_units entries entries) ≡ Made m → HasProgram entries m

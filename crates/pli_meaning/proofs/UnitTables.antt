@@ -1,5 +1,5 @@
 -- What the linker finds in the tables of a unit's code: what its tree has.
-use Rattle.std.specs.Prelude.{◌≡◌, Option, Some, None, option_map, List, [], ◌∷◌, ◌++◌, map, refl}
+use Rattle.std.specs.Prelude.{◌≡◌, ℕ, ◌+◌, Option, Some, None, option_map, List, [], ◌∷◌, ◌++◌, map, refl}
 use Rattle.std.specs.List.{flat_map, AllByRecursion}
 use Rattle.std.proofs.Common.{ap, ◌∙◌}
 use Rattle.std.proofs.lemmas.Option.{slice_get-map}
@@ -20,21 +20,22 @@ use Rattle.pli_gen.proofs.TableNumbers.{Has, number_stands, has_all}
 use Rattle.pli_gen.proofs.UnitLemmas.{globals_described}
 use Rattle.pli_link.specs.Alike.{FoundSignature, description_at, signature_at}
 use Rattle.pli_link.specs.ModuleSize.{own_of}
-use Rattle.pli_link.specs.Names.{shared_by}
+use Rattle.pli_link.specs.Names.{Declaration, shared_from}
 
 -- a signature that was found whole
 abbrev pub found : Signature → FoundSignature
 found s = record { parameters = map Some s.parameters; result = option_map Some s.result }
 
--- the variables that a unit shares, and those that it has for itself
-abbrev pub shared_one : Global → List (Name × Option Template)
-shared_one (OwnVariable t) = []
-shared_one (ExternalVariable name t) = (name, Some t) ∷ []
-shared_one (EntryPoint name signature) = []
+-- the variables that units share are declared so
+abbrev pub AreDeclared : List Global → List (Name × Declaration) → Type 0
+AreDeclared [] [] = Unit {0}
+AreDeclared [] (d ∷ ds) = ⊥
+AreDeclared (OwnVariable t ∷ gs) ds = AreDeclared gs ds
+AreDeclared (ExternalVariable name t ∷ gs) [] = ⊥
+AreDeclared (ExternalVariable name t ∷ gs) (d ∷ ds) = (d.0 ≡ name) × (d.1.template ≡ Some t) × AreDeclared gs ds
+AreDeclared (EntryPoint name signature ∷ gs) ds = AreDeclared gs ds
 
-abbrev pub shared_of : List Global → List (Name × Option Template)
-shared_of gs = flat_map shared_one gs
-
+-- the variables that a unit has for itself
 abbrev pub own_one : Global → List Template
 own_one (OwnVariable t) = t ∷ []
 own_one (ExternalVariable name t) = []
@@ -145,12 +146,11 @@ module _ (u : TypedUnit) where
   pub all_found : AllByRecursion IsFound u.globals
   all_found = globals_found u.globals globals_have templates_there
 
-  shared_found : (gs : List Global) → AllByRecursion IsFound gs → shared_by (code_of u) (map (coded_global u) gs) ≡ shared_of gs
-  shared_found [] h = refl
-  shared_found (OwnVariable t ∷ gs) h = shared_found gs h.1
-  shared_found (ExternalVariable name t ∷ gs) h =
-      ap (λ o. (name, o) ∷ shared_by (code_of u) (map (coded_global u) gs)) h.0 ∙ ap (λ xs. (name, Some t) ∷ xs) (shared_found gs h.1)
-  shared_found (EntryPoint name s ∷ gs) h = shared_found gs h.1
+  shared_found : (unit global : ℕ) (gs : List Global) → AllByRecursion IsFound gs → AreDeclared gs (shared_from (code_of u) unit global (map (coded_global u) gs))
+  shared_found unit global [] h = tt
+  shared_found unit global (OwnVariable t ∷ gs) h = shared_found unit (global + 1) gs h.1
+  shared_found unit global (ExternalVariable name t ∷ gs) h = (refl, h.0, shared_found unit (global + 1) gs h.1)
+  shared_found unit global (EntryPoint name s ∷ gs) h = shared_found unit (global + 1) gs h.1
 
   own_found : (gs : List Global) → AllByRecursion IsFound gs → own_of (code_of u) (map (coded_global u) gs) ≡ owned gs
   own_found [] h = refl
@@ -159,8 +159,8 @@ module _ (u : TypedUnit) where
   own_found (ExternalVariable name t ∷ gs) h = own_found gs h.1
   own_found (EntryPoint name s ∷ gs) h = own_found gs h.1
 
-  pub unit_shares : shared_by (code_of u) (code_of u).globals ≡ shared_of u.globals
-  unit_shares = shared_found u.globals all_found
+  pub unit_shares : (unit : ℕ) → AreDeclared u.globals (shared_from (code_of u) unit 0 (code_of u).globals)
+  unit_shares unit = shared_found unit 0 u.globals all_found
 
   pub unit_owns : own_of (code_of u) (code_of u).globals ≡ owned u.globals
   unit_owns = own_found u.globals all_found

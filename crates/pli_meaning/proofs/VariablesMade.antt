@@ -1,8 +1,10 @@
 -- The bytes that the linker counts are those of the variables that are made before the program begins.
-use Rattle.std.specs.Prelude.{◌≡◌, ℕ, ◌+◌, ◌*◌, ◌≤◌, nat_lt, Bool, true, false, ◌||◌, Option, Some, None, List, [], ◌∷◌, ◌++◌, map, length, refl, if◌then◌else◌}
-use Rattle.std.specs.Cmp.Lexicographic.{nat_list_eq_equiv}
+use Rattle.std.specs.Prelude.{◌≡◌, ℕ, ◌+◌, ◌*◌, ◌≤◌, nat_lt, Bool, true, false, ◌||◌, Option, Some, None, is_some, List, [], ◌∷◌, ◌++◌, map, length, refl, if◌then◌else◌}
+use Rattle.std.specs.BTreeMap.{insert_entry}
+use Rattle.std.specs.Cmp.Lexicographic.{same_text, slice_cmp}
 use Rattle.std.specs.List.{flat_map, list_any, sum_by}
-use Rattle.std.specs.Map.{keys_of, values_of}
+use Rattle.std.specs.Map.{values_of}
+use Rattle.std.specs.Ordering.{nat_cmp}
 use Rattle.std.proofs.Common.{sym, ap, ◌∙◌, subst, arith}
 use Rattle.std.proofs.lemmas.Bool.Decides.{nat_tests}
 use Rattle.std.proofs.lemmas.List.{length-map}
@@ -18,11 +20,12 @@ use Rattle.pli_code.specs.CodeTables.{there}
 use Rattle.pli_gen.specs.Encoding.{code_of}
 use Rattle.pli_gen.specs.Limits.{is_over, has_many_slots, has_many_members, initial_bytes, has_wide_number, is_too_long}
 use Rattle.pli_link.specs.ModuleSize.{are_too_large, is_oversized, all_own, variables_made}
-use Rattle.pli_link.specs.Names.{with_first, firsts, all_shared, externals}
+use Rattle.pli_link.specs.Names.{Declaration, meant, shared_from, all_shared, with_declaration, first_declared, externals}
 use Rattle.pli_link.proofs.Faultless.{IsSmall}
+use Rattle.pli_link.proofs.Tables.{put_by, put_found}
 use Rattle.pli_members.specs.Members.{Member}
 use Rattle.pli_meaning_typed.specs.TypedPrograms.{unless, made_for, bytes_of, all_globals}
-use Rattle.pli_meaning.proofs.UnitTables.{shared_of, owned, coded_global, unit_shares, unit_owns}
+use Rattle.pli_meaning.proofs.UnitTables.{AreDeclared, owned, coded_global, unit_shares, unit_owns}
 use Rattle.pli_meaning.proofs.UnitsOfTrees.{coded_tree, AreOfMembers}
 
 -- lists of variables, joined
@@ -41,11 +44,13 @@ owned_joined (OwnVariable t ∷ xs) ys = ap (λ ts. t ∷ ts) (owned_joined xs y
 owned_joined (ExternalVariable name t ∷ xs) ys = owned_joined xs ys
 owned_joined (EntryPoint name s ∷ xs) ys = owned_joined xs ys
 
-shared_joined : (xs ys : List Global) → shared_of (xs ++ ys) ≡ shared_of xs ++ shared_of ys
-shared_joined [] ys = refl
-shared_joined (OwnVariable t ∷ xs) ys = shared_joined xs ys
-shared_joined (ExternalVariable name t ∷ xs) ys = ap (λ ts. (name, Some t) ∷ ts) (shared_joined xs ys)
-shared_joined (EntryPoint name s ∷ xs) ys = shared_joined xs ys
+declared_joined : (xs ys : List Global) (ds es : List (Name × Declaration)) → AreDeclared xs ds → AreDeclared ys es → AreDeclared (xs ++ ys) (ds ++ es)
+declared_joined [] ys [] es h k = k
+declared_joined [] ys (d ∷ ds) es h k = absurd h
+declared_joined (OwnVariable t ∷ xs) ys ds es h k = declared_joined xs ys ds es h k
+declared_joined (ExternalVariable name t ∷ xs) ys [] es h k = absurd h
+declared_joined (ExternalVariable name t ∷ xs) ys (d ∷ ds) es h k = (h.0, h.1, declared_joined xs ys ds es h.2 k)
+declared_joined (EntryPoint name s ∷ xs) ys ds es h k = declared_joined xs ys ds es h k
 
 -- what all units have
 units_own : (us : List TypedUnit) → all_own (map coded_tree us) ≡ owned (all_globals us)
@@ -53,59 +58,31 @@ units_own [] = refl
 units_own (u ∷ us) =
     ap (λ ts. ts ++ all_own (map coded_tree us)) (unit_owns u) ∙ ap (λ ts. owned u.globals ++ ts) (units_own us) ∙ sym (owned_joined u.globals (all_globals us))
 
-units_share : (us : List TypedUnit) → all_shared (map coded_tree us) ≡ shared_of (all_globals us)
-units_share [] = refl
-units_share (u ∷ us) =
-    ap (λ ts. ts ++ all_shared (map coded_tree us)) (unit_shares u) ∙ ap (λ ts. shared_of u.globals ++ ts) (units_share us) ∙ sym (shared_joined u.globals (all_globals us))
+units_share : (unit : ℕ) (us : List TypedUnit) → AreDeclared (all_globals us) (all_shared unit (map coded_tree us))
+units_share unit [] = tt
+units_share unit (u ∷ us) =
+    declared_joined u.globals (all_globals us) (shared_from (code_of u) unit 0 (code_of u).globals) (all_shared (unit + 1) (map coded_tree us)) (unit_shares u unit) (units_share (unit + 1) us)
 
 -- names that were declared, as the meaning and as the linker have them
-abbrev Alike : List Name → List (Name × Option Template) → Type 0
-Alike names before = (n : Name) → is_among n names ≡ is_among n (keys_of before)
+abbrev Alike : List Name → List (Name × Declaration) → Type 0
+Alike names before = (n : Name) → is_among n names ≡ is_some (meant before n)
 
-abbrev templates_in_table : List (Name × Option Template) → List Template
-templates_in_table es = flat_map there (values_of es)
+abbrev templates_in_table : List (Name × Declaration) → List Template
+templates_in_table es = flat_map (λ d. there d.template) (values_of es)
 
-among_behind : (n : Name) (es : List (Name × Option Template)) (name : Name) (o : Option Template) → is_among n (keys_of (es ++ (name, o) ∷ [])) ≡ is_among n (keys_of es) || same_name n name
-among_behind n [] name o = by (same_name n name)
+same_meant : (n name : Name) → same_name n name ≡ true → (es : List (Name × Declaration)) → is_some (meant es n) ≡ is_some (meant es name)
+same_meant n name e es = ap (λ m. is_some (meant es m)) (same_text n name (sym e))
+
+still_alike : (names : List Name) (before : List (Name × Declaration)) (d : Name × Declaration) → Alike names before → Alike (d.0 ∷ names) (with_declaration before d)
+still_alike names before d all n = by (is_some (meant before d.0)) refl
   where
-    by : (b : Bool) → b || false ≡ false || b
-    by true = refl
-    by false = refl
-among_behind n (e ∷ es) name o = ap (λ b. same_name n e.0 || b) (among_behind n es name o) ∙ by (same_name n e.0)
-  where
-    by : (b : Bool) → b || (is_among n (keys_of es) || same_name n name) ≡ (b || is_among n (keys_of es)) || same_name n name
-    by true = refl
-    by false = refl
-
-or_turned : (a b : Bool) → a || b ≡ b || a
-or_turned true true = refl
-or_turned true false = refl
-or_turned false true = refl
-or_turned false false = refl
-
-same_among : (n name : Name) → same_name n name ≡ true → (names : List Name) → is_among n names ≡ is_among name names
-same_among n name e [] = refl
-same_among n name e (m ∷ ms) = ap (λ b. b || is_among n ms) (nat_list_eq_equiv.congr n name m e) ∙ ap (λ b. same_name name m || b) (same_among n name e ms)
-
-still_alike : (names : List Name) (before : List (Name × Option Template)) (name : Name) (o : Option Template) → Alike names before → Alike (name ∷ names) (with_first before (name, o))
-still_alike names before name o all n = by (is_among name (keys_of before)) refl
-  where
-    told : (b : Bool) → same_name n name ≡ b → is_among name (keys_of before) ≡ true → (b || is_among n names) ≡ is_among n (keys_of before)
-    told true e is = sym (same_among n name e (keys_of before) ∙ is)
+    told : (b : Bool) → same_name n d.0 ≡ b → is_some (meant before d.0) ≡ true → (b || is_among n names) ≡ is_some (meant before n)
+    told true e is = sym (same_meant n d.0 e before ∙ is)
     told false e is = all n
 
-    by : (b : Bool) → is_among name (keys_of before) ≡ b → is_among n (name ∷ names) ≡ is_among n (keys_of (if b then before else before ++ (name, o) ∷ []))
-    by true is = told (same_name n name) refl is
-    by false is = ap (λ b. same_name n name || b) (all n) ∙ or_turned (same_name n name) (is_among n (keys_of before)) ∙ sym (among_behind n before name o)
-
-table_joined : (es : List (Name × Option Template)) (name : Name) (t : Template) → templates_in_table (es ++ (name, Some t) ∷ []) ≡ templates_in_table es ++ t ∷ []
-table_joined [] name t = refl
-table_joined (e ∷ es) name t = by e.1 (table_joined es name t)
-  where
-    by : (o : Option Template) → templates_in_table (es ++ (name, Some t) ∷ []) ≡ templates_in_table es ++ t ∷ []
-        → there o ++ templates_in_table (es ++ (name, Some t) ∷ []) ≡ (there o ++ templates_in_table es) ++ t ∷ []
-    by None h = h
-    by (Some x) h = ap (λ ts. x ∷ ts) h
+    by : (b : Bool) → is_some (meant before d.0) ≡ b → is_among n (d.0 ∷ names) ≡ is_some (meant (if b then before else insert_entry (slice_cmp nat_cmp) before d.0 d.1) n)
+    by true is = told (same_name n d.0) refl is
+    by false is = ap (λ b. same_name n d.0 || b) (all n) ∙ sym (put_found d.0 d.1 n before is)
 
 -- a measure that adds up over lists: bytes, or how many there are
 record IsMeasure (m : List Template → ℕ) : Type 0 where
@@ -113,34 +90,41 @@ record IsMeasure (m : List Template → ℕ) : Type 0 where
   joined : (xs ys : List Template) → m (xs ++ ys) ≡ m xs + m ys
 
 module _ (m : List Template → ℕ) (adds : IsMeasure m) where
-  one_first : (before : List (Name × Option Template)) (name : Name) (t : Template) (b : Bool) → is_among name (keys_of before) ≡ b
-      → m (templates_in_table (with_first before (name, Some t))) ≡ m (unless b t) + m (templates_in_table before)
-  one_first before name t true is =
-      ap (λ b. m (templates_in_table (if b then before else before ++ (name, Some t) ∷ []))) is ∙ omega (arith, adds.empty)
-  one_first before name t false is =
-      ap (λ b. m (templates_in_table (if b then before else before ++ (name, Some t) ∷ []))) is
-      ∙ ap m (table_joined before name t)
-      ∙ omega (arith, adds.joined (templates_in_table before) (t ∷ []))
+  one_first : (before : List (Name × Declaration)) (d : Name × Declaration) (t : Template) → d.1.template ≡ Some t → (b : Bool) → is_some (meant before d.0) ≡ b
+      → m (templates_in_table (with_declaration before d)) ≡ m (unless b t) + m (templates_in_table before)
+  one_first before d t has true is =
+      ap (λ b. m (templates_in_table (if b then before else insert_entry (slice_cmp nat_cmp) before d.0 d.1))) is ∙ omega (arith, adds.empty)
+  one_first before d t has false is =
+      ap (λ b. m (templates_in_table (if b then before else insert_entry (slice_cmp nat_cmp) before d.0 d.1))) is
+      ∙ put_by d.0 d.1 (λ xs ys. m (templates_in_table ys) ≡ m (t ∷ []) + m (templates_in_table xs)) here later before is
+    where
+      here : (es : List (Name × Declaration)) → m (there d.1.template ++ templates_in_table es) ≡ m (t ∷ []) + m (templates_in_table es)
+      here es = ap (λ o. m (there o ++ templates_in_table es)) has ∙ adds.joined (t ∷ []) (templates_in_table es)
 
-  made_measures : (gs : List Global) (names : List Name) (before : List (Name × Option Template)) → Alike names before
-      → m (made_for names gs) + m (templates_in_table before) ≡ m (owned gs) + m (templates_in_table (firsts before (shared_of gs)))
-  made_measures [] names before all = omega (arith, adds.empty)
-  made_measures (OwnVariable t ∷ gs) names before all =
-      omega (arith, adds.joined (t ∷ []) (made_for names gs), adds.joined (t ∷ []) (owned gs), made_measures gs names before all)
-  made_measures (ExternalVariable name t ∷ gs) names before all =
-      let here = one_first before name t (is_among name names) (sym (all name)) in
-      let rest = made_measures gs (name ∷ names) (with_first before (name, Some t)) (still_alike names before name (Some t) all) in
+      later : (e : Name × Declaration) (xs ys : List (Name × Declaration)) → m (templates_in_table ys) ≡ m (t ∷ []) + m (templates_in_table xs)
+          → m (there e.1.template ++ templates_in_table ys) ≡ m (t ∷ []) + m (there e.1.template ++ templates_in_table xs)
+      later e xs ys h = omega (arith, h, adds.joined (there e.1.template) (templates_in_table xs), adds.joined (there e.1.template) (templates_in_table ys))
+
+  made_measures : (gs : List Global) (ds : List (Name × Declaration)) → AreDeclared gs ds → (names : List Name) (before : List (Name × Declaration)) → Alike names before
+      → m (made_for names gs) + m (templates_in_table before) ≡ m (owned gs) + m (templates_in_table (first_declared before ds))
+  made_measures [] [] h names before all = omega (arith, adds.empty)
+  made_measures [] (d ∷ ds) h names before all = absurd h
+  made_measures (OwnVariable t ∷ gs) ds h names before all =
+      omega (arith, adds.joined (t ∷ []) (made_for names gs), adds.joined (t ∷ []) (owned gs), made_measures gs ds h names before all)
+  made_measures (ExternalVariable name t ∷ gs) [] h names before all = absurd h
+  made_measures (ExternalVariable name t ∷ gs) (d ∷ ds) h names before all =
+      let same : is_some (meant before d.0) ≡ is_among name names = sym (ap (λ n. is_among n names) (sym h.0) ∙ all d.0) in
+      let here = one_first before d t h.1 (is_among name names) same in
+      let rest = made_measures gs ds h.2 (name ∷ names) (with_declaration before d) (subst (λ n. Alike (n ∷ names) (with_declaration before d)) h.0 (still_alike names before d all)) in
       omega (arith, adds.joined (unless (is_among name names) t) (made_for (name ∷ names) gs), here, rest)
-  made_measures (EntryPoint name s ∷ gs) names before all = made_measures gs names before all
+  made_measures (EntryPoint name s ∷ gs) ds h names before all = made_measures gs ds h names before all
 
   all_measures : (us : List TypedUnit) → m (made_for [] (all_globals us)) ≡ m (variables_made (map coded_tree us))
   all_measures us =
       let gs = all_globals us in
-      let counted : m (made_for [] gs) + m [] ≡ m (owned gs) + m (templates_in_table (firsts [] (shared_of gs))) = made_measures gs [] [] (λ n. refl) in
-      let both : m (variables_made (map coded_tree us)) ≡ m (owned gs ++ templates_in_table (firsts [] (shared_of gs))) =
-      ap (λ ts. m (ts ++ templates_in_table (firsts [] (all_shared (map coded_tree us))))) (units_own us)
-      ∙ ap (λ es. m (owned gs ++ templates_in_table (firsts [] es))) (units_share us) in
-      omega (arith, counted, both, adds.empty, adds.joined (owned gs) (templates_in_table (firsts [] (shared_of gs))))
+      let made = templates_in_table (externals (map coded_tree us)) in
+      let counted : m (made_for [] gs) + m [] ≡ m (owned gs) + m made = made_measures gs (all_shared 0 (map coded_tree us)) (units_share 0 us) [] [] (λ n. refl) in
+      omega (arith, counted, ap (λ ts. m (ts ++ made)) (units_own us), adds.empty, adds.joined (owned gs) made)
 
 bytes_measure : IsMeasure bytes_of
 bytes_measure = record { empty = refl; joined = bytes_joined }
@@ -184,9 +168,9 @@ own_short (OwnVariable t ∷ gs) = omega (arith, own_short gs)
 own_short (ExternalVariable name t ∷ gs) = omega (arith, own_short gs)
 own_short (EntryPoint name s ∷ gs) = omega (arith, own_short gs)
 
-there_short : (es : List (Name × Option Template)) → length (templates_in_table es) ≤ length es
+there_short : (es : List (Name × Declaration)) → length (templates_in_table es) ≤ length es
 there_short [] = omega arith
-there_short (e ∷ es) = by e.1 (there_short es)
+there_short (e ∷ es) = by e.1.template (there_short es)
   where
     by : (o : Option Template) → length (templates_in_table es) ≤ length es → length (there o ++ templates_in_table es) ≤ length (e ∷ es)
     by None h = omega (arith, h)
@@ -207,9 +191,6 @@ few_own entries (u ∷ us) all =
     ap length (owned_joined u.globals (all_globals us)) ∙ length_joined (owned u.globals) (owned (all_globals us)) in
     omega (arith, joined, own_short u.globals, few_globals u all.0.fits, few_own entries us all.1)
 
-few_found : (n : ℕ) → nat_lt 65535 n ≡ false → n ≤ 65535
-few_found n is = grind (arith, nat_tests)
-
 pub few_variables : (entries : List (Name × Member)) (us : List TypedUnit) → AreOfMembers entries us → IsSmall (map coded_tree us) → length (made_for [] (all_globals us)) ≤ generation_limit
 few_variables entries us all small =
     let cs = map coded_tree us in
@@ -221,7 +202,7 @@ few_variables entries us all small =
       own,
       few_own entries us all,
       there_short (externals cs),
-      few_found (length (externals cs)) small.externals,
+      small.externals,
       small.units,
       length-map us coded_tree,
     )

@@ -1,12 +1,13 @@
 -- An operation on another number of operands than it has misfits.
 use Rattle.std.specs.Prelude.{◌≡◌, ℕ, List, [], ◌∷◌, length, refl}
-use Rattle.pli_operation.specs.Operations.{Operation, Negate, Absolute, Sign, Not, LengthOf, FromBits, ToCharacters, Fit, Substring, Within}
-use Rattle.pli_operation.specs.Operations.{operands_of, Misfits, calculated}
+use Rattle.pli_operation.specs.declared.operation.Operation.{Operation}
+use Rattle.pli_operation.specs.declared.operation.Operation.TheVariants.{Negate, Absolute, Sign, Not, LengthOf, FromBits, ToCharacters, Substring, Within}
+use Rattle.pli_operation.specs.Operations.{arity, Misfits, calculated}
 use Rattle.pli_value.specs.Value.{Value}
 
 -- there are as many operands as it has, or it misfits
 pub data Arity (greatest : ℕ) (operation : Operation) (vs : List Value) : Type 0 where
-  Full : length vs ≡ operands_of operation → Arity greatest operation vs
+  Full : length vs ≡ arity operation → Arity greatest operation vs
   Misfit : calculated greatest operation vs ≡ Misfits → Arity greatest operation vs
 
 one : (greatest : ℕ) (operation : Operation) (v : Value) → Arity greatest operation (v ∷ [])
@@ -18,7 +19,6 @@ one g Not v = Full refl
 one g LengthOf v = Full refl
 one g FromBits v = Full refl
 one g (ToCharacters n) v = Full refl
-one g (Fit d) v = Full refl
 one g operation v = Misfit refl
 
 two : (greatest : ℕ) (operation : Operation) (v w : Value) → Arity greatest operation (v ∷ w ∷ [])
@@ -30,7 +30,6 @@ two g Not v w = Misfit refl
 two g LengthOf v w = Misfit refl
 two g FromBits v w = Misfit refl
 two g (ToCharacters n) v w = Misfit refl
-two g (Fit d) v w = Misfit refl
 two g Substring v w = Misfit refl
 two g Within v w = Misfit refl
 two g operation v w = Full refl
@@ -41,10 +40,10 @@ three g Substring v w x = Full refl
 three g Within v w x = Full refl
 three g operation v w x = Misfit refl
 
-pub arity : (greatest : ℕ) (operation : Operation) (vs : List Value) → Arity greatest operation vs
+pub full_or_misfit : (greatest : ℕ) (operation : Operation) (vs : List Value) → Arity greatest operation vs
 unfolding calculated
-arity g operation [] = Misfit refl
-arity g operation (v ∷ []) = one g operation v
-arity g operation (v ∷ w ∷ []) = two g operation v w
-arity g operation (v ∷ w ∷ x ∷ []) = three g operation v w x
-arity g operation (v ∷ w ∷ x ∷ y ∷ vs) = Misfit refl
+full_or_misfit g operation [] = Misfit refl
+full_or_misfit g operation (v ∷ []) = one g operation v
+full_or_misfit g operation (v ∷ w ∷ []) = two g operation v w
+full_or_misfit g operation (v ∷ w ∷ x ∷ []) = three g operation v w x
+full_or_misfit g operation (v ∷ w ∷ x ∷ y ∷ vs) = Misfit refl

@@ -2,6 +2,7 @@
 use Rattle.std.specs.Prelude.{◌≡◌, ℕ, zero, suc, ◌+◌, nat_eq, Bool, true, false, Option, Some, None, List, [], ◌∷◌, length, slice_get, if◌then◌else◌, refl}
 use Rattle.std.proofs.Common.{ap, ◌∙◌, sym, subst, arith}
 use Rattle.std.proofs.lemmas.Bool.{eqb-true}
+use Rattle.pli_base.specs.Name.{Name}
 use Rattle.pli_world.specs.Storage.{Place}
 use Rattle.pli_world.specs.World.{World, entered, left_by, stepped}
 use Rattle.pli_value.specs.Value.{Value}
@@ -126,54 +127,54 @@ module _ (p : Program) (number : ℕ) (u : UnitCode) (at : Label → ℕ) (other
         (tested_run (static_link other f.parent w) places w left (nat_eq f.parameters (length places)) refl)
 
 -- where the unit of a number of a program stands among its code
-abbrev pub IsThere : List TypedUnit → (Label → ℕ) → (number : ℕ) → Option TypedUnit → List UnitCode → (place : ℕ) → Type 0
-IsThere program at number None us k = Unit
-IsThere program at number (Some t) us k = (u : UnitCode) × (slice_get us k ≡ Some u) × UnitStands program at number t u
+abbrev pub IsThere : List TypedUnit → List Name → (Label → ℕ) → (number : ℕ) → Option TypedUnit → List UnitCode → (place : ℕ) → Type 0
+IsThere program names at number None us k = Unit
+IsThere program names at number (Some t) us k = (u : UnitCode) × (slice_get us k ≡ Some u) × UnitStands program names at number t u
 
-unit_behind : (program : List TypedUnit) (at : Label → ℕ) (from : ℕ) (ts : List TypedUnit) (us : List UnitCode) (k number : ℕ) → number ≡ from + k
-    → UnitsStand program at from ts us → IsThere program at number (slice_get ts k) us k
-unit_behind program at from [] us zero number is stand = tt
-unit_behind program at from [] us (suc k) number is stand = tt
-unit_behind program at from (t ∷ ts) [] k number is stand = absurd stand
-unit_behind program at from (t ∷ ts) (u ∷ us) zero number is stand =
+unit_behind : (program : List TypedUnit) (names : List Name) (at : Label → ℕ) (from : ℕ) (ts : List TypedUnit) (us : List UnitCode) (k number : ℕ) → number ≡ from + k
+    → UnitsStand program names at from ts us → IsThere program names at number (slice_get ts k) us k
+unit_behind program names at from [] us zero number is stand = tt
+unit_behind program names at from [] us (suc k) number is stand = tt
+unit_behind program names at from (t ∷ ts) [] k number is stand = absurd stand
+unit_behind program names at from (t ∷ ts) (u ∷ us) zero number is stand =
     let first : from ≡ number = omega (arith, is) in
-    (u, refl, subst (λ n. UnitStands program at n t u) first stand.0)
-unit_behind program at from (t ∷ ts) (u ∷ us) (suc k) number is stand =
-    behind (slice_get ts k) (unit_behind program at (suc from) ts us k number (omega (arith, is)) stand.1)
+    (u, refl, subst (λ n. UnitStands program names at n t u) first stand.0)
+unit_behind program names at from (t ∷ ts) (u ∷ us) (suc k) number is stand =
+    behind (slice_get ts k) (unit_behind program names at (suc from) ts us k number (omega (arith, is)) stand.1)
   where
-    behind : (o : Option TypedUnit) → IsThere program at number o us k → IsThere program at number o (u ∷ us) (suc k)
+    behind : (o : Option TypedUnit) → IsThere program names at number o us k → IsThere program names at number o (u ∷ us) (suc k)
     behind None h = tt
     behind (Some t) h = (h.0, h.1, h.2)
 
-pub unit_there : (program : List TypedUnit) (at : Label → ℕ) (ts : List TypedUnit) (us : List UnitCode) (k : ℕ) → UnitsStand program at 0 ts us
-    → IsThere program at k (slice_get ts k) us k
-unit_there program at ts us k stand = unit_behind program at 0 ts us k k (omega arith) stand
+pub unit_there : (program : List TypedUnit) (names : List Name) (at : Label → ℕ) (ts : List TypedUnit) (us : List UnitCode) (k : ℕ) → UnitsStand program names at 0 ts us
+    → IsThere program names at k (slice_get ts k) us k
+unit_there program names at ts us k stand = unit_behind program names at 0 ts us k k (omega arith) stand
 
 -- a global of a unit, and its code
-abbrev HasCode : List TypedUnit → Option Global → List op.GlobalCode → ℕ → Type 0
-HasCode program None gs n = Unit
-HasCode program (Some x) gs n = (g : op.GlobalCode) × (slice_get gs n ≡ Some g) × GlobalStands program x g
+abbrev HasCode : List TypedUnit → List Name → Option Global → List op.GlobalCode → ℕ → Type 0
+HasCode program names None gs n = Unit
+HasCode program names (Some x) gs n = (g : op.GlobalCode) × (slice_get gs n ≡ Some g) × GlobalStands program names x g
 
-global_there : (program : List TypedUnit) (xs : List Global) (gs : List op.GlobalCode) (n : ℕ) → GlobalsStand program xs gs → HasCode program (slice_get xs n) gs n
-global_there program [] gs zero stand = tt
-global_there program [] gs (suc n) stand = tt
-global_there program (x ∷ xs) [] n stand = absurd stand
-global_there program (x ∷ xs) (g ∷ gs) zero stand = (g, refl, stand.0)
-global_there program (x ∷ xs) (g ∷ gs) (suc n) stand = behind (slice_get xs n) (global_there program xs gs n stand.1)
+global_there : (program : List TypedUnit) (names : List Name) (xs : List Global) (gs : List op.GlobalCode) (n : ℕ) → GlobalsStand program names xs gs → HasCode program names (slice_get xs n) gs n
+global_there program names [] gs zero stand = tt
+global_there program names [] gs (suc n) stand = tt
+global_there program names (x ∷ xs) [] n stand = absurd stand
+global_there program names (x ∷ xs) (g ∷ gs) zero stand = (g, refl, stand.0)
+global_there program names (x ∷ xs) (g ∷ gs) (suc n) stand = behind (slice_get xs n) (global_there program names xs gs n stand.1)
   where
-    behind : (o : Option Global) → HasCode program o gs n → HasCode program o (g ∷ gs) (suc n)
+    behind : (o : Option Global) → HasCode program names o gs n → HasCode program names o (g ∷ gs) (suc n)
     behind None h = tt
     behind (Some x) h = (h.0, h.1, h.2)
 
 -- calls in a program
-module _ (p : Program) (units : List TypedUnit) (at : Label → ℕ) (stand : UnitsStand units at 0 units p.units) where
+module _ (p : Program) (units : List TypedUnit) (names : List Name) (at : Label → ℕ) (stand : UnitsStand units names at 0 units p.units) where
   -- those of each unit
   abbrev AllRun : (level : ℕ) → Type 0
   AllRun level =
-      (number : ℕ) (u : UnitCode) → slice_get p.units number ≡ Some u → (t : TypedUnit) (is : UnitStands units at number t u)
+      (number : ℕ) (u : UnitCode) → slice_get p.units number ≡ Some u → (t : TypedUnit) (is : UnitStands units names at number t u)
       → CallsRun p number u at (calls p.greatest units level number t)
 
-  module _ (level : ℕ) (run : AllRun level) (number : ℕ) (u : UnitCode) (there : slice_get p.units number ≡ Some u) (t : TypedUnit) (is : UnitStands units at number t u)
+  module _ (level : ℕ) (run : AllRun level) (number : ℕ) (u : UnitCode) (there : slice_get p.units number ≡ Some u) (t : TypedUnit) (is : UnitStands units names at number t u)
       (before : List Place) (c : Context) (b : ℕ) (ops : List Operand) (l : Locals) (fs : List Frame) (fine : Fine c l) (w : World) (left : ℕ) where
     abbrev Does : Move → Effect (Option Value) → Type 0
     Does m o = Reaches p number u at c (resume m left) l (returns p number u b ops fs) fs o
@@ -201,7 +202,7 @@ module _ (p : Program) (units : List TypedUnit) (at : Label → ℕ) (stand : Un
             (found_run p number u at number u there call (run number u there t is) level f found.1 c b ops l fine fs before w left))
 
     -- of the external procedure of a unit
-    outer_run : (k : ℕ) (s : TypedUnit) (v : UnitCode) → slice_get p.units k ≡ Some v → (stands : UnitStands units at k s v)
+    outer_run : (k : ℕ) (s : TypedUnit) (v : UnitCode) → slice_get p.units k ≡ Some v → (stands : UnitStands units names at k s v)
         → Does (machine.called_outside k (length before) (slice_get v.blocks 0) here fs w)
         (activates_outer p.greatest (calls p.greatest units level k s) level k (procedure_in s.procedures 0) places w left)
     outer_run k s v found stands = by (procedure_in s.procedures 0) (procedure_there p k v at s.procedures 0 stands.procedures)
@@ -237,16 +238,16 @@ module _ (p : Program) (units : List TypedUnit) (at : Label → ℕ) (stand : Un
     -- of an entry
     outside_run : (n : ℕ) → Does (machine.called_entry p.units (length before) (slice_get u.globals n) here fs w)
         (activates_entry p.greatest units (calls p.greatest units level) level (entry_unit units (slice_get t.globals n)) places w left)
-    outside_run n = by (slice_get t.globals n) (global_there units t.globals u.globals n is.globals)
+    outside_run n = by (slice_get t.globals n) (global_there units names t.globals u.globals n is.globals)
       where
-        unit_run : (k : ℕ) (o : Option TypedUnit) → IsThere units at k o p.units k
+        unit_run : (k : ℕ) (o : Option TypedUnit) → IsThere units names at k o p.units k
             → Does (machine.called_unit k (slice_get p.units k) (length before) here fs w) (activates_unit p.greatest (calls p.greatest units level) level k o places w left)
         unit_run k None h = record { by = tt }
         unit_run k (Some s) h =
             subst (λ x. Does (machine.called_unit k x (length before) here fs w) (activates_unit p.greatest (calls p.greatest units level) level k (Some s) places w left)) (sym h.1)
             (outer_run k s h.0 h.1 h.2)
 
-        by : (o : Option Global) → HasCode units o u.globals n
+        by : (o : Option Global) → HasCode units names o u.globals n
             → Does (machine.called_entry p.units (length before) (slice_get u.globals n) here fs w) (activates_entry p.greatest units (calls p.greatest units level) level (entry_unit units o) places w left)
         by None h = record { by = tt }
         by (Some (OwnVariable x)) h = record { by = tt }
@@ -256,7 +257,7 @@ module _ (p : Program) (units : List TypedUnit) (at : Label → ℕ) (stand : Un
             (sym (h.1 ∙ ap Some h.2.is))
             (subst (λ o. Does (machine.called_unit h.2.unit (slice_get p.units h.2.unit) (length before) here fs w) (activates_entry p.greatest units (calls p.greatest units level) level o places w left))
             (sym h.2.named)
-            (unit_run h.2.unit (slice_get units h.2.unit) (unit_there units at units p.units h.2.unit stand)))
+            (unit_run h.2.unit (slice_get units h.2.unit) (unit_there units names at units p.units h.2.unit stand)))
 
   pub calls_run : (level : ℕ) → AllRun level
   calls_run zero number u there t is = record { procedure = λ callee before c b ops l fs fine w left. record { by = tt } }

@@ -1,7 +1,8 @@
 -- The machine does what expressions and references mean, for any operands and frames beneath.
 use Rattle.std.specs.Prelude.{◌≡◌, ℕ, ℤ, ◌+◌, Option, Some, None, List, [], ◌∷◌, length, slice_get, refl}
 use Rattle.std.proofs.Common.{ap, ◌∙◌, sym, subst, arith}
-use Rattle.pli_operation.specs.Operations.{Operation, operands_of, calculated}
+use Rattle.pli_operation.specs.Operations.{Misfits, arity, calculated, fitted_to}
+use Rattle.pli_map.specs.Description.{Description}
 use Rattle.pli_world.specs.Storage.{Place}
 use Rattle.pli_world.specs.World.{World, Answer, held, slot_place, static_place, subscripted, calculation}
 use Rattle.pli_world.specs.World.{dummy_of, led_on}
@@ -9,13 +10,14 @@ use Rattle.pli_value.specs.Value.{Value, Number, Characters, Bits, Located}
 use Rattle.pli_program.specs.Program as op
 use Rattle.pli_program.specs.Program.{UnitCode, Program}
 use Rattle.pli_machine_step.specs.Machine.{Operand, OfValue, AtPlace, Locals, Frame, At, values_off, places_off, operated, act, resume}
-use Rattle.pli_type_tree.specs.TypedTree.{Root, InSlot, OfProgram, Callee, TypedExpression, Literal, Held, Calculated, Called, TypedReference, Whole, Part, Operands, NoOperand, OperandThen, Subscripts, NoSubscript, SubscriptThen, TypedArguments, NoArgument, ByPlace, ByDummy}
+use Rattle.pli_type_tree.specs.TypedOperations.{comes_to}
+use Rattle.pli_type_tree.specs.TypedTree.{TypedOperation, Fit, Operate, Root, InSlot, OfProgram, Callee, TypedExpression, Literal, Held, Calculated, Called, TypedReference, Whole, Part, Operands, NoOperand, OperandThen, Subscripts, NoSubscript, SubscriptThen, TypedArguments, NoArgument, ByPlace, ByDummy}
 use Rattle.pli_meaning_tree.specs.Effects.{Label, Doing, answered}
 use Rattle.pli_meaning_tree.specs.TreeMeaning as meaning
 use Rattle.pli_meaning_tree.specs.TreeMeaning.{Calls, a_value, in_order, root_place, element_of, value_of, place_of, element_at, called_with}
-use Rattle.pli_meaning_simulation.specs.CodeStands.{Then, Context, arguments_in, call_of, Is, RootStands, ValueStands, OperandsStand, PlaceStands, SubscriptsStand, ArgumentsStand}
+use Rattle.pli_meaning_simulation.specs.CodeStands.{Then, Context, arguments_in, call_of, operation_code, Is, RootStands, ValueStands, OperandsStand, PlaceStands, SubscriptsStand, ArgumentsStand}
 use Rattle.pli_meaning_simulation.proofs.ReachesLemmas.{Fine, Comes, stays, frame, pushes, returns, Reaches, gives, then_reaches, bound, goes, answers}
-use Rattle.pli_meaning_simulation.proofs.Arity.{Arity, Full, Misfit, arity}
+use Rattle.pli_meaning_simulation.proofs.Arity.{Arity, Full, Misfit, full_or_misfit}
 
 -- operands of which the last stands first, above others
 abbrev pub values_above : List Value → List Operand → List Operand
@@ -37,6 +39,11 @@ places_come_off (p ∷ ps) behind ops = places_come_off ps (p ∷ behind) ops
 pub as_long : {A : Type 0} (xs behind : List A) → length (in_order xs behind) ≡ length xs + length behind
 as_long [] behind = omega arith
 as_long (x ∷ xs) behind = let e = as_long xs (x ∷ behind) in omega arith
+
+-- more values than one are not fitted
+many_misfit : (greatest : ℕ) (d : Description) (vs : List Value) (v w : Value) (behind : List Value) → comes_to greatest (Fit d) (in_order vs (v ∷ w ∷ behind)) ≡ Misfits
+many_misfit greatest d [] v w behind = refl
+many_misfit greatest d (x ∷ vs) v w behind = many_misfit greatest d vs x v (w ∷ behind)
 
 module _ (p : Program) (number : ℕ) (u : UnitCode) (at : Label → ℕ) where
   -- a call does what it means, from its instruction on
@@ -67,11 +74,16 @@ module _ (p : Program) (number : ℕ) (u : UnitCode) (at : Label → ℕ) where
     subscript_run low high multiplier is q (Located a) ops l fine fs w left = record { by = tt }
 
     -- an operation on what lies above
-    pub operation_run : (operation : Operation) {a b : ℕ} → Is u (op.Operate operation) a b → (before : List Value) (ops : List Operand) (l : Locals) → Fine c l
+    pub operation_run : (operation : TypedOperation) {a b : ℕ} → Is u (operation_code operation) a b → (before : List Value) (ops : List Operand) (l : Locals) → Fine c l
         → (fs : List Frame) (w : World) (left : ℕ)
         → Reaches p number u at c (At (frame p number u a (values_above before ops) l) fs w left) l (pushes p number u OfValue b ops fs) fs
-        (answered (calculation (calculated p.greatest operation (in_order before [])) w) left)
-    operation_run operation {a} {b} is before ops l fine fs w left = by (arity p.greatest operation (in_order before []))
+        (answered (calculation (comes_to p.greatest operation (in_order before [])) w) left)
+    operation_run (Fit d) is [] ops l fine fs w left = record { by = tt }
+    operation_run (Fit d) is (v ∷ []) ops l fine fs w left = answers p number u at there (λ x. OfValue x ∷ ops) (calculation (fitted_to d v) w) is fine w left refl
+    operation_run (Fit d) {a} {b} is (v ∷ x ∷ before) ops l fine fs w left =
+        subst (λ c2. Reaches p number u at c (At (frame p number u a (values_above (v ∷ x ∷ before) ops) l) fs w left) l (pushes p number u OfValue b ops fs) fs (answered (calculation c2 w) left))
+        (sym (many_misfit p.greatest d before x v [])) (record { by = tt })
+    operation_run (Operate operation) {a} {b} is before ops l fine fs w left = by (full_or_misfit p.greatest operation (in_order before []))
       where
         o : Answer Value
         o = calculation (calculated p.greatest operation (in_order before [])) w
@@ -79,7 +91,7 @@ module _ (p : Program) (number : ℕ) (u : UnitCode) (at : Label → ℕ) where
         by : Arity p.greatest operation (in_order before [])
             → Reaches p number u at c (At (frame p number u a (values_above before ops) l) fs w left) l (pushes p number u OfValue b ops fs) fs (answered o left)
         by (Full e) =
-            let n : length before ≡ operands_of operation = let f = as_long before [] in omega arith in
+            let n : length before ≡ arity operation = let f = as_long before [] in omega arith in
             answers p number u at there (λ x. OfValue x ∷ ops) o is fine w left
             (ap (λ k. operated p.greatest operation (values_off k [] (values_above before ops)) (frame p number u b (values_above before ops) l) fs w) (sym n)
             ∙ ap (λ t. operated p.greatest operation t (frame p number u b (values_above before ops) l) fs w) (values_come_off before [] ops))
@@ -103,12 +115,12 @@ module _ (p : Program) (number : ℕ) (u : UnitCode) (at : Label → ℕ) where
           (called_run arguments callee (arguments_in arguments) is [] (omega arith) ops l fine fs w left)
           (λ m k v w left. value_given v ops m k.fine fs w left)
 
-      pub operated_run : (operands : Operands) (operation : Operation) {a b : ℕ} → Then (OperandsStand u operands) (Is u (op.Operate operation)) a b
+      pub operated_run : (operands : Operands) (operation : TypedOperation) {a b : ℕ} → Then (OperandsStand u operands) (Is u (operation_code operation)) a b
           → (before : List Value) (ops : List Operand) (l : Locals) → Fine c l → (fs : List Frame) (w : World) (left : ℕ)
           → Reaches p number u at c (At (frame p number u a (values_above before ops) l) fs w left) l (pushes p number u OfValue b ops fs) fs
           (meaning.operated p.greatest call operation operands before w left)
       operated_run NoOperand operation {a} {b} is before ops l fine fs w left =
-          operation_run operation (subst (λ q. Is u (op.Operate operation) q b) (sym is.fst) is.snd) before ops l fine fs w left
+          operation_run operation (subst (λ q. Is u (operation_code operation) q b) (sym is.fst) is.snd) before ops l fine fs w left
       operated_run (OperandThen e more) operation is before ops l fine fs w left =
           bound p number u at (value_of p.greatest call e w left) _ (value_run e is.fst.fst (values_above before ops) l fine fs w left)
           (λ m k v w left. operated_run more operation (record { middle = is.middle; fst = is.fst.snd; snd = is.snd }) (v ∷ before) ops m k.fine fs w left)

@@ -2,14 +2,16 @@
 use Rattle.std.specs.Prelude.{◌≡◌, ℕ, zero, suc, ◌+◌, ◌<◌, ◌≤◌, Bool, true, false, Option, Some, None, List, [], ◌∷◌, ◌++◌, length, slice_get, slice_set, if◌then◌else◌, refl}
 use Rattle.std.proofs.Common.{ap, ◌∙◌, sym, subst, arith}
 use Rattle.std.proofs.lemmas.Bool.{lt-ltb}
-use Rattle.pli_operation.specs.Operations.{Operation, Add, Within, calculated}
+use Rattle.pli_operation.specs.declared.operation.Operation.TheVariants.{Add, Within}
+use Rattle.pli_operation.specs.Operations.{calculated}
 use Rattle.pli_world.specs.World.{World, known, held, stored, calculation, at_statement}
 use Rattle.pli_value.specs.Value.{Value}
 use Rattle.pli_program.specs.Program as op
 use Rattle.pli_program.specs.Program.{UnitCode, Program}
 use Rattle.pli_machine_step.specs.Machine.{Operand, OfValue, AtPlace, Locals, Frame, At, Goes, faulty, taken, calm, resume}
 use Rattle.pli_type_tree.specs.Iterations.{kept_by, limit_number, step_number, is_iterated}
-use Rattle.pli_type_tree.specs.TypedTree.{TypedExpression, TypedRange, Once, ToBy, ByTo, Repeated, Iteration}
+use Rattle.pli_type_tree.specs.TypedOperations.{comes_to}
+use Rattle.pli_type_tree.specs.TypedTree.{TypedOperation, Operate, TypedExpression, TypedRange, Once, ToBy, ByTo, Repeated, Iteration}
 use Rattle.pli_meaning_tree.specs.Effects.{Label, Gives, Flow, Next, Doing, nothing_done, followed, answered, as_statement, back_at, truth, chosen}
 use Rattle.pli_meaning_tree.specs.TreeMeaning.{Calls, value_of, place_of, keeps, kept, converted, sets, advanced, within_limit, while_holds, may_turn, advances, turned, iterates}
 use Rattle.pli_meaning_simulation.specs.CodeStands.{Span, Then, Context, using, deeper, Is, KeepsStand, ConversionStands, SetsStand, AdvancedStands, LimitStands, WhileStands, TestStands, AdvancesStand, TurnsStand, IterateStands}
@@ -86,13 +88,13 @@ module _ (p : Program) (number : ℕ) (u : UnitCode) (at : Label → ℕ) (there
       by None e = record { by = tt }
       by (Some v) e = gives p number u at v w left fine (goes p number u at there is (ap (λ o. resume (taken o (frame p number u b ops l) fs w) left) (holds_at t vs l h k v e)))
 
-  converted_run : (operations : List Operation) {a b : ℕ} → ConversionStands u operations a b → {c : Context} (v : Value) (ops : List Operand) (l : Locals) → Fine c l → (fs : List Frame) (w : World) (left : ℕ)
+  converted_run : (operations : List TypedOperation) {a b : ℕ} → ConversionStands u operations a b → {c : Context} (v : Value) (ops : List Operand) (l : Locals) → Fine c l → (fs : List Frame) (w : World) (left : ℕ)
       → Reaches p number u at c (At (frame p number u a (OfValue v ∷ ops) l) fs w left) l (pushes p number u OfValue b ops fs) fs (converted p.greatest call operations v w left)
   converted_run [] {a} {b} is {c} v ops l fine fs w left =
       gives p number u at v w left fine
       (subst (λ m. Comes p (At (frame p number u a (OfValue v ∷ ops) l) fs w left) (At (frame p number u m (OfValue v ∷ ops) l) fs w left)) is (stays p _))
   converted_run (operation ∷ more) is {c} v ops l fine fs w left =
-      bound p number u at (answered (calculation (calculated p.greatest operation (v ∷ [])) w) left) _
+      bound p number u at (answered (calculation (comes_to p.greatest operation (v ∷ [])) w) left) _
       (operation_run p number u at there call calls_run c operation is.fst (v ∷ []) ops l fine fs w left)
       (λ m k x w left. converted_run more is.snd x ops m k.fine fs w left)
 
@@ -134,7 +136,7 @@ module _ (p : Program) (number : ℕ) (u : UnitCode) (at : Label → ℕ) (there
         bound p number u at (place_of p.greatest call i.control w left) _ (place_run p number u at there call calls_run c i.control is.fst ops l fine fs w left)
         (λ m k q w left. let h = stay l m k h in bound p number u at (answered (held q w) left) _ (answers p number u at there (λ v. OfValue v ∷ ops) (held q w) is.snd.fst k.fine w left refl)
         (λ n k x w left. let h = stay m n k h in bound p number u at (kept p.greatest call vs step w left) _ (kept_run i.temporary step vs is.snd.snd.fst (OfValue x ∷ ops) n k.fine h fs w left)
-        (λ o k y w left. operation_run p number u at there call calls_run c Add is.snd.snd.snd (y ∷ x ∷ []) ops o k.fine fs w left)))
+        (λ o k y w left. operation_run p number u at there call calls_run c (Operate Add) is.snd.snd.snd (y ∷ x ∷ []) ops o k.fine fs w left)))
 
     limit_run : (limit : Option ℕ) (step target a b : ℕ) → LimitStands u i limit step target a b → Tests (within_limit p.greatest call i limit step vs) a b target
     limit_run None step target a b is l fine h fs w left =
@@ -145,7 +147,7 @@ module _ (p : Program) (number : ℕ) (u : UnitCode) (at : Label → ℕ) (there
         (λ n k x w left. let h = stay m n k h in bound p number u at (kept p.greatest call vs limit w left) _ (kept_run i.temporary limit vs is.snd.snd.fst (OfValue x ∷ []) n k.fine h fs w left)
         (λ o k y w left. let h = stay n o k h in bound p number u at (kept p.greatest call vs step w left) _ (kept_run i.temporary step vs is.snd.snd.snd.fst (OfValue y ∷ OfValue x ∷ []) o k.fine h fs w left)
         (λ r k z w left. bound p number u at (answered (calculation (calculated p.greatest Within (x ∷ y ∷ z ∷ [])) w) left) truth
-        (operation_run p number u at there call calls_run c Within is.snd.snd.snd.snd.fst (z ∷ y ∷ x ∷ []) [] r k.fine fs w left)
+        (operation_run p number u at there call calls_run c (Operate Within) is.snd.snd.snd.snd.fst (z ∷ y ∷ x ∷ []) [] r k.fine fs w left)
         (λ s k v w left. truth_run p number u at there v is.snd.snd.snd.snd.snd s k.fine fs w left)))))
 
     while_holds_run : (e : Option TypedExpression) (target a b : ℕ) → WhileStands u e target a b → Tests (while_holds p.greatest call e) a b target

@@ -8,3 +8,4 @@ pub mod ProgramsGoOn
 pub mod ProgramsSimulate
 pub mod ReachesLemmas
 pub mod StatementsReach
+pub mod StaticsAreSame

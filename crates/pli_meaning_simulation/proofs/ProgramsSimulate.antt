@@ -5,57 +5,29 @@ use Rattle.pli_run.specs.declared.ending.Ending.{Ending}
 use Rattle.pli_base.specs.Name.{Name}
 use Rattle.pli_run.specs.declared.ending.Ending.TheVariants as message
 use Rattle.pli_world.specs.Ends.{RunEnd, Ended, OutOfSteps, told}
-use Rattle.pli_world.specs.World.{World, Answer, Yields, Raises, Wrong, further, nothing, entered, stepped, left_by, height, statics_made}
+use Rattle.pli_world.specs.World.{World, Answer, Yields, Raises, Wrong, nothing, entered, stepped, left_by, height}
 use Rattle.pli_value.specs.Value.{Value}
-use Rattle.pli_program.specs.Program as op
 use Rattle.pli_program.specs.Program.{is_external, UnitCode, Program}
 use Rattle.pli_machine_step.specs.Machine.{Locals, State, Over, Goes, Steps, given, enters, faulty, resume}
-use Rattle.pli_machine_step.specs.Runs.{Outcome, outcome_of, names_of, main_block, main_unit, all_statics_made, start, ProgramRunsTo}
-use Rattle.pli_type_tree.specs.Globals.{global_variable}
-use Rattle.pli_type_tree.specs.TypedTree.{Global, OwnVariable, ExternalVariable, EntryPoint, TypedProcedure, TypedUnit}
+use Rattle.pli_machine_step.specs.Runs.{Outcome, outcome_of, names_of, main_block, main_unit, start, ProgramRunsTo}
+use Rattle.pli_type_tree.specs.TypedTree.{TypedProcedure, TypedUnit}
 use Rattle.pli_meaning_tree.specs.Effects.{Label, Effect, Gives, Jumps, Fails, Spent, Lost, Short, Flow, Next, Returned, and_then, answered, leaving, procedure_end}
 use Rattle.pli_meaning_tree.specs.TreeMeaning.{Calls, head_in, does_list, procedure_run, procedure_in, calls, all_made, main_run, unit_run, run_effect, unit_names, unless_fault, ran}
-use Rattle.pli_meaning_simulation.specs.CodeStands.{Context, EndStands, ProcedureStands, GlobalsStand, UnitStands, UnitsStand}
+use Rattle.pli_meaning_simulation.specs.CodeStands.{Context, EndStands, ProcedureStands, UnitStands, UnitsStand}
 use Rattle.pli_meaning_simulation.specs.laws.Laws.{Simulation, NoFault}
 use Rattle.pli_meaning_simulation.proofs.ReachesLemmas.{Comes, stays, from, flows, Reaches, goes}
 use Rattle.pli_meaning_simulation.proofs.ExpressionsReach.{CallsRun}
 use Rattle.pli_meaning_simulation.proofs.CallsReach.{Found, procedure_there, code, first, body_run, IsThere, unit_there, calls_run}
-
--- the variables that are made once are the same
-further_same : (o : Answer Unit) (f g : Unit → World → Answer Unit) → ((x : Unit) (w : World) → f x w ≡ g x w) → further o f ≡ further o g
-further_same (Yields x w) f g h = h x w
-further_same (Raises e w) f g h = refl
-further_same Wrong f g h = refl
-
-variables_same : (program : List TypedUnit) (xs : List Global) (gs : List op.GlobalCode) → GlobalsStand program xs gs → map op.global_variable gs ≡ map global_variable xs
-variables_same program [] [] stand = refl
-variables_same program [] (g ∷ gs) stand = absurd stand
-variables_same program (x ∷ xs) [] stand = absurd stand
-variables_same program (OwnVariable t ∷ xs) (g ∷ gs) stand =
-    ap (λ g. op.global_variable g ∷ map op.global_variable gs) stand.0 ∙ ap (λ vs. global_variable (OwnVariable t) ∷ vs) (variables_same program xs gs stand.1)
-variables_same program (ExternalVariable name t ∷ xs) (g ∷ gs) stand =
-    ap (λ g. op.global_variable g ∷ map op.global_variable gs) stand.0 ∙ ap (λ vs. global_variable (ExternalVariable name t) ∷ vs) (variables_same program xs gs stand.1)
-variables_same program (EntryPoint name signature ∷ xs) (g ∷ gs) stand =
-    ap (λ g. op.global_variable g ∷ map op.global_variable gs) stand.0.is ∙ ap (λ vs. global_variable (EntryPoint name signature) ∷ vs) (variables_same program xs gs stand.1)
-
-statics_same : (program : List TypedUnit) (at : Label → ℕ) (number : ℕ) (ts : List TypedUnit) (us : List UnitCode) (w : World) → UnitsStand program at number ts us
-    → all_statics_made number us w ≡ all_made number ts w
-statics_same program at number [] [] w stand = refl
-statics_same program at number [] (u ∷ us) w stand = absurd stand
-statics_same program at number (t ∷ ts) [] w stand = absurd stand
-statics_same program at number (t ∷ ts) (u ∷ us) w stand =
-    ap (λ vs. further (statics_made number 0 vs w) (λ _ w. all_statics_made (suc number) us w)) (variables_same program t.globals u.globals stand.0.globals)
-    ∙ further_same (statics_made number 0 (map global_variable t.globals) w) (λ _ w. all_statics_made (suc number) us w) (λ _ w. all_made (suc number) ts w)
-    (λ x w. statics_same program at (suc number) ts us w stand.1)
+use Rattle.pli_meaning_simulation.proofs.StaticsAreSame.{statics_same}
 
 -- the units have the same names
-names_same : (program : List TypedUnit) (at : Label → ℕ) (number : ℕ) (ts : List TypedUnit) (us : List UnitCode) → UnitsStand program at number ts us
+names_same : (program : List TypedUnit) (names : List Name) (at : Label → ℕ) (number : ℕ) (ts : List TypedUnit) (us : List UnitCode) → UnitsStand program names at number ts us
     → map (λ (u : UnitCode). u.name) us ≡ unit_names ts
-names_same program at number [] [] stand = refl
-names_same program at number [] (u ∷ us) stand = absurd stand
-names_same program at number (t ∷ ts) [] stand = absurd stand
-names_same program at number (t ∷ ts) (u ∷ us) stand =
-    ap (λ name. name ∷ map (λ (u : UnitCode). u.name) us) stand.0.names ∙ ap (λ names. t.name ∷ names) (names_same program at (suc number) ts us stand.1)
+names_same program names at number [] [] stand = refl
+names_same program names at number [] (u ∷ us) stand = absurd stand
+names_same program names at number (t ∷ ts) [] stand = absurd stand
+names_same program names at number (t ∷ ts) (u ∷ us) stand =
+    ap (λ name. name ∷ map (λ (u : UnitCode). u.name) us) stand.0.names ∙ ap (λ names. t.name ∷ names) (names_same program names at (suc number) ts us stand.1)
 
 some_is : (a b : Outcome) → Some a ≡ Some b → a ≡ b
 some_is a b e = cc
@@ -133,16 +105,16 @@ module _ (p : Program) where
       main_ends w left false = tt
 
   -- block 0 of the main unit
-  block_ends : (program : List TypedUnit) (at : Label → ℕ) → UnitsStand program at 0 program p.units → (number : ℕ) (u : UnitCode) → slice_get p.units number ≡ Some u
-      → (t : TypedUnit) (stand : UnitStands program at number t u) (level : ℕ) (w : World) (left : ℕ)
+  block_ends : (program : List TypedUnit) (names : List Name) (at : Label → ℕ) → UnitsStand program names at 0 program p.units → (number : ℕ) (u : UnitCode) → slice_get p.units number ≡ Some u
+      → (t : TypedUnit) (stand : UnitStands program names at number t u) (level : ℕ) (w : World) (left : ℕ)
       → Ends (resume (main_block number (slice_get u.blocks 0) w) left) (main_run p.greatest (calls p.greatest program level number t) level number (procedure_in t.procedures 0) w left)
-  block_ends program at all number u there t stand level w left = by (procedure_in t.procedures 0) (procedure_there p number u at t.procedures 0 stand.procedures)
+  block_ends program names at all number u there t stand level w left = by (procedure_in t.procedures 0) (procedure_there p number u at t.procedures 0 stand.procedures)
     where
       call : Calls
       call = calls p.greatest program level number t
 
       run : CallsRun p number u at call
-      run = calls_run p program at all level number u there t stand
+      run = calls_run p program names at all level number u there t stand
 
       by : (o : Option TypedProcedure) → Found p number u at 0 o
           → Ends (resume (main_block number (slice_get u.blocks 0) w) left) (main_run p.greatest call level number o w left)
@@ -157,21 +129,21 @@ module _ (p : Program) where
           (main_ends number u at there call run level f found.1 w left (is_external f.parent && nat_eq f.parameters 0)))
 
   -- the main unit
-  unit_ends : (program : List TypedUnit) (at : Label → ℕ) → UnitsStand program at 0 program p.units → (o : Option TypedUnit) (number : ℕ) → IsThere program at number o p.units number → (level : ℕ) (w : World) (left : ℕ)
+  unit_ends : (program : List TypedUnit) (names : List Name) (at : Label → ℕ) → UnitsStand program names at 0 program p.units → (o : Option TypedUnit) (number : ℕ) → IsThere program names at number o p.units number → (level : ℕ) (w : World) (left : ℕ)
       → Ends (resume (main_unit number (slice_get p.units number) w) left) (unit_run p.greatest (calls p.greatest program level) level number o w left)
-  unit_ends program at all None number is level w left = tt
-  unit_ends program at all (Some t) number is level w left =
+  unit_ends program names at all None number is level w left = tt
+  unit_ends program names at all (Some t) number is level w left =
       subst (λ x. Ends (resume (main_unit number x w) left) (unit_run p.greatest (calls p.greatest program level) level number (Some t) w left)) (sym is.1)
-      (block_ends program at all number is.0 is.1 t is.2 level w left)
+      (block_ends program names at all number is.0 is.1 t is.2 level w left)
 
   -- behind the variables that are made once
-  program_ends : (o : Answer Unit) (units : List TypedUnit) (at : Label → ℕ) → UnitsStand units at 0 units p.units → (steps : ℕ)
+  program_ends : (o : Answer Unit) (units : List TypedUnit) (names : List Name) (at : Label → ℕ) → UnitsStand units names at 0 units p.units → (steps : ℕ)
       → Ends (resume (given nothing o (λ _ w. main_unit p.main (slice_get p.units p.main) w)) steps)
       (and_then (answered o steps) (λ _ w left. unit_run p.greatest (calls p.greatest units (suc steps)) (suc steps) p.main (slice_get units p.main) w left))
-  program_ends (Yields x w) units at stand steps =
-      unit_ends units at stand (slice_get units p.main) p.main (unit_there units at units p.units p.main stand) (suc steps) w steps
-  program_ends (Raises e w) units at stand steps = stays p _
-  program_ends Wrong units at stand steps = tt
+  program_ends (Yields x w) units names at stand steps =
+      unit_ends units names at stand (slice_get units p.main) p.main (unit_there units names at units p.units p.main stand) (suc steps) w steps
+  program_ends (Raises e w) units names at stand steps = stays p _
+  program_ends Wrong units names at stand steps = tt
 
 -- from the end to which a run leads
 outcome_from : (p : Program) (n : ℕ) (e : RunEnd) (w : World) (outcome : Outcome) → Comes p (start p n) (Over e w) → Some (outcome_of (names_of p) e w) ≡ Some outcome → ProgramRunsTo p n outcome
@@ -196,13 +168,13 @@ runs_from p n Short outcome e r = absurd (cc)
 
 pub simulation : Simulation
 simulation t p stand n o e =
-    runs_from p n (run_effect t n) o (subst (λ names. ran names (run_effect t n) ≡ Some o) (sym (names_same t.units stand.at 0 t.units p.units stand.units)) e)
-    (subst (λ g. Ends p (start p n) (and_then (answered (all_made 0 t.units nothing) n) (λ _ w left. unit_run g (calls g t.units (suc n)) (suc n) t.main (slice_get t.units t.main) w left))) stand.greatest
-    (subst (λ m. Ends p (start p n) (and_then (answered (all_made 0 t.units nothing) n) (λ _ w left. unit_run p.greatest (calls p.greatest t.units (suc n)) (suc n) m (slice_get t.units m) w left))) stand.main
+    runs_from p n (run_effect t n) o (subst (λ known. ran known (run_effect t n) ≡ Some o) (sym (names_same t.units stand.names stand.at 0 t.units p.units stand.units)) e)
+    (subst (λ g. Ends p (start p n) (and_then (answered (all_made 0 t.units [] nothing) n) (λ _ w left. unit_run g (calls g t.units (suc n)) (suc n) t.main (slice_get t.units t.main) w left))) stand.greatest
+    (subst (λ m. Ends p (start p n) (and_then (answered (all_made 0 t.units [] nothing) n) (λ _ w left. unit_run p.greatest (calls p.greatest t.units (suc n)) (suc n) m (slice_get t.units m) w left))) stand.main
     (subst (λ a. Ends p (resume (given nothing a (λ _ w. main_unit p.main (slice_get p.units p.main) w)) n)
-    (and_then (answered (all_made 0 t.units nothing) n) (λ _ w left. unit_run p.greatest (calls p.greatest t.units (suc n)) (suc n) p.main (slice_get t.units p.main) w left)))
-    (sym (statics_same t.units stand.at 0 t.units p.units nothing stand.units))
-    (program_ends p (all_made 0 t.units nothing) t.units stand.at stand.units n))))
+    (and_then (answered (all_made 0 t.units [] nothing) n) (λ _ w left. unit_run p.greatest (calls p.greatest t.units (suc n)) (suc n) p.main (slice_get t.units p.main) w left)))
+    (sym (statics_same stand.names t.units stand.at 0 t.units p.units stand.units [] [] tt nothing))
+    (program_ends p (all_made 0 t.units [] nothing) t.units stand.names stand.at stand.units n))))
 
 -- no meaning is a fault of the machine
 abbrev is_fault : Ending → Bool

@@ -1,25 +1,27 @@
 -- The code of typed units, as a relation: which instructions stand from a place up to a place for each form.
 -- The inner places are parts of it.
 use Rattle.std.specs.Prelude.{◌≡◌, ℕ, suc, ◌+◌, ◌-◌, ◌≤◌, Bool, true, false, Option, Some, None}
-use Rattle.std.specs.Prelude.{List, [], ◌∷◌, map, slice_get}
+use Rattle.std.specs.Prelude.{List, [], ◌∷◌, map, position, slice_get}
 use Rattle.pli_base.specs.Name.{Name}
+use Rattle.pli_base.specs.Words.{same_name}
 use Rattle.pli_run.specs.declared.ending.RunError.TheVariants.{NoReturnedValue}
 use Rattle.pli_program.specs.Program as op
 use Rattle.pli_program.specs.Program.{Instruction, BlockKind, Procedure, BeginBlock, Block, UnitCode}
 use Rattle.pli_program.specs.Program.{Program}
-use Rattle.pli_operation.specs.Operations.{Operation, Add, Within}
+use Rattle.pli_operation.specs.declared.operation.Operation.TheVariants.{Add, Within}
 use Rattle.pli_type_tree.specs.Iterations.{kept_by, temporaries_of, limit_number, step_number, is_iterated}
-use Rattle.pli_type_tree.specs.Templates.{variable_of}
-use Rattle.pli_type_tree.specs.TypedTree.{Root, InSlot, OfProgram, TypedExpression, Literal, Held, Calculated}
-use Rattle.pli_type_tree.specs.TypedTree.{Called, TypedReference, Whole, Part, Operands, NoOperand}
-use Rattle.pli_type_tree.specs.TypedTree.{OperandThen, Subscripts, NoSubscript, SubscriptThen, TypedArguments}
-use Rattle.pli_type_tree.specs.TypedTree.{NoArgument, ByPlace, ByDummy, BlockHead, TypedStatement, Statement}
-use Rattle.pli_type_tree.specs.TypedTree.{Form, Null, Assign, AssignAggregate, Put, If, Begin, Group, While}
-use Rattle.pli_type_tree.specs.TypedTree.{Iterate, TypedRange, Once, ToBy, ByTo, Repeated, Iteration}
-use Rattle.pli_type_tree.specs.TypedTree.{Call, Goto, Return, ReturnValue, Stop, OtherWise, NoElse, Else}
-use Rattle.pli_type_tree.specs.TypedTree.{TypedStatements, NoStatement, StatementThen, TypedProcedure}
-use Rattle.pli_type_tree.specs.TypedTree.{Callee, OfBlock, OfEntry, Global, OwnVariable, ExternalVariable}
-use Rattle.pli_type_tree.specs.TypedTree.{EntryPoint, TypedUnit}
+use Rattle.pli_type_tree.specs.Templates.{Template, variable_of}
+use Rattle.pli_type_tree.specs.TypedTree.{TypedOperation, Fit, Operate, Root, InSlot, OfProgram}
+use Rattle.pli_type_tree.specs.TypedTree.{TypedExpression, Literal, Held, Calculated, Called, TypedReference}
+use Rattle.pli_type_tree.specs.TypedTree.{Whole, Part, Operands, NoOperand, OperandThen, Subscripts}
+use Rattle.pli_type_tree.specs.TypedTree.{NoSubscript, SubscriptThen, TypedArguments, NoArgument, ByPlace}
+use Rattle.pli_type_tree.specs.TypedTree.{ByDummy, BlockHead, TypedStatement, Statement, Form, Null, Assign}
+use Rattle.pli_type_tree.specs.TypedTree.{AssignAggregate, Put, If, Begin, Group, While, Iterate, TypedRange}
+use Rattle.pli_type_tree.specs.TypedTree.{Once, ToBy, ByTo, Repeated, Iteration, Call, Goto, Return}
+use Rattle.pli_type_tree.specs.TypedTree.{ReturnValue, Stop, OtherWise, NoElse, Else, TypedStatements}
+use Rattle.pli_type_tree.specs.TypedTree.{NoStatement, StatementThen, TypedProcedure, Callee, OfBlock}
+use Rattle.pli_type_tree.specs.TypedTree.{OfEntry, Global, OwnVariable, ExternalVariable, EntryPoint}
+use Rattle.pli_type_tree.specs.TypedTree.{TypedUnit}
 use Rattle.pli_meaning_tree.specs.Effects.{Label}
 use Rattle.pli_meaning_tree.specs.TreeMeaning.{TypedProgram, number_of, unit_named}
 
@@ -73,6 +75,11 @@ abbrev pub call_of : Callee → (arguments : ℕ) → Instruction
 call_of (OfBlock block) arguments = op.Call block arguments
 call_of (OfEntry number) arguments = op.CallExternal number arguments
 
+-- that of an operation
+abbrev pub operation_code : TypedOperation → Instruction
+operation_code (Fit description) = op.Fit description
+operation_code (Operate operation) = op.Operate operation
+
 -- the block of a head
 abbrev pub block_of : BlockKind → (parent : Option ℕ) → (parameters : ℕ) → BlockHead → (entry : ℕ) → Block
 block_of kind parent parameters head entry =
@@ -109,7 +116,8 @@ module _ (u : UnitCode) where
     pub ValueStands : TypedExpression → Span
     ValueStands (Literal v) = Is (op.Constant v)
     ValueStands (Held r) = Then (PlaceStands r) (Is op.Load)
-    ValueStands (Calculated operation operands) = Then (OperandsStand operands) (Is (op.Operate operation))
+    ValueStands (Calculated operation operands) =
+        Then (OperandsStand operands) (Is (operation_code operation))
     ValueStands (Called callee arguments) =
         Then (ArgumentsStand arguments) (Is (call_of callee (arguments_in arguments)))
 
@@ -189,9 +197,9 @@ module _ (u : UnitCode) where
       Then (ValueStands e) (Then (Is (op.SetTemporary temporary)) (KeepsStand (suc temporary) es))
 
   -- one operation after the other
-  abbrev pub ConversionStands : List Operation → Span
+  abbrev pub ConversionStands : List TypedOperation → Span
   ConversionStands [] = Empty
-  ConversionStands (operation ∷ more) = Then (Is (op.Operate operation)) (ConversionStands more)
+  ConversionStands (operation ∷ more) = Then (Is (operation_code operation)) (ConversionStands more)
 
   -- the control variable gets a value
   abbrev pub SetsStand : Iteration → (value : Span) → Span
@@ -331,44 +339,50 @@ module _ (u : UnitCode) where
     ProceduresStand [] = Unit
     ProceduresStand (f ∷ fs) = ProcedureStands f × ProceduresStand fs
 
+-- an external variable of this name, made of this template, has the number of the name among these
+pub record ExternalStands (names : List Name) (name : Name) (t : Template) (g : op.GlobalCode) : Type 0 where
+  pub external : ℕ
+  pub is : g ≡ op.ExternalVariable external (variable_of t)
+  pub named : position (same_name name) names ≡ Some external
+
 -- an entry of this name has the number of its unit in the program
 pub record EntryStands (program : List TypedUnit) (name : Name) (g : op.GlobalCode) : Type 0 where
   pub unit : ℕ
   pub is : g ≡ op.EntryPoint unit
   pub named : unit_named program name ≡ Some unit
 
--- a global, in a program of these units
-abbrev pub GlobalStands : (program : List TypedUnit) → Global → op.GlobalCode → Type 0
-GlobalStands program (OwnVariable t) g = g ≡ op.OwnVariable (variable_of t)
-GlobalStands program (ExternalVariable name t) g = g ≡ op.ExternalVariable name (variable_of t)
-GlobalStands program (EntryPoint name signature) g = EntryStands program name g
+-- in a program of these units, whose external variables have these names
+module _ (program : List TypedUnit) (externals : List Name) where
+  -- a global
+  abbrev pub GlobalStands : Global → op.GlobalCode → Type 0
+  GlobalStands (OwnVariable t) g = g ≡ op.OwnVariable (variable_of t)
+  GlobalStands (ExternalVariable name t) g = ExternalStands externals name t g
+  GlobalStands (EntryPoint name signature) g = EntryStands program name g
 
--- globals, one for one
-abbrev pub GlobalsStand : (program : List TypedUnit) → List Global → List op.GlobalCode → Type 0
-GlobalsStand program [] [] = Unit
-GlobalsStand program (x ∷ xs) (g ∷ gs) = GlobalStands program x g × GlobalsStand program xs gs
-GlobalsStand program [] (g ∷ gs) = ⊥
-GlobalsStand program (x ∷ xs) [] = ⊥
+  -- globals, one for one
+  abbrev pub GlobalsStand : List Global → List op.GlobalCode → Type 0
+  GlobalsStand [] [] = Unit
+  GlobalsStand (x ∷ xs) (g ∷ gs) = GlobalStands x g × GlobalsStand xs gs
+  GlobalsStand [] (g ∷ gs) = ⊥
+  GlobalsStand (x ∷ xs) [] = ⊥
 
--- the code of the unit of a number, where labels stand at these places
-pub record UnitStands (program : List TypedUnit) (at : Label → ℕ) (number : ℕ) (t : TypedUnit) (u : UnitCode)
-    : Type 0 where
-  pub names : u.name ≡ t.name
-  pub globals : GlobalsStand program t.globals u.globals
-  pub procedures : ProceduresStand u number at t.procedures
+  -- the code of the unit of a number, where labels stand at these places
+  pub record UnitStands (at : Label → ℕ) (number : ℕ) (t : TypedUnit) (u : UnitCode) : Type 0 where
+    pub names : u.name ≡ t.name
+    pub globals : GlobalsStand t.globals u.globals
+    pub procedures : ProceduresStand u number at t.procedures
 
--- the code of units, numbered from one on, one for one
-abbrev pub UnitsStand : (program : List TypedUnit) → (at : Label → ℕ) → (number : ℕ) → List TypedUnit
-    → List UnitCode → Type 0
-UnitsStand program at number [] [] = Unit
-UnitsStand program at number (t ∷ ts) (u ∷ us) =
-    UnitStands program at number t u × UnitsStand program at (suc number) ts us
-UnitsStand program at number [] (u ∷ us) = ⊥
-UnitsStand program at number (t ∷ ts) [] = ⊥
+  -- the code of units, numbered from one on, one for one
+  abbrev pub UnitsStand : (at : Label → ℕ) → (number : ℕ) → List TypedUnit → List UnitCode → Type 0
+  UnitsStand at number [] [] = Unit
+  UnitsStand at number (t ∷ ts) (u ∷ us) = UnitStands at number t u × UnitsStand at (suc number) ts us
+  UnitsStand at number [] (u ∷ us) = ⊥
+  UnitsStand at number (t ∷ ts) [] = ⊥
 
--- the code of a program, and where its labels stand
+-- the code of a program, the names of its external variables, and where its labels stand
 pub record ProgramStands (t : TypedProgram) (p : Program) : Type 0 where
+  pub names : List Name
   pub at : Label → ℕ
-  pub units : UnitsStand t.units at 0 t.units p.units
+  pub units : UnitsStand t.units names at 0 t.units p.units
   pub main : p.main ≡ t.main
   pub greatest : p.greatest ≡ t.greatest

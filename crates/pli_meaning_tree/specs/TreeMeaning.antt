@@ -7,26 +7,29 @@ use Rattle.pli_run.specs.declared.ending.Ending.{Ending}
 use Rattle.pli_run.specs.declared.ending.Ending.TheVariants as message
 use Rattle.pli_program.specs.Program.{is_external}
 use Rattle.pli_machine_step.specs.Runs.{Outcome, outcome_of}
-use Rattle.pli_operation.specs.Operations.{Operation, Add, Within, calculated}
+use Rattle.pli_operation.specs.declared.operation.Operation.TheVariants.{Add, Within}
+use Rattle.pli_operation.specs.Operations.{calculated}
 use Rattle.pli_world.specs.Activations.{Head, nearest_of}
 use Rattle.pli_world.specs.Ends.{RunEnd, Ended, OutOfSteps, told}
 use Rattle.pli_world.specs.Storage.{Place}
-use Rattle.pli_world.specs.World.{World, Answer, Yields, known, further, nothing, height, held, stored}
-use Rattle.pli_world.specs.World.{copied, led_on, subscripted, calculation, entered, height_of, slot_place}
-use Rattle.pli_world.specs.World.{static_place, dummy_of, printed, line_ended, statics_made}
+use Rattle.pli_world.specs.World.{Standing, World, Answer, Yields, known, further, nothing, height, held}
+use Rattle.pli_world.specs.World.{stored, copied, led_on, subscripted, calculation, entered, height_of}
+use Rattle.pli_world.specs.World.{slot_place, static_place, dummy_of, printed, line_ended, statics_made}
 use Rattle.pli_base.specs.Words.{same_name}
 use Rattle.pli_type_tree.specs.Globals.{global_variable}
 use Rattle.pli_type_tree.specs.Iterations.{kept_by, limit_number, step_number, is_iterated}
 use Rattle.pli_type_tree.specs.Templates.{variable_of}
-use Rattle.pli_type_tree.specs.TypedTree.{Root, InSlot, OfProgram, TypedExpression, Literal, Held, Calculated}
-use Rattle.pli_type_tree.specs.TypedTree.{Called, TypedReference, Whole, Part, Operands, NoOperand}
-use Rattle.pli_type_tree.specs.TypedTree.{OperandThen, Subscripts, NoSubscript, SubscriptThen, TypedArguments}
-use Rattle.pli_type_tree.specs.TypedTree.{NoArgument, ByPlace, ByDummy, BlockHead, TypedStatement, Statement}
-use Rattle.pli_type_tree.specs.TypedTree.{Form, Null, Assign, AssignAggregate, Put, If, Begin, Group, While}
-use Rattle.pli_type_tree.specs.TypedTree.{Iterate, TypedRange, Once, ToBy, ByTo, Repeated, Iteration}
-use Rattle.pli_type_tree.specs.TypedTree.{Call, Goto, Return, ReturnValue, Stop, OtherWise, NoElse, Else}
-use Rattle.pli_type_tree.specs.TypedTree.{TypedStatements, NoStatement, StatementThen, TypedProcedure}
-use Rattle.pli_type_tree.specs.TypedTree.{Callee, OfBlock, OfEntry, Global, EntryPoint, TypedUnit}
+use Rattle.pli_type_tree.specs.TypedOperations.{comes_to}
+use Rattle.pli_type_tree.specs.TypedTree.{TypedOperation, Root, InSlot, OfProgram, TypedExpression, Literal}
+use Rattle.pli_type_tree.specs.TypedTree.{Held, Calculated, Called, TypedReference, Whole, Part, Operands}
+use Rattle.pli_type_tree.specs.TypedTree.{NoOperand, OperandThen, Subscripts, NoSubscript, SubscriptThen}
+use Rattle.pli_type_tree.specs.TypedTree.{TypedArguments, NoArgument, ByPlace, ByDummy, BlockHead}
+use Rattle.pli_type_tree.specs.TypedTree.{TypedStatement, Statement, Form, Null, Assign, AssignAggregate, Put}
+use Rattle.pli_type_tree.specs.TypedTree.{If, Begin, Group, While, Iterate, TypedRange, Once, ToBy, ByTo}
+use Rattle.pli_type_tree.specs.TypedTree.{Repeated, Iteration, Call, Goto, Return, ReturnValue, Stop}
+use Rattle.pli_type_tree.specs.TypedTree.{OtherWise, NoElse, Else, TypedStatements, NoStatement}
+use Rattle.pli_type_tree.specs.TypedTree.{StatementThen, TypedProcedure, Callee, OfBlock, OfEntry, Global}
+use Rattle.pli_type_tree.specs.TypedTree.{EntryPoint, TypedUnit}
 use Rattle.pli_value.specs.Conversions.{bit_constant}
 use Rattle.pli_value.specs.Value.{Value, Number, Characters, Bits}
 use Rattle.pli_meaning_tree.specs.Effects.{Label, Effect, Gives, Jumps, Fails, Spent, Lost, Short, Flow}
@@ -88,9 +91,9 @@ module _ (greatest : ℕ) (call : Calls) where
     value_of (Called callee arguments) w left = and_then (called_with callee arguments [] w left) a_value
 
     -- an operation on its operands, which are evaluated from left to right; those before, the last first
-    pub operated : Operation → Operands → (before : List Value) → Doing Value
+    pub operated : TypedOperation → Operands → (before : List Value) → Doing Value
     operated operation NoOperand before w left =
-        answered (calculation (calculated greatest operation (in_order before [])) w) left
+        answered (calculation (comes_to greatest operation (in_order before [])) w) left
     operated operation (OperandThen e more) before w left =
         and_then (value_of e w left) (λ v w left. operated operation more (v ∷ before) w left)
 
@@ -165,10 +168,10 @@ module _ (greatest : ℕ) (call : Calls) where
   kept vs number w left = answered (known (slice_get vs number) w) left
 
   -- a value converted by one operation after another
-  abbrev pub converted : List Operation → Value → Doing Value
+  abbrev pub converted : List TypedOperation → Value → Doing Value
   converted [] v w left = Gives v w left
   converted (operation ∷ more) v w left =
-      and_then (answered (calculation (calculated greatest operation (v ∷ [])) w) left) (converted more)
+      and_then (answered (calculation (comes_to greatest operation (v ∷ [])) w) left) (converted more)
 
   -- the control variable's place, a value, its conversion, the store
   abbrev pub sets : Iteration → Doing Value → Doing Flow
@@ -288,7 +291,8 @@ abbrev pub in_block : Head → (link : Option ℕ) → Doing Flow → Doing Flow
 in_block head None run w left = Lost
 in_block head (Some link) run w left = unless_full (activation_of head link [] run block_end) w left
 
--- statements, in a unit of a number, at a level: what a turn, a jump or a call inside may do is the level below
+-- statements, in a unit of a number, at a level: what a turn, a jump or a call inside may do is the level
+-- below
 module _ (greatest : ℕ) (call : Calls) (unit level : ℕ) where
   abbrev mutual
     -- a statement in a block is a step and what its form says
@@ -380,7 +384,7 @@ unit_named [] name = None
 unit_named (u ∷ us) name =
     if same_name u.procedure name then Some 0 else option_map suc (unit_named us name)
 
--- that of the unit of an entry
+-- the number of the unit whose external procedure an entry names
 abbrev pub entry_unit : List TypedUnit → Option Global → Option ℕ
 entry_unit us (Some (EntryPoint name signature)) = unit_named us name
 entry_unit us g = None
@@ -399,7 +403,7 @@ activates_unit greatest call level unit None places w left = Lost
 activates_unit greatest call level unit (Some u) places w left =
     activates_outer greatest (call unit u) level unit (procedure_in u.procedures 0) places w left
 
--- a call of the one of an entry
+-- a call of the external procedure that an entry names: that of the unit of this number, if there is one
 abbrev pub activates_entry : (greatest : ℕ) → List TypedUnit → (call : (unit : ℕ) → TypedUnit → Calls)
     → (level : ℕ) → (unit : Option ℕ) → List Place → Doing (Option Value)
 activates_entry greatest us call level None places w left = Lost
@@ -422,11 +426,13 @@ calls greatest us (suc level) unit u =
 
 -- programs
 
--- the variables of units, numbered from one on, that are made before the program begins
-abbrev pub all_made : (unit : ℕ) → List TypedUnit → World → Answer Unit
-all_made unit [] w = Yields tt w
-all_made unit (u ∷ us) w =
-    further (statics_made unit 0 (map global_variable u.globals) w) (λ _ w. all_made (suc unit) us w)
+-- the variables of units, numbered from one on, that are made before the program begins, where these external
+-- ones are made already
+abbrev pub all_made : (unit : ℕ) → List TypedUnit → (shared : List (Name × Standing)) → World → Answer Unit
+all_made unit [] shared w = Yields tt w
+all_made unit (u ∷ us) shared w =
+    further (statics_made same_name unit 0 (map global_variable u.globals) shared w)
+    (λ shared w. all_made (suc unit) us shared w)
 
 -- the main procedure has no parameters and stands in no block
 abbrev pub main_run : (greatest : ℕ) → Calls → (level unit : ℕ) → Option TypedProcedure
@@ -447,7 +453,7 @@ unit_run greatest call level unit (Some u) w left =
 -- and then block 0 of the main unit
 abbrev pub run_effect : TypedProgram → (steps : ℕ) → Effect (Option Value)
 run_effect p n =
-    and_then (answered (all_made 0 p.units nothing) n)
+    and_then (answered (all_made 0 p.units [] nothing) n)
     (λ _ w left.
     unit_run p.greatest (calls p.greatest p.units (suc n)) (suc n) p.main (slice_get p.units p.main) w left)
 

@@ -2,10 +2,9 @@
 use Rattle.std.specs.Prelude.{◌≡◌, ℕ, zero, suc, nat_eq, Bool, true, false, pos, Option, Some, None, List, [], ◌∷◌, slice_get, codes, if◌then◌else◌, refl}
 use Rattle.std.proofs.Common.{arith, sym, ap, ◌∙◌, subst, inl}
 use Rattle.std.proofs.lemmas.Bool.{eqb-true, leb-true}
-use Rattle.pli_operation.specs.Operations.{Fit}
 use Rattle.pli_base.specs.Name.{Name}
 use Rattle.pli_type_tree.specs.Templates.{Template}
-use Rattle.pli_type_tree.specs.TypedTree.{TypedProcedure, TypedUnit, Held, Signature, Global, ExternalVariable, EntryPoint}
+use Rattle.pli_type_tree.specs.TypedTree.{Fit, TypedProcedure, TypedUnit, Held, Signature, Global, ExternalVariable, EntryPoint}
 use Rattle.pli_type_tree.specs.ValueTypes.{OfCharacters, OfBits, Numbers}
 use Rattle.pli_type_tree.specs.WellTyped.{KnownProcedure, TypingContext, IsTyped, IsString, IsValueFor, Convert, AreTypedStatements}
 use Rattle.pli_meaning_tree.specs.TreeMeaning.{procedure_in, unit_named}

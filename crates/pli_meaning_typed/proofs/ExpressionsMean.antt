@@ -8,14 +8,15 @@ use Rattle.std.proofs.Common.{pow_mono, lt_of_lt_of_le}
 use Rattle.pli_run.specs.declared.ending.RunError.TheVariants.{SubscriptRange, FixedOverflow, ZeroDivide, StringRange}
 use Rattle.pli_map.specs.Description.{Description, FixedBinary, Character, Varying, Bit}
 use Rattle.pli_map.specs.Scalars.{first_scalar, is_scalar}
-use Rattle.pli_operation.specs.Operations.{Operation, Calculation, Calculates, RaisesCondition, OutOfString, Misfits, calculated}
+use Rattle.pli_operation.specs.Operations.{Calculation, Calculates, RaisesCondition, OutOfString, Misfits}
 use Rattle.pli_world.specs.Storage.{Generation, Place, field_of, generation_in, offset_limit}
 use Rattle.pli_map.specs.Values.{holds}
 use Rattle.pli_world.specs.World.{World, Answer, Yields, Raises, Wrong, held, led_on, slot_place, static_place, calculation, dummy_of}
 use Rattle.pli_world.specs.laws.OperationLaws.{led_near}
 use Rattle.pli_value.specs.Value.{Value, Number, Characters, Bits}
 use Rattle.pli_value.specs.declared.number.Raised.TheVariants as raised
-use Rattle.pli_type_tree.specs.TypedTree.{Root, InSlot, OfProgram, Callee, Global, TypedUnit, Stride, TypedExpression, Literal, Held, Calculated, Called, TypedReference}
+use Rattle.pli_type_tree.specs.TypedOperations.{comes_to}
+use Rattle.pli_type_tree.specs.TypedTree.{TypedOperation, Root, InSlot, OfProgram, Callee, Global, TypedUnit, Stride, TypedExpression, Literal, Held, Calculated, Called, TypedReference}
 use Rattle.pli_type_tree.specs.TypedTree.{Whole, Part, Operands, NoOperand, OperandThen, Subscripts, NoSubscript, SubscriptThen}
 use Rattle.pli_type_tree.specs.TypedTree.{TypedArguments, NoArgument, ByPlace, ByDummy}
 use Rattle.pli_type_tree.specs.ValueTypes.{OfCharacters, OfBits, ValueType, Numbers, Strings, type_held, IsOf, AreOf, IsWithin, IsHeldBy, Operates}
@@ -248,12 +249,12 @@ module _ (units : List TypedUnit) (greatest level : ℕ) (call : Calls) (unit : 
   calculation_answers t OutOfString w sound h = error_named units x ss w StringRange sound
   calculation_answers t Misfits w sound h = absurd h
 
-  pub calculated_means : (operation : Operation) (ts : List ValueType) (t : ValueType) (vs : List Value)
+  pub calculated_means : (operation : TypedOperation) (ts : List ValueType) (t : ValueType) (vs : List Value)
       → Operates greatest operation ts t → AreOf ts vs → (w : World) (left : ℕ) → Sound w
-      → Here left w (OfType t) (answered (calculation (calculated greatest operation vs) w) left)
+      → Here left w (OfType t) (answered (calculation (comes_to greatest operation vs) w) left)
   calculated_means operation ts t vs fits are w left sound =
-      answer_means units (OfType t) level left known (x ∷ ss) w (calculation (calculated greatest operation vs) w)
-      (calculation_answers t (calculated greatest operation vs) w sound (operated_fits greatest operation ts t vs fits are))
+      answer_means units (OfType t) level left known (x ∷ ss) w (calculation (comes_to greatest operation vs) w)
+      (calculation_answers t (comes_to greatest operation vs) w sound (operated_fits greatest operation ts t vs fits are))
 
   -- a subscript
   abbrev OnWay : Description → ℕ → Description → Place → World → Type 0
@@ -320,7 +321,7 @@ module _ (units : List TypedUnit) (greatest level : ℕ) (call : Calls) (unit : 
         (called_means arguments typed.0 callee typed.0 (Some typed.1) [] [] typed.3 refl typed.2 w left sound tt)
         (λ v w l is sound later. returned_means t typed.1 (Some typed.1) v w l refl typed.4 sound is)
 
-    operated_means : (operands : Operands) (ts : List ValueType) (operation : Operation) (before : List Value) (done : List ValueType) (t : ValueType)
+    operated_means : (operands : Operands) (ts : List ValueType) (operation : TypedOperation) (before : List Value) (done : List ValueType) (t : ValueType)
         → AreTyped greatest s operands ts → AreOf done before → Operates greatest operation (in_order done ts) t
         → (w : World) (left : ℕ) → Sound w → Here left w (OfType t) (operated greatest call operation operands before w left)
     operated_means NoOperand ts operation before done t typed are fits w left sound =

@@ -4,11 +4,13 @@ use Rattle.std.specs.Prelude.{List, [], ◌∷◌, ◌++◌, slice_get, refl}
 use Rattle.std.proofs.Common.{arith, sym, ap, subst, append_assoc}
 use Rattle.pli_map.specs.Description.{Description}
 use Rattle.pli_map.specs.Values.{holds}
-use Rattle.pli_operation.specs.Operations.{Operation, Add, Within, calculated}
+use Rattle.pli_operation.specs.declared.operation.Operation.TheVariants.{Add, Within}
+use Rattle.pli_operation.specs.Operations.{calculated}
 use Rattle.pli_world.specs.World.{World, known as looked_up, held, stored, calculation, at_statement}
 use Rattle.pli_value.specs.Value.{Value}
 use Rattle.pli_type_tree.specs.Iterations.{kept_by, limit_number, step_number, is_iterated}
-use Rattle.pli_type_tree.specs.TypedTree.{TypedUnit, TypedExpression, TypedRange, Once, ToBy, ByTo, Repeated, Iteration}
+use Rattle.pli_type_tree.specs.TypedOperations.{comes_to}
+use Rattle.pli_type_tree.specs.TypedTree.{TypedOperation, Operate, TypedUnit, TypedExpression, TypedRange, Once, ToBy, ByTo, Repeated, Iteration}
 use Rattle.pli_type_tree.specs.ValueTypes.{ValueType, Numbers, Strings, OfBits, type_held, IsOf, AreOf, Operates}
 use Rattle.pli_type_tree.specs.WellTyped.{TypingContext, IsTyped, IsPlaced, IsValueFor, Convert, Counts, IsRange, IsPossibleCondition, IsIteration}
 use Rattle.pli_map.specs.Scalars.{scalars_of}
@@ -41,7 +43,7 @@ no_more [] = refl
 no_more (t ∷ ts) = ap (λ ts. t ∷ ts) (no_more ts)
 
 -- what is converted to is a scalar
-converts_scalar : (greatest : ℕ) (operations : List Operation) (t : ValueType) (d : Description) → Convert greatest operations t d → scalars_of d ≡ d ∷ []
+converts_scalar : (greatest : ℕ) (operations : List TypedOperation) (t : ValueType) (d : Description) → Convert greatest operations t d → scalars_of d ≡ d ∷ []
 converts_scalar n [] t d c = (one_scalar d c.0 c.1).1
 converts_scalar n (operation ∷ more) t d c = converts_scalar n more c.0 d c.2
 
@@ -63,20 +65,20 @@ module _ (greatest : ℕ) (s : TypingContext) where
   HasLimit d ts None step = Unit {0}
   HasLimit d ts (Some limit) step = ((q : ℕ) × (type_held d ≡ Some (Numbers q))) × IsNumbered ts limit × IsNumbered ts step
 
-  abbrev Advances : List Operation → Description → List ValueType → TypedRange → Type 0
+  abbrev Advances : List TypedOperation → Description → List ValueType → TypedRange → Type 0
   Advances conversion d ts Once = Unit {0}
   Advances conversion d ts (ToBy to by) = Counts greatest conversion d × IsNumbered ts 2
   Advances conversion d ts (ByTo by to) = Counts greatest conversion d × IsNumbered ts 1
   Advances conversion d ts (Repeated next) = IsValueFor greatest s d next
 
   -- what is kept behind the start is of types that its tests and steps take
-  record IsKept (conversion : List Operation) (d : Description) (first : ValueType) (range : TypedRange) : Type 0 where
+  record IsKept (conversion : List TypedOperation) (d : Description) (first : ValueType) (range : TypedRange) : Type 0 where
     types : List ValueType
     valued : AreValued (kept_by range) types
     limit : HasLimit d (first ∷ types) (limit_number range) (step_number range)
     step : Advances conversion d (first ∷ types) range
 
-  is_kept : (conversion : List Operation) (d : Description) (first : ValueType) (range : TypedRange) → IsRange greatest s conversion d range
+  is_kept : (conversion : List TypedOperation) (d : Description) (first : ValueType) (range : TypedRange) → IsRange greatest s conversion d range
       → IsKept conversion d first range
   is_kept conversion d first Once h = record { types = []; valued = tt; limit = tt; step = tt }
   is_kept conversion d first (ToBy to None) h =
@@ -129,8 +131,8 @@ module _ (units : List TypedUnit) (greatest level : ℕ) (call : Calls) (unit : 
   place_here : (i : Iteration) (d : Description) → IsPlaced greatest s i.control d → Does (AtPlace d) (place_of greatest call i.control)
   place_here i d placed w left sound = place units greatest level call unit s known x ss block fits calls i.control d placed w left sound
 
-  operation_here : (operation : Operation) (ts : List ValueType) (t : ValueType) (vs : List Value)
-      → Operates greatest operation ts t → AreOf ts vs → Does (OfType t) (λ w left. answered (calculation (calculated greatest operation vs) w) left)
+  operation_here : (operation : TypedOperation) (ts : List ValueType) (t : ValueType) (vs : List Value)
+      → Operates greatest operation ts t → AreOf ts vs → Does (OfType t) (λ w left. answered (calculation (comes_to greatest operation vs) w) left)
   operation_here operation ts t vs operates are w left sound =
       calculated_means units greatest level call unit s known x ss fits.inside fits.stand fits.below calls operation ts t vs operates are w left sound
 
@@ -142,11 +144,11 @@ module _ (units : List TypedUnit) (greatest level : ℕ) (call : Calls) (unit : 
       subst (λ o. Here left w (OfType t) (answered (looked_up o w) left)) (sym found.1) (omega arith, found.2, sound, later_same w)
 
   -- a value that is converted
-  converted_means : (operations : List Operation) (t : ValueType) (d : Description) → Convert greatest operations t d
+  converted_means : (operations : List TypedOperation) (t : ValueType) (d : Description) → Convert greatest operations t d
       → (v : Value) → IsOf t v → Does (HeldBy d) (converted greatest call operations v)
   converted_means [] t d c v is w left sound = (omega arith, narrow_held d t v c is, sound, later_same w)
   converted_means (operation ∷ more) t d c v is w left sound =
-      next_here (OfType c.0) (HeldBy d) left w (answered (calculation (calculated greatest operation (v ∷ [])) w) left) _
+      next_here (OfType c.0) (HeldBy d) left w (answered (calculation (comes_to greatest operation (v ∷ [])) w) left) _
       (operation_here operation (t ∷ []) c.0 (v ∷ []) c.1 (is, tt) w left sound)
       (λ y w l is sound later. converted_means more c.0 d c.2 y is w l sound)
 
@@ -175,7 +177,7 @@ module _ (units : List TypedUnit) (greatest level : ℕ) (call : Calls) (unit : 
       (held_means units greatest level call unit s known x ss fits.inside fits.stand fits.below calls d (Numbers q) p e v l sound good)
       (λ y u l is sound later. next_here (OfType (Numbers r)) (OfType (sum_type q r)) l u (kept greatest call vs step u l) _
       (kept_means ts vs are step (Numbers r) f u l sound)
-      (λ z o l is2 sound later. operation_here Add (Numbers q ∷ Numbers r ∷ []) (sum_type q r) (y ∷ z ∷ []) (q, r, refl, refl) (is, (is2, tt)) o l sound)))
+      (λ z o l is2 sound later. operation_here (Operate Add) (Numbers q ∷ Numbers r ∷ []) (sum_type q r) (y ∷ z ∷ []) (q, r, refl, refl) (is, (is2, tt)) o l sound)))
 
   -- the tests before a turn
   limit_means : (i : Iteration) (d : Description) → IsPlaced greatest s i.control d → (ts : List ValueType) (vs : List Value) → AreOf ts vs
@@ -193,7 +195,7 @@ module _ (units : List TypedUnit) (greatest level : ℕ) (call : Calls) (unit : 
       (λ z o l is2 sound later. next_here (OfType (Numbers c)) Anything l o (kept greatest call vs step o l) _
       (kept_means ts vs are step (Numbers c) h.2.1 o l sound)
       (λ a r l is3 sound later. next_here (OfType (Strings OfBits 1 1)) Anything l r (answered (calculation (calculated greatest Within (y ∷ z ∷ a ∷ [])) r) l) truth
-      (operation_here Within (Numbers q ∷ Numbers b ∷ Numbers c ∷ []) (Strings OfBits 1 1) (y ∷ z ∷ a ∷ []) ((q, b, c, refl), refl) (is, (is2, (is3, tt))) r l sound)
+      (operation_here (Operate Within) (Numbers q ∷ Numbers b ∷ Numbers c ∷ []) (Strings OfBits 1 1) (y ∷ z ∷ a ∷ []) ((q, b, c, refl), refl) (is, (is2, (is3, tt))) r l sound)
       (λ v w l is sound later. truth_means units greatest level call unit s known x ss block fits calls 1 1 v w l is sound)))))
 
   while_means : (e : Option TypedExpression) → IsPossibleCondition greatest s e → Does Anything (while_holds greatest call e)

@@ -17,18 +17,18 @@ use Rattle.std.specs.Int.{int_rem_euclid}
 use Rattle.std.specs.List.{starts_with}
 use Rattle.std.specs.Prelude.{nat_eq, slice_index_or, ◌&&◌, ◌||◌}
 use Rattle.pli_map.specs.Description.{Description, FixedBinary, Character, Varying, Bit}
-use Rattle.pli_operation.specs.Operations.{Operation, Negate, Absolute, Sign, Not, LengthOf, FromBits, ToCharacters}
-use Rattle.pli_operation.specs.Operations.{Fit, Add, Subtract, Multiply, Modulo, Greatest, Least, Divide, Compare}
-use Rattle.pli_operation.specs.Operations.{Concatenate, And, Or, Index, Rest, Substring, Within, Calculation, Calculates}
-use Rattle.pli_operation.specs.Operations.{RaisesCondition, OutOfString, Misfits, as_number, as_characters, as_bits}
-use Rattle.pli_operation.specs.Operations.{calculated, in_columns, fitted_to, is_within_limit}
+use Rattle.pli_operation.specs.declared.operation.Operation.{Operation}
+use Rattle.pli_operation.specs.declared.operation.Operation.TheVariants.{Negate, Absolute, Sign, Not, LengthOf, FromBits, ToCharacters, Add, Subtract, Multiply, Modulo, Greatest, Least, Divide, Compare, Concatenate, And, Or, Index, Rest, Substring, Within}
+use Rattle.pli_operation.specs.Operations.{Calculation, Calculates, RaisesCondition, OutOfString, Misfits, as_number, as_characters, as_bits, calculated, in_columns, fitted_to, is_within_limit}
 use Rattle.pli_value.specs.Numbers.{has_digits, within, quotient, remainder, sign_of, greatest_of, least_of}
 use Rattle.pli_value.specs.Strings.{piece, concatenation, first_place, one_behind, index_of, fitted}
 use Rattle.pli_value.specs.Strings.{by_place, conjunction, disjunction, substring, substring_from, part_of, rest_of}
 use Rattle.pli_value.specs.Conversions.{number_characters, bit_character, bit_characters}
 use Rattle.pli_value.specs.declared.number.Raised.TheVariants as raised
 use Rattle.pli_value.specs.Value.{Value, Number, Characters, Bits}
-use Rattle.pli_type_tree.specs.ValueTypes.{StringKind, OfCharacters, OfBits, ValueType, Numbers, Strings, IsOf, AreOf, Operates, longest, length_precision, HaveColumns, type_held, IsFitted, OnNumbers, OnStrings}
+use Rattle.pli_type_tree.specs.TypedOperations.{comes_to}
+use Rattle.pli_type_tree.specs.TypedTree.{TypedOperation, Fit, Operate}
+use Rattle.pli_type_tree.specs.ValueTypes.{StringKind, OfCharacters, OfBits, ValueType, Numbers, Strings, IsOf, AreOf, Computes, Operates, longest, length_precision, HaveColumns, type_held, IsFitted, OnNumbers, OnStrings}
 
 -- what an operation comes to is of a type
 abbrev pub IsCalculated : ValueType → Calculation → Type 0
@@ -326,66 +326,63 @@ on_string P k a b ts vs e h f g =
 
 module _ (n : ℕ) where
   -- what an operation on operands of its types comes to
-  pub operated_fits : (op : Operation) (ts : List ValueType) (t : ValueType) (vs : List Value) → Operates n op ts t
+  computed_fits : (op : Operation) (ts : List ValueType) (t : ValueType) (vs : List Value) → Computes n op ts t
       → AreOf ts vs → IsCalculated t (calculated n op vs)
   unfolding calculated
-  operated_fits Negate ts t vs h b =
+  computed_fits Negate ts t vs h b =
       on_number n Negate t ts vs h.0 h.1 b
       (λ x hx. subst (λ t. IsOf t (Number (neg_ℤ x))) (sym h.2) (neg_ℤ x, refl, subst (λ m. m < 2 ^ h.0) (sym (negated x)) hx))
-  operated_fits Absolute ts t vs h b =
+  computed_fits Absolute ts t vs h b =
       on_number n Absolute t ts vs h.0 h.1 b
       (λ x hx. subst (λ t. IsOf t (Number (pos (unsigned_abs x)))) (sym h.2) (pos (unsigned_abs x), refl, hx))
-  operated_fits Sign ts t vs h b =
+  computed_fits Sign ts t vs h b =
       on_number n Sign t ts vs h.0 h.1 b
       (λ x hx. subst (λ t. IsOf t (Number (sign_of x))) (sym h.2) (sign_of x, refl, sign_small x))
-  operated_fits Not ts t vs h b =
+  computed_fits Not ts t vs h b =
       on_string (λ vs. IsCalculated t (calculated n Not vs)) h.0 h.1 h.2 ts vs h.3 b (λ s k le1 le2. absurd (not_both (sym h.4.0 ∙ k)))
       (λ s k le1 le2. subst (λ t. IsOf t (Bits (map not s))) (sym h.4.1)
       (map not s, refl, omega (arith, le1, length-map s not), omega (arith, le2, length-map s not)))
-  operated_fits LengthOf ts t vs h b =
+  computed_fits LengthOf ts t vs h b =
       on_string (λ vs. IsCalculated t (calculated n LengthOf vs)) h.0 h.1 h.2 ts vs h.3 b
       (λ s k le1 le2. subst (λ t. IsOf t (Number (pos (length s)))) (sym h.4.1)
       (pos (length s), refl, length_small (length s) (le_trans le2 h.4.0)))
       (λ s k le1 le2. subst (λ t. IsOf t (Number (pos (length s)))) (sym h.4.1)
       (pos (length s), refl, length_small (length s) (le_trans le2 h.4.0)))
-  operated_fits FromBits ts t vs h b =
+  computed_fits FromBits ts t vs h b =
       on_string (λ vs. IsCalculated t (calculated n FromBits vs)) h.0 h.1 h.2 ts vs h.3 b (λ s k le1 le2. absurd (not_both (sym h.4.0 ∙ k)))
       (λ s k le1 le2. subst (λ t. IsOf t (Characters (bit_characters s))) (sym h.4.1)
       (bit_characters s, refl, omega (arith, le1, length-map s bit_character), omega (arith, le2, length-map s bit_character)))
-  operated_fits (ToCharacters width) ts t vs h b =
+  computed_fits (ToCharacters width) ts t vs h b =
       on_number n (ToCharacters width) t ts vs h.0 h.1 b
       (λ x hx. subst (λ t. IsCalculated t (in_columns width x)) (sym h.2.1) (columns_is width h.0 x h.2.0 hx))
-  operated_fits (Fit d) ts t vs h b =
-      one (λ vs. IsCalculated t (calculated n (Fit d) vs)) h.0 vs (subst (λ ts. AreOf ts vs) h.1 b)
-      (λ v hv. fitted_is d h.0 t v h.2 h.3 hv)
-  operated_fits Add ts t vs h b =
+  computed_fits Add ts t vs h b =
       on_numbers n Add t ts vs h.0 h.1 h.2 b
       (λ x y hx hy. subst (λ t. IsCalculated t (as_number (within n (x +ℤ y)))) (sym h.3)
       (within_both n (max h.0 h.1 + 1) (x +ℤ y) (sum_small x y h.0 h.1 hx hy)))
-  operated_fits Subtract ts t vs h b =
+  computed_fits Subtract ts t vs h b =
       on_numbers n Subtract t ts vs h.0 h.1 h.2 b
       (λ x y hx hy. subst (λ t. IsCalculated t (as_number (within n (x -ℤ y)))) (sym h.3)
       (within_both n (max h.0 h.1 + 1) (x -ℤ y)
       (sum_small x (neg_ℤ y) h.0 h.1 hx (subst (λ m. m < 2 ^ h.1) (sym (negated y)) hy))))
-  operated_fits Multiply ts t vs h b =
+  computed_fits Multiply ts t vs h b =
       on_numbers n Multiply t ts vs h.0 h.1 h.2 b
       (λ x y hx hy. subst (λ t. IsCalculated t (as_number (within n (x *ℤ y)))) (sym h.3)
       (within_both n (h.0 + h.1 + 1) (x *ℤ y) (product_small x y h.0 h.1 hx hy)))
-  operated_fits Modulo ts t vs h b =
+  computed_fits Modulo ts t vs h b =
       on_numbers n Modulo t ts vs h.0 h.1 h.2 b
       (λ x y hx hy. subst (λ t. IsCalculated t (as_number (remainder x y))) (sym h.3) (remainder_is x y h.1 hy))
-  operated_fits Greatest ts t vs h b =
+  computed_fits Greatest ts t vs h b =
       on_numbers n Greatest t ts vs h.0 h.1 h.2 b
       (λ x y hx hy. subst (λ t. IsOf t (Number (greatest_of x y))) (sym h.3)
       (greatest_of x y, refl, subst (λ m. unsigned_abs (greatest_of x y) < 2 ^ m) (other_way h.1 h.0) (either_small (int_le x y) y x h.1 h.0 hy hx)))
-  operated_fits Least ts t vs h b =
+  computed_fits Least ts t vs h b =
       on_numbers n Least t ts vs h.0 h.1 h.2 b
       (λ x y hx hy. subst (λ t. IsOf t (Number (least_of x y))) (sym h.3)
       (least_of x y, refl, either_small (int_le x y) x y h.0 h.1 hx hy))
-  operated_fits (Divide precision) ts t vs h b =
+  computed_fits (Divide precision) ts t vs h b =
       on_numbers n (Divide precision) t ts vs h.0 h.1 h.2 b
       (λ x y hx hy. subst (λ t. IsCalculated t (as_number (quotient precision x y))) (sym h.3) (quotient_is precision x y))
-  operated_fits (Compare relation) ts t vs h b = by h.0
+  computed_fits (Compare relation) ts t vs h b = by h.0
     where
       bit : (c : Bool) → IsOf t (Bits (c ∷ []))
       bit c = subst (λ t. IsOf t (Bits (c ∷ []))) (sym h.1) (c ∷ [], refl, omega arith, omega arith)
@@ -395,40 +392,47 @@ module _ (n : ℕ) where
       by (inr g) =
           on_strings (λ vs. IsCalculated t (calculated n (Compare relation) vs)) g.0 g.1 g.2 g.3 g.4 ts vs g.5 b
           (λ s r k le1 le2. bit _) (λ s r k le1 le2. bit _)
-  operated_fits Concatenate ts t vs h b =
+  computed_fits Concatenate ts t vs h b =
       on_strings (λ vs. IsCalculated t (calculated n Concatenate vs)) h.0 h.1 h.2 h.3 h.4 ts vs h.5 b
       (λ s r k le1 le2. subst (λ t. IsCalculated t (as_characters (concatenation s r))) (sym (h.6 ∙ ap (λ k. Strings k 0 longest) k)) (joined_characters s r))
       (λ s r k le1 le2. subst (λ t. IsCalculated t (as_bits (concatenation s r))) (sym (h.6 ∙ ap (λ k. Strings k 0 longest) k)) (joined_bits s r))
-  operated_fits And ts t vs h b =
+  computed_fits And ts t vs h b =
       on_strings (λ vs. IsCalculated t (calculated n And vs)) h.0 h.1 h.2 h.3 h.4 ts vs h.5 b (λ s r k le1 le2. absurd (not_both (sym h.6.0 ∙ k)))
       (λ s r k le1 le2. subst (λ t. IsOf t (Bits (conjunction s r))) (sym h.6.1)
       (conjunction s r, refl, omega arith, both_short (λ a b. a && b) s r h.2 h.4 le1 le2))
-  operated_fits Or ts t vs h b =
+  computed_fits Or ts t vs h b =
       on_strings (λ vs. IsCalculated t (calculated n Or vs)) h.0 h.1 h.2 h.3 h.4 ts vs h.5 b (λ s r k le1 le2. absurd (not_both (sym h.6.0 ∙ k)))
       (λ s r k le1 le2. subst (λ t. IsOf t (Bits (disjunction s r))) (sym h.6.1)
       (disjunction s r, refl, omega arith, both_short (λ a b. a || b) s r h.2 h.4 le1 le2))
-  operated_fits Index ts t vs h b =
+  computed_fits Index ts t vs h b =
       on_strings (λ vs. IsCalculated t (calculated n Index vs)) h.0 h.1 h.2 h.3 h.4 ts vs h.5 b
       (λ s r k le1 le2. subst (λ t. IsOf t (Number (pos (index_of s r)))) (sym h.6.1) (index_is s r (le_trans le1 h.6.0)))
       (λ s r k le1 le2. subst (λ t. IsOf t (Number (pos (index_of (bit_characters s) (bit_characters r))))) (sym h.6.1)
       (index_is (bit_characters s) (bit_characters r) (omega (arith, length-map s bit_character, le1, h.6.0))))
-  operated_fits Rest ts t vs h b =
+  computed_fits Rest ts t vs h b =
       two (λ vs. IsCalculated t (calculated n Rest vs)) (Strings h.0 h.1 h.2) (Numbers h.3) vs (subst (λ ts. AreOf ts vs) h.4 b)
       (λ v w hv hw. number (λ w. IsCalculated t (calculated n Rest (v ∷ w ∷ []))) h.3 w hw
       (λ i hi. string (λ v. IsCalculated t (calculated n Rest (v ∷ Number i ∷ []))) h.0 h.1 h.2 v hv
       (λ s k le1 le2. subst (λ t. IsCalculated t (as_characters (substring_from s i))) (sym (h.5 ∙ ap (λ k. Strings k 0 h.2) k)) (characters_short h.2 s (rest_of (length s) i) le2))
       (λ s k le1 le2. subst (λ t. IsCalculated t (as_bits (substring_from s i))) (sym (h.5 ∙ ap (λ k. Strings k 0 h.2) k)) (bits_short h.2 s (rest_of (length s) i) le2))))
-  operated_fits Substring ts t vs h b =
+  computed_fits Substring ts t vs h b =
       three (λ vs. IsCalculated t (calculated n Substring vs)) (Strings h.0 h.1 h.2) (Numbers h.3) (Numbers h.4) vs (subst (λ ts. AreOf ts vs) h.5 b)
       (λ v w z hv hw hz. number (λ z. IsCalculated t (calculated n Substring (v ∷ w ∷ z ∷ []))) h.4 z hz
       (λ j hj. number (λ w. IsCalculated t (calculated n Substring (v ∷ w ∷ Number j ∷ []))) h.3 w hw
       (λ i hi. string (λ v. IsCalculated t (calculated n Substring (v ∷ Number i ∷ Number j ∷ []))) h.0 h.1 h.2 v hv
       (λ s k le1 le2. subst (λ t. IsCalculated t (as_characters (substring s i j))) (sym (h.6 ∙ ap (λ k. Strings k 0 h.2) k)) (characters_short h.2 s (part_of (length s) i j) le2))
       (λ s k le1 le2. subst (λ t. IsCalculated t (as_bits (substring s i j))) (sym (h.6 ∙ ap (λ k. Strings k 0 h.2) k)) (bits_short h.2 s (part_of (length s) i j) le2)))))
-  operated_fits Within ts t vs h b =
+  computed_fits Within ts t vs h b =
       three (λ vs. IsCalculated t (calculated n Within vs)) (Numbers h.0.0) (Numbers h.0.1) (Numbers h.0.2) vs (subst (λ ts. AreOf ts vs) h.0.3 b)
       (λ v w z hv hw hz. number (λ z. IsCalculated t (calculated n Within (v ∷ w ∷ z ∷ []))) h.0.2 z hz
       (λ j hj. number (λ w. IsCalculated t (calculated n Within (v ∷ w ∷ Number j ∷ []))) h.0.1 w hw
       (λ i hi. number (λ v. IsCalculated t (calculated n Within (v ∷ Number i ∷ Number j ∷ []))) h.0.0 v hv
       (λ x hx. subst (λ t. IsOf t (Bits (is_within_limit x i j ∷ []))) (sym h.1)
       (is_within_limit x i j ∷ [], refl, omega arith, omega arith)))))
+
+  pub operated_fits : (op : TypedOperation) (ts : List ValueType) (t : ValueType) (vs : List Value) → Operates n op ts t
+      → AreOf ts vs → IsCalculated t (comes_to n op vs)
+  operated_fits (Fit d) ts t vs h b =
+      one (λ vs. IsCalculated t (comes_to n (Fit d) vs)) h.0 vs (subst (λ ts. AreOf ts vs) h.1 b)
+      (λ v hv. fitted_is d h.0 t v h.2 h.3 hv)
+  operated_fits (Operate op) ts t vs h b = computed_fits op ts t vs h b

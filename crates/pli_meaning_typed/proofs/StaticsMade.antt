@@ -1,7 +1,8 @@
 -- The variables that are made before the program begins are there, where they have room.
 use Rattle.std.specs.Prelude.{◌≡◌, ℕ, zero, suc, ◌+◌, ◌≤◌, ◌<◌, nat_eq, Bool, true, false, ◌&&◌, ◌||◌, Option, Some, None, List, [], ◌∷◌, ◌++◌}
-use Rattle.std.specs.Prelude.{length, map, slice_get, if◌then◌else◌, refl}
+use Rattle.std.specs.Prelude.{length, map, slice_get, if◌then◌else◌, cond, refl}
 use Rattle.std.specs.Cmp.Lexicographic.{same_text}
+use Rattle.std.specs.Map.{lookup}
 use Rattle.std.proofs.Common.{arith, sym, ap, ◌∙◌, subst, append_assoc, length-append}
 use Rattle.std.proofs.lemmas.Bool.{eqb-true, eq-eqb}
 use Rattle.pli_base.specs.Name.{Name}
@@ -10,7 +11,7 @@ use Rattle.pli_map.specs.Description.{Description}
 use Rattle.pli_map.specs.Sizes.{size_of}
 use Rattle.pli_world.specs.Storage.{Generation, Static as AsStatic, whole, live_bytes, generation_limit}
 use Rattle.pli_map.specs.Variables.{byte_limit}
-use Rattle.pli_world.specs.World.{Standing, Lies, Static, World, Answer, Yields, further, static_in, is_named, external_in, made_once, with_static, statics_made, nothing}
+use Rattle.pli_world.specs.World.{Standing, Lies, Static, World, Answer, Yields, further, static_in, made_once, with_static, statics_made, nothing}
 use Rattle.pli_type_tree.specs.Globals.{global_variable, templates_in, description_of}
 use Rattle.pli_type_tree.specs.Templates.{Template, variable_of}
 use Rattle.pli_type_tree.specs.TypedTree.{Global, OwnVariable, ExternalVariable, EntryPoint, TypedUnit}
@@ -52,8 +53,8 @@ live_more [] g = omega arith
 live_more (x ∷ gs) g = omega (arith, live_more gs g)
 
 -- what is made behind what was made
-further_gives : {A : Type 0} (a : Answer A) (go : A → World → Answer Unit) (y : A) (x z : World) → a ≡ Yields y x → go y x ≡ Yields tt z → further a go ≡ Yields tt z
-further_gives a go y x z e f = ap (λ o. further o go) e ∙ f
+further_gives : {A B : Type 0} (a : Answer A) (go : A → World → Answer B) (y : A) (u : B) (x z : World) → a ≡ Yields y x → go y x ≡ Yields u z → further a go ≡ Yields u z
+further_gives a go y u x z e f = ap (λ o. further o go) e ∙ f
 
 -- the globals of a unit are among all
 
@@ -94,18 +95,19 @@ bytes_in_parts : (ts us : List Template) → bytes_of (ts ++ us) ≡ bytes_of ts
 bytes_in_parts [] us = omega arith
 bytes_in_parts (t ∷ ts) us = omega (arith, bytes_in_parts ts us)
 
--- a static more, by the names of external variables
+-- an external variable more
 abbrev first_of : Option Standing → Option Standing → Option Standing
 first_of (Some p) o = Some p
 first_of None o = o
 
-external_more : (ss : List Static) (s : Static) (name : Name) → external_in (ss ++ s ∷ []) name ≡ first_of (external_in ss name) (if is_named name s.external then Some s.standing else None)
-external_more [] s name = refl
-external_more (t ∷ ss) s name = by (is_named name t.external) (external_more ss s name)
+shared_more : (ss : List (Name × Standing)) (key : Name) (p : Standing) (name : Name)
+    → lookup (same_name name) (ss ++ (key, p) ∷ []) ≡ first_of (lookup (same_name name) ss) (cond (same_name name key) (Some p) None)
+shared_more [] key p name = refl
+shared_more (t ∷ ss) key p name = by (same_name name t.0) (shared_more ss key p name)
   where
-    by : (b : Bool) → external_in (ss ++ s ∷ []) name ≡ first_of (external_in ss name) (if is_named name s.external then Some s.standing else None)
-        → (if b then Some t.standing else external_in (ss ++ s ∷ []) name)
-        ≡ first_of (if b then Some t.standing else external_in ss name) (if is_named name s.external then Some s.standing else None)
+    by : (b : Bool) → lookup (same_name name) (ss ++ (key, p) ∷ []) ≡ first_of (lookup (same_name name) ss) (cond (same_name name key) (Some p) None)
+        → cond b (Some t.1) (lookup (same_name name) (ss ++ (key, p) ∷ []))
+        ≡ first_of (cond b (Some t.1) (lookup (same_name name) ss)) (cond (same_name name key) (Some p) None)
     by true rest = refl
     by false rest = rest
 
@@ -124,8 +126,8 @@ IsMade all w name true None = ⊥
 IsMade all w name false (Some p) = ⊥
 IsMade all w name false None = Unit {0}
 
-abbrev AreExternals : List Global → (before : List Name) → World → Type 0
-AreExternals all before w = (name : Name) → IsMade all w name (is_among name before) (external_in w.statics name)
+abbrev AreExternals : List Global → (before : List Name) → List (Name × Standing) → World → Type 0
+AreExternals all before shared w = (name : Name) → IsMade all w name (is_among name before) (lookup (same_name name) shared)
 
 made_later : (all : List Global) (w v : World) (name : Name) (b : Bool) (o : Option Standing) → IsLater w v → v.lists ≡ w.lists → IsMade all w name b o → IsMade all v name b o
 made_later all w v name true (Some p) later lists h = λ t d. stands_later w v t.description p later lists (h t d)
@@ -144,13 +146,13 @@ record Grown (unit number : ℕ) (gs : List Global) (w v : World) : Type 0 where
       → (p : Standing) × (static_in v.statics unit (number + i) ≡ Some p) × StandsGood v d p
 
 -- a static more, which stands as it should
-module _ (unit number : ℕ) (external : Option Name) (d : Description) (p : Standing) (w x : World) (same : x.statics ≡ w.statics) (lists : x.lists ≡ w.lists) (later : IsLater w x)
+module _ (unit number : ℕ) (d : Description) (p : Standing) (w x : World) (same : x.statics ≡ w.statics) (lists : x.lists ≡ w.lists) (later : IsLater w x)
     (good : StandsGood x d p) where
   abbrev with_one : World
-  with_one = with_static unit number external p x
+  with_one = with_static unit number p x
 
   abbrev new_one : Static
-  new_one = record { unit = unit; number = number; external = external; standing = p }
+  new_one = record { unit = unit; number = number; standing = p }
 
   statics_are : with_one.statics ≡ w.statics ++ new_one ∷ []
   statics_are = ap (λ ss. ss ++ new_one ∷ []) same
@@ -199,25 +201,20 @@ module _ (unit number : ℕ) (external : Option Name) (d : Description) (p : Sta
           ∙ ap (λ b. if b then Some p else None) (unlike k le)) i c e in
           (q.0, subst (λ n. static_in v.statics unit n ≡ Some q.0) z q.1, q.2)
 
-  external_at : (other : Name) → external_in with_one.statics other ≡ first_of (external_in w.statics other) (if is_named other external then Some p else None)
-  external_at other = ap (λ ss. external_in ss other) statics_are ∙ external_more w.statics new_one other
-
 -- the external variables stay, or one of a name is added
-own_externals : (all : List Global) (before : List Name) (unit number : ℕ) (d : Description) (p : Standing) (w x : World) (same : x.statics ≡ w.statics) (lists : x.lists ≡ w.lists)
-    (later : IsLater w x) (good : StandsGood x d p) → AreExternals all before w → AreExternals all before (with_static unit number None p x)
-own_externals all before unit number d p w x same lists later good h other =
-    subst (λ o. IsMade all (with_static unit number None p x) other (is_among other before) o)
-    (sym (external_at unit number None d p w x same lists later good other ∙ first_alone (external_in w.statics other)))
-    (made_later all w (with_static unit number None p x) other (is_among other before) (external_in w.statics other) (one_later unit number None d p w x same lists later good) lists (h other))
+own_externals : (all : List Global) (before : List Name) (shared : List (Name × Standing)) (unit number : ℕ) (d : Description) (p : Standing) (w x : World) (same : x.statics ≡ w.statics)
+    (lists : x.lists ≡ w.lists) (later : IsLater w x) (good : StandsGood x d p) → AreExternals all before shared w → AreExternals all before shared (with_static unit number p x)
+own_externals all before shared unit number d p w x same lists later good h other =
+    made_later all w (with_static unit number p x) other (is_among other before) (lookup (same_name other) shared) (one_later unit number d p w x same lists later good) lists (h other)
 
 named_externals : (all : List Global) → ((i j : ℕ) (name : Name) (one other : Template) → slice_get all i ≡ Some (ExternalVariable name one) → slice_get all j ≡ Some (ExternalVariable name other) → one ≡ other)
-    → (before : List Name) (unit number : ℕ) (name : Name) (t : Template) (p : Standing) (w x : World) (same : x.statics ≡ w.statics) (lists : x.lists ≡ w.lists)
-    (later : IsLater w x) (good : StandsGood x t.description p) → Declared all name t → first_of (external_in w.statics name) (Some p) ≡ Some p
-    → AreExternals all before w → AreExternals all (name ∷ before) (with_static unit number (Some name) p x)
-named_externals all alike before unit number name t p w x same lists later good declared now h other = by (same_name other name) refl
+    → (before : List Name) (shared : List (Name × Standing)) (unit number : ℕ) (name : Name) (t : Template) (p : Standing) (w x : World) (same : x.statics ≡ w.statics)
+    (lists : x.lists ≡ w.lists) (later : IsLater w x) (good : StandsGood x t.description p) → Declared all name t → first_of (lookup (same_name name) shared) (Some p) ≡ Some p
+    → AreExternals all before shared w → AreExternals all (name ∷ before) (shared ++ (name, p) ∷ []) (with_static unit number p x)
+named_externals all alike before shared unit number name t p w x same lists later good declared now h other = by (same_name other name) refl
   where
     v : World
-    v = with_static unit number (Some name) p x
+    v = with_static unit number p x
 
     after : IsLater x v
     after = record { more = omega arith; lived = λ n g lt h. (g, h, refl) }
@@ -225,42 +222,44 @@ named_externals all alike before unit number name t p w x same lists later good 
     this : IsMade all v name true (Some p)
     this = λ one d. subst (λ t. StandsGood v t.description p) (alike declared.0 d.0 name t one declared.1 d.1) (stands_later x v t.description p after refl good)
 
-    by : (b : Bool) → same_name other name ≡ b → IsMade all v other (b || is_among other before) (external_in v.statics other)
+    by : (b : Bool) → same_name other name ≡ b → IsMade all v other (b || is_among other before) (lookup (same_name other) (shared ++ (name, p) ∷ []))
     by true e =
         subst (λ o. IsMade all v other true o)
-        (sym (external_at unit number (Some name) t.description p w x same lists later good other
-        ∙ ap (λ b. first_of (external_in w.statics other) (if b then Some p else None)) e
-        ∙ ap (λ n. first_of (external_in w.statics n) (Some p)) (same_text other name (sym e)) ∙ now))
+        (sym (shared_more shared name p other
+        ∙ ap (λ b. first_of (lookup (same_name other) shared) (cond b (Some p) None)) e
+        ∙ ap (λ n. first_of (lookup (same_name n) shared) (Some p)) (same_text other name (sym e)) ∙ now))
         (subst (λ n. IsMade all v n true (Some p)) (sym (same_text other name (sym e))) this)
     by false e =
         subst (λ o. IsMade all v other (is_among other before) o)
-        (sym (external_at unit number (Some name) t.description p w x same lists later good other
-        ∙ ap (λ b. first_of (external_in w.statics other) (if b then Some p else None)) e ∙ first_alone (external_in w.statics other)))
-        (made_later all w v other (is_among other before) (external_in w.statics other) (one_later unit number (Some name) t.description p w x same lists later good) lists (h other))
+        (sym (shared_more shared name p other
+        ∙ ap (λ b. first_of (lookup (same_name other) shared) (cond b (Some p) None)) e ∙ first_alone (lookup (same_name other) shared)))
+        (made_later all w v other (is_among other before) (lookup (same_name other) shared) (one_later unit number t.description p w x same lists later good) lists (h other))
 
 module _ (all : List Global)
     (alike : (i j : ℕ) (name : Name) (one other : Template) → slice_get all i ≡ Some (ExternalVariable name one) → slice_get all j ≡ Some (ExternalVariable name other) → one ≡ other) where
   -- what making the variables of a unit, from a number on, comes to
-  record MakesAll (unit number : ℕ) (before : List Name) (gs : List Global) (w v : World) : Type 0 where
+  record MakesAll (unit number : ℕ) (before : List Name) (gs : List Global) (more : List (Name × Standing)) (w v : World) : Type 0 where
     values : HoldsValues v
     bytes : live_bytes v.storage ≡ live_bytes w.storage + bytes_of (made_for before gs)
     count : v.made ≡ w.made + length (made_for before gs)
     stack : v.activations ≡ w.activations
-    externals : AreExternals all (named_after before gs) v
+    externals : AreExternals all (named_after before gs) more v
     grown : Grown unit number gs w v
 
-  abbrev Makes : (unit number : ℕ) → List Name → List Global → World → Answer Unit → Type 0
-  Makes unit number before gs w a = (v : World) × (a ≡ Yields tt v) × MakesAll unit number before gs w v
+  abbrev Makes : (unit number : ℕ) → List Name → List Global → World → Answer (List (Name × Standing)) → Type 0
+  Makes unit number before gs w a = (v : World) × (more : List (Name × Standing)) × (a ≡ Yields more v) × MakesAll unit number before gs more w v
 
   -- all globals of a unit are among all
   abbrev AreAmong : List Global → Type 0
   AreAmong gs = (i : ℕ) (g : Global) → slice_get gs i ≡ Some g → (k : ℕ) × (slice_get all k ≡ Some g)
 
-  makes_all : (gs : List Global) (unit number : ℕ) (before : List Name) (w : World) → HoldsValues w → AreExternals all before w → AreMade (map variable_of (templates_in gs)) → AreAmong gs
+  makes_all : (gs : List Global) (unit number : ℕ) (before : List Name) (shared : List (Name × Standing)) (w : World) → HoldsValues w → AreExternals all before shared w
+      → AreMade (map variable_of (templates_in gs)) → AreAmong gs
       → w.made + length (made_for before gs) ≤ generation_limit → live_bytes w.storage + bytes_of (made_for before gs) ≤ byte_limit
-      → Makes unit number before gs w (statics_made unit number (map global_variable gs) w)
-  makes_all [] unit number before w values externals made among few small = (
+      → Makes unit number before gs w (statics_made same_name unit number (map global_variable gs) shared w)
+  makes_all [] unit number before shared w values externals made among few small = (
     w,
+    shared,
     refl,
     record {
       values = values;
@@ -271,11 +270,12 @@ module _ (all : List Global)
       grown = record { later = later_same w; lists = refl; kept = λ other k p h. h; apart = λ other k e h. h; found = λ fresh i d e. absurd (none_some e) };
     },
   )
-  makes_all (EntryPoint entry s ∷ gs) unit number before w values externals made among few small =
-      let r = makes_all gs unit (suc number) before w values externals made (λ i g e. among (suc i) g e) few small in
-      let m = r.2 in (
+  makes_all (EntryPoint entry s ∷ gs) unit number before shared w values externals made among few small =
+      let r = makes_all gs unit (suc number) before shared w values externals made (λ i g e. among (suc i) g e) few small in
+      let m = r.3 in (
         r.0,
         r.1,
+        r.2,
         record {
           values = m.values;
           bytes = m.bytes;
@@ -293,7 +293,7 @@ module _ (all : List Global)
           let z : suc number + i ≡ number + suc i = omega arith in
           let q = m.found (λ k le. fresh k (omega (arith, le))) i d e in
           (q.0, subst (λ n. static_in v.statics unit n ≡ Some q.0) z q.1, q.2)
-  makes_all (OwnVariable t ∷ gs) unit number before w values externals made among few small =
+  makes_all (OwnVariable t ∷ gs) unit number before shared w values externals made among few small =
       let d = t.description in
       let vs = (variable_of t).initial in
       let x = with_new d AsStatic vs w in
@@ -303,53 +303,56 @@ module _ (all : List Global)
       let few2 : suc w.made + length (made_for before gs) ≤ generation_limit = omega (arith, few) in
       let small2 : live_bytes (w.storage ++ new_generation d AsStatic vs w ∷ []) + bytes_of (made_for before gs) ≤ byte_limit =
       omega (arith, small, live_more w.storage (new_generation d AsStatic vs w)) in
-      let r = makes_all gs unit (suc number) before (with_static unit number None (Lies p) x) (new_values d AsStatic vs w values made.0.1)
-      (own_externals all before unit number d (Lies p) w x refl refl later good externals) made.1 (λ i g e. among (suc i) g e) few2 small2 in
-      let m = r.2 in (
+      let r = makes_all gs unit (suc number) before shared (with_static unit number (Lies p) x) (new_values d AsStatic vs w values made.0.1)
+      (own_externals all before shared unit number d (Lies p) w x refl refl later good externals) made.1 (λ i g e. among (suc i) g e) few2 small2 in
+      let m = r.3 in (
         r.0,
-        further_gives (made_once (variable_of t) None w) (λ s w. statics_made unit (suc number) (map global_variable gs) (with_static unit number None s w)) (Lies p) x r.0
-            (ap (λ a. further a (λ p w. Yields (Lies p) w)) (room_gives d AsStatic vs w values made.0.1 (omega (arith, few)) (omega (arith, small)))) r.1,
+        r.1,
+        further_gives (made_once (variable_of t) None w) (λ s w. statics_made same_name unit (suc number) (map global_variable gs) shared (with_static unit number s w)) (Lies p) r.1 x r.0
+            (ap (λ a. further a (λ p w. Yields (Lies p) w)) (room_gives d AsStatic vs w values made.0.1 (omega (arith, few)) (omega (arith, small)))) r.2,
         record {
           values = m.values;
           bytes = omega (arith, m.bytes, live_more w.storage (new_generation d AsStatic vs w));
           count = omega (arith, m.count);
           stack = m.stack;
           externals = m.externals;
-          grown = grown_more unit number None d (Lies p) w x refl refl later good (OwnVariable t) gs r.0 refl m.grown;
+          grown = grown_more unit number d (Lies p) w x refl refl later good (OwnVariable t) gs r.0 refl m.grown;
         },
       )
-  makes_all (ExternalVariable own t ∷ gs) unit number before w values externals made among few small =
-      by (is_among own before) (external_in w.statics own) refl refl (externals own) few small
-      (λ x v e f g. makes_all gs unit (suc number) (own ∷ before) x v e made.1 (λ i g e. among (suc i) g e) f g)
+  makes_all (ExternalVariable own t ∷ gs) unit number before shared w values externals made among few small =
+      by (is_among own before) (lookup (same_name own) shared) refl refl (externals own) few small
+      (λ more x v e f g. makes_all gs unit (suc number) (own ∷ before) more x v e made.1 (λ i g e. among (suc i) g e) f g)
     where
       declared : Declared all own t
       declared = among 0 (ExternalVariable own t) refl
 
-      by : (b : Bool) (o : Option Standing) → is_among own before ≡ b → external_in w.statics own ≡ o → IsMade all w own b o
+      by : (b : Bool) (o : Option Standing) → is_among own before ≡ b → lookup (same_name own) shared ≡ o → IsMade all w own b o
           → w.made + length (unless b t ++ made_for (own ∷ before) gs) ≤ generation_limit
           → live_bytes w.storage + bytes_of (unless b t ++ made_for (own ∷ before) gs) ≤ byte_limit
-          → ((x : World) → HoldsValues x → AreExternals all (own ∷ before) x
+          → ((more : List (Name × Standing)) (x : World) → HoldsValues x → AreExternals all (own ∷ before) more x
           → x.made + length (made_for (own ∷ before) gs) ≤ generation_limit → live_bytes x.storage + bytes_of (made_for (own ∷ before) gs) ≤ byte_limit
-          → Makes unit (suc number) (own ∷ before) gs x (statics_made unit (suc number) (map global_variable gs) x))
+          → Makes unit (suc number) (own ∷ before) gs x (statics_made same_name unit (suc number) (map global_variable gs) more x))
           → Makes unit number before (ExternalVariable own t ∷ gs) w
-          (further (made_once (variable_of t) o w) (λ s w. statics_made unit (suc number) (map global_variable gs) (with_static unit number (Some own) s w)))
+          (further (made_once (variable_of t) o w)
+          (λ s w. statics_made same_name unit (suc number) (map global_variable gs) (shared ++ (own, s) ∷ []) (with_static unit number s w)))
       by true None e f is few small rest = absurd is
       by false (Some p) e f is few small rest = absurd is
       by true (Some p) e f is few small rest =
           let later = later_same w in
           let good : StandsGood w t.description p = is t declared in
-          let r = rest (with_static unit number (Some own) p w) values
-          (named_externals all alike before unit number own t p w w refl refl later good declared (ap (λ o. first_of o (Some p)) f) externals) few small in
-          let m = r.2 in (
+          let r = rest (shared ++ (own, p) ∷ []) (with_static unit number p w) values
+          (named_externals all alike before shared unit number own t p w w refl refl later good declared (ap (λ o. first_of o (Some p)) f) externals) few small in
+          let m = r.3 in (
             r.0,
             r.1,
+            r.2,
             record {
               values = m.values;
               bytes = m.bytes ∙ ap (λ b. live_bytes w.storage + bytes_of (unless b t ++ made_for (own ∷ before) gs)) (sym e);
               count = m.count ∙ ap (λ b. w.made + length (unless b t ++ made_for (own ∷ before) gs)) (sym e);
               stack = m.stack;
               externals = m.externals;
-              grown = grown_more unit number (Some own) t.description p w w refl refl later good (ExternalVariable own t) gs r.0 refl m.grown;
+              grown = grown_more unit number t.description p w w refl refl later good (ExternalVariable own t) gs r.0 refl m.grown;
             },
           )
       by false None e f is few small rest =
@@ -361,22 +364,23 @@ module _ (all : List Global)
           let few2 : suc w.made + length (made_for (own ∷ before) gs) ≤ generation_limit = omega (arith, few) in
           let small2 : live_bytes (w.storage ++ new_generation t.description AsStatic (variable_of t).initial w ∷ []) + bytes_of (made_for (own ∷ before) gs) ≤ byte_limit =
           omega (arith, small, bytes) in
-          let r = rest (with_static unit number (Some own) (Lies p) x) (new_values t.description AsStatic (variable_of t).initial w values made.0.1)
-          (named_externals all alike before unit number own t (Lies p) w x refl refl later good declared (ap (λ o. first_of o (Some (Lies p))) f) externals) few2 small2 in
-          let m = r.2 in
+          let r = rest (shared ++ (own, Lies p) ∷ []) (with_static unit number (Lies p) x) (new_values t.description AsStatic (variable_of t).initial w values made.0.1)
+          (named_externals all alike before shared unit number own t (Lies p) w x refl refl later good declared (ap (λ o. first_of o (Some (Lies p))) f) externals) few2 small2 in
+          let m = r.3 in
           let m_bytes : live_bytes r.0.storage ≡ live_bytes w.storage + bytes_of (t ∷ made_for (own ∷ before) gs) = omega (arith, m.bytes, bytes) in
           let m_count : r.0.made ≡ w.made + length (t ∷ made_for (own ∷ before) gs) = omega (arith, m.count) in (
             r.0,
+            r.1,
             further_gives (made_once (variable_of t) None w)
-                (λ s w. statics_made unit (suc number) (map global_variable gs) (with_static unit number (Some own) s w)) (Lies p) x r.0
-                (ap (λ a. further a (λ p w. Yields (Lies p) w)) (room_gives t.description AsStatic (variable_of t).initial w values made.0.1 (omega (arith, few)) (omega (arith, small)))) r.1,
+                (λ s w. statics_made same_name unit (suc number) (map global_variable gs) (shared ++ (own, s) ∷ []) (with_static unit number s w)) (Lies p) r.1 x r.0
+                (ap (λ a. further a (λ p w. Yields (Lies p) w)) (room_gives t.description AsStatic (variable_of t).initial w values made.0.1 (omega (arith, few)) (omega (arith, small)))) r.2,
             record {
               values = m.values;
               bytes = m_bytes ∙ ap (λ b. live_bytes w.storage + bytes_of (unless b t ++ made_for (own ∷ before) gs)) (sym e);
               count = m_count ∙ ap (λ b. w.made + length (unless b t ++ made_for (own ∷ before) gs)) (sym e);
               stack = m.stack;
               externals = m.externals;
-              grown = grown_more unit number (Some own) t.description (Lies p) w x refl refl later good (ExternalVariable own t) gs r.0 refl m.grown;
+              grown = grown_more unit number t.description (Lies p) w x refl refl later good (ExternalVariable own t) gs r.0 refl m.grown;
             },
           )
 
@@ -398,9 +402,9 @@ module _ (all : List Global)
       by true e = absurd (omega (arith, eqb-true from other e, less))
       by false e = refl
 
-  behind : (from : ℕ) (u : TypedUnit) (us : List TypedUnit) (before : List Name) (w x y : World) → MakesAll from 0 before u.globals w x → Made (suc from) us x y
+  behind : (from : ℕ) (u : TypedUnit) (us : List TypedUnit) (before : List Name) (more : List (Name × Standing)) (w x y : World) → MakesAll from 0 before u.globals more w x → Made (suc from) us x y
       → Made from (u ∷ us) w y
-  behind from u us before w x y m r = record {
+  behind from u us before more w x y m r = record {
     values = r.values;
     later = later_then w x y m.grown.later r.later;
     lists = r.lists ∙ m.grown.lists;
@@ -423,31 +427,31 @@ module _ (all : List Global)
           subst (λ n. AreStatics n v.globals y) at
           (r.found (λ unit k le. m.grown.apart unit k (apart_from from unit (omega (arith, le))) (fresh unit k (omega (arith, le)))) i v e)
 
-  all_are_made : (n from : ℕ) (us : List TypedUnit) (before : List Name) (w : World) → AreTypedUnits n us → HoldsValues w → AreExternals all before w
+  all_are_made : (n from : ℕ) (us : List TypedUnit) (before : List Name) (shared : List (Name × Standing)) (w : World) → AreTypedUnits n us → HoldsValues w → AreExternals all before shared w
       → AreAmong (all_globals us) → w.made + length (made_for before (all_globals us)) ≤ generation_limit
       → live_bytes w.storage + bytes_of (made_for before (all_globals us)) ≤ byte_limit
-      → (v : World) × (all_made from us w ≡ Yields tt v) × Made from us w v
-  all_are_made n from [] before w typed values externals among few small =
+      → (v : World) × (all_made from us shared w ≡ Yields tt v) × Made from us w v
+  all_are_made n from [] before shared w typed values externals among few small =
       (w, refl, record { values = values; later = later_same w; lists = refl; stack = refl; kept = λ unit k p h. h; found = λ fresh i u e. absurd (none_some e) })
-  all_are_made n from (u ∷ us) before w typed values externals among few small =
+  all_are_made n from (u ∷ us) before shared w typed values externals among few small =
       let few2 = subst (λ k. w.made + k ≤ generation_limit)
       (ap (λ ts. length ts) (made_in_parts before u.globals (all_globals us)) ∙ length-append (made_for before u.globals) (made_for (named_after before u.globals) (all_globals us))) few in
       let small2 = subst (λ k. live_bytes w.storage + k ≤ byte_limit)
       (ap (λ ts. bytes_of ts) (made_in_parts before u.globals (all_globals us)) ∙ bytes_in_parts (made_for before u.globals) (made_for (named_after before u.globals) (all_globals us))) small in
-      let first = makes_all u.globals from 0 before w values externals typed.0.made (λ i g e. among i g (among_front u.globals (all_globals us) i g e)) (omega (arith, few2)) (omega (arith, small2)) in
-      let m = first.2 in
-      let rest = all_are_made n (suc from) us (named_after before u.globals) first.0 typed.1 m.values m.externals (λ i g e. let b = among_behind u.globals (all_globals us) i g e in among b.0 g b.1)
+      let first = makes_all u.globals from 0 before shared w values externals typed.0.made (λ i g e. among i g (among_front u.globals (all_globals us) i g e)) (omega (arith, few2)) (omega (arith, small2)) in
+      let m = first.3 in
+      let rest = all_are_made n (suc from) us (named_after before u.globals) first.1 first.0 typed.1 m.values m.externals (λ i g e. let b = among_behind u.globals (all_globals us) i g e in among b.0 g b.1)
       (omega (arith, few2, m.count)) (omega (arith, small2, m.bytes)) in (
         rest.0,
-        further_gives (statics_made from 0 (map global_variable u.globals) w) (λ _ w. all_made (suc from) us w) tt first.0 rest.0 first.1 rest.1,
-        behind from u us before w first.0 rest.0 m rest.2,
+        further_gives (statics_made same_name from 0 (map global_variable u.globals) shared w) (λ more w. all_made (suc from) us more w) first.1 tt first.0 rest.0 first.2 rest.1,
+        behind from u us before first.1 w first.0 rest.0 m rest.2,
       )
 
 pub statics_there : (n : ℕ) (us : List TypedUnit) → AreTypedUnits n us → IsLinked us → length (made_for [] (all_globals us)) ≤ generation_limit
     → bytes_of (made_for [] (all_globals us)) ≤ byte_limit
-    → (v : World) × (all_made 0 us nothing ≡ Yields tt v) × HoldsValues v × (v.activations ≡ [])
+    → (v : World) × (all_made 0 us [] nothing ≡ Yields tt v) × HoldsValues v × (v.activations ≡ [])
     × ((i : ℕ) (u : TypedUnit) → slice_get us i ≡ Some u → AreStatics i u.globals v)
 unfolding nothing
 statics_there n us typed linked few small =
-    let m = all_are_made (all_globals us) linked.variables n 0 us [] nothing typed (λ k g h. absurd (none_some h)) (λ name. tt) (λ i g e. (i, e)) (omega (arith, few)) (omega (arith, small)) in
+    let m = all_are_made (all_globals us) linked.variables n 0 us [] [] nothing typed (λ k g h. absurd (none_some h)) (λ name. tt) (λ i g e. (i, e)) (omega (arith, few)) (omega (arith, small)) in
     (m.0, m.1, m.2.values, m.2.stack, λ i u e. let z : 0 + i ≡ i = omega arith in subst (λ k. AreStatics k u.globals m.0) z (m.2.found (λ unit k le. refl) i u e))

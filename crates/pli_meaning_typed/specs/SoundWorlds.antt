@@ -20,13 +20,14 @@ IsPartAt whole offset part =
     (more : ℕ) (d : Description) (k : ℕ) → first_scalar part more d ≡ Some k
     → (j : ℕ) × (first_scalar whole (offset + more) d ≡ Some j)
 
--- each part of a description that stands so many bytes behind the beginning is where references lead
+-- a description so many bytes behind the beginning of a generation: each of its parts begins within the limit
+-- of offsets
 abbrev pub IsNear : (offset : ℕ) → Description → Type 0
 IsNear offset whole =
     (more : ℕ) (d : Description) (k : ℕ) → first_scalar whole more d ≡ Some k → offset + more ≤ offset_limit
 
--- a place of a description: its generation was made and, if it lives, has such a part there, each part of which
--- is where references lead
+-- a place of a description: it lies in no area; its generation was made and, if it lives, has such a part
+-- there; and each part of it begins within the limit of offsets
 pub record IsGood (w : World) (d : Description) (p : Place) : Type 0 where
   pub was_made : p.generation < w.made
   pub outside : p.position ≡ 0

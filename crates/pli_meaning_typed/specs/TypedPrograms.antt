@@ -105,8 +105,8 @@ abbrev pub HasMain : Option TypedUnit → Type 0
 HasMain None = ⊥
 HasMain (Some u) = u.signature ≡ record { parameters = []; result = None }
 
--- each unit is well typed, they are linked, what is made before the program begins has room, and the main unit
--- can begin
+-- each unit is well typed, they are linked, what is made before the program begins has room, and the main
+-- unit can begin
 pub record WellTyped (p : TypedProgram) : Type 0 where
   pub units : AreTypedUnits p.greatest p.units
   pub linked : IsLinked p.units

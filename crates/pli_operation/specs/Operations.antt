@@ -1,5 +1,8 @@
 -- The operations of expressions (X3.74, limits own): prefix and infix operators, built-in functions of
--- values, and conversions.
+-- values, and conversions. With one operand: prefix `-`, ABS, SIGN, `^`, LENGTH; bits as characters; a number
+-- as characters of so many columns. With two: `+`, `-`, `*`, DIVIDE to so many binary digits, MOD, MAX, MIN,
+-- a comparison, `||`, `&`, `|`, INDEX, and SUBSTR without a length. With three: SUBSTR; and whether a control
+-- variable has not passed its limit, with the step.
 use Rattle.std.specs.Prelude.{ℕ, nat_le, Bool, true, false, not, ℤ, pos, neg_ℤ}
 use Rattle.std.specs.Prelude.{◌+ℤ◌, ◌-ℤ◌, ◌*ℤ◌, int_le, unsigned_abs, Result, Ok, Err, Option, Some}
 use Rattle.std.specs.Prelude.{None}
@@ -19,49 +22,41 @@ use Rattle.pli_value.specs.Value.{Value, Number, Characters, Bits, Located}
 use Rattle.pli_value.specs.declared.locator.Locator.{Locator}
 use Rattle.pli_value.specs.declared.locator.Locator.TheVariants as locators
 use Rattle.pli_value.specs.declared.number.Raised.{Raised}
-
--- what a comparison asks
-pub data Relation : Type 0 where
-  Equal Unequal Less AtMost Greater AtLeast : Relation
-
--- with one operand: prefix `-`, ABS, SIGN, `^`, LENGTH; bits as characters; a number as characters of so many
--- columns; a value fitted to a description. With two: `+`, `-`, `*`, DIVIDE to so many binary digits, MOD,
--- MAX, MIN, a comparison, `||`, `&`, `|`, INDEX, and SUBSTR without a length. With three: SUBSTR; and whether
--- a control variable has not passed its limit, with the step.
-pub data Operation : Type 0 where
-  Negate Absolute Sign Not LengthOf FromBits : Operation
-  ToCharacters : (width : ℕ) → Operation
-  Fit : (description : Description) → Operation
-  Add Subtract Multiply Modulo Greatest Least : Operation
-  Divide : (precision : ℕ) → Operation
-  Compare : (relation : Relation) → Operation
-  Concatenate And Or Index Rest Substring Within : Operation
+use Rattle.pli_operation.specs.declared.operation.Operation.{Operation}
+use Rattle.pli_operation.specs.declared.operation.Operation.TheVariants.{Negate, Absolute, Sign, Not}
+use Rattle.pli_operation.specs.declared.operation.Operation.TheVariants.{LengthOf, FromBits, ToCharacters}
+use Rattle.pli_operation.specs.declared.operation.Operation.TheVariants.{Add, Subtract, Multiply, Modulo}
+use Rattle.pli_operation.specs.declared.operation.Operation.TheVariants.{Greatest, Least, Divide, Compare}
+use Rattle.pli_operation.specs.declared.operation.Operation.TheVariants.{Concatenate, And, Or, Index}
+use Rattle.pli_operation.specs.declared.operation.Operation.TheVariants.{Rest, Substring, Within}
+use Rattle.pli_operation.specs.declared.operation.Relation.{Relation}
+use Rattle.pli_operation.specs.declared.operation.Relation.TheVariants.{Equal, Unequal, Less, AtMost}
+use Rattle.pli_operation.specs.declared.operation.Relation.TheVariants.{Greater, AtLeast}
 
 -- how many operands it has
-abbrev pub operands_of : Operation → ℕ
-operands_of Negate = 1
-operands_of Absolute = 1
-operands_of Sign = 1
-operands_of Not = 1
-operands_of LengthOf = 1
-operands_of FromBits = 1
-operands_of (ToCharacters width) = 1
-operands_of (Fit description) = 1
-operands_of Add = 2
-operands_of Subtract = 2
-operands_of Multiply = 2
-operands_of Modulo = 2
-operands_of Greatest = 2
-operands_of Least = 2
-operands_of (Divide precision) = 2
-operands_of (Compare relation) = 2
-operands_of Concatenate = 2
-operands_of And = 2
-operands_of Or = 2
-operands_of Index = 2
-operands_of Rest = 2
-operands_of Substring = 3
-operands_of Within = 3
+abbrev pub arity : Operation → ℕ
+arity Negate = 1
+arity Absolute = 1
+arity Sign = 1
+arity Not = 1
+arity LengthOf = 1
+arity FromBits = 1
+arity (ToCharacters width) = 1
+arity Add = 2
+arity Subtract = 2
+arity Multiply = 2
+arity Modulo = 2
+arity Greatest = 2
+arity Least = 2
+arity (Divide precision) = 2
+arity (Compare relation) = 2
+arity Concatenate = 2
+arity And = 2
+arity Or = 2
+arity Index = 2
+arity Rest = 2
+arity Substring = 3
+arity Within = 3
 
 -- what an operation comes to: a value; a condition; a string over the limit, or a part that a string has not;
 -- or nothing, where operands are not of its kinds
@@ -145,7 +140,6 @@ calculated_from LengthOf (Characters s) = Calculates (Number (pos (length s)))
 calculated_from LengthOf (Bits s) = Calculates (Number (pos (length s)))
 calculated_from FromBits (Bits s) = Calculates (Characters (bit_characters s))
 calculated_from (ToCharacters width) (Number x) = in_columns width x
-calculated_from (Fit description) v = fitted_to description v
 calculated_from operation v = Misfits
 
 -- on two; numbers have at most so many binary digits

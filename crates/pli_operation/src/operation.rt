@@ -1,12 +1,9 @@
 //! The operations of expressions.
-ghost use Rattle.std.specs.Prelude.{◌≡◌, IfOk};
-ghost use Rattle.pli_operation.specs.views.OperationView.{operation_view};
-
-use pli_map::Description;
-use std::alloc::{AllocError, Global};
+ghost use Rattle.std.specs.Prelude.{◌≡◌};
+ghost use Rattle.pli_operation.specs.Operations as operations;
 
 /// What a comparison asks (X3.74).
-#[derive(Clone, Copy)]
+#[derive(Clone, Copy, Debug, PartialEq, Eq)]
 pub enum Relation {
     Equal,
     Unequal,
@@ -16,8 +13,8 @@ pub enum Relation {
     AtLeast,
 }
 
-/// An operator, a built-in function of values, or a conversion (X3.74).
-#[derive(Drop)]
+/// An operator, a built-in function of values, or a conversion without a description (X3.74).
+#[derive(Clone, Copy, Debug, PartialEq, Eq)]
 pub enum Operation {
     /// The prefix operator `-`.
     Negate,
@@ -33,8 +30,6 @@ pub enum Operation {
     FromBits,
     /// A number as characters, at the right of so many columns.
     ToCharacters { width: u8 },
-    /// A number held against a precision, or a string cut or extended to a length.
-    Fit(Description),
     Add,
     Subtract,
     Multiply,
@@ -44,7 +39,7 @@ pub enum Operation {
     Greatest,
     /// MIN of two numbers.
     Least,
-    /// DIVIDE, to so many binary digits.
+    /// DIVIDE, to so many binary digits, from 1 to 31.
     Divide { precision: u8 },
     Compare(Relation),
     Concatenate,
@@ -62,36 +57,32 @@ pub enum Operation {
 }
 
 impl Operation {
-    /// An equal operation.
-    pub fn copy(&self, alloc: Global) -> Result<Operation, AllocError>
-        ensures { IfOk result (λ new. operation_view new ≡ operation_view self.now) }
+    /// How many operands it takes, from 1 to 3.
+    pub fn arity(self) -> usize
+        ensures { result ≡ operations.arity self }
     {
-        Ok(match self {
-            Operation::Negate => Operation::Negate,
-            Operation::Absolute => Operation::Absolute,
-            Operation::Sign => Operation::Sign,
-            Operation::Not => Operation::Not,
-            Operation::LengthOf => Operation::LengthOf,
-            Operation::FromBits => Operation::FromBits,
-            Operation::ToCharacters { width } => Operation::ToCharacters { width: *width },
-            Operation::Fit(description) => Operation::Fit(description.copy(alloc)?),
-            Operation::Add => Operation::Add,
-            Operation::Subtract => Operation::Subtract,
-            Operation::Multiply => Operation::Multiply,
-            Operation::Modulo => Operation::Modulo,
-            Operation::Greatest => Operation::Greatest,
-            Operation::Least => Operation::Least,
-            Operation::Divide { precision } => Operation::Divide {
-                precision: *precision,
-            },
-            Operation::Compare(relation) => Operation::Compare(*relation),
-            Operation::Concatenate => Operation::Concatenate,
-            Operation::And => Operation::And,
-            Operation::Or => Operation::Or,
-            Operation::Index => Operation::Index,
-            Operation::Rest => Operation::Rest,
-            Operation::Substring => Operation::Substring,
-            Operation::Within => Operation::Within,
-        })
+        match self {
+            Operation::Negate
+            | Operation::Absolute
+            | Operation::Sign
+            | Operation::Not
+            | Operation::LengthOf
+            | Operation::FromBits
+            | Operation::ToCharacters { .. } => 1,
+            Operation::Add
+            | Operation::Subtract
+            | Operation::Multiply
+            | Operation::Modulo
+            | Operation::Greatest
+            | Operation::Least
+            | Operation::Divide { .. }
+            | Operation::Compare(_)
+            | Operation::Concatenate
+            | Operation::And
+            | Operation::Or
+            | Operation::Index
+            | Operation::Rest => 2,
+            Operation::Substring | Operation::Within => 3,
+        }
     }
 }

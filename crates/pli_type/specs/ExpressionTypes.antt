@@ -12,14 +12,17 @@ use Rattle.pli_base.specs.declared.syntax.PrefixOperator.{PrefixOperator}
 use Rattle.pli_base.specs.declared.syntax.PrefixOperator.TheVariants as prefixes
 use Rattle.pli_map.specs.Description as described
 use Rattle.pli_map.specs.Description.{Description}
-use Rattle.pli_operation.specs.Operations.{Operation, Relation, Equal, Unequal, Less, AtMost, Greater}
-use Rattle.pli_operation.specs.Operations.{AtLeast}
-use Rattle.pli_operation.specs.Operations.{Negate, Not, FromBits, ToCharacters, Fit, Add, Subtract, Multiply}
-use Rattle.pli_operation.specs.Operations.{Compare, Concatenate, And, Or}
+use Rattle.pli_operation.specs.declared.operation.Operation.{Operation}
+use Rattle.pli_operation.specs.declared.operation.Operation.TheVariants.{Negate, Not, FromBits, ToCharacters}
+use Rattle.pli_operation.specs.declared.operation.Operation.TheVariants.{Add, Subtract, Multiply, Compare}
+use Rattle.pli_operation.specs.declared.operation.Operation.TheVariants.{Concatenate, And, Or}
+use Rattle.pli_operation.specs.declared.operation.Relation.{Relation}
+use Rattle.pli_operation.specs.declared.operation.Relation.TheVariants.{Equal, Unequal, Less, AtMost, Greater}
+use Rattle.pli_operation.specs.declared.operation.Relation.TheVariants.{AtLeast}
 use Rattle.pli_type.specs.declared.expression_type.ExpressionType.{ExpressionType}
 use Rattle.pli_type.specs.declared.expression_type.ExpressionType.TheVariants as types
 use Rattle.pli_type_tree.specs.TypedTree.{TypedExpression, Literal, Calculated, Operands, NoOperand}
-use Rattle.pli_type_tree.specs.TypedTree.{OperandThen}
+use Rattle.pli_type_tree.specs.TypedTree.{OperandThen, TypedOperation, Fit, Operate}
 use Rattle.pli_value.specs.Value.{Number, Characters, Bits}
 
 -- an expression with its type
@@ -95,12 +98,12 @@ all_operands [] = NoOperand
 all_operands (e ∷ es) = OperandThen e (all_operands es)
 
 -- an operation with one operand
-abbrev pub with_one : Operation → TypedExpression → TypedExpression
+abbrev pub with_one : TypedOperation → TypedExpression → TypedExpression
 with_one operation e = Calculated operation (all_operands (e ∷ []))
 
--- an operation with two operands
+-- an operation without a description with two operands
 abbrev pub with_two : Operation → (left right : TypedExpression) → TypedExpression
-with_two operation left right = Calculated operation (all_operands (left ∷ right ∷ []))
+with_two operation left right = Calculated (Operate operation) (all_operands (left ∷ right ∷ []))
 
 -- a prefix operator
 
@@ -111,12 +114,12 @@ with_plus v None = None
 
 -- behind `-` it has its own type, so a constant is a constant still
 abbrev pub with_minus : TypedValue → Option ℕ → Option TypedValue
-with_minus v (Some p) = Some (record { expression = with_one Negate v.expression; kind = v.kind })
+with_minus v (Some p) = Some (record { expression = with_one (Operate Negate) v.expression; kind = v.kind })
 with_minus v None = None
 
 -- `^` takes bits
 abbrev pub with_not : TypedExpression → ExpressionType → Option TypedValue
-with_not e types.Bits = Some (record { expression = with_one Not e; kind = types.Bits })
+with_not e types.Bits = Some (record { expression = with_one (Operate Not) e; kind = types.Bits })
 with_not e other = None
 
 -- `+` and `-` take a number, `^` bits
@@ -155,7 +158,7 @@ string_type left right = None
 
 -- a string of this type in one of that type
 abbrev pub string_as : TypedExpression → (from to : ExpressionType) → TypedExpression
-string_as e types.Bits types.Characters = with_one FromBits e
+string_as e types.Bits types.Characters = with_one (Operate FromBits) e
 string_as e from to = e
 
 -- an operation on two strings of one type
@@ -217,13 +220,13 @@ infix_value greatest infixes.Or = logical Or
 
 -- a number as characters: a constant that is all that is converted is FIXED DECIMAL
 abbrev pub number_as_characters : TypedExpression → Option ℕ → Option TypedExpression
-number_as_characters e (Some width) = Some (with_one (ToCharacters width) e)
+number_as_characters e (Some width) = Some (with_one (Operate (ToCharacters width)) e)
 number_as_characters e None = None
 
 -- characters of a string or a number
 abbrev pub as_characters : TypedExpression → ExpressionType → Option TypedExpression
 as_characters e types.Characters = Some e
-as_characters e types.Bits = Some (with_one FromBits e)
+as_characters e types.Bits = Some (with_one (Operate FromBits) e)
 as_characters e other = number_as_characters e (width_of other)
 
 -- a number stands where a number is assigned
@@ -249,18 +252,18 @@ abbrev pub converted : (greatest : ℕ) → Description → TypedValue → Optio
 converted greatest d v = option_map (with_one (Fit d)) (suited greatest d v.expression v.kind)
 
 -- the operations that make characters of a value of this type, one after the other, where it needs any
-abbrev pub string_conversions : ExpressionType → Option (List Operation)
+abbrev pub string_conversions : ExpressionType → Option (List TypedOperation)
 string_conversions types.Characters = Some []
-string_conversions types.Bits = Some (FromBits ∷ [])
-string_conversions other = option_map (λ width. ToCharacters width ∷ []) (width_of other)
+string_conversions types.Bits = Some (Operate FromBits ∷ [])
+string_conversions other = option_map (λ width. Operate (ToCharacters width) ∷ []) (width_of other)
 
 -- those that make bits of it: none, and only bits
-abbrev pub bit_conversions : ExpressionType → Option (List Operation)
+abbrev pub bit_conversions : ExpressionType → Option (List TypedOperation)
 bit_conversions types.Bits = Some []
 bit_conversions other = None
 
 -- those that make what a variable of this description takes
-abbrev pub suiting : (greatest : ℕ) → Description → ExpressionType → Option (List Operation)
+abbrev pub suiting : (greatest : ℕ) → Description → ExpressionType → Option (List TypedOperation)
 suiting greatest (described.FixedBinary precision) kind = option_map (λ p. []) (precision_of greatest kind)
 suiting greatest (described.Character n) kind = string_conversions kind
 suiting greatest (described.Varying n) kind = string_conversions kind
@@ -268,7 +271,7 @@ suiting greatest (described.Bit n) kind = bit_conversions kind
 suiting greatest other kind = None
 
 -- and behind them the one that fits to the variable's range or length
-abbrev pub conversions : (greatest : ℕ) → Description → ExpressionType → Option (List Operation)
+abbrev pub conversions : (greatest : ℕ) → Description → ExpressionType → Option (List TypedOperation)
 conversions greatest d kind = option_map (λ operations. operations ++ Fit d ∷ []) (suiting greatest d kind)
 
 -- what PUT prints of a value of this type: characters and bits as they stand, a number as characters; no

@@ -10,14 +10,16 @@ use Rattle.pli_base.specs.declared.syntax.ConstantValue.TheVariants.{Decimal}
 use Rattle.pli_base.specs.declared.token.Fault.{Fault}
 use Rattle.pli_map.specs.Description.{Description, Array}
 use Rattle.pli_map.specs.declared.description.Bounds.{Bounds}
-use Rattle.pli_operation.specs.Operations.{Operation, Absolute, Sign as SignOf, LengthOf, Greatest, Least}
-use Rattle.pli_operation.specs.Operations.{Modulo, Divide as DivideTo, Index as IndexOf, Rest}
-use Rattle.pli_operation.specs.Operations.{Substring as SubstringOf}
+use Rattle.pli_operation.specs.declared.operation.Operation.{Operation}
+use Rattle.pli_operation.specs.declared.operation.Operation.TheVariants.{Absolute, Sign as SignOf, LengthOf}
+use Rattle.pli_operation.specs.declared.operation.Operation.TheVariants.{Greatest, Least, Modulo}
+use Rattle.pli_operation.specs.declared.operation.Operation.TheVariants.{Divide as DivideTo, Index as IndexOf}
+use Rattle.pli_operation.specs.declared.operation.Operation.TheVariants.{Rest, Substring as SubstringOf}
 use Rattle.pli_type.specs.ExpressionTypes.{precisions}
 use Rattle.pli_type.specs.ExpressionTypes.{TypedValue, type_of}
 use Rattle.pli_type.specs.ExpressionTypes.{precision_of, count_precision, all_operands}
 use Rattle.pli_type.specs.References.{Role, AsValue, AsArgument, Referent}
-use Rattle.pli_type_tree.specs.TypedTree.{TypedExpression, Literal, Held, Calculated}
+use Rattle.pli_type_tree.specs.TypedTree.{Operate, TypedExpression, Literal, Held, Calculated}
 use Rattle.pli_value.specs.Value.{Number}
 use Rattle.pli_type.specs.declared.expression_type.ExpressionType.{ExpressionType}
 use Rattle.pli_type.specs.declared.expression_type.ExpressionType.TheVariants as types
@@ -162,7 +164,7 @@ operation_of function given = None
 -- an operation of a type on values
 abbrev pub calculation : Option Operation → Option ExpressionType → List TypedExpression → Option TypedValue
 calculation (Some operation) (Some kind) operands =
-    Some (record { expression = Calculated operation (all_operands operands); kind = kind })
+    Some (record { expression = Calculated (Operate operation) (all_operands operands); kind = kind })
 calculation operation kind operands = None
 
 -- what a function gives of values

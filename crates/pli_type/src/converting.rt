@@ -1,16 +1,15 @@
 //! Which conversions a value goes through where it is assigned or printed.
 ghost use Rattle.std.specs.Prelude.{◌≡◌, IfOk, map, option_map};
 ghost use Rattle.pli_map.specs.views.DescriptionView.{description_view};
-ghost use Rattle.pli_operation.specs.views.OperationView.{operation_view};
 ghost use Rattle.pli_type.specs.ExpressionTypes as spec;
 ghost use Rattle.pli_type.specs.views.ValueView.{value_view};
-ghost use Rattle.pli_type_tree.specs.views.TypedView.{expression_view};
+ghost use Rattle.pli_type_tree.specs.views.TypedView.{expression_view, operation_view};
 
 use crate::expression_type::ExpressionType;
 use crate::typed_value::{TypedValue, with_one};
 use pli_map::Description;
 use pli_operation::Operation;
-use pli_type_tree::TypedExpression;
+use pli_type_tree::{TypedExpression, TypedOperation};
 use std::alloc::{AllocError, Global};
 
 /// A number as characters, at the right of as many columns as its type has; none of anything else.
@@ -23,7 +22,8 @@ fn number_as_characters(
 {
     match value.kind.width() {
         Some(width) => {
-            let made = with_one(alloc, Operation::ToCharacters { width }, value.expression)?;
+            let operation = TypedOperation::Operate(Operation::ToCharacters { width });
+            let made = with_one(alloc, operation, value.expression)?;
             Ok(Some(made))
         }
         None => {
@@ -41,7 +41,8 @@ fn as_characters(alloc: Global, value: TypedValue) -> Result<Option<TypedExpress
     match value.kind {
         ExpressionType::Characters => Ok(Some(value.expression)),
         ExpressionType::Bits => {
-            let made = with_one(alloc, Operation::FromBits, value.expression)?;
+            let operation = TypedOperation::Operate(Operation::FromBits);
+            let made = with_one(alloc, operation, value.expression)?;
             Ok(Some(made))
         }
         _ => number_as_characters(alloc, value),
@@ -95,7 +96,7 @@ pub fn converted(
                     return Err(error);
                 }
             };
-            let made = with_one(alloc, Operation::Fit(description), expression)?;
+            let made = with_one(alloc, TypedOperation::Fit(description), expression)?;
             Ok(Some(made))
         }
         None => Ok(None),
@@ -116,14 +117,19 @@ pub fn printed(alloc: Global, value: TypedValue) -> Result<Option<TypedExpressio
 fn string_conversions(
     alloc: Global,
     kind: ExpressionType,
-) -> Result<Option<Vec<Operation>>, AllocError>
+) -> Result<Option<Vec<TypedOperation>>, AllocError>
     ensures { IfOk result (λ made. option_map (λ v. map operation_view v.items) made ≡ spec.string_conversions kind) }
 {
     match kind {
         ExpressionType::Characters => Ok(Some(Vec::new(alloc))),
-        ExpressionType::Bits => Ok(Some(vec![in alloc; Operation::FromBits]?)),
+        ExpressionType::Bits => Ok(Some(vec![in alloc;
+            TypedOperation::Operate(Operation::FromBits),
+        ]?)),
         _ => match kind.width() {
-            Some(width) => Ok(Some(vec![in alloc; Operation::ToCharacters { width }]?)),
+            Some(width) => {
+                let operation = TypedOperation::Operate(Operation::ToCharacters { width });
+                Ok(Some(vec![in alloc; operation]?))
+            }
             None => Ok(None),
         },
     }
@@ -135,7 +141,7 @@ fn suiting(
     greatest: u8,
     description: &Description,
     kind: ExpressionType,
-) -> Result<Option<Vec<Operation>>, AllocError>
+) -> Result<Option<Vec<TypedOperation>>, AllocError>
     ensures { IfOk result (λ made. option_map (λ v. map operation_view v.items) made
         ≡ spec.suiting greatest (description_view description.now) kind) }
 {
@@ -157,13 +163,13 @@ pub fn conversions(
     greatest: u8,
     description: &Description,
     kind: ExpressionType,
-) -> Result<Option<Vec<Operation>>, AllocError>
+) -> Result<Option<Vec<TypedOperation>>, AllocError>
     ensures { IfOk result (λ made. option_map (λ v. map operation_view v.items) made
         ≡ spec.conversions greatest (description_view description.now) kind) }
 {
     let Some(mut made) = suiting(alloc, greatest, description, kind)? else {
         return Ok(None);
     };
-    made.push(Operation::Fit(description.copy(alloc)?))?;
+    made.push(TypedOperation::Fit(description.copy(alloc)?))?;
     Ok(Some(made))
 }

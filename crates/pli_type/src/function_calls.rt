@@ -1,6 +1,5 @@
 //! The types of what built-in functions give.
 ghost use Rattle.std.specs.Prelude.{◌≡◌, [], ◌∷◌, IfOk, length, map, option_map};
-ghost use Rattle.pli_operation.specs.views.OperationView.{operation_view};
 ghost use Rattle.pli_type.specs.ExpressionTypes as ext;
 ghost use Rattle.pli_type.specs.FunctionCalls as spec;
 ghost use Rattle.pli_type.specs.views.ValueView.{value_view};
@@ -10,7 +9,7 @@ use crate::expression_type::{ExpressionType, precisions};
 use crate::typed_value::{TypedValue, refused, with_two};
 use pli_operation::Operation;
 use pli_resolve::BuiltInFunction;
-use pli_type_tree::TypedExpression;
+use pli_type_tree::{TypedExpression, TypedOperation};
 use std::alloc::{AllocError, Global};
 
 /// The precision of LENGTH, INDEX, SIGN, LBOUND and HBOUND (own).
@@ -128,7 +127,7 @@ pub fn quotient_type(
 
 /// The operation that a built-in function of so many values is; none of functions that are not of values alone.
 pub fn operation_of(function: BuiltInFunction, given: usize) -> Option<Operation>
-    ensures { option_map operation_view result ≡ spec.operation_of function given }
+    ensures { result ≡ spec.operation_of function given }
 {
     match function {
         BuiltInFunction::Abs => Some(Operation::Absolute),
@@ -146,7 +145,7 @@ pub fn operation_of(function: BuiltInFunction, given: usize) -> Option<Operation
 
 /// A call of a built-in function of values, by their types and the values themselves, or none where it does not take
 /// them (X3.74).
-#[tactic(auto, using(crate::proofs::TypedTrees::calculated_all))]
+#[tactic(auto, using(crate::proofs::TypedTrees::operated_all))]
 pub fn call(
     greatest: u8,
     function: BuiltInFunction,
@@ -163,7 +162,7 @@ pub fn call(
     ) {
         (Some(operation), Some(kind)) => {
             let expression = TypedExpression::Calculated {
-                operation,
+                operation: TypedOperation::Operate(operation),
                 operands,
             };
             Some(TypedValue { expression, kind })

@@ -1,7 +1,6 @@
 //! What operators give of typed operands.
 ghost use Rattle.std.specs.Prelude.{◌≡◌, Some, IfOk, option_map};
-ghost use Rattle.pli_operation.specs.Operations.{Multiply};
-ghost use Rattle.pli_operation.specs.views.OperationView.{operation_view, relation_view};
+ghost use Rattle.pli_operation.specs.declared.operation.Operation.TheVariants.{Multiply};
 ghost use Rattle.pli_type.specs.ExpressionTypes as spec;
 ghost use Rattle.pli_type.specs.views.ValueView.{value_view};
 ghost use Rattle.pli_type_tree.specs.views.TypedView.{expression_view};
@@ -10,7 +9,7 @@ use crate::expression_type::{ExpressionType, precisions, product_precision, sum_
 use crate::typed_value::{TypedValue, refused, with_one, with_two};
 use pli_base::syntax::{InfixOperator, PrefixOperator};
 use pli_operation::{Operation, Relation};
-use pli_type_tree::TypedExpression;
+use pli_type_tree::{TypedExpression, TypedOperation};
 use std::alloc::{AllocError, Global};
 
 /// What a prefix operator gives, or none where it does not take the operand: `+` and `-` take a number, `^` bits
@@ -33,6 +32,7 @@ pub fn prefix_value(
             return Ok(None);
         }
     };
+    let operation = TypedOperation::Operate(operation);
     let expression = with_one(alloc, operation, operand.expression)?;
     Ok(Some(TypedValue { expression, kind }))
 }
@@ -48,7 +48,11 @@ fn string_as(
 {
     match (from, to) {
         (ExpressionType::Bits, ExpressionType::Characters) => {
-            with_one(alloc, Operation::FromBits, expression)
+            with_one(
+                alloc,
+                TypedOperation::Operate(Operation::FromBits),
+                expression,
+            )
         }
         _ => Ok(expression),
     }
@@ -63,12 +67,11 @@ fn on_strings(
     kind: ExpressionType,
 ) -> Result<TypedExpression, AllocError>
     ensures { IfOk result (λ made. expression_view made
-        ≡ spec.on_strings (operation_view operation) (value_view left) (value_view right) kind) }
+        ≡ spec.on_strings operation (value_view left) (value_view right) kind) }
 {
     let left = match string_as(alloc, left.expression, left.kind, kind) {
         Ok(left) => left,
         Err(error) => {
-            drop(operation);
             drop(right);
             return Err(error);
         }
@@ -76,7 +79,6 @@ fn on_strings(
     let right = match string_as(alloc, right.expression, right.kind, kind) {
         Ok(right) => right,
         Err(error) => {
-            drop(operation);
             drop(left);
             return Err(error);
         }
@@ -93,7 +95,7 @@ fn comparison(
     right: TypedValue,
 ) -> Result<Option<TypedValue>, AllocError>
     ensures { IfOk result (λ given. option_map value_view given
-        ≡ spec.comparison greatest (relation_view relation) (value_view left) (value_view right)) }
+        ≡ spec.comparison greatest relation (value_view left) (value_view right)) }
 {
     let expression = match (
         left.kind.beside(right.kind),
@@ -139,7 +141,7 @@ fn logical(
     right: TypedValue,
 ) -> Result<Option<TypedValue>, AllocError>
     ensures { IfOk result (λ given. option_map value_view given
-        ≡ spec.logical (operation_view operation) (value_view left) (value_view right)) }
+        ≡ spec.logical operation (value_view left) (value_view right)) }
 {
     match (left.kind, right.kind) {
         (ExpressionType::Bits, ExpressionType::Bits) => {
@@ -149,10 +151,7 @@ fn logical(
                 kind: ExpressionType::Bits,
             }))
         }
-        _ => {
-            drop(operation);
-            Ok(refused(left, right))
-        }
+        _ => Ok(refused(left, right)),
     }
 }
 
@@ -165,7 +164,7 @@ fn arithmetic(
     right: TypedValue,
 ) -> Result<Option<TypedValue>, AllocError>
     ensures { IfOk result (λ given. option_map value_view given ≡ Some (record {
-      expression = spec.with_two (operation_view operation) (expression_view left.expression) (expression_view right.expression);
+      expression = spec.with_two operation (expression_view left.expression) (expression_view right.expression);
       kind = ExpressionType.FixedBinary precision;
     })) }
 {
@@ -185,14 +184,11 @@ fn sum(
     right: TypedValue,
 ) -> Result<Option<TypedValue>, AllocError>
     ensures { IfOk result (λ given. option_map value_view given
-        ≡ spec.on_numbers greatest (operation_view operation) (spec.sum_precision greatest) (value_view left) (value_view right)) }
+        ≡ spec.on_numbers greatest operation (spec.sum_precision greatest) (value_view left) (value_view right)) }
 {
     match precisions(greatest, left.kind, right.kind) {
         Some((p, q)) => arithmetic(alloc, operation, sum_precision(greatest, p, q), left, right),
-        None => {
-            drop(operation);
-            Ok(refused(left, right))
-        }
+        None => Ok(refused(left, right)),
     }
 }
 

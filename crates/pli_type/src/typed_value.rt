@@ -1,14 +1,13 @@
 //! Expressions with their types.
 ghost use Rattle.std.specs.Prelude.{◌≡◌, None, IfOk, option_map};
 ghost use Rattle.pli_map.specs.views.DescriptionView.{description_view};
-ghost use Rattle.pli_operation.specs.views.OperationView.{operation_view};
 ghost use Rattle.pli_type.specs.ExpressionTypes as spec;
 ghost use Rattle.pli_type.specs.views.ValueView.{value_view};
-ghost use Rattle.pli_type_tree.specs.views.TypedView.{expression_view};
+ghost use Rattle.pli_type_tree.specs.views.TypedView.{expression_view, operation_view};
 
 use crate::expression_type::ExpressionType;
 use pli_operation::Operation;
-use pli_type_tree::TypedExpression;
+use pli_type_tree::{TypedExpression, TypedOperation};
 use std::alloc::{AllocError, Global};
 
 /// An expression with its type.
@@ -19,10 +18,10 @@ pub struct TypedValue {
 }
 
 /// An operation on one operand.
-#[tactic(auto, using(crate::proofs::TypedTrees::calculated_made))]
+#[tactic(auto, using(pli_type_tree::specs::laws::TypedTreeLaws::calculated_made))]
 pub(crate) fn with_one(
     alloc: Global,
-    operation: Operation,
+    operation: TypedOperation,
     operand: TypedExpression,
 ) -> Result<TypedExpression, AllocError>
     ensures { IfOk result (λ made. expression_view made ≡ spec.with_one (operation_view operation) (expression_view operand)) }
@@ -40,7 +39,7 @@ pub(crate) fn with_one(
 }
 
 /// An operation on two operands.
-#[tactic(auto, using(crate::proofs::TypedTrees::calculated_made))]
+#[tactic(auto, using(crate::proofs::TypedTrees::operated_made))]
 pub(crate) fn with_two(
     alloc: Global,
     operation: Operation,
@@ -48,18 +47,13 @@ pub(crate) fn with_two(
     right: TypedExpression,
 ) -> Result<TypedExpression, AllocError>
     ensures { IfOk result (λ made. expression_view made
-        ≡ spec.with_two (operation_view operation) (expression_view left) (expression_view right)) }
+        ≡ spec.with_two operation (expression_view left) (expression_view right)) }
 {
-    match vec![in alloc; left, right] {
-        Ok(operands) => Ok(TypedExpression::Calculated {
-            operation,
-            operands,
-        }),
-        Err(error) => {
-            drop(operation);
-            Err(error.into())
-        }
-    }
+    let operands = vec![in alloc; left, right]?;
+    Ok(TypedExpression::Calculated {
+        operation: TypedOperation::Operate(operation),
+        operands,
+    })
 }
 
 /// Lets go of two operands that are not taken: there is no value of them.

@@ -13,9 +13,10 @@ use Rattle.pli_base.specs.declared.syntax.PrefixOperator.TheVariants as prefixes
 use Rattle.pli_map.specs.Description as described
 use Rattle.pli_map.specs.Description.{Description, Array}
 use Rattle.pli_map.specs.declared.description.Bounds.{Bounds}
-use Rattle.pli_operation.specs.Operations.{Operation, Divide, Rest, Substring}
-use Rattle.pli_operation.specs.Operations.{ToCharacters, Fit, Add, Subtract, Multiply, Compare, Concatenate, And, Or}
-use Rattle.pli_operation.specs.Operations.{Relation, Equal, Unequal, Less, AtMost, Greater, AtLeast}
+use Rattle.pli_operation.specs.declared.operation.Operation.{Operation}
+use Rattle.pli_operation.specs.declared.operation.Operation.TheVariants.{ToCharacters, Add, Subtract, Multiply, Divide, Compare, Concatenate, And, Or, Rest, Substring}
+use Rattle.pli_operation.specs.declared.operation.Relation.{Relation}
+use Rattle.pli_operation.specs.declared.operation.Relation.TheVariants.{Equal, Unequal, Less, AtMost, Greater, AtLeast}
 use Rattle.pli_resolve.specs.declared.built_in.BuiltInFunction.{BuiltInFunction}
 use Rattle.pli_resolve.specs.declared.built_in.BuiltInFunction.TheVariants as functions
 use Rattle.pli_type.specs.ExpressionTypes.{TypedValue, precision_of, precisions, all_operands, constant, with_one, with_plus, with_minus, with_not}
@@ -28,7 +29,7 @@ use Rattle.pli_type.specs.FunctionCalls.{value_in, values_in, divided, of_argume
 use Rattle.pli_type.specs.References.{Role}
 use Rattle.pli_type.specs.declared.expression_type.ExpressionType.{ExpressionType}
 use Rattle.pli_type.specs.declared.expression_type.ExpressionType.TheVariants as types
-use Rattle.pli_type_tree.specs.TypedTree.{TypedExpression, TypedReference, TypedUnit}
+use Rattle.pli_type_tree.specs.TypedTree.{TypedOperation, Fit, Operate, TypedExpression, TypedReference, TypedUnit}
 use Rattle.pli_type_laws.proofs.Conversions.{OnGiven, given_if}
 use Rattle.pli_type_laws.proofs.Denotations.{OnRead}
 use Rattle.pli_type_laws.proofs.Operators.{given_map}
@@ -78,7 +79,7 @@ module _ (t : TypedUnit) where
 
   -- ---- infix operators
 
-  numbers_fit : (operation : Operation) (precision : (p q : ℕ) → ℕ) (v w : TypedValue) → IsOperation operation → IsValue t v → IsValue t w
+  numbers_fit : (operation : Operation) (precision : (p q : ℕ) → ℕ) (v w : TypedValue) → IsOperation (Operate operation) → IsValue t v → IsValue t w
       → OnGiven (IsValue t) (on_numbers 31 operation precision v w)
   numbers_fit operation precision v w good a b = given_made (IsValue t) _ (precisions 31 v.kind w.kind) (λ ps. (good, (a, (b, tt))))
 
@@ -86,7 +87,7 @@ module _ (t : TypedUnit) where
   string_fits e types.Bits types.Characters h = (tt, (h, tt))
   string_fits e from to h = h
 
-  strings_fit : (operation : Operation) (v w : TypedValue) (kind : ExpressionType) → IsOperation operation → IsValue t v → IsValue t w
+  strings_fit : (operation : Operation) (v w : TypedValue) (kind : ExpressionType) → IsOperation (Operate operation) → IsValue t v → IsValue t w
       → IsExpression t (on_strings operation v w kind)
   strings_fit operation v w kind good a b =
       (good, (string_fits v.expression v.kind kind a, (string_fits w.expression w.kind kind b, tt)))
@@ -104,7 +105,7 @@ module _ (t : TypedUnit) where
   concatenation_fits : (v w : TypedValue) → IsValue t v → IsValue t w → OnGiven (IsValue t) (concatenation v w)
   concatenation_fits v w a b = given_made (IsValue t) _ (string_type v.kind w.kind) (λ kind. strings_fit Concatenate v w kind tt a b)
 
-  bits_fit : (operation : Operation) (e f : TypedExpression) (one other : ExpressionType) → IsOperation operation → IsExpression t e → IsExpression t f
+  bits_fit : (operation : Operation) (e f : TypedExpression) (one other : ExpressionType) → IsOperation (Operate operation) → IsExpression t e → IsExpression t f
       → OnGiven (IsValue t) (of_bits_alone operation e f one other)
   bits_fit operation e f types.Bits types.Bits good a b = (good, (a, (b, tt)))
   bits_fit operation e f one other good a b = tt
@@ -167,7 +168,7 @@ module _ (t : TypedUnit) where
 
   -- operations of a conversion
   as_operation : (o : Option ℕ) → OnGiven (λ width. width ≤ 255) o
-      → OnGiven (AllByRecursion IsOperation) (option_map (λ width. ToCharacters width ∷ []) o)
+      → OnGiven (AllByRecursion IsOperation) (option_map (λ width. Operate (ToCharacters width) ∷ []) o)
   as_operation (Some width) few = (few, tt)
   as_operation None few = tt
 
@@ -187,7 +188,7 @@ module _ (t : TypedUnit) where
   suiting_operations (described.Bit k) kind = bit_operations kind
   suiting_operations other kind = tt
 
-  then_fitted : (d : Description) (operations : List Operation) → IsDescription d → AllByRecursion IsOperation operations
+  then_fitted : (d : Description) (operations : List TypedOperation) → IsDescription d → AllByRecursion IsOperation operations
       → AllByRecursion IsOperation (operations ++ Fit d ∷ [])
   then_fitted d [] good h = (good, tt)
   then_fitted d (o ∷ os) good h = (h.0, then_fitted d os good h.1)
@@ -217,17 +218,21 @@ module _ (t : TypedUnit) where
 
   -- ---- built-in functions
 
-  calculated_fits : (o : Option Operation) (kind : Option ExpressionType) (es : List TypedExpression) → OnGiven IsOperation o
+  -- what an operation without a description has beside its operands
+  abbrev IsBare : Operation → Type 0
+  IsBare o = IsOperation (Operate o)
+
+  calculated_fits : (o : Option Operation) (kind : Option ExpressionType) (es : List TypedExpression) → OnGiven IsBare o
       → AllByRecursion (IsExpression t) es → OnGiven (IsValue t) (calculation o kind es)
   calculated_fits (Some operation) (Some kind) es good h = (good, operands_fit es h)
   calculated_fits (Some operation) None es good h = tt
   calculated_fits None kind es good h = tt
 
-  rest_or_part : (b : Bool) → IsOperation (if b then Rest else Substring)
+  rest_or_part : (b : Bool) → IsBare (if b then Rest else Substring)
   rest_or_part true = tt
   rest_or_part false = tt
 
-  operation_good : (function : BuiltInFunction) (given : ℕ) → OnGiven IsOperation (operation_of function given)
+  operation_good : (function : BuiltInFunction) (given : ℕ) → OnGiven IsBare (operation_of function given)
   operation_good functions.Abs given = tt
   operation_good functions.Sign given = tt
   operation_good functions.Length given = tt

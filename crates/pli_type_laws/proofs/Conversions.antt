@@ -3,13 +3,13 @@ use Rattle.std.specs.Prelude.{◌≡◌, ℕ, Bool, true, false, if◌then◌els
 use Rattle.std.proofs.Common.{arith, subst}
 use Rattle.pli_map.specs.Description as described
 use Rattle.pli_map.specs.Description.{Description}
-use Rattle.pli_operation.specs.Operations.{Fit, ToCharacters}
+use Rattle.pli_operation.specs.declared.operation.Operation.TheVariants.{ToCharacters}
 use Rattle.pli_type.specs.ExpressionTypes.{TypedValue, with_one, suited, converted, printed, printed_from, as_characters, columns, decimal_digits}
 use Rattle.pli_type.specs.declared.expression_type.ExpressionType.{ExpressionType}
 use Rattle.pli_type.specs.declared.expression_type.ExpressionType.TheVariants as types
 use Rattle.pli_type_laws.specs.ExpressionTyping.{HasType, IsShort, ConvertedIsHeld, PrintedIsString}
 use Rattle.pli_type_laws.proofs.Widths.{near_has_columns}
-use Rattle.pli_type_tree.specs.TypedTree.{TypedExpression}
+use Rattle.pli_type_tree.specs.TypedTree.{Fit, Operate, TypedExpression}
 use Rattle.pli_type_tree.specs.ValueTypes.{ValueType, Numbers, Strings, StringKind, OfCharacters, OfBits, type_held, IsFitted, IsWithin, HaveColumns}
 use Rattle.pli_type_tree.specs.WellTyped.{TypingContext, IsTyped, IsValueFor}
 
@@ -58,7 +58,7 @@ module _ (s : TypingContext) where
   bits_fit k e kind h = tt
 
   made_string : (e : TypedExpression) (width p : ℕ) → IsTyped 31 s e (Numbers p) → HaveColumns width p
-      → IsTyped 31 s (with_one (ToCharacters width) e) (Strings OfCharacters width width)
+      → IsTyped 31 s (with_one (Operate (ToCharacters width)) e) (Strings OfCharacters width width)
   made_string e width p typed room =
       (Numbers p ∷ [], (Numbers p, [], refl, typed, refl), (p, refl, (room, refl)))
 

@@ -15,7 +15,6 @@ use Rattle.pli_map.specs.Description.{Description, Array, Structure}
 use Rattle.pli_map.specs.Same.{same}
 use Rattle.pli_map.specs.laws.SameLaws.{same_decides}
 use Rattle.pli_map.specs.Scalars.{is_aggregate, is_area}
-use Rattle.pli_operation.specs.Operations.{Operation}
 use Rattle.pli_type.specs.ExpressionTypes.{TypedValue, precision_of, converted, conversions, printed}
 use Rattle.pli_type.specs.FunctionCalls.{Denoted, DenotesVariable, DenotesResult, Meant, OneValue, WholeAggregate, Argument}
 use Rattle.pli_type.specs.Names.{NamedAs, AProcedure, ALabel, NamedProcedure, Naming, Compiled}
@@ -41,7 +40,7 @@ use Rattle.pli_type_laws.proofs.References.{read_then}
 use Rattle.pli_type_laws.specs.ExpressionTyping as Near
 use Rattle.pli_type_laws.specs.ExpressionTyping.{HasType}
 use Rattle.pli_type_tree.specs.TypedTree as typed
-use Rattle.pli_type_tree.specs.TypedTree.{TypedExpression, TypedReference, TypedArguments, TypedRange, Form}
+use Rattle.pli_type_tree.specs.TypedTree.{TypedOperation, TypedExpression, TypedReference, TypedArguments, TypedRange, Form}
 use Rattle.pli_type_tree.specs.ValueTypes.{StringKind, OfBits}
 use Rattle.pli_type_tree.specs.WellTyped.{TypingContext, IsPlaced, ArePassed, IsValueFor, IsString, AreItems, IsNumber}
 use Rattle.pli_type_tree.specs.WellTyped.{IsPossibleNumber, IsRange, IsPossibleCondition, IsIteration, knows_label, IsTypedForm}
@@ -250,7 +249,7 @@ module _ (is_later : ℕ → Bool) (meaning : ℕ → NamedAs) (s : TypingContex
   possible_condition_typed (Some e) l =
       read_then (IsString 31 s OfBits) (IsPossibleCondition 31 s) (condition M e) _ (condition_typed e l) (λ x h. h)
 
-  next_typed : (d : Description) (operations : List Operation) (e : Expression) → later_expression L e ≡ false
+  next_typed : (d : Description) (operations : List TypedOperation) (e : Expression) → later_expression L e ≡ false
       → OnRead (IsRange 31 s operations d) (next_value M d e)
   next_typed d operations e l =
       read_then (HasValue s) (IsRange 31 s operations d) (value_of M e) _ (value_typed is_later meaning s known e l)
@@ -259,7 +258,7 @@ module _ (is_later : ℕ → Bool) (meaning : ℕ → NamedAs) (s : TypingContex
       (read_option (IsValueFor 31 s d) CannotAssign (first_token e) (converted 31 d v) (conversion_held s d v h))
       (λ x k. k))
 
-  turns_typed : (d : Description) (operations : List Operation) (kept : TypedRange) (range : Option Range)
+  turns_typed : (d : Description) (operations : List TypedOperation) (kept : TypedRange) (range : Option Range)
       → later_part (later_range L) range ≡ false → IsRange 31 s operations d kept
       → OnRead (IsRange 31 s operations d) (with_repeat M d kept range)
   turns_typed d operations kept (Some (tree.Repeat next)) l h = next_typed d operations next l

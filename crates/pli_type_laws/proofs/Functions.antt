@@ -5,7 +5,8 @@ use Rattle.std.proofs.Common.{arith}
 use Rattle.std.proofs.lemmas.Bool.{and_parts, leb-true, false≢true}
 use Rattle.pli_map.specs.Description.{Description, Array}
 use Rattle.pli_map.specs.declared.description.Bounds.{Bounds}
-use Rattle.pli_operation.specs.Operations.{Operation, Absolute, Sign, LengthOf, Greatest, Least, Modulo, Divide, Index, Rest, Substring}
+use Rattle.pli_operation.specs.declared.operation.Operation.{Operation}
+use Rattle.pli_operation.specs.declared.operation.Operation.TheVariants.{Absolute, Sign, LengthOf, Greatest, Least, Modulo, Divide, Index, Rest, Substring}
 use Rattle.pli_resolve.specs.declared.built_in.BuiltInFunction.{BuiltInFunction}
 use Rattle.pli_resolve.specs.declared.built_in.BuiltInFunction.TheVariants as functions
 use Rattle.pli_type.specs.ExpressionTypes.{TypedValue, precision_of, precisions, all_operands}
@@ -20,8 +21,8 @@ use Rattle.pli_type_laws.proofs.Conversions.{OnGiven, given_if}
 use Rattle.pli_type_laws.proofs.Denotations.{OnRead, IsMeant, AreArguments, denoted_meant}
 use Rattle.pli_type_laws.proofs.Operators.{HasValue, has_precision, have_precisions, of_one, of_two, AreNumbers}
 use Rattle.pli_type_laws.specs.ExpressionTyping.{HasType, IsNumber}
-use Rattle.pli_type_tree.specs.TypedTree.{TypedExpression, Calculated}
-use Rattle.pli_type_tree.specs.ValueTypes.{ValueType, Numbers, OfCharacters, OfBits, Operates}
+use Rattle.pli_type_tree.specs.TypedTree.{Operate, TypedExpression, Calculated}
+use Rattle.pli_type_tree.specs.ValueTypes.{ValueType, Numbers, OfCharacters, OfBits, Computes}
 use Rattle.pli_type_tree.specs.WellTyped.{TypingContext, IsTyped}
 
 abbrev pub AreValues : TypingContext → List TypedValue → Type 0
@@ -31,7 +32,7 @@ AreValues s (v ∷ vs) = HasValue s v × AreValues s vs
 module _ (s : TypingContext) where
   -- one number becomes another
   of_number : (operation : Operation) (v : TypedValue) (o : Option ℕ) (kind : ℕ → ExpressionType)
-      → ((P : ℕ) → IsNumber s v.expression P → HasType s (Calculated operation (all_operands (v.expression ∷ []))) (kind P))
+      → ((P : ℕ) → IsNumber s v.expression P → HasType s (Calculated (Operate operation) (all_operands (v.expression ∷ []))) (kind P))
       → OnGiven (IsNumber s v.expression) o
       → OnGiven (HasValue s) (calculation (Some operation) (option_map kind o) (v.expression ∷ []))
   of_number operation v (Some P) kind made h = made P h
@@ -39,28 +40,28 @@ module _ (s : TypingContext) where
 
   of_sign : (v : TypedValue) (o : Option ℕ) → OnGiven (IsNumber s v.expression) o
       → OnGiven (HasValue s) (calculation (Some Sign) (with_number (Some a_count) o) (v.expression ∷ []))
-  of_sign v (Some P) h = (1, of_one s Sign v.expression _ _ h.1 (h.0, refl, refl), (omega arith, omega arith, omega arith))
+  of_sign v (Some P) h = (1, of_one s (Operate Sign) v.expression _ _ h.1 (h.0, refl, refl), (omega arith, omega arith, omega arith))
   of_sign v None h = tt
 
   of_length : (e : TypedExpression) (kind : ExpressionType) → HasType s e kind
       → OnGiven (HasValue s) (calculation (Some LengthOf) (option_map (λ k. a_count) (string_kind kind)) (e ∷ []))
   of_length e types.Characters h =
-      (15, of_one s LengthOf e _ _ h.2 (OfCharacters, h.0, h.1, refl, (h.3, refl)), (omega arith, omega arith, omega arith))
+      (15, of_one s (Operate LengthOf) e _ _ h.2 (OfCharacters, h.0, h.1, refl, (h.3, refl)), (omega arith, omega arith, omega arith))
   of_length e types.Bits h =
-      (15, of_one s LengthOf e _ _ h.2 (OfBits, h.0, h.1, refl, (h.3, refl)), (omega arith, omega arith, omega arith))
+      (15, of_one s (Operate LengthOf) e _ _ h.2 (OfBits, h.0, h.1, refl, (h.3, refl)), (omega arith, omega arith, omega arith))
   of_length e other h = tt
 
   -- two numbers
   of_numbers : (operation : Operation) (v w : TypedValue) (o : Option (ℕ × ℕ)) (kind : ℕ × ℕ → ExpressionType)
       → ((ps : ℕ × ℕ) → AreNumbers s v.expression w.expression ps
-      → HasType s (Calculated operation (all_operands (v.expression ∷ w.expression ∷ []))) (kind ps))
+      → HasType s (Calculated (Operate operation) (all_operands (v.expression ∷ w.expression ∷ []))) (kind ps))
       → OnGiven (AreNumbers s v.expression w.expression) o
       → OnGiven (HasValue s) (calculation (Some operation) (option_map kind o) (v.expression ∷ w.expression ∷ []))
   of_numbers operation v w (Some ps) kind made h = made ps h
   of_numbers operation v w None kind made h = tt
 
   greater_number : (operation : Operation)
-      → ((p q : ℕ) → Operates 31 operation (Numbers p ∷ Numbers q ∷ []) (Numbers (max p q))) → (v w : TypedValue)
+      → ((p q : ℕ) → Computes 31 operation (Numbers p ∷ Numbers q ∷ []) (Numbers (max p q))) → (v w : TypedValue)
       → HasValue s v → HasValue s w
       → OnGiven (HasValue s)
       (calculation (Some operation) (option_map (λ ps. number_type (max ps.0 ps.1)) (precisions 31 v.kind w.kind))
@@ -112,8 +113,8 @@ module _ (s : TypingContext) where
   rest_of e one f None a b = tt
 
   of_three : (operation : Operation) (e f g : TypedExpression) (t u v r : ValueType) → IsTyped 31 s e t
-      → IsTyped 31 s f u → IsTyped 31 s g v → Operates 31 operation (t ∷ u ∷ v ∷ []) r
-      → IsTyped 31 s (Calculated operation (all_operands (e ∷ f ∷ g ∷ []))) r
+      → IsTyped 31 s f u → IsTyped 31 s g v → Computes 31 operation (t ∷ u ∷ v ∷ []) r
+      → IsTyped 31 s (Calculated (Operate operation) (all_operands (e ∷ f ∷ g ∷ []))) r
   of_three operation e f g t u v r one two three operates =
       (t ∷ u ∷ v ∷ [], (t, u ∷ v ∷ [], refl, one, (u, v ∷ [], refl, two, (v, [], refl, three, refl))), operates)
 
@@ -134,7 +135,7 @@ module _ (s : TypingContext) where
       → OnGiven (HasValue s) (of_values 31 function vs)
   values_have_type functions.Abs (v ∷ []) h =
       of_number Absolute v (precision_of 31 v.kind) number_type
-      (λ P n. (n.0, of_one s Absolute v.expression _ _ n.1 (n.0, refl, refl), n.2))
+      (λ P n. (n.0, of_one s (Operate Absolute) v.expression _ _ n.1 (n.0, refl, refl), n.2))
       (has_precision s v.expression v.kind h.0)
   values_have_type functions.Sign (v ∷ []) h =
       of_sign v (precision_of 31 v.kind) (has_precision s v.expression v.kind h.0)

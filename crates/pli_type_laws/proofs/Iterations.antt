@@ -3,7 +3,6 @@ use Rattle.std.specs.Prelude.{◌≡◌, ℕ, true, Option, Some, None, option_m
 use Rattle.std.proofs.lemmas.Bool.{false≢true}
 use Rattle.pli_map.specs.Description as described
 use Rattle.pli_map.specs.Description.{Description}
-use Rattle.pli_operation.specs.Operations.{Operation, Fit}
 use Rattle.pli_type.specs.ExpressionTypes.{string_conversions, conversions, columns, decimal_digits}
 use Rattle.pli_type.specs.StatementTyping.{suits_range}
 use Rattle.pli_type.specs.declared.expression_type.ExpressionType.{ExpressionType}
@@ -11,12 +10,12 @@ use Rattle.pli_type.specs.declared.expression_type.ExpressionType.TheVariants as
 use Rattle.pli_type_laws.proofs.Conversions.{OnGiven, within_self}
 use Rattle.pli_type_laws.proofs.Widths.{near_has_columns}
 use Rattle.pli_type_laws.specs.ExpressionTyping.{HasType}
-use Rattle.pli_type_tree.specs.TypedTree.{TypedExpression, TypedRange, Once, ToBy, ByTo, Repeated}
+use Rattle.pli_type_tree.specs.TypedTree.{TypedOperation, Fit, TypedExpression, TypedRange, Once, ToBy, ByTo, Repeated}
 use Rattle.pli_type_tree.specs.ValueTypes.{ValueType, Numbers, Strings, OfCharacters, OfBits, type_held, IsFitted}
 use Rattle.pli_type_tree.specs.WellTyped.{TypingContext, IsTyped, Convert, Counts, IsNumber, IsPossibleNumber, IsRange}
 
 -- a number counts, whatever the number is that is converted to it
-abbrev pub CountsIf : Description → List Operation → Type 0
+abbrev pub CountsIf : Description → List TypedOperation → Type 0
 CountsIf (described.FixedBinary q) operations = Counts 31 operations (described.FixedBinary q)
 CountsIf other operations = Unit {0}
 
@@ -24,7 +23,7 @@ last : (d : Description) (t u : ValueType) → IsFitted d t → type_held d ≡ 
 last d t u fits held = (u, (t, refl, fits, held), (u, held, within_self u))
 
 module _ (s : TypingContext) where
-  abbrev pub Converts : Description → TypedExpression → List Operation → Type 0
+  abbrev pub Converts : Description → TypedExpression → List TypedOperation → Type 0
   Converts d e operations =
       ((t : ValueType) × IsTyped 31 s e t × Convert 31 operations t d) × CountsIf d operations
 
@@ -47,7 +46,7 @@ module _ (s : TypingContext) where
   bits_convert k e kind h = tt
 
   -- characters of a number or of a string
-  abbrev LeadsOn : Description → TypedExpression → List Operation → Type 0
+  abbrev LeadsOn : Description → TypedExpression → List TypedOperation → Type 0
   LeadsOn d e operations = (t : ValueType) × IsTyped 31 s e t × Convert 31 (operations ++ Fit d ∷ []) t d
 
   characters_convert : (d : Description) (u : ValueType) → type_held d ≡ Some u
@@ -70,8 +69,8 @@ module _ (s : TypingContext) where
   characters_convert d u held fits e types.Offset h = absurd h
   characters_convert d u held fits e types.Area h = absurd h
 
-  fitted_last : (d : Description) (e : TypedExpression) (o : Option (List Operation))
-      → ((operations : List Operation) → CountsIf d operations) → OnGiven (LeadsOn d e) o
+  fitted_last : (d : Description) (e : TypedExpression) (o : Option (List TypedOperation))
+      → ((operations : List TypedOperation) → CountsIf d operations) → OnGiven (LeadsOn d e) o
       → OnGiven (Converts d e) (option_map (λ operations. operations ++ Fit d ∷ []) o)
   fitted_last d e (Some operations) counts h = (h, counts (operations ++ Fit d ∷ []))
   fitted_last d e None counts h = tt
@@ -99,7 +98,7 @@ module _ (s : TypingContext) where
   AreLimits (ByTo x y) = IsNumber 31 s x × IsPossibleNumber 31 s y
   AreLimits (Repeated next) = ⊥
 
-  pub limits_range : (d : Description) (operations : List Operation) (range : TypedRange) → CountsIf d operations
+  pub limits_range : (d : Description) (operations : List TypedOperation) (range : TypedRange) → CountsIf d operations
       → suits_range d range ≡ true → AreLimits range → IsRange 31 s operations d range
   limits_range d operations Once counts suits h = tt
   limits_range (described.FixedBinary q) operations (ToBy x y) counts suits h = (counts, h.0, h.1)

@@ -5,9 +5,10 @@ use Rattle.pli_base.specs.declared.syntax.InfixOperator.{InfixOperator}
 use Rattle.pli_base.specs.declared.syntax.InfixOperator.TheVariants as infixes
 use Rattle.pli_base.specs.declared.syntax.PrefixOperator.{PrefixOperator}
 use Rattle.pli_base.specs.declared.syntax.PrefixOperator.TheVariants as prefixes
-use Rattle.pli_operation.specs.Operations.{Operation, Relation, Equal, Unequal, Less, AtMost, Greater}
-use Rattle.pli_operation.specs.Operations.{AtLeast, Negate, Not, FromBits, Add, Subtract, Multiply}
-use Rattle.pli_operation.specs.Operations.{Compare, Concatenate, And, Or}
+use Rattle.pli_operation.specs.declared.operation.Operation.{Operation}
+use Rattle.pli_operation.specs.declared.operation.Operation.TheVariants.{Negate, Not, FromBits, Add, Subtract, Multiply, Compare, Concatenate, And, Or}
+use Rattle.pli_operation.specs.declared.operation.Relation.{Relation}
+use Rattle.pli_operation.specs.declared.operation.Relation.TheVariants.{Equal, Unequal, Less, AtMost, Greater, AtLeast}
 use Rattle.pli_type.specs.ExpressionTypes.{TypedValue, precision_of, precisions, paired, with_one, with_two, with_plus, with_minus, with_not}
 use Rattle.pli_type.specs.ExpressionTypes.{prefix_value, infix_value, on_numbers, sum_precision, product_precision}
 use Rattle.pli_type.specs.ExpressionTypes.{string_type, string_as, on_strings, as_bits, compared, comparison, concatenation, of_bits_alone}
@@ -15,8 +16,8 @@ use Rattle.pli_type.specs.declared.expression_type.ExpressionType.{ExpressionTyp
 use Rattle.pli_type.specs.declared.expression_type.ExpressionType.TheVariants as types
 use Rattle.pli_type_laws.proofs.Conversions.{OnGiven}
 use Rattle.pli_type_laws.specs.ExpressionTyping.{HasType, IsShort, IsNumber, AreNear}
-use Rattle.pli_type_tree.specs.TypedTree.{TypedExpression}
-use Rattle.pli_type_tree.specs.ValueTypes.{ValueType, Numbers, Strings, StringKind, OfCharacters, OfBits, Operates, longest}
+use Rattle.pli_type_tree.specs.TypedTree.{Operate, TypedOperation, TypedExpression}
+use Rattle.pli_type_tree.specs.ValueTypes.{ValueType, Numbers, Strings, StringKind, OfCharacters, OfBits, Computes, Operates, longest}
 use Rattle.pli_type_tree.specs.WellTyped.{TypingContext, IsTyped}
 
 -- a value has its type
@@ -49,12 +50,12 @@ module _ (s : TypingContext) where
   has_precision e types.Area h = tt
 
   -- one operand, two operands
-  pub of_one : (operation : Operation) (e : TypedExpression) (t u : ValueType) → IsTyped 31 s e t
+  pub of_one : (operation : TypedOperation) (e : TypedExpression) (t u : ValueType) → IsTyped 31 s e t
       → Operates 31 operation (t ∷ []) u → IsTyped 31 s (with_one operation e) u
   of_one operation e t u typed operates = (t ∷ [], (t, [], refl, typed, refl), operates)
 
   pub of_two : (operation : Operation) (e f : TypedExpression) (t u r : ValueType) → IsTyped 31 s e t
-      → IsTyped 31 s f u → Operates 31 operation (t ∷ u ∷ []) r → IsTyped 31 s (with_two operation e f) r
+      → IsTyped 31 s f u → Computes 31 operation (t ∷ u ∷ []) r → IsTyped 31 s (with_two operation e f) r
   of_two operation e f t u r one other operates =
       (t ∷ u ∷ [], (t, u ∷ [], refl, one, (u, [], refl, other, refl)), operates)
 
@@ -79,8 +80,8 @@ module _ (s : TypingContext) where
   minus : (e : TypedExpression) (kind : ExpressionType) (o : Option ℕ) → HasType s e kind
       → OnGiven (IsNumber s e) (precision_of 31 kind)
       → OnGiven (HasValue s) (with_minus (record { expression = e; kind = kind }) (precision_of 31 kind))
-  minus e (types.FixedDecimal digits) o h n = (h.0, of_one Negate e _ _ h.1 (h.0, refl, refl), h.2, h.3)
-  minus e (types.FixedBinary precision) o h n = (h.0, of_one Negate e _ _ h.1 (h.0, refl, refl), h.2)
+  minus e (types.FixedDecimal digits) o h n = (h.0, of_one (Operate Negate) e _ _ h.1 (h.0, refl, refl), h.2, h.3)
+  minus e (types.FixedBinary precision) o h n = (h.0, of_one (Operate Negate) e _ _ h.1 (h.0, refl, refl), h.2)
   minus e types.Characters o h n = tt
   minus e types.Bits o h n = tt
   minus e types.Pointer o h n = tt
@@ -96,7 +97,7 @@ module _ (s : TypingContext) where
   negation e (types.FixedBinary precision) h = tt
   negation e types.Characters h = tt
   negation e types.Bits h =
-      (h.0, h.1, of_one Not e (Strings OfBits h.0 h.1) _ h.2 (OfBits, h.0, h.1, refl, (refl, refl)), h.3)
+      (h.0, h.1, of_one (Operate Not) e (Strings OfBits h.0 h.1) _ h.2 (OfBits, h.0, h.1, refl, (refl, refl)), h.3)
   negation e types.Pointer h = tt
   negation e types.Offset h = tt
   negation e types.Area h = tt
@@ -112,7 +113,7 @@ module _ (s : TypingContext) where
   abbrev GivesNumber : Operation → (precision : (p q : ℕ) → ℕ) → Type 0
   GivesNumber operation precision =
       (p q r t : ℕ) → AreNear p r → AreNear q t
-      → (m : ℕ) × Operates 31 operation (Numbers p ∷ Numbers q ∷ []) (Numbers m) × AreNear m (precision r t)
+      → (m : ℕ) × Computes 31 operation (Numbers p ∷ Numbers q ∷ []) (Numbers m) × AreNear m (precision r t)
 
   numbers_give : (operation : Operation) (precision : (p q : ℕ) → ℕ) → GivesNumber operation precision
       → (v w : TypedValue) → HasValue s v → HasValue s w
@@ -124,11 +125,11 @@ module _ (s : TypingContext) where
       made : (ps : ℕ × ℕ) → AreNumbers v.expression w.expression ps
           → IsNumber s (with_two operation v.expression w.expression) (precision ps.0 ps.1)
       made ps h =
-          let given : (m : ℕ) × Operates 31 operation (Numbers h.0.0 ∷ Numbers h.1.0 ∷ []) (Numbers m)
+          let given : (m : ℕ) × Computes 31 operation (Numbers h.0.0 ∷ Numbers h.1.0 ∷ []) (Numbers m)
           × AreNear m (precision ps.0 ps.1) = gives h.0.0 h.1.0 ps.0 ps.1 h.0.2 h.1.2 in
           (given.0, of_two operation v.expression w.expression _ _ _ h.0.1 h.1.1 given.1, given.2)
 
-  sums : (operation : Operation) → ((p q : ℕ) → Operates 31 operation (Numbers p ∷ Numbers q ∷ []) (Numbers (min 31 (max p q + 1))))
+  sums : (operation : Operation) → ((p q : ℕ) → Computes 31 operation (Numbers p ∷ Numbers q ∷ []) (Numbers (min 31 (max p q + 1))))
       → GivesNumber operation (sum_precision 31)
   sums operation operates p q r t a b = (min 31 (max p q + 1), operates p q, sum_near p q r t a b)
 
@@ -145,9 +146,9 @@ module _ (s : TypingContext) where
   AreShort e one f other kind =
       (k : StringKind) × IsShort s k (string_as e one kind) × IsShort s k (string_as f other kind) × KindIs k kind
 
-  read_as_characters : (e : TypedExpression) → IsShort s OfBits e → IsShort s OfCharacters (with_one FromBits e)
+  read_as_characters : (e : TypedExpression) → IsShort s OfBits e → IsShort s OfCharacters (with_one (Operate FromBits) e)
   read_as_characters e h =
-      (h.0, h.1, of_one FromBits e (Strings OfBits h.0 h.1) _ h.2 (OfBits, h.0, h.1, refl, (refl, refl)), h.3)
+      (h.0, h.1, of_one (Operate FromBits) e (Strings OfBits h.0 h.1) _ h.2 (OfBits, h.0, h.1, refl, (refl, refl)), h.3)
 
   strings_meet : (e : TypedExpression) (one : ExpressionType) (f : TypedExpression) (other : ExpressionType)
       → HasType s e one → HasType s f other → OnGiven (AreShort e one f other) (string_type one other)
@@ -207,7 +208,7 @@ module _ (s : TypingContext) where
       ))
       (strings_meet v.expression v.kind w.expression w.kind a b)
 
-  bits_alone : (operation : Operation) → ((a b c d : ℕ) → Operates 31 operation (Strings OfBits a b ∷ Strings OfBits c d ∷ []) (Strings OfBits 0 (max b d)))
+  bits_alone : (operation : Operation) → ((a b c d : ℕ) → Computes 31 operation (Strings OfBits a b ∷ Strings OfBits c d ∷ []) (Strings OfBits 0 (max b d)))
       → (e f : TypedExpression) (one other : ExpressionType) → HasType s e one → HasType s f other
       → OnGiven (HasValue s) (of_bits_alone operation e f one other)
   bits_alone operation operates e f types.Bits types.Bits a b =

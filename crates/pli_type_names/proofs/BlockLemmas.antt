@@ -1,15 +1,17 @@
 -- What is found block by block.
-use Rattle.std.proofs.Common.{◌≡◌, ℕ, ◌+◌, ◌<◌, ◌≤◌, Option, Some, None, List, [], ◌∷◌, ◌++◌, take, length, map, option_map, slice_get, get_or}
+use Rattle.std.proofs.Common.{◌≡◌, ℕ, zero, suc, ◌+◌, ◌<◌, ◌≤◌, Option, Some, None, List, [], ◌∷◌, ◌++◌, take, length, map, replicate, option_map, slice_get, get_or}
 use Rattle.std.proofs.Common.{refl, ap, sym, ◌∙◌, arith}
 use Rattle.std.specs.List.{flat_map}
 use Rattle.std.specs.Option.{unwrap_or}
 use Rattle.std.proofs.lemmas.Grind.{flat_map-append}
-use Rattle.std.proofs.lemmas.List.{append-nil, length-append, length-map, take_all}
+use Rattle.std.proofs.lemmas.List.{append-nil, length-append, length-map, length-replicate, take_all}
 use Rattle.std.proofs.lemmas.Option.{slice_get-get_or, unwrap_or-slice_get}
 use Rattle.pli_resolve.specs.ResolvedUnits.{ResolvedUnit, ResolvedBlock, all_symbols}
 use Rattle.pli_resolve.specs.Symbols.{Symbol}
 use Rattle.pli_resolve.specs.views.UnitView.{without_symbols}
-use Rattle.pli_type.specs.NamedUnits.{block_symbols, globals_before, globals_in}
+use Rattle.pli_type.specs.NamedUnits.{all_tokens, block_symbols, global_tokens, globals_before, globals_in, one_global}
+use Rattle.pli_type.specs.TextOrder.{numbers_from, place_from, text_order, text_places}
+use Rattle.pli_type.proofs.TextNumbers.{numbers_counted}
 use Rattle.pli_type_names.specs.BlockEntries.{BlockEntry, entry_at}
 use Rattle.pli_type_names.specs.BlockFacts.{facts_of}
 use Rattle.pli_type_names.specs.Numbered.{each_from}
@@ -81,6 +83,39 @@ globals_behind (ys ∷ xss) xs = omega (arith, globals_behind xss xs)
 pub globals_more : (xss : List (List Symbol)) (n : ℕ) (xs : List Symbol) → slice_get xss n ≡ Some xs
     → globals_in 31 (take (n + 1) xss) ≡ globals_in 31 (take n xss) + globals_before 31 xs (length xs)
 globals_more xss n xs e = ap (globals_in 31) (take_one_more xss n xs e) ∙ globals_behind (take n xss) xs
+
+tokens_counted : (ss : List Symbol) → length (global_tokens 31 ss) ≡ globals_before 31 ss (length ss)
+tokens_counted [] = refl
+tokens_counted (s ∷ ss) =
+    omega (
+      arith,
+      length-append (replicate (one_global 31 s.kind) s.identifier.at) (global_tokens 31 ss),
+      length-replicate (one_global 31 s.kind) s.identifier.at,
+      tokens_counted ss,
+    )
+
+all_tokens_counted : (xss : List (List Symbol)) → length (all_tokens 31 xss) ≡ globals_in 31 xss
+all_tokens_counted [] = refl
+all_tokens_counted (xs ∷ xss) =
+    omega (arith, length-append (global_tokens 31 xs) (all_tokens 31 xss), tokens_counted xs, all_tokens_counted xss)
+
+globals_among : (xss : List (List Symbol)) (n : ℕ) → globals_in 31 (take n xss) ≤ globals_in 31 xss
+globals_among [] zero = omega arith
+globals_among [] (suc n) = omega arith
+globals_among (xs ∷ xss) zero = omega arith
+globals_among (xs ∷ xss) (suc n) = omega (arith, globals_among xss n)
+
+-- each has a place in the order of the text
+pub globals_placed : (xss : List (List Symbol)) (n : ℕ) → globals_in 31 (take n xss) ≤ length (text_places (all_tokens 31 xss))
+globals_placed xss n =
+    let tokens = all_tokens 31 xss in
+    omega (
+      arith,
+      globals_among xss n,
+      all_tokens_counted xss,
+      length-map (numbers_from 0 (length tokens)) (λ number. place_from 0 number (text_order tokens)),
+      numbers_counted 0 (length tokens),
+    )
 
 -- what is gathered from one block more, and from all
 pub gathered_more : {A : Type 0} (f : List Symbol → List A) (r : ResolvedUnit) (n : ℕ) → n < length r.blocks + 1

@@ -1,5 +1,5 @@
 -- Where variables begin, by how many stand before them.
-use Rattle.std.proofs.Common.{◌≡◌, ℕ, zero, suc, ◌+◌, ◌<◌, Bool, true, false, ◌&&◌, Option, Some, None, List, [], ◌∷◌, map, length, get_or}
+use Rattle.std.proofs.Common.{◌≡◌, ℕ, zero, suc, ◌+◌, ◌<◌, ◌≤◌, Bool, true, false, ◌&&◌, Option, Some, None, List, [], ◌∷◌, map, length, get_or}
 use Rattle.std.proofs.Common.{refl, ap, ◌∙◌, arith}
 use Rattle.std.specs.Prelude.{if◌then◌else◌}
 use Rattle.pli_map.specs.Description.{Description}
@@ -56,6 +56,10 @@ own_is f number slots globals BuiltIn e g = refl
 
 abbrev one_if : Bool → ℕ
 one_if b = if b then 1 else 0
+
+one_if_few : (b : Bool) → one_if b ≤ 1
+one_if_few true = omega arith
+one_if_few false = omega arith
 
 -- a variable that is stored
 pub slots_stored : (d : Description) (class : StorageClass) → is_stored 31 d ≡ true
@@ -114,6 +118,20 @@ before_more f ss n d h =
     let next : n + 1 ≡ suc n = omega arith in
     ap (such_before f (map symbol_view ss)) next ∙ before_next f ss n d h
 
+one_at_most : (f : Class) (k : SymbolKind) → one_such f k ≤ 1
+one_at_most f (Variable d class scope initial area) = one_if_few (f class d)
+one_at_most f (Member root path initial area) = omega arith
+one_at_most f (Label statement) = omega arith
+one_at_most f (Procedure block returned area) = omega arith
+one_at_most f (Entry parameters returned) = omega arith
+one_at_most f BuiltIn = omega arith
+
+-- as many as there are symbols, at most
+pub before_within : (f : Class) (ss : List plain.Symbol) (n : ℕ) → such_before f ss n ≤ n
+before_within f [] n = omega arith
+before_within f (s ∷ ss) zero = omega arith
+before_within f (s ∷ ss) (suc n) = omega (arith, one_at_most f s.kind, before_within f ss n)
+
 -- the same of globals
 
 pub no_global_before : (ss : List plain.Symbol) → globals_before 31 ss 0 ≡ 0
@@ -133,3 +151,16 @@ pub global_more : (ss : List Symbol) (n : ℕ) (d : Symbol) → n < length ss
 global_more ss n d h =
     let next : n + 1 ≡ suc n = omega arith in
     ap (globals_before 31 (map symbol_view ss)) next ∙ global_next ss n d h
+
+one_global_at_most : (k : SymbolKind) → one_global 31 k ≤ 1
+one_global_at_most (Variable d class scope initial area) = one_if_few (is_static 31 class d)
+one_global_at_most (Member root path initial area) = omega arith
+one_global_at_most (Label statement) = omega arith
+one_global_at_most (Procedure block returned area) = omega arith
+one_global_at_most (Entry parameters returned) = omega arith
+one_global_at_most BuiltIn = omega arith
+
+pub globals_within : (ss : List plain.Symbol) (n : ℕ) → globals_before 31 ss n ≤ n
+globals_within [] n = omega arith
+globals_within (s ∷ ss) zero = omega arith
+globals_within (s ∷ ss) (suc n) = omega (arith, one_global_at_most s.kind, globals_within ss n)

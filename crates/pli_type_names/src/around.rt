@@ -1,5 +1,5 @@
 //! The blocks around, the innermost last.
-ghost use Rattle.std.specs.Prelude.{◌≡◌, ◌≤◌, length, option_map, reverse};
+ghost use Rattle.std.specs.Prelude.{◌≡◌, option_map, reverse};
 ghost use Rattle.pli_type.specs.NamedUnits.{outward_to, stands_around};
 ghost use Rattle.pli_type_names.specs.Seen.{root_from};
 ghost use Rattle.pli_type_tree.specs.views.TypedView.{root_view};
@@ -8,13 +8,12 @@ use crate::place::Location;
 use pli_type_tree::Root;
 
 /// How many static links outward a block is, if it stands around.
-fn outward_to(around: &[usize], block: usize) -> Option<u32>
-    requires { length around.now ≤ 4294967295 }
+fn outward_to(around: &[usize], block: usize) -> Option<usize>
     ensures { result ≡ outward_to (reverse around.now) block }
 {
     for outward in 0..around.len() {
         if around[around.len() - 1 - outward] == block {
-            return Some(outward as u32);
+            return Some(outward);
         }
     }
     None
@@ -22,7 +21,6 @@ fn outward_to(around: &[usize], block: usize) -> Option<u32>
 
 /// Whether a block's outer block stands around, or it has none.
 pub(crate) fn stands_around(around: &[usize], outer: Option<usize>) -> bool
-    requires { length around.now ≤ 4294967295 }
     ensures { result ≡ stands_around (reverse around.now) outer }
 {
     match outer {
@@ -33,7 +31,6 @@ pub(crate) fn stands_around(around: &[usize], outer: Option<usize>) -> bool
 
 /// Where a variable of a block begins, if the block stands around or it is one that is made before the program begins.
 pub(crate) fn root_from(around: &[usize], block: usize, begins: Location) -> Option<Root>
-    requires { length around.now ≤ 4294967295 }
     ensures { option_map root_view result ≡ root_from (reverse around.now) block begins }
 {
     match begins {

@@ -1,5 +1,5 @@
 //! What the symbols of blocks mean, wherever their names are used.
-ghost use Rattle.std.specs.Prelude.{◌≡◌, ◌+◌, ◌++◌, ◌∷◌, [], IfOk, OnOk, None, length, map, option_map, get_or};
+ghost use Rattle.std.specs.Prelude.{◌≡◌, ◌≤◌, ◌+◌, ◌++◌, ◌∷◌, [], IfOk, OnOk, None, length, map, option_map, get_or};
 ghost use Rattle.std.specs.List.{All};
 ghost use Rattle.pli_base.specs.views.StatementView.{unit_view};
 ghost use Rattle.pli_map.specs.views.DescriptionView.{description_view};
@@ -36,11 +36,11 @@ pub(crate) enum SymbolMeaning<'a> {
         part: Option<StridedPart<'a>>,
     },
     /// The procedure that is the block of this number.
-    Procedure(u32),
+    Procedure(usize),
     /// The external procedure of the entry that has this number among the globals, with its parameters, and what it
     /// gives if it is a function.
     Entry {
-        number: u32,
+        number: usize,
         parameters: Vec<&'a Description>,
         returned: Option<&'a Description>,
     },
@@ -52,7 +52,7 @@ pub(crate) enum SymbolMeaning<'a> {
 /// What an entry means that has this number among the globals.
 fn entry_meaning<'a>(
     alloc: Global,
-    number: u32,
+    number: usize,
     described: &'a [Description],
     returned: Option<&'a Description>,
 ) -> Result<SymbolMeaning<'a>, AllocError>
@@ -96,13 +96,12 @@ fn meant_on_way<'a>(
     })
 }
 
-/// What the symbol of this number means; an entry has this number among the globals. Want of memory where it is the
-/// procedure of a block whose number is more than 4,294,967,295.
+/// What the symbol of this number means; an entry has this number among the globals.
 fn symbol_meaning<'a>(
     alloc: Global,
     variables: &[Option<OwnVariable<'a>>],
     number: usize,
-    global: u32,
+    global: usize,
     kind: SymbolKind<'a>,
     levels: &mut Vec<StructureLevel<'a>>,
 ) -> Result<SymbolMeaning<'a>, AllocError>
@@ -113,12 +112,7 @@ fn symbol_meaning<'a>(
     match kind {
         SymbolKind::Variable { .. } => meant_on_way(alloc, variables, number, &[], levels),
         SymbolKind::Member { root, path, .. } => meant_on_way(alloc, variables, root, path, levels),
-        SymbolKind::Procedure { block, .. } => {
-            let Ok(block) = u32::try_from(block) else {
-                return Err(AllocError);
-            };
-            Ok(SymbolMeaning::Procedure(block))
-        }
+        SymbolKind::Procedure { block, .. } => Ok(SymbolMeaning::Procedure(block)),
         SymbolKind::Label { statement } => Ok(SymbolMeaning::Label(statement)),
         SymbolKind::Entry {
             parameters,
@@ -134,9 +128,10 @@ fn symbol_meanings<'a>(
     alloc: Global,
     symbols: &[Symbol<'a>],
     parameters: &[usize],
-    places: &[u32],
-    globals: &mut u32,
+    places: &[usize],
+    globals: &mut usize,
 ) -> Result<Vec<SymbolMeaning<'a>>, AllocError>
+    requires { globals.old ≤ length places.now }
     ensures meanings { IfOk result (λ meanings. map meant_view meanings.items
         ≡ kept_symbols (record { parameters = parameters.now; places = places.now; globals = globals.old; symbols = map symbol_view symbols.now })) }
     ensures counted { IfOk result (λ _. globals.new
@@ -158,11 +153,12 @@ fn symbol_meanings<'a>(
 fn put_meanings<'r>(
     alloc: Global,
     resolved: &'r ResolvedUnit<'r>,
-    places: &[u32],
+    places: &[usize],
     block: usize,
-    globals: &mut u32,
+    globals: &mut usize,
     made: &mut Vec<Vec<SymbolMeaning<'r>>>,
 ) -> Result<(), AllocError>
+    requires { globals.old ≤ length places.now }
     ensures meanings { OnOk result (map row_view made.new.items ≡ map row_view made.old.items
         ++ kept_symbols (record {
           parameters = parameter_numbers (resolved_unit_of (unit_view resolved.now)) block;

@@ -23,9 +23,6 @@ use pli_type_tree::{Callee, Root};
 use std::alloc::{AllocError, Global};
 use std::marker::Model;
 
-/// How many blocks may stand around; a text has far fewer.
-const DEEPEST: usize = 4_294_967_295;
-
 /// A variable of its own, or a member of one.
 #[derive(Clone, Copy)]
 pub struct NamedVariable<'n, 'a> {
@@ -76,7 +73,7 @@ pub struct Naming<'a> {
 }
 
 impl<'a> Model for Naming<'a> {
-    ghost use Rattle.std.specs.Prelude.{◌≡◌, ◌≤◌, length, reverse};
+    ghost use Rattle.std.specs.Prelude.{◌≡◌, length, reverse};
     ghost use Rattle.pli_type_names.specs.UnitNaming.{Names, names_code};
 
     ghost Value = { Names };
@@ -89,7 +86,7 @@ impl<'a> Model for Naming<'a> {
     ghost view = { λ n. record { unit = n.resolved.now; blocks = reverse n.around.items } };
 
     ghost invariant = { λ n. AreMeanings n.meanings.items n.resolved.now × AreEntries n.entries.items n.resolved.now
-        × (length n.no_parameters.items ≡ 0) × (length n.around.items ≤ 4294967295) };
+        × (length n.no_parameters.items ≡ 0) };
 }
 
 /// What the names of a resolved unit mean, outside of all its blocks. What is undescribed, a pointer, stands for a parameter
@@ -130,14 +127,11 @@ impl<'a> Naming<'a> {
 
     /// Goes into the block of this number, which stands around from then on. Want of memory leaves the blocks as they
     /// are.
-    pub fn enter(&mut self, block: u32) -> Result<(), AllocError>
+    pub fn enter(&mut self, block: usize) -> Result<(), AllocError>
         ensures entered { OnOk result (self.new ≡ inside self.old block) }
         ensures kept { OnErr result (self.new ≡ self.old) }
     {
-        if self.around.len() >= DEEPEST {
-            return Err(AllocError);
-        }
-        self.around.push(block as usize)?;
+        self.around.push(block)?;
         Ok(())
     }
 
@@ -150,13 +144,13 @@ impl<'a> Naming<'a> {
 
     /// The block of this number as a procedure: what its parameters are, and what it gives; nothing of what is no
     /// procedure.
-    pub fn procedure(&self, block: u32) -> NamedProcedure<'_, 'a>
+    pub fn procedure(&self, block: usize) -> NamedProcedure<'_, 'a>
         ensures { IsProcedure result (procedure_in self.now.unit block) }
     {
         NamedProcedure {
             callee: Callee::OfBlock { block },
-            parameters: parameters_at(&self.entries, &self.no_parameters, block as usize),
-            returned: returned_at(&self.entries, block as usize),
+            parameters: parameters_at(&self.entries, &self.no_parameters, block),
+            returned: returned_at(&self.entries, block),
         }
     }
 

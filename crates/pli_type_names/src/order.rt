@@ -41,12 +41,12 @@ fn is_global(kind: SymbolKind<'_>) -> bool
 }
 
 /// Puts the tokens of the names of globals among the symbols of a block.
-fn put_tokens(symbols: &[Symbol<'_>], tokens: &mut Vec<u32>) -> Result<(), AllocError>
+fn put_tokens(symbols: &[Symbol<'_>], tokens: &mut Vec<usize>) -> Result<(), AllocError>
     ensures { OnOk result (tokens.new.items ≡ tokens.old.items ++ global_tokens 31 (map symbol_view symbols.now)) }
 {
     for symbol in symbols {
         if is_global(symbol.kind) {
-            tokens.push(symbol.identifier.at)?;
+            tokens.push(symbol.identifier.at as usize)?;
         }
     }
     Ok(())
@@ -58,7 +58,7 @@ fn put_block_tokens<'r>(
     alloc: Global,
     resolved: &'r ResolvedUnit<'r>,
     block: usize,
-    tokens: &mut Vec<u32>,
+    tokens: &mut Vec<usize>,
 ) -> Result<(), AllocError>
     ensures { OnOk result (tokens.new.items ≡ tokens.old.items ++ global_tokens 31 (block_symbols (resolved_unit_of (unit_view resolved.now)) block)) }
 {
@@ -67,7 +67,7 @@ fn put_block_tokens<'r>(
 }
 
 /// The tokens of the names of a unit's globals, block after block.
-fn unit_tokens<'r>(alloc: Global, resolved: &'r ResolvedUnit<'r>) -> Result<Vec<u32>, AllocError>
+fn unit_tokens<'r>(alloc: Global, resolved: &'r ResolvedUnit<'r>) -> Result<Vec<usize>, AllocError>
     ensures { IfOk result (λ tokens. tokens.items ≡ all_tokens 31 (all_symbols (resolved_unit_of (unit_view resolved.now)))) }
 {
     let outermost = resolved.block_count();
@@ -79,13 +79,10 @@ fn unit_tokens<'r>(alloc: Global, resolved: &'r ResolvedUnit<'r>) -> Result<Vec<
     Ok(tokens)
 }
 
-/// The numbers below a count. Want of memory where there are more than 4,294,967,295.
-fn numbers_below(alloc: Global, count: usize) -> Result<Vec<u32>, AllocError>
+/// The numbers below a count.
+fn numbers_below(alloc: Global, count: usize) -> Result<Vec<usize>, AllocError>
     ensures { IfOk result (λ numbers. numbers.items ≡ numbers_from 0 count) }
 {
-    let Ok(count) = u32::try_from(count) else {
-        return Err(AllocError);
-    };
     let mut numbers = Vec::new(alloc);
     for number in 0..count {
         numbers.push(number)?;
@@ -94,17 +91,17 @@ fn numbers_below(alloc: Global, count: usize) -> Result<Vec<u32>, AllocError>
 }
 
 /// What stands under a number; 0 where there is nothing.
-pub(crate) fn under(items: &[u32], number: u32) -> u32
+pub(crate) fn under(items: &[usize], number: usize) -> usize
     ensures { result ≡ get_or items.now number 0 }
 {
-    match items.get(number as usize) {
+    match items.get(number) {
         Some(item) => *item,
         None => 0,
     }
 }
 
 /// The numbers of tokens, each counted from 0, in the order of the tokens.
-fn sorted_numbers(alloc: Global, tokens: &[u32]) -> Result<Vec<u32>, AllocError>
+fn sorted_numbers(alloc: Global, tokens: &[usize]) -> Result<Vec<usize>, AllocError>
     ensures { IfOk result (λ numbers. numbers.items ≡ text_order tokens.now) }
 {
     let mut numbers = numbers_below(alloc, tokens.len())?;
@@ -113,18 +110,15 @@ fn sorted_numbers(alloc: Global, tokens: &[u32]) -> Result<Vec<u32>, AllocError>
 }
 
 /// For each number below the count of these numbers its place among them.
-fn places_among(alloc: Global, numbers: &[u32]) -> Result<Vec<u32>, AllocError>
+fn places_among(alloc: Global, numbers: &[usize]) -> Result<Vec<usize>, AllocError>
     requires { All (λ number. number < length numbers.now) numbers.now }
     ensures { IfOk result (λ places. places.items
         ≡ map (λ number. place_from 0 number numbers.now) (numbers_from 0 (length numbers.now))) }
 {
-    let Ok(count) = u32::try_from(numbers.len()) else {
-        return Err(AllocError);
-    };
-    let mut places = vec![in alloc; 0_u32; numbers.len()]?;
-    for place in (0..count).rev() {
-        let number = numbers[place as usize];
-        places[number as usize] = place;
+    let mut places = vec![in alloc; 0_usize; numbers.len()]?;
+    for place in (0..numbers.len()).rev() {
+        let number = numbers[place];
+        places[number] = place;
     }
     Ok(places)
 }
@@ -134,7 +128,7 @@ fn places_among(alloc: Global, numbers: &[u32]) -> Result<Vec<u32>, AllocError>
 pub(crate) fn global_places<'r>(
     alloc: Global,
     resolved: &'r ResolvedUnit<'r>,
-) -> Result<Vec<u32>, AllocError>
+) -> Result<Vec<usize>, AllocError>
     ensures { IfOk result (λ places. places.items
         ≡ text_places (all_tokens 31 (all_symbols (resolved_unit_of (unit_view resolved.now))))) }
 {

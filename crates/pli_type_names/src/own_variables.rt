@@ -1,5 +1,5 @@
 //! The variables of their own among the symbols of a block, and where each begins.
-ghost use Rattle.std.specs.Prelude.{◌≡◌, ◌+◌, ◌++◌, IfOk, get_or, length, map, option_map};
+ghost use Rattle.std.specs.Prelude.{◌≡◌, ◌≤◌, ◌<◌, ◌+◌, ◌++◌, IfOk, get_or, length, map, option_map};
 ghost use Rattle.pli_resolve.specs.views.SymbolView.{symbol_view, symbol_kind_view};
 ghost use Rattle.pli_type.specs.NamedUnits as units;
 ghost use Rattle.pli_type.specs.NamedUnits.{globals_before, is_automatic, one_global, one_such};
@@ -18,18 +18,19 @@ use std::alloc::{AllocError, Global};
 /// The first slot of a block's activation that is free, and how many globals there are before, block after block.
 #[derive(Clone, Copy)]
 struct Free {
-    slot: u32,
-    globals: u32,
+    slot: usize,
+    globals: usize,
 }
 
-/// Takes a number. Want of memory where there are more than 4,294,967,295.
-fn take(free: &mut u32) -> Result<u32, AllocError>
-    ensures taken { IfOk result (λ taken. taken ≡ free.old) }
-    ensures left { IfOk result (λ _. free.new ≡ free.old + 1) }
+/// Takes a number.
+fn take(free: &mut usize) -> usize
+    requires { free.old < 18446744073709551615 }
+    ensures taken { result ≡ free.old }
+    ensures left { free.new ≡ free.old + 1 }
 {
     let taken = *free;
-    *free = taken.checked_add(1).ok_or(AllocError)?;
-    Ok(taken)
+    *free = taken + 1;
+    taken
 }
 
 /// Whether the parameter in a slot is the symbol of this number.
@@ -42,21 +43,15 @@ fn is_parameter(parameters: &[usize], slot: usize, number: usize) -> bool
     *parameter == number
 }
 
-/// The slot of a parameter that is the symbol of this number. Want of memory where it is more than 4,294,967,295.
-fn parameter_place(
-    parameters: &[usize],
-    slot: usize,
-    number: usize,
-) -> Result<Option<Location>, AllocError>
-    ensures { IfOk result (λ place. place ≡ place_behind parameters.now 0 0 number (StorageClass.Parameter slot)) }
+/// The slot of a parameter that is the symbol of this number.
+fn parameter_place(parameters: &[usize], slot: usize, number: usize) -> Option<Location>
+    ensures { result ≡ place_behind parameters.now 0 0 number (StorageClass.Parameter slot) }
 {
-    if !is_parameter(parameters, slot, number) {
-        return Ok(None);
+    if is_parameter(parameters, slot, number) {
+        Some(Location::InBlock { slot })
+    } else {
+        None
     }
-    let Ok(slot) = u32::try_from(slot) else {
-        return Err(AllocError);
-    };
-    Ok(Some(Location::InBlock { slot }))
 }
 
 /// Where a variable of this class and number begins, if it is of a class that is compiled: parameters and AUTOMATIC
@@ -65,26 +60,26 @@ fn place(
     class: StorageClass,
     number: usize,
     parameters: &[usize],
-    places: &[u32],
+    places: &[usize],
     free: &mut Free,
-) -> Result<Option<Location>, AllocError>
-    ensures begins { IfOk result (λ place. place
-        ≡ place_behind parameters.now free.old.slot (get_or places.now free.old.globals 0) number class) }
-    ensures slots { IfOk result (λ _. free.new.slot ≡ free.old.slot + slots_of class) }
-    ensures globals { IfOk result (λ _. free.new.globals ≡ free.old.globals + globals_of class) }
+) -> Option<Location>
+    requires slot { free.old.slot < 18446744073709551615 }
+    requires global { free.old.globals < 18446744073709551615 }
+    ensures begins { result ≡ place_behind parameters.now free.old.slot (get_or places.now free.old.globals 0) number class }
+    ensures slots { free.new.slot ≡ free.old.slot + slots_of class }
+    ensures globals { free.new.globals ≡ free.old.globals + globals_of class }
 {
     match class {
         StorageClass::Automatic => {
-            let slot = take(&mut free.slot)?;
-            Ok(Some(Location::InBlock { slot }))
+            let slot = take(&mut free.slot);
+            Some(Location::InBlock { slot })
         }
         StorageClass::Static => {
-            let global = take(&mut free.globals)?;
-            let number = under(places, global);
-            Ok(Some(Location::BeforeProgram { number }))
+            let number = under(places, take(&mut free.globals));
+            Some(Location::BeforeProgram { number })
         }
         StorageClass::Parameter(slot) => parameter_place(parameters, slot, number),
-        StorageClass::Controlled | StorageClass::Based(_) => Ok(None),
+        StorageClass::Controlled | StorageClass::Based(_) => None,
     }
 }
 
@@ -93,15 +88,15 @@ fn own_variable<'a>(
     kind: SymbolKind<'a>,
     number: usize,
     parameters: &[usize],
-    places: &[u32],
+    places: &[usize],
     free: &mut Free,
-) -> Result<Option<OwnVariable<'a>>, AllocError>
-    ensures variable { IfOk result (λ variable. option_map own_view variable
-        ≡ own_behind parameters.now free.old.slot (get_or places.now free.old.globals 0) number (symbol_kind_view kind.entry)) }
-    ensures slots { IfOk result (λ _. free.new.slot
-        ≡ free.old.slot + one_such (is_automatic 31) (symbol_kind_view kind.entry)) }
-    ensures globals { IfOk result (λ _. free.new.globals
-        ≡ free.old.globals + one_global 31 (symbol_kind_view kind.entry)) }
+) -> Option<OwnVariable<'a>>
+    requires slot { free.old.slot < 18446744073709551615 }
+    requires global { free.old.globals < 18446744073709551615 }
+    ensures variable { option_map own_view result
+        ≡ own_behind parameters.now free.old.slot (get_or places.now free.old.globals 0) number (symbol_kind_view kind.entry) }
+    ensures slots { free.new.slot ≡ free.old.slot + one_such (is_automatic 31) (symbol_kind_view kind.entry) }
+    ensures globals { free.new.globals ≡ free.old.globals + one_global 31 (symbol_kind_view kind.entry) }
 {
     match kind {
         SymbolKind::Variable {
@@ -110,21 +105,19 @@ fn own_variable<'a>(
             ..
         } => {
             if !is_stored(description) {
-                return Ok(None);
+                return None;
             }
-            let Some(begins) = place(class, number, parameters, places, free)? else {
-                return Ok(None);
-            };
-            Ok(Some(OwnVariable {
+            let begins = place(class, number, parameters, places, free)?;
+            Some(OwnVariable {
                 begins,
                 description,
-            }))
+            })
         }
         SymbolKind::Entry { .. } => {
-            take(&mut free.globals)?;
-            Ok(None)
+            take(&mut free.globals);
+            None
         }
-        _ => Ok(None),
+        _ => None,
     }
 }
 
@@ -135,10 +128,11 @@ pub(crate) fn own_variables<'a>(
     alloc: Global,
     symbols: &[Symbol<'a>],
     parameters: &[usize],
-    places: &[u32],
-    globals: &mut u32,
-    numbers: &mut Vec<u32>,
+    places: &[usize],
+    globals: &mut usize,
+    numbers: &mut Vec<usize>,
 ) -> Result<Vec<Option<OwnVariable<'a>>>, AllocError>
+    requires { globals.old ≤ length places.now }
     ensures variables { IfOk result (λ variables. map (option_map own_view) variables.items
         ≡ spec.own_variables (record { parameters = parameters.now; places = places.now; globals = globals.old; symbols = map symbol_view symbols.now })) }
     ensures counted { IfOk result (λ _. globals.new
@@ -146,17 +140,14 @@ pub(crate) fn own_variables<'a>(
     ensures numbers { IfOk result (λ _. numbers.new.items ≡ numbers.old.items
         ++ each_from (λ number s. get_or places.now (globals.old + globals_before 31 (map symbol_view symbols.now) number) 0) 0 (map symbol_view symbols.now)) }
 {
-    let Ok(slot) = u32::try_from(parameters.len()) else {
-        return Err(AllocError);
-    };
     let mut free = Free {
-        slot,
+        slot: parameters.len(),
         globals: *globals,
     };
     let mut variables = Vec::new(alloc);
     for (number, symbol) in symbols.iter().enumerate() {
         numbers.push(under(places, free.globals))?;
-        let variable = own_variable(symbol.kind, number, parameters, places, &mut free)?;
+        let variable = own_variable(symbol.kind, number, parameters, places, &mut free);
         variables.push(variable)?;
     }
     *globals = free.globals;

@@ -4,7 +4,7 @@
 #[derive(Clone, Copy)]
 pub(crate) enum Location {
     /// In a slot of the block's activation, counted from 0: parameters first, and then AUTOMATIC variables.
-    InBlock { slot: u32 },
+    InBlock { slot: usize },
     /// Under this number among the globals of the unit, in the order of the text; it is made before the program begins.
-    BeforeProgram { number: u32 },
+    BeforeProgram { number: usize },
 }

@@ -1,5 +1,5 @@
 //! What symbols mean from where their names are used.
-ghost use Rattle.std.specs.Prelude.{◌≡◌, ◌≤◌, [], get_or, length, map, option_map, reverse, slice_get};
+ghost use Rattle.std.specs.Prelude.{◌≡◌, [], get_or, map, option_map, reverse, slice_get};
 ghost use Rattle.pli_type_names.specs.Seen.{KeptNothing, kept_seen, procedure_seen};
 ghost use Rattle.pli_type_names.specs.views.EntryView.{entry_view};
 ghost use Rattle.pli_type_names.specs.views.MeaningView.{answer_view, meant_view, row_view};
@@ -15,12 +15,11 @@ use pli_type_tree::Callee;
 fn procedure_seen<'n, 'a>(
     around: &[usize],
     entries: &'n [BlockEntry<'a>],
-    block: u32,
+    block: usize,
 ) -> NamedAs<'n, 'a>
-    requires { length around.now ≤ 4294967295 }
     ensures { answer_view result ≡ procedure_seen (reverse around.now) (slice_get (map entry_view entries.now) block) block }
 {
-    let Some(entry) = entries.get(block as usize) else {
+    let Some(entry) = entries.get(block) else {
         return NamedAs::Untyped;
     };
     if !entry.is_named || !stands_around(around, entry.outer) {
@@ -40,7 +39,6 @@ fn meant_seen<'n, 'a>(
     block: usize,
     meant: &'n SymbolMeaning<'a>,
 ) -> NamedAs<'n, 'a>
-    requires { length around.now ≤ 4294967295 }
     ensures { answer_view result ≡ kept_seen (reverse around.now) (map entry_view entries.now) block (meant_view meant.now) }
 {
     match meant {
@@ -80,7 +78,6 @@ pub(crate) fn symbol_seen<'n, 'a>(
     meanings: &'n [Vec<SymbolMeaning<'a>>],
     key: SymbolKey,
 ) -> NamedAs<'n, 'a>
-    requires { length around.now ≤ 4294967295 }
     ensures { answer_view result ≡ kept_seen (reverse around.now) (map entry_view entries.now) key.block
         (get_or (get_or (map row_view meanings.now) key.block []) key.number KeptNothing) }
 {

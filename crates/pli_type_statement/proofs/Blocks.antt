@@ -1,15 +1,14 @@
 -- Lists, groups and blocks that the walk goes into and out of.
-use Rattle.std.proofs.Common.{◌≡◌, IfOk, ◌++◌, ◌+◌, ◌-◌, ◌<◌, ◌≤◌, ℕ, suc, Bool, List, [], ◌∷◌, Option, Some, None, option_map, Result, Ok, Err, map, length, take, refl, ap, sym, ◌∙◌, subst, append-nil, append_assoc, length-append, arith}
+use Rattle.std.proofs.Common.{◌≡◌, IfOk, ◌++◌, ◌+◌, ◌-◌, ◌≤◌, ℕ, suc, List, [], ◌∷◌, Option, Some, None, option_map, Result, Ok, Err, map, length, take, refl, ap, sym, ◌∙◌, subst, append_assoc, length-append, arith}
 use Rattle.std.proofs.lemmas.List.{length-map, take_at}
 use Rattle.pli_base.specs.Statements as tree
 use Rattle.pli_base.specs.declared.token.Fault.{Fault}
 use Rattle.pli_map.specs.Description.{Description}
-use Rattle.pli_type.specs.Names.{NamedUnit}
 use Rattle.pli_type.specs.StatementTyping as spec
 use Rattle.pli_type.specs.StatementTyping.{Enclosing, Surroundings, WithProcedures, statements_typed, with_labels, in_group, in_begin, in_procedure, head_of}
 use Rattle.pli_resolve.specs.TreeBlocks.{blocks_among}
 use Rattle.pli_type.specs.Temporaries.{Next, temporaries_among}
-use Rattle.pli_type_names.specs.UnitNaming.{Names, inside, outside, procedure_in}
+use Rattle.pli_type_names.specs.UnitNaming.{Names, outside, procedure_in}
 use Rattle.pli_type_templates.specs.views.UnitView.{automatic_at}
 use Rattle.pli_type_tree.specs.Templates.{Template}
 use Rattle.pli_type_tree.specs.TypedTree as typed
@@ -18,8 +17,8 @@ use Rattle.pli_type_tree.specs.declared.statement.BlockHead.{BlockHead}
 use Rattle.pli_map.specs.views.DescriptionView.{description_view}
 use Rattle.pli_type_tree.specs.views.TypedView.{head_view, procedure_view}
 use Rattle.pli_type_statement.specs.Around.{Around, Listing, blocks_with, blocks_from, blocks_of, surroundings_of}
-use Rattle.pli_type_statement.specs.Parts.{unit_named, given, told, Adds, behind_list, behind_body}
-use Rattle.pli_type_statement.specs.Walking.{IsPlaced, IsBack, Walks, WalksBody, WalksList, WalksBlock, Enters, Leaves, Finishes, Ends, ended_as, in_list, in_block, unit_at, around, next_at, finished}
+use Rattle.pli_type_statement.specs.Parts.{unit_named, given, told, Adds, behind_list}
+use Rattle.pli_type_statement.specs.Walking.{IsDeep, IsPlaced, WalksBody, WalksList, WalksBlock, Enters, Leaves, Finishes, Ends, ended_as, in_list, in_block, unit_at, around, next_at, finished}
 use Rattle.pli_type_statement.specs.declared.walk.OpenBlock.{OpenBlock}
 use Rattle.pli_type_statement.specs.declared.surroundings.Surroundings.{Surroundings as Surrounded}
 use Rattle.pli_type_statement.specs.declared.walk.TypingWalk.{TypingWalk}
@@ -69,6 +68,7 @@ group_placed old e labels placed same is next templates = record {
   templates = λ k le. ap (λ t. automatic_at t k) templates
       ∙ placed.templates k (subst (λ n. n.block ≤ k) next le)
       ∙ sym (ap (λ (n : Names). (unit_named n.unit).automatic k) same);
+  deep = subst IsDeep (sym is) (omega (arith, placed.deep, length-append (around_view old.surroundings).lists (record { block = None; labels = labels } ∷ [])));
 }
 
 pub group_walked : (old e d new : TypingWalk) (ss : tree.Statements) (list : Option TypedStatements)
@@ -105,6 +105,7 @@ group_walked old e d new ss list placed same is next templates faults procedures
           templates = λ k le. ap (λ t. automatic_at t k) templates'
               ∙ w.back.placed.templates k (subst (λ n. n.block ≤ k) next' le)
               ∙ sym (ap (λ (n : Names). (unit_named n.unit).automatic k) named);
+          deep = subst IsDeep (sym outer) placed.deep;
         };
       };
       next = ap (λ n. record { block = n.block; temporary = n.temporary }) next' ∙ w.next
@@ -120,8 +121,8 @@ group_walked old e d new ss list placed same is next templates faults procedures
 -- blocks
 
 pub block_placed : (old e : TypingWalk) (block : OpenBlock) (begins : ℕ) (value : Option Description) (labels : List ℕ)
-    → IsPlaced old → Enters old e block begins value labels → IsPlaced e
-block_placed old e block begins value labels placed in_it = record {
+    → begins ≤ 1 + length (around_view old.surroundings).lists → IsPlaced old → Enters old e block begins value labels → IsPlaced e
+block_placed old e block begins value labels few placed in_it = record {
   blocks = ap (λ (n : Names). n.blocks) in_it.naming ∙ ap (λ bs. old.next.block ∷ bs) placed.blocks
       ∙ sym (ap (λ (a : Around). numbers (blocks_of a.lists)) in_it.around
       ∙ ap numbers (last_list [] (around_view old.surroundings).lists (record { block = Some old.next.block; labels = labels })));
@@ -130,6 +131,7 @@ block_placed old e block begins value labels placed in_it = record {
       in_it.templates k (λ e. absurd (omega (arith, le', e)))
       ∙ placed.templates k (omega (arith, le'))
       ∙ sym (ap (λ (n : Names). (unit_named n.unit).automatic k) in_it.naming);
+  deep = subst IsDeep (sym in_it.around) (omega (arith, few, length-append (around_view old.surroundings).lists (record { block = Some old.next.block; labels = labels } ∷ [])));
 }
 
 without_none : (n : ℕ) → 0 + n ≡ n
@@ -175,6 +177,7 @@ block_walked old e d new block begins value number ss list head placed in_it w o
             templates = λ k le. ap (λ t. automatic_at t k) out.templates
                 ∙ w.back.placed.templates k (subst (λ (n : Next). n.block ≤ k) out.next le)
                 ∙ sym (ap (λ (n : Names). (unit_named n.unit).automatic k) out.naming);
+            deep = subst IsDeep (sym outer) placed.deep;
           };
         };
         next = out.next ∙ ap (λ (n : Next). record { block = n.block; temporary = block.temporary }) nexts
@@ -272,6 +275,7 @@ procedure_walked old mid new number at end heading ss value head list form gives
           templates = λ k le. ap (λ t. automatic_at t k) ended.templates
               ∙ w.walked.back.placed.templates k (subst (λ n. n.block ≤ k) ended.next le)
               ∙ sym (ap (λ (n : Names). (unit_named n.unit).automatic k) ended.naming);
+          deep = subst IsDeep (sym (ap around_view ended.surroundings)) w.walked.back.placed.deep;
         };
       };
       next = ap (λ n. record { block = n.block; temporary = n.temporary }) ended.next ∙ w.walked.next ∙ behind_begin (next_at old) (blocks_among ss);

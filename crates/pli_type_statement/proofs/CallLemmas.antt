@@ -1,10 +1,9 @@
 -- Calls by CALL, and control variables without subscripts.
-use Rattle.std.proofs.Common.{◌≡◌, arith, ◌∷◌, [], ℕ, List, length, Option, Some, None, option_map, Result, Ok, Err, map, Vec, Global, refl, ap, sym, ◌∙◌, subst}
+use Rattle.std.proofs.Common.{◌≡◌, arith, ◌∷◌, [], ℕ, List, length, Option, Some, None, option_map, Result, Ok, Vec, Global, refl, ap, sym, ◌∙◌, subst}
 use Rattle.std.specs.Bool.{◌==◌}
 use Rattle.std.specs.Vec.{vec_len}
 use Rattle.std.proofs.lemmas.Bool.{eq-eqb, ne_eqb}
 use Rattle.pli_base.specs.Results.{◌>>=◌}
-use Rattle.pli_base.specs.Reading.{at_fault}
 use Rattle.pli_map.specs.views.DescriptionView.{description_view}
 use Rattle.pli_base.specs.Statements.{Range}
 use Rattle.pli_base.specs.Syntax.{Arguments, Expression, Referred}
@@ -18,7 +17,6 @@ use Rattle.pli_type.specs.ExpressionTypes.{TypedValue}
 use Rattle.pli_type.specs.References.{AsLocator, Referent}
 use Rattle.pli_type.specs.Typing.{first_token, referred, value_of}
 use Rattle.pli_type_statement.specs.Iterations.{iteration_with}
-use Rattle.pli_base.specs.declared.code.Code.TheVariants.{NotCallableHere}
 use Rattle.pli_base.specs.declared.syntax.Identifier.{Identifier}
 use Rattle.pli_base.specs.declared.token.Fault.{Fault}
 use Rattle.pli_map.specs.Description.{Description}

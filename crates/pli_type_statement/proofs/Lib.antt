@@ -1,6 +1,7 @@
 pub mod WalkEndLemmas
 pub mod Blocks
 pub mod NothingLater
+pub mod RoomLeft
 pub mod CallLemmas
 pub mod ItemLists
 pub mod SearchLemmas

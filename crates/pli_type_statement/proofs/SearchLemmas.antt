@@ -5,7 +5,7 @@ use Rattle.pli_base.specs.declared.statement.Body as bodies
 use Rattle.pli_base.specs.declared.statement.Procedure.{Procedure}
 use Rattle.pli_base.specs.laws.StatementLaws.{procedure_body}
 use Rattle.pli_base.specs.views.StatementView.{body_view}
-use Rattle.pli_type.specs.StatementTyping.{Enclosing, leaves_nothing, label_found, with_labels}
+use Rattle.pli_type.specs.StatementTyping.{Enclosing, leaves_nothing, label_found}
 use Rattle.pli_type_statement.specs.Around.{Listing, blocks_with, blocks_from, number_of}
 use Rattle.pli_type_statement.specs.declared.labels.ListLabels.{ListLabels}
 use Rattle.pli_type_statement.specs.views.AroundView.{lists_view}

@@ -1,5 +1,5 @@
 -- One turn of the loop over statements; and statements by their parts.
-use Rattle.std.proofs.Common.{◌≡◌, IfOk, ◌++◌, ◌+◌, ◌<◌, ◌≤◌, ◌&&◌, ℕ, zero, suc, Bool, true, false, [], ◌∷◌, List, Option, Some, None, option_map, Result, Ok, Err, map, drop, get_or, length, is_some, refl, ap, sym, ◌∙◌, subst, append_assoc, arith}
+use Rattle.std.proofs.Common.{◌≡◌, IfOk, ◌++◌, ◌+◌, ◌<◌, ◌≤◌, ◌&&◌, ℕ, zero, suc, Bool, true, false, [], ◌∷◌, List, Option, Some, None, option_map, Result, Ok, Err, map, drop, get_or, length, is_some, refl, ap, sym, ◌∙◌, subst, arith}
 use Rattle.pli_base.specs.Results.{◌>>=◌}
 use Rattle.pli_base.specs.Statements as tree
 use Rattle.pli_base.specs.Statements.{Control, Numbered}
@@ -7,11 +7,10 @@ use Rattle.pli_base.specs.Syntax.{Expression}
 use Rattle.pli_base.specs.declared.statement.Statement.{Statement}
 use Rattle.pli_base.specs.declared.token.Fault.{Fault}
 use Rattle.pli_base.specs.views.StatementView as source
-use Rattle.pli_type.specs.Names.{Compiled, NamedUnit, Naming}
+use Rattle.pli_type.specs.Names.{Compiled, NamedUnit}
 use Rattle.pli_type.specs.StatementTyping as spec
 use Rattle.pli_type.specs.StatementTyping.{Surroundings, WithProcedures, alone, of_own, together, made, put_before, leaves_nothing, body_typed, statement_typed, statements_typed, naming_at, items, put_form, condition, iteration}
-use Rattle.pli_resolve.specs.TreeBlocks.{blocks_in, blocks_among}
-use Rattle.pli_type.specs.Temporaries.{Next, behind, temporaries_in, temporaries_among, kept_by, limits_kept}
+use Rattle.pli_type.specs.Temporaries.{Next, behind, kept_by}
 use Rattle.pli_type.specs.Unbuilt.{later_body, later_statement, later_statements}
 use Rattle.pli_type_tree.specs.TypedTree as typed
 use Rattle.pli_type_tree.specs.TypedTree.{Form, TypedExpression, TypedStatement, TypedStatements, StatementThen, NoStatement}
@@ -20,12 +19,12 @@ use Rattle.pli_type_tree.specs.views.TypedView.{statement_view, statements_view}
 use Rattle.pli_type_statement.specs.Headers as headers
 use Rattle.pli_type_statement.specs.Headers.{Header, header_typed, group_of}
 use Rattle.pli_type_statement.specs.Parts.{behind_body, behind_list, both, listed_if}
-use Rattle.pli_type_statement.specs.Simple.{is_compound, simple_typed, put_typed}
-use Rattle.pli_type_statement.specs.Walking.{IsPlaced, IsBack, Walks, WalksBody, WalksList, unit_at, around, next_at}
+use Rattle.pli_type_statement.specs.Simple.{is_compound, simple_typed}
+use Rattle.pli_type_statement.specs.Walking.{IsPlaced, Walks, WalksBody, WalksList, unit_at, around, next_at}
 use Rattle.pli_type_statement.specs.declared.walk.TypingWalk.{TypingWalk}
 use Rattle.pli_type_statement.proofs.NothingLater.{list_built}
 use Rattle.pli_type_statement.proofs.ItemLists.{front}
-use Rattle.pli_type_statement.proofs.WalkLemmas.{as_typed, back_then, moved, then_walked, nothing_walked}
+use Rattle.pli_type_statement.proofs.WalkLemmas.{as_typed, moved, then_walked, nothing_walked}
 
 -- statements without statements in them
 

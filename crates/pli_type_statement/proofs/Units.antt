@@ -1,5 +1,5 @@
 -- The typed unit, by its parts.
-use Rattle.std.proofs.Common.{◌≡◌, ◌∷◌, ◌++◌, [], ℕ, Bool, List, Option, Some, None, Result, Ok, Err, refl, ap, sym, ◌∙◌, subst}
+use Rattle.std.proofs.Common.{◌≡◌, ◌∷◌, [], ℕ, List, Option, Some, None, Result, Ok, Err, refl, ap, sym, ◌∙◌}
 use Rattle.std.specs.Global.{Vec}
 use Rattle.pli_base.specs.declared.code.Code.TheVariants.{NotYetBuilt}
 use Rattle.pli_base.specs.declared.statement.Procedure.{Procedure, out-Procedure}
@@ -11,7 +11,7 @@ use Rattle.pli_resolve.specs.ResolvedUnits.{resolved_unit_of}
 use Rattle.pli_type.specs.Checked.{checked, in_unit, first_inside, outer_signature, typed_as, unit_of, unless_unbuilt}
 use Rattle.pli_type.specs.NamedUnits.{checked_unit}
 use Rattle.pli_type.specs.StatementTyping.{WithProcedures, statements_typed}
-use Rattle.pli_type.specs.Temporaries.{Next, temporaries_among}
+use Rattle.pli_type.specs.Temporaries.{temporaries_among}
 use Rattle.pli_type.specs.Unbuilt.{first_unbuilt, later_heading, later_statements, or_else}
 use Rattle.pli_type_names.specs.UnitNaming.{procedure_in, unit_compiled}
 use Rattle.pli_type_tree.specs.Templates.{Template}

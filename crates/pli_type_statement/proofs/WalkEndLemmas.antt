@@ -15,11 +15,10 @@ use Rattle.pli_type.specs.Unbuilt.{first_unbuilt, later_statements}
 use Rattle.pli_type_names.specs.UnitNaming.{Names, compiled_in, inside, unit_compiled}
 use Rattle.pli_type_templates.specs.declared.unit_templates.UnitTemplates.{UnitTemplates}
 use Rattle.pli_type_templates.specs.views.UnitView.{automatic_at}
-use Rattle.pli_type_tree.specs.Templates.{Template}
 use Rattle.pli_type_tree.specs.TypedTree.{Global, TypedStatements}
 use Rattle.pli_type_statement.specs.Around.{outermost, surroundings_of}
 use Rattle.pli_type_statement.specs.Parts.{behind_list, unit_named}
-use Rattle.pli_type_statement.specs.Walking.{IsPlaced, Walks, WalksList, around, next_at, unit_at}
+use Rattle.pli_type_statement.specs.Walking.{IsDeep, IsPlaced, Walks, WalksList, around, next_at, unit_at}
 use Rattle.pli_type_statement.specs.declared.walk.TypingWalk.{TypingWalk}
 use Rattle.pli_type_statement.specs.views.AroundView.{around_view}
 use Rattle.pli_type_statement.proofs.Units.{typed_list, unit_built}
@@ -70,6 +69,7 @@ placed_first u w labels value t named is first automatic others = record {
   templates = λ k le. others k (not_first k (subst (λ n. n ≤ k) first le))
       ∙ templates_first u t automatic k
       ∙ sym (ap (λ (n : Names). (unit_named n.unit).automatic k) named);
+  deep = subst IsDeep (sym is) (omega arith);
 }
 
 pub built_first : (u : Procedure) (n : Names) (ss : List Statement) → n ≡ first_names u

@@ -1,7 +1,5 @@
 -- What the walk does at parts of statements, put together.
-use Rattle.std.proofs.Common.{◌≡◌, ◌++◌, ◌+◌, ◌≤◌, ℕ, suc, Bool, List, [], ◌∷◌, Option, Some, None, option_map, Result, Ok, Err, IfOk, OnOk, map, length, take, refl, ap, sym, ◌∙◌, subst, append-nil, append_assoc, arith}
-use Rattle.pli_base.specs.Results.{◌>>=◌}
-use Rattle.pli_base.specs.Statements as tree
+use Rattle.std.proofs.Common.{◌≡◌, ◌++◌, List, Option, Some, None, option_map, Result, Ok, Err, IfOk, OnOk, refl, ap, sym, ◌∙◌, subst, append-nil, append_assoc}
 use Rattle.pli_base.specs.declared.token.Fault.{Fault}
 use Rattle.pli_type.specs.Names.{Naming, NamedUnit}
 use Rattle.pli_type.specs.NamedUnits.{named_unit}
@@ -14,11 +12,10 @@ use Rattle.pli_base.specs.declared.failure.Failure.{Failure}
 use Rattle.pli_base.specs.declared.failure.Failure.TheVariants as errors
 use Rattle.pli_type_names.specs.UnitNaming.{naming_in}
 use Rattle.pli_type_tree.specs.TypedTree.{TypedExpression, TypedStatement, TypedProcedure, OtherWise, If}
-use Rattle.pli_type_statement.specs.Around.{Around, surroundings_of}
+use Rattle.pli_type_statement.specs.Around.{surroundings_of}
 use Rattle.pli_type_statement.specs.Parts.{unit_named, given, told, Adds, both, if_of, part_in, faults_in, IsKnown}
 use Rattle.pli_type_statement.specs.Walking.{IsPlaced, IsBack, Walks, unit_at, around, next_at, finished}
 use Rattle.pli_type_statement.specs.declared.walk.TypingWalk.{TypingWalk}
-use Rattle.pli_type_statement.specs.views.AroundView.{around_view}
 
 abbrev Typed : Type 0 → Type 0
 Typed A = Result (WithProcedures A) (List Fault)

@@ -7,14 +7,13 @@ use Rattle.pli_base.specs.declared.code.Code.TheVariants.{CannotAssign}
 use Rattle.pli_base.specs.declared.token.Fault.{Fault}
 use Rattle.pli_type.specs.ExpressionTypes.{TypedValue, conversions}
 use Rattle.pli_type.specs.Names.{Naming}
-use Rattle.pli_operation.specs.Operations.{Operation}
 use Rattle.pli_type.specs.References.{Referent}
 use Rattle.pli_type.specs.StatementTyping.{possible_condition, with_repeat}
 use Rattle.pli_type.specs.Typing.{or_fault}
-use Rattle.pli_type_tree.specs.TypedTree.{Iteration, TypedExpression, TypedRange}
+use Rattle.pli_type_tree.specs.TypedTree.{Iteration, TypedExpression, TypedOperation, TypedRange}
 
 -- a group of its parts
-abbrev pub iteration_of : (variable : Referent) → (operations : List Operation) → TypedValue
+abbrev pub iteration_of : (variable : Referent) → (operations : List TypedOperation) → TypedValue
     → (turns : TypedRange) → (condition : Option TypedExpression) → (temporary : ℕ) → Iteration
 iteration_of r operations v turns x temporary = record {
   control = r.reference;

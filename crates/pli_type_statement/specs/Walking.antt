@@ -1,10 +1,9 @@
 -- What the walk over a unit's statements does at a part of them.
-use Rattle.std.specs.Prelude.{◌≡◌, ◌≤◌, ◌+◌, ◌-◌, ℕ, suc, Option, Some, None, Result}
+use Rattle.std.specs.Prelude.{◌≡◌, ◌≤◌, ◌+◌, ◌*◌, ◌-◌, ℕ, suc, Option, Some, None, Result}
 use Rattle.std.specs.Prelude.{List, [], ◌∷◌, ◌++◌, length, map, take}
 use Rattle.pli_base.specs.Statements.{Body, ExternalProcedure, Statements}
 use Rattle.pli_base.specs.declared.token.Fault.{Fault}
 use Rattle.pli_map.specs.Description.{Description}
-use Rattle.pli_map.specs.views.DescriptionView.{description_view}
 use Rattle.pli_type.specs.Checked.{may_begin}
 use Rattle.pli_type.specs.Names.{NamedUnit}
 use Rattle.pli_type.specs.StatementTyping as spec
@@ -41,12 +40,22 @@ next_at w = record { block = w.next.block; temporary = w.next.temporary }
 abbrev pub finished : TypingWalk → List TypedProcedure
 finished w = map procedure_view w.procedures.items
 
--- names are looked at from the blocks round the place, and what the variables of the blocks that begin from
--- here on are made from is still there
+-- each BEGIN block round a place is one of the lists round it
+abbrev pub IsDeep : Around → Type 0
+IsDeep a = a.begins ≤ length a.lists
+
+-- names are looked at from the blocks round the place; what the variables of the blocks that begin from here
+-- on are made from is still there; and BEGIN blocks round the place are lists
 pub record IsPlaced (w : TypingWalk) : Type 0 where
   pub blocks : w.naming.blocks ≡ map (λ (b : Enclosing). b.number) (around w).blocks
   pub templates : (block : ℕ) → w.next.block ≤ block
       → automatic_at w.templates block ≡ (unit_at w).automatic block
+  pub deep : IsDeep (around_view w.surroundings)
+
+-- a word has room for the numbers of the blocks and temporaries in so many regions
+pub record HasRoom (x : Next) (regions : ℕ) : Type 0 where
+  pub blocks : x.block + regions ≤ 1152921504606846976
+  pub temporaries : x.temporary + 3 * regions ≤ 3458764513820540928
 
 -- it is where it was
 pub record IsBack (old new : TypingWalk) : Type 0 where

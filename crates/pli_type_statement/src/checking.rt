@@ -1,5 +1,5 @@
 //! The check of a unit.
-ghost use Rattle.std.specs.Prelude.{◌≡◌, [], ◌∷◌, None, length, option_map, Err, IfOk};
+ghost use Rattle.std.specs.Prelude.{◌≡◌, [], ◌∷◌, None, option_map, Err, IfOk};
 ghost use Rattle.pli_base.specs.declared.code.Code.TheVariants.{NotYetBuilt};
 ghost use Rattle.pli_base.specs.views.StatementView as source;
 ghost use Rattle.pli_base.specs.views.StatementView.{unit_view};
@@ -84,15 +84,6 @@ fn function_end(value: &Option<Description>, end: u32) -> Option<u32>
     }
 }
 
-/// How many parameters a procedure takes.
-fn how_many(signature: &Signature) -> Result<u32, AllocError>
-    ensures { IfOk result (λ count. count ≡ length (signature_view signature.now).parameters) }
-{
-    u32::try_from(signature.parameters.len())
-        .ok()
-        .ok_or(AllocError)
-}
-
 /// Whether a program may begin with a unit, whose external procedure takes and gives this.
 fn may_begin(tree: &Procedure, signature: &Signature) -> bool
     ensures { result ≡ may_begin (unit_view tree.now) (signature_view signature.now) }
@@ -106,16 +97,14 @@ fn external_procedure(
     tree: &Procedure,
     signature: &Signature,
     variables: Vec<VariableGroup>,
-    temporaries: u32,
+    temporaries: usize,
     statements: Vec<TypedStatement>,
-) -> Result<TypedProcedure, AllocError>
-    ensures { IfOk result (λ made. typed.procedure_view made
+) -> TypedProcedure
+    ensures { typed.procedure_view result
         ≡ external_with (unit_view tree.now) (signature_view signature.now) (groups_view variables.items) temporaries
-        (typed.statements_view statements.items)) }
+        (typed.statements_view statements.items) }
 {
-    let parameters = how_many(signature)?;
-    let function_end = function_end(&signature.result, tree.end);
-    Ok(TypedProcedure {
+    TypedProcedure {
         head: BlockHead {
             number: 0,
             statement: tree.number,
@@ -123,10 +112,10 @@ fn external_procedure(
             temporaries,
         },
         parent: None,
-        parameters,
-        function_end,
+        parameters: signature.parameters.len(),
+        function_end: function_end(&signature.result, tree.end),
         statements,
-    })
+    }
 }
 
 /// The typed unit of its tree, what its external procedure takes and gives, what the variables of block 0 are made
@@ -149,7 +138,7 @@ fn typed_unit(
         mut procedures,
         ..
     } = walk;
-    let external = external_procedure(tree, &signature, variables, next.temporary, statements)?;
+    let external = external_procedure(tree, &signature, variables, next.temporary, statements);
     let is_main = may_begin(tree, &signature);
     procedures.insert(0, external)?;
     Ok(TypedUnit {

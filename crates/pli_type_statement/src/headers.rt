@@ -1,5 +1,5 @@
 //! What controls a group.
-ghost use Rattle.std.specs.Prelude.{◌≡◌, false, option_map};
+ghost use Rattle.std.specs.Prelude.{◌≡◌, ◌≤◌, false, option_map};
 ghost use Rattle.pli_base.specs.views.StatementView.{control_view, range_view};
 ghost use Rattle.pli_type.specs.Temporaries as spec;
 ghost use Rattle.pli_type.specs.Unbuilt.{later_control, later_part};
@@ -25,8 +25,9 @@ pub(crate) enum Header {
 }
 
 /// How many numbers a group keeps of what limits it: those of TO and BY, and 1 where TO stands without BY.
-fn limits_kept(range: &Option<Range>) -> u32
-    ensures { result ≡ spec.limits_kept (option_map range_view range.now) }
+fn limits_kept(range: &Option<Range>) -> usize
+    ensures few { result ≤ 2 }
+    ensures value { result ≡ spec.limits_kept (option_map range_view range.now) }
 {
     match range {
         None | Some(Range::Repeat(_)) => 0,
@@ -37,8 +38,9 @@ fn limits_kept(range: &Option<Range>) -> u32
 
 /// How many temporaries a group has: with a control variable one for the value that this begins with, and those of its
 /// limits.
-pub(crate) fn kept_by(control: &Option<Control>) -> u32
-    ensures { result ≡ spec.kept_by (option_map control_view control.now) }
+pub(crate) fn kept_by(control: &Option<Control>) -> usize
+    ensures few { result ≤ 3 }
+    ensures value { result ≡ spec.kept_by (option_map control_view control.now) }
 {
     match control {
         None | Some(Control::While(_)) => 0,
@@ -51,7 +53,7 @@ pub(crate) fn kept_by(control: &Option<Control>) -> u32
 pub(crate) fn specified(
     alloc: Global,
     naming: &Naming<'_>,
-    temporary: u32,
+    temporary: usize,
     control: &Option<Control>,
 ) -> Result<Header, TypeError>
     requires { later_part (later_control (compiled_in naming.now)) (option_map control_view control.now) ≡ false }

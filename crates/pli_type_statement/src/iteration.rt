@@ -3,7 +3,6 @@ ghost use Rattle.std.specs.Prelude.{◌≡◌, false, map, option_map};
 ghost use Rattle.pli_base.specs.views.StatementView.{range_view};
 ghost use Rattle.pli_base.specs.views.SyntaxView as syntax;
 ghost use Rattle.pli_map.specs.views.DescriptionView.{description_view};
-ghost use Rattle.pli_operation.specs.views.OperationView.{operation_view};
 ghost use Rattle.pli_type.specs.StatementTyping as spec;
 ghost use Rattle.pli_type.specs.Unbuilt.{later_expression, later_part, later_range, later_reference};
 ghost use Rattle.pli_type.specs.views.ValueView.{value_view};
@@ -18,11 +17,10 @@ use pli_base::statement::Range;
 use pli_base::syntax::{Expression, Reference};
 use pli_base::{Code, fault};
 use pli_map::Description;
-use pli_operation::Operation;
 use pli_type::{TypedValue, conversions, converted};
 use pli_type_expression::{Denoted, Referent, Role, TypeError, first_token, referred, value_of};
 use pli_type_names::Naming;
-use pli_type_tree::{Iteration, TypedExpression, TypedRange, TypedReference};
+use pli_type_tree::{Iteration, TypedExpression, TypedOperation, TypedRange, TypedReference};
 use std::alloc::Global;
 
 /// TO or BY, which takes a number: T4 at its first token where it has none (X3.74).
@@ -214,14 +212,14 @@ fn unboxed(condition: Option<Box<TypedExpression>>) -> Option<TypedExpression>
 /// A group with a control variable of its parts.
 fn of_parts(
     variable: Box<Referent<'_>>,
-    conversion: Vec<Operation>,
+    conversion: Vec<TypedOperation>,
     start: Box<TypedValue>,
     range: Box<TypedRange>,
     condition: Option<Box<TypedExpression>>,
-    temporary: u32,
+    temporary: usize,
 ) -> Iteration
     ensures { typed.iteration_view result
-        ≡ iteration_of (referent_view variable.entry.value) (map operation_view conversion.items) (value_view start.value)
+        ≡ iteration_of (referent_view variable.entry.value) (map typed.operation_view conversion.items) (value_view start.value)
         (typed.range_view range.value) (option_map (λ x. typed.expression_view x.value) condition) temporary }
 {
     let variable = Box::into_inner(variable);
@@ -241,7 +239,7 @@ fn of_parts(
 fn iterated(
     alloc: Global,
     naming: &Naming<'_>,
-    temporary: u32,
+    temporary: usize,
     text: IterationText<'_>,
     start: Box<TypedValue>,
     kept: Box<TypedRange>,
@@ -269,7 +267,7 @@ fn iterated(
 pub(crate) fn iteration(
     alloc: Global,
     naming: &Naming<'_>,
-    temporary: u32,
+    temporary: usize,
     text: IterationText<'_>,
 ) -> Result<Iteration, TypeError>
     requires variable { later_reference (compiled_in naming.now) (syntax.reference_view text.variable.now) ≡ false }

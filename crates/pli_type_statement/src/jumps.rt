@@ -33,7 +33,7 @@ pub(crate) fn jump(
     let NamedAs::Label(statement) = naming.meaning(label.at) else {
         return Err(fault(Code::NotYetBuilt, label.at));
     };
-    match outward_to(around.lists.as_slice(), statement)? {
+    match outward_to(around.lists.as_slice(), statement) {
         Some(outward) => Ok(Form::Goto {
             outward,
             label: statement,

@@ -1,5 +1,5 @@
 //! The lists of statements round a place, with their labels.
-ghost use Rattle.std.specs.Prelude.{◌≡◌, suc, nat_eq, option_map, IfOk};
+ghost use Rattle.std.specs.Prelude.{◌≡◌, ◌<◌, suc, nat_eq, option_map, IfOk, IfSome};
 ghost use Rattle.std.specs.List.{list_any};
 ghost use Rattle.pli_base.specs.views.StatementView as source;
 ghost use Rattle.pli_type.specs.StatementTyping as spec;
@@ -13,7 +13,7 @@ use std::alloc::{AllocError, Global};
 #[derive(Drop)]
 pub(crate) struct ListLabels {
     /// The number of the block that the list is; none where it is that of a group.
-    pub block: Option<u32>,
+    pub block: Option<usize>,
     pub labels: Vec<u32>,
 }
 
@@ -56,30 +56,31 @@ fn has(list: &ListLabels, label: u32) -> bool
 }
 
 /// One static link further outward.
-fn further(outward: Option<u32>) -> Result<Option<u32>, AllocError>
-    ensures { IfOk result (λ made. made ≡ option_map suc outward) }
+fn further(outward: Option<usize>) -> Option<usize>
+    requires { IfSome outward (λ links. links < 18446744073709551615) }
+    ensures { result ≡ option_map suc outward }
 {
     match outward {
-        None => Ok(None),
-        Some(links) => Ok(Some(links.checked_add(1).ok_or(AllocError)?)),
+        None => None,
+        Some(links) => Some(links + 1),
     }
 }
 
 /// How many static links outward the label of a statement is, if one of the lists has it; the lists stand in one
 /// another, the outermost first.
-pub(crate) fn outward_to(lists: &[ListLabels], label: u32) -> Result<Option<u32>, AllocError>
-    ensures { IfOk result (λ outward. outward ≡ spec.label_found (blocks_of (lists_view lists.now)) label) }
+pub(crate) fn outward_to(lists: &[ListLabels], label: u32) -> Option<usize>
+    ensures { result ≡ spec.label_found (blocks_of (lists_view lists.now)) label }
 {
     let mut outward = None;
     let mut is_inside = false;
     for list in lists {
         if list.block.is_some() {
-            outward = further(outward)?;
+            outward = further(outward);
             is_inside = true;
         }
         if is_inside && has(list, label) {
             outward = Some(0);
         }
     }
-    Ok(outward)
+    outward
 }

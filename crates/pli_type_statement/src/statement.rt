@@ -1,7 +1,8 @@
 //! Statements.
-ghost use Rattle.std.specs.Prelude.{◌≡◌, ℕ, ◌+◌, None, false, length, option_map, IfOk};
+ghost use Rattle.std.specs.Prelude.{◌≡◌, ◌≤◌, ℕ, ◌+◌, None, false, length, option_map, IfOk};
 ghost use Rattle.pli_base.specs.views.StatementView as source;
 ghost use Rattle.pli_base.specs.views.SyntaxView as syntax;
+ghost use Rattle.pli_declare_outline.specs.Outlines.{regions_among, regions_in, regions_of};
 ghost use Rattle.pli_map.specs.views.DescriptionView.{description_view};
 ghost use Rattle.pli_type.specs.StatementTyping as spec;
 ghost use Rattle.pli_type.specs.Temporaries.{behind, kept_by};
@@ -10,7 +11,8 @@ ghost use Rattle.pli_type_names.specs.UnitNaming.{compiled_in};
 ghost use Rattle.pli_type_statement.specs.Around.{surroundings_of};
 ghost use Rattle.pli_type_statement.specs.Headers.{Header as PlainHeader, header_typed};
 ghost use Rattle.pli_type_statement.specs.Simple.{is_compound, simple_typed};
-ghost use Rattle.pli_type_statement.specs.Walking.{Finishes, IsPlaced, in_block, Walks, WalksBlock, WalksBody, WalksList, around, next_at, unit_at};
+ghost use Rattle.pli_type_statement.specs.Walking.{Finishes, HasRoom, IsPlaced, in_block, Walks, WalksBlock, WalksBody, WalksList, around, next_at, unit_at};
+ghost use Rattle.pli_type_statement.specs.views.AroundView.{around_view};
 ghost use Rattle.pli_type_statement.specs.views.HeaderView.{header_view};
 ghost use Rattle.pli_type_tree.specs.TypedTree as plain;
 ghost use Rattle.pli_type_tree.specs.views.TypedView.{expression_view, form_view, statement_view, statements_view};
@@ -81,20 +83,6 @@ fn type_condition(
     noted(tested, &mut walk.faults)
 }
 
-/// So many more.
-fn counted(number: u32, count: u32) -> Result<u32, AllocError>
-    ensures { IfOk result (λ counted. counted ≡ number + count) }
-{
-    number.checked_add(count).ok_or(AllocError)
-}
-
-/// How many parameters these are.
-fn how_many(parameters: &[&Description]) -> Result<u32, AllocError>
-    ensures { IfOk result (λ count. count ≡ length parameters.now) }
-{
-    u32::try_from(parameters.len()).ok().ok_or(AllocError)
-}
-
 /// What controls a group, whose fault is put behind the others; its temporaries are counted.
 fn type_header(
     alloc: Global,
@@ -103,15 +91,15 @@ fn type_header(
 ) -> Result<Option<Header>, AllocError>
     requires placed { IsPlaced walk.old }
     requires built { later_part (later_control (compiled_in walk.old.naming)) (option_map source.control_view control.now) ≡ false }
+    requires room { walk.old.next.temporary ≤ 18446744073709551612 }
     ensures { IfOk result (λ header. Walks PlainHeader walk.old walk.new
         (record { block = walk.old.next.block; temporary = walk.old.next.temporary + kept_by (option_map source.control_view control.now) })
         (spec.of_own (header_typed (spec.naming_at (unit_at walk.old) (around walk.old)) walk.old.next.temporary
         (option_map source.control_view control.now))) (option_map header_view header)) }
 {
     let temporary = walk.next.temporary;
-    let further = counted(temporary, kept_by(control))?;
+    walk.next.temporary = temporary + kept_by(control);
     let header = specified(alloc, &walk.naming, temporary, control);
-    walk.next.temporary = further;
     noted(header, &mut walk.faults)
 }
 
@@ -131,7 +119,7 @@ fn finish(
     };
     let parent = innermost(walk.surroundings.lists.as_slice());
     let procedure = walk.naming.procedure(head.number);
-    let parameters = how_many(procedure.parameters)?;
+    let parameters = procedure.parameters.len();
     let function_end = end_of(procedure.returned, end);
     walk.procedures.push(TypedProcedure {
         head,
@@ -153,6 +141,7 @@ fn type_statement(
 ) -> Result<Option<TypedStatement>, AllocError>
     requires placed { IsPlaced walk.old }
     requires built { later_statement (compiled_in walk.old.naming) (source.statement_view statement.now) ≡ None }
+    requires room { HasRoom (next_at walk.old) (regions_in (source.statement_view statement.now)) }
     ensures { IfOk result (λ typed. Walks plain.TypedStatement walk.old walk.new
         (behind (next_at walk.old) (source.statement_view statement.now))
         (spec.statement_typed (unit_at walk.old) (around walk.old) (next_at walk.old) (source.statement_view statement.now))
@@ -173,6 +162,7 @@ fn type_body<'a>(
 ) -> Result<Option<Form>, AllocError>
     requires placed { IsPlaced walk.old }
     requires built { (first : ℕ) × (later_body (compiled_in walk.old.naming) first (source.body_view body.now) ≡ None) }
+    requires room { HasRoom (next_at walk.old) (regions_of (source.body_view body.now)) }
     ensures { IfOk result (λ form. WalksBody walk.old walk.new number at (source.body_view body.now) (option_map form_view form)) }
 {
     match body {
@@ -183,7 +173,7 @@ fn type_body<'a>(
             finish(walk, procedure.end, block.head, block.list)
         }
         Body::Begin { statements, .. } => {
-            let begins = counted(walk.surroundings.begins, 1)?;
+            let begins = walk.surroundings.begins + 1;
             let value = walk.surroundings.value;
             let block = type_block(alloc, walk, begins, value, number, statements.as_slice())?;
             Ok(begin_form(block.head, block.list))
@@ -224,13 +214,15 @@ fn type_body<'a>(
 fn type_block<'a>(
     alloc: Global,
     walk: &mut TypingWalk<'a>,
-    begins: u32,
+    begins: usize,
     value: Option<&'a Description>,
     number: u32,
     statements: &[Statement],
 ) -> Result<TypedBlock, AllocError>
     requires placed { IsPlaced walk.old }
     requires built { later_statements (compiled_in walk.old.naming) (source.statements_view statements.now) ≡ None }
+    requires room { HasRoom (next_at walk.old) (1 + regions_among (source.statements_view statements.now)) }
+    requires deep { begins ≤ 1 + length (around_view walk.old.surroundings).lists }
     ensures { IfOk result (λ block. WalksBlock walk.old walk.new
         (in_block walk.old begins (option_map (λ d. description_view d.now) value.entry) (source.statements_view statements.now))
         number (source.statements_view statements.now) block.head (option_map (λ list. statements_view list.items) block.list)) }
@@ -250,6 +242,7 @@ fn type_group(
 ) -> Result<Option<Vec<TypedStatement>>, AllocError>
     requires placed { IsPlaced walk.old }
     requires built { later_statements (compiled_in walk.old.naming) (source.statements_view statements.now) ≡ None }
+    requires room { HasRoom (next_at walk.old) (regions_among (source.statements_view statements.now)) }
     ensures { IfOk result (λ typed. WalksList walk.old walk.new
         (spec.in_group (source.statements_view statements.now) (around walk.old)) (source.statements_view statements.now)
         (option_map (λ list. statements_view list.items) typed)) }
@@ -271,6 +264,7 @@ pub(crate) fn type_statements(
 ) -> Result<Option<Vec<TypedStatement>>, AllocError>
     requires placed { IsPlaced walk.old }
     requires built { later_statements (compiled_in walk.old.naming) (source.statements_view statements.now) ≡ None }
+    requires room { HasRoom (next_at walk.old) (regions_among (source.statements_view statements.now)) }
     ensures { IfOk result (λ typed. WalksList walk.old walk.new (around walk.old) (source.statements_view statements.now)
         (option_map (λ list. statements_view list.items) typed)) }
 {

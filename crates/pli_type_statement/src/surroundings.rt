@@ -12,13 +12,13 @@ use std::alloc::AllocError;
 #[derive(Drop)]
 pub(crate) struct Surroundings<'a> {
     pub lists: Vec<ListLabels>,
-    pub begins: u32,
+    pub begins: usize,
     pub value: Option<&'a Description>,
 }
 
 impl<'a> Surroundings<'a> {
     /// Goes into a list with these labels, which is that of a block of this number or of a group.
-    pub fn enter(&mut self, block: Option<u32>, labels: Vec<u32>) -> Result<(), AllocError>
+    pub fn enter(&mut self, block: Option<usize>, labels: Vec<u32>) -> Result<(), AllocError>
         ensures lists { OnOk result (lists_view self.new.lists.items
             ≡ lists_view self.old.lists.items ++ record { block = block; labels = labels.items } ∷ []) }
         ensures begins { self.new.begins ≡ self.old.begins }
@@ -40,7 +40,7 @@ impl<'a> Surroundings<'a> {
 }
 
 /// The number of the block here; the lists stand in one another, the outermost first.
-pub(crate) fn innermost(lists: &[ListLabels]) -> u32
+pub(crate) fn innermost(lists: &[ListLabels]) -> usize
     ensures { result ≡ number_of (blocks_of (lists_view lists.now)) }
 {
     let mut number = 0;

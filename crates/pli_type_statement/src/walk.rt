@@ -1,5 +1,5 @@
 //! The walk over the statements of a unit: what it keeps, and how it goes into blocks and out of them.
-ghost use Rattle.std.specs.Prelude.{◌≡◌, option_map, IfOk};
+ghost use Rattle.std.specs.Prelude.{◌≡◌, ◌<◌, option_map, IfOk};
 ghost use Rattle.pli_base.specs.views.StatementView as source;
 ghost use Rattle.pli_map.specs.views.DescriptionView.{description_view};
 ghost use Rattle.pli_type.specs.StatementTyping.{labels_of};
@@ -18,8 +18,8 @@ use std::alloc::{AllocError, Global};
 /// The next block of the unit, and the next temporary of the block here.
 #[derive(Clone, Copy)]
 pub(crate) struct Next {
-    pub block: u32,
-    pub temporary: u32,
+    pub block: usize,
+    pub temporary: usize,
 }
 
 /// Where the walk is, and what it has found: faults, and the procedures that have ended, in the order in which they
@@ -38,11 +38,11 @@ pub(crate) struct TypingWalk<'a> {
 /// A block that the walk has gone into, with what is outside of it.
 #[derive(Drop)]
 pub(crate) struct OpenBlock<'a> {
-    pub number: u32,
+    pub number: usize,
     pub variables: Vec<VariableGroup>,
-    pub begins: u32,
+    pub begins: usize,
     pub value: Option<&'a Description>,
-    pub temporary: u32,
+    pub temporary: usize,
 }
 
 /// Goes into the next block, which has these statements, and stands in so many BEGIN blocks of a procedure that gives
@@ -50,16 +50,16 @@ pub(crate) struct OpenBlock<'a> {
 pub(crate) fn enter_block<'a>(
     alloc: Global,
     walk: &mut TypingWalk<'a>,
-    begins: u32,
+    begins: usize,
     value: Option<&'a Description>,
     statements: &[Statement],
 ) -> Result<OpenBlock<'a>, AllocError>
+    requires { walk.old.next.block < 18446744073709551615 }
     ensures { IfOk result (λ block. Enters walk.old walk.new block begins
         (option_map (λ d. description_view d.now) value.entry) (labels_of (source.statements_view statements.now))) }
 {
     let labels = labels_of(alloc, statements)?;
     let number = walk.next.block;
-    let block = number.checked_add(1).ok_or(AllocError)?;
     walk.naming.enter(number)?;
     let open = OpenBlock {
         number,
@@ -72,7 +72,7 @@ pub(crate) fn enter_block<'a>(
     walk.surroundings.begins = begins;
     walk.surroundings.value = value;
     walk.next = Next {
-        block,
+        block: number + 1,
         temporary: 0,
     };
     Ok(open)

@@ -1,13 +1,14 @@
--- Which item of DECLARE a name is of. An item is told by two numbers: that of the mark that declares it, and its
--- own among the items of the mark. What an item says, its names have in common.
-use Rattle.std.specs.Prelude.{◌≡◌, ℕ, Option, Some, option_and_then, option_map, slice_get, List, [], map}
-use Rattle.std.specs.Prelude.{Contains}
+-- Which item of DECLARE a name is of. An item is told by two numbers: that of the mark that declares it, and
+-- its own among the items of the mark. What an item says, its names have in common.
+use Rattle.std.specs.Prelude.{◌≡◌, ◌≤◌, ℕ, Option, Some, option_and_then, option_map, slice_get, List, []}
+use Rattle.std.specs.Prelude.{map, length, Contains}
 use Rattle.pli_base.specs.Declarations.{Item}
+use Rattle.pli_base.specs.Statements.{ExternalProcedure}
 use Rattle.pli_base.specs.declared.declaration.InitialValue.{InitialValue}
 use Rattle.pli_base.specs.declared.syntax.Identifier.{Identifier}
 use Rattle.pli_declare_attributes.specs.Faults.{described_scalar, parameter_of, parameters_in, returned_in}
 use Rattle.pli_declare_attributes.specs.Initials.{values_in}
-use Rattle.pli_declare_outline.specs.Outlines.{Mark, Declared, PlacedMark}
+use Rattle.pli_declare_outline.specs.Outlines.{Mark, Declared, PlacedMark, outline_of}
 use Rattle.pli_map.specs.Description.{Description}
 use Rattle.pli_resolve.specs.Symbols.{Symbol, SymbolKind, Variable, Entry}
 use Rattle.pli_type_templates.specs.declared.item_number.ItemNumber.{ItemNumber}
@@ -55,3 +56,7 @@ IsOfItem marks at kind = Unit {0}
 -- so is each of these symbols
 abbrev pub AreOfItems : List PlacedMark → Symbol → Type 0
 AreOfItems marks s = IsOfItem marks s.identifier.at s.kind
+
+-- no more regions than a vector may hold
+abbrev pub HasFewRegions : ExternalProcedure → Type 0
+HasFewRegions u = length (outline_of u).regions ≤ 1152921504606846976

@@ -4,8 +4,8 @@ use Rattle.std.specs.Prelude.{◌≡◌, ◌≤◌, ℕ, zero, suc, ◌+◌, ◌
 use Rattle.std.specs.Prelude.{IfSome, List, [], ◌∷◌, map}
 use Rattle.std.specs.Int.{next_multiple_of}
 use Rattle.std.specs.List.{flat_map}
-use Rattle.pli_map.specs.Description.{Description, FixedBinary, Character, Varying, Bit, Area, Array, Structure}
-use Rattle.pli_map.specs.Description.{Members, NoMembers, MemberThen}
+use Rattle.pli_map.specs.Description.{Description, FixedBinary, Character, Varying, Bit, Area, Array}
+use Rattle.pli_map.specs.Description.{Structure, Members, NoMembers, MemberThen}
 use Rattle.pli_map.specs.Parts.{PlacedPart}
 use Rattle.pli_map.specs.Sizes.{alignment_of, count_of, size_of, stride_of}
 use Rattle.pli_type.specs.InitialScalars.{counted_from}

@@ -1,5 +1,5 @@
 //! Groups of globals that stand in a row and are alike.
-ghost use Rattle.std.specs.Prelude.{◌≡◌, ◌<◌, ◌≤◌, ◌∷◌, ◌++◌, IfOk, OnOk, length, map, option_map, take, true};
+ghost use Rattle.std.specs.Prelude.{◌≡◌, ◌≤◌, ◌∷◌, ◌++◌, IfOk, OnOk, length, map, option_map, take, true};
 ghost use Rattle.std.specs.List.{All};
 ghost use Rattle.std.specs.Option.{option_to_list};
 ghost use Rattle.pli_map.specs.views.DescriptionView.{description_view};
@@ -8,7 +8,7 @@ ghost use Rattle.pli_type_templates.specs.views.NumberView.{marks_of};
 ghost use Rattle.pli_type_templates.specs.views.PlacedView.{HasGlobalItem, global_view, unit_global_view};
 ghost use Rattle.pli_type_tree.specs.views.GlobalView.{global_group_view, globals_view, signature_view};
 
-use crate::groups::{MOST, is_made_alike, variable_group, variable_template};
+use crate::groups::{is_made_alike, variable_group, variable_template};
 use crate::item_numbers::ItemNumbers;
 use crate::placed_globals::{PlacedGlobal, UnitGlobal};
 use pli_base::Name;
@@ -73,17 +73,15 @@ fn alike_behind(
     more: &[PlacedGlobal<'_>],
 ) -> usize
     ensures within { result ≤ length more.now }
-    ensures counted { result < 4294967295 }
     ensures alike { HasGlobalItem (marks_of items.now) first.now → All (HasGlobalItem (marks_of items.now)) more.now
         → All (λ p. IsLike (global_view first.now) (global_view p)) (take result more.now) }
 {
-    let most = more.len().min(MOST - 1);
-    for count in 0..most {
+    for count in 0..more.len() {
         if !is_alike(items, first, &more[count]) {
             return count;
         }
     }
-    most
+    more.len()
 }
 
 /// Puts the name of a global, if it has one beyond its unit.
@@ -117,8 +115,7 @@ fn group_of(
     first: &PlacedGlobal<'_>,
     more: &[PlacedGlobal<'_>],
 ) -> Result<GlobalGroup, AllocError>
-    requires few { length more.now < 4294967295 }
-    requires alike { All (λ p. IsLike (global_view first.now) (global_view p)) more.now }
+    requires { All (λ p. IsLike (global_view first.now) (global_view p)) more.now }
     ensures { IfOk result (λ group. global_group_view group ≡ global_view first.now ∷ map global_view more.now) }
 {
     match &first.global {

@@ -1,5 +1,5 @@
 //! What variables are made from.
-ghost use Rattle.std.specs.Prelude.{◌≡◌, ◌<◌, ◌≤◌, ◌++◌, List, IfOk, OnOk, length, map, option_map, replicate, take, true};
+ghost use Rattle.std.specs.Prelude.{◌≡◌, ◌≤◌, ◌++◌, List, IfOk, OnOk, length, map, option_map, replicate, take, true};
 ghost use Rattle.std.specs.List.{All};
 ghost use Rattle.pli_declare_outline.specs.Outlines.{PlacedMark};
 ghost use Rattle.pli_map.specs.views.DescriptionView.{description_view};
@@ -20,9 +20,6 @@ use pli_resolve::{StorageClass, Symbol, SymbolKind};
 use pli_type_names::is_stored;
 use pli_type_tree::{Template, VariableGroup};
 use std::alloc::{AllocError, Global};
-
-/// How many variables a group may have.
-pub(crate) const MOST: usize = 4_294_967_295;
 
 /// Whether a variable is of the wanted class, AUTOMATIC or STATIC, and is compiled.
 fn is_such(wanted: StorageClass, class: StorageClass, description: &Description) -> bool
@@ -168,17 +165,15 @@ fn alike_behind(
     more: &[MadeVariable<'_>],
 ) -> usize
     ensures within { result ≤ length more.now }
-    ensures counted { result < 4294967295 }
     ensures alike { HasMadeItem (marks_of items.now) first.now → All (HasMadeItem (marks_of items.now)) more.now
         → All (λ m. made_template m ≡ made_template first.now) (take result more.now) }
 {
-    let most = more.len().min(MOST - 1);
-    for count in 0..most {
+    for count in 0..more.len() {
         if !is_made_alike(items, first, &more[count]) {
             return count;
         }
     }
-    most
+    more.len()
 }
 
 /// A group of so many variables, which are made from what this one is made from.
@@ -187,14 +182,10 @@ pub(crate) fn variable_group(
     count: usize,
     made: &MadeVariable<'_>,
 ) -> Result<VariableGroup, AllocError>
-    requires { count ≤ 4294967295 }
     ensures { IfOk result (λ group. group_view group ≡ replicate count (made_template made.now)) }
 {
     let template = variable_template(alloc, made)?;
-    Ok(VariableGroup {
-        count: count as u32,
-        template,
-    })
+    Ok(VariableGroup { count, template })
 }
 
 /// Groups of variables that stand in a row and are made from one template.

@@ -5,7 +5,7 @@ ghost use Rattle.pli_base.specs.views.StatementView.{unit_view};
 ghost use Rattle.pli_declare_outline.specs.Outlines.{PlacedMark};
 ghost use Rattle.pli_resolve.specs.ResolvedUnits.{resolved_unit_of};
 ghost use Rattle.pli_type.specs.NamedUnits.{all_globals, block_globals, is_automatic, named_unit, templates_of};
-ghost use Rattle.pli_type_templates.specs.ItemNames.{AreOfItems};
+ghost use Rattle.pli_type_templates.specs.ItemNames.{AreOfItems, HasFewRegions};
 ghost use Rattle.pli_type_templates.specs.views.BlockView.{AreKnown, block_symbols};
 ghost use Rattle.pli_type_templates.specs.views.NumberView.{marks_of};
 ghost use Rattle.pli_type_templates.specs.views.PlacedView.{HasGlobalItem, placed_view};
@@ -35,13 +35,12 @@ pub struct UnitTemplates {
 
 impl UnitTemplates {
     /// Takes what the AUTOMATIC variables of a block are made from; nothing is left there.
-    pub fn take(&mut self, alloc: Global, block: u32) -> Vec<VariableGroup>
+    pub fn take(&mut self, alloc: Global, block: usize) -> Vec<VariableGroup>
         ensures taken { groups_view result.items ≡ automatic_at self.old block }
         ensures others { (k : ℕ) → (k ≡ block → ⊥) → automatic_at self.new k ≡ automatic_at self.old k }
         ensures globals { self.new.globals ≡ self.old.globals }
     {
         let nothing = Vec::new(alloc);
-        let block = block as usize;
         if block >= self.automatic.len() {
             return nothing;
         }
@@ -108,6 +107,7 @@ pub fn templates(alloc: Global, resolved: &ResolvedUnit<'_>) -> Result<UnitTempl
         ≡ (named_unit 31 (resolved_unit_of (unit_view resolved.now))).automatic block) }
     ensures globals { IfOk result (λ made. globals_view made.globals.items
         ≡ (named_unit 31 (resolved_unit_of (unit_view resolved.now))).globals) }
+    ensures regions { IfOk result (λ _. HasFewRegions (unit_view resolved.now)) }
 {
     let blocks = block_names(alloc, resolved)?;
     let items = ItemNumbers::of(alloc, resolved.unit())?;

@@ -1,12 +1,13 @@
 -- What a unit's globals are: variables, which are made from templates, and entries, which have signatures.
 use Rattle.std.specs.Prelude.{Option, Some, None, List, [], ◌∷◌}
+use Rattle.pli_base.specs.Name.{Name}
 use Rattle.pli_map.specs.Description.{Description}
 use Rattle.pli_map.specs.Variables.{GlobalVariable}
 use Rattle.pli_type_tree.specs.Templates.{Template, variable_of}
 use Rattle.pli_type_tree.specs.TypedTree.{Signature, Global, OwnVariable, ExternalVariable, EntryPoint}
 
 -- the variable that a global is, unless it is an entry
-abbrev pub global_variable : Global → Option GlobalVariable
+abbrev pub global_variable : Global → Option (GlobalVariable Name)
 global_variable (OwnVariable t) = Some (record { external = None; variable = variable_of t })
 global_variable (ExternalVariable name t) = Some (record { external = Some name; variable = variable_of t })
 global_variable (EntryPoint name signature) = None

@@ -1,6 +1,7 @@
 pub mod Globals
 pub mod Iterations
 pub mod Templates
+pub mod TypedOperations
 pub mod TypedTree
 pub mod ValueTypes
 pub mod WellTyped

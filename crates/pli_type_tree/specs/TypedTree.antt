@@ -5,7 +5,7 @@
 use Rattle.std.specs.Prelude.{ℕ, ℤ, Bool, Option, List}
 use Rattle.pli_base.specs.Name.{Name}
 use Rattle.pli_map.specs.Description.{Description}
-use Rattle.pli_operation.specs.Operations.{Operation}
+use Rattle.pli_operation.specs.declared.operation.Operation.{Operation}
 use Rattle.pli_value.specs.Value.{Value}
 use Rattle.pli_type_tree.specs.Templates.{Template}
 
@@ -21,6 +21,11 @@ pub data Callee : Type 0 where
   OfBlock : (block : ℕ) → Callee
   OfEntry : (number : ℕ) → Callee
 
+-- an operation of an expression: a value fitted to a description, or another
+pub data TypedOperation : Type 0 where
+  Fit : (description : Description) → TypedOperation
+  Operate : (operation : Operation) → TypedOperation
+
 -- a subscript's bounds, and how many bytes each number over the low one leads on
 pub record Stride : Type 0 where
   pub low : ℤ
@@ -32,7 +37,7 @@ mutual
   pub data TypedExpression : Type 0 where
     Literal : (value : Value) → TypedExpression
     Held : (variable : TypedReference) → TypedExpression
-    Calculated : (operation : Operation) (operands : Operands) → TypedExpression
+    Calculated : (operation : TypedOperation) (operands : Operands) → TypedExpression
     Called : (callee : Callee) (arguments : TypedArguments) → TypedExpression
 
   -- a whole variable; or a part, with its offset where all its subscripts are the lowest, its description,
@@ -70,7 +75,7 @@ pub data TypedRange : Type 0 where
 -- order of the text, or TO and 1
 pub record Iteration : Type 0 where
   pub control : TypedReference
-  pub conversion : List Operation
+  pub conversion : List TypedOperation
   pub start : TypedExpression
   pub range : TypedRange
   pub condition : Option TypedExpression

@@ -3,11 +3,14 @@ use Rattle.std.specs.Prelude.{◌≡◌, ℕ, suc, ◌≤◌, ◌<◌, ◌^◌, 
 use Rattle.std.specs.Prelude.{Some, None, List, []}
 use Rattle.std.specs.Prelude.{◌∷◌, ◌⊎◌, length}
 use Rattle.pli_map.specs.Description.{Description, FixedBinary, Character, Varying, Bit}
-use Rattle.pli_operation.specs.Operations.{Operation, Negate, Absolute, Sign, Not, LengthOf, FromBits}
-use Rattle.pli_operation.specs.Operations.{ToCharacters}
-use Rattle.pli_operation.specs.Operations.{Fit, Add, Subtract, Multiply, Modulo, Greatest, Least, Divide}
-use Rattle.pli_operation.specs.Operations.{Compare}
-use Rattle.pli_operation.specs.Operations.{Concatenate, And, Or, Index, Rest, Substring, Within}
+use Rattle.pli_operation.specs.declared.operation.Operation.{Operation}
+use Rattle.pli_operation.specs.declared.operation.Operation.TheVariants.{Negate, Absolute, Sign, Not}
+use Rattle.pli_operation.specs.declared.operation.Operation.TheVariants.{LengthOf, FromBits, ToCharacters}
+use Rattle.pli_operation.specs.declared.operation.Operation.TheVariants.{Add, Subtract, Multiply, Modulo}
+use Rattle.pli_operation.specs.declared.operation.Operation.TheVariants.{Greatest, Least, Divide, Compare}
+use Rattle.pli_operation.specs.declared.operation.Operation.TheVariants.{Concatenate, And, Or, Index, Rest}
+use Rattle.pli_operation.specs.declared.operation.Operation.TheVariants.{Substring, Within}
+use Rattle.pli_type_tree.specs.TypedTree.{TypedOperation, Fit, Operate}
 use Rattle.pli_value.specs.Value.{Value, Number, Characters, Bits}
 
 -- what a string is made of
@@ -93,35 +96,39 @@ OnStrings ts Of =
     (k : StringKind) × (a : ℕ) × (b : ℕ) × (c : ℕ) × (d : ℕ)
     × (ts ≡ Strings k a b ∷ Strings k c d ∷ []) × Of k b d
 
--- an operation takes operands of these types and gives a value of this one; no number has more than so many
--- binary digits
-abbrev pub Operates : (greatest : ℕ) → Operation → List ValueType → ValueType → Type 0
-Operates n Negate ts t = OnNumber ts (λ p. t ≡ Numbers p)
-Operates n Absolute ts t = OnNumber ts (λ p. t ≡ Numbers p)
-Operates n Sign ts t = OnNumber ts (λ p. t ≡ Numbers 1)
-Operates n Not ts t = OnString ts (λ k a b. (k ≡ OfBits) × (t ≡ Strings OfBits a b))
-Operates n LengthOf ts t = OnString ts (λ k a b. (b ≤ longest) × (t ≡ Numbers length_precision))
-Operates n FromBits ts t = OnString ts (λ k a b. (k ≡ OfBits) × (t ≡ Strings OfCharacters a b))
-Operates n (ToCharacters width) ts t =
+-- an operation without a description takes operands of these types and gives a value of this one; no number
+-- has more than so many binary digits
+abbrev pub Computes : (greatest : ℕ) → Operation → List ValueType → ValueType → Type 0
+Computes n Negate ts t = OnNumber ts (λ p. t ≡ Numbers p)
+Computes n Absolute ts t = OnNumber ts (λ p. t ≡ Numbers p)
+Computes n Sign ts t = OnNumber ts (λ p. t ≡ Numbers 1)
+Computes n Not ts t = OnString ts (λ k a b. (k ≡ OfBits) × (t ≡ Strings OfBits a b))
+Computes n LengthOf ts t = OnString ts (λ k a b. (b ≤ longest) × (t ≡ Numbers length_precision))
+Computes n FromBits ts t = OnString ts (λ k a b. (k ≡ OfBits) × (t ≡ Strings OfCharacters a b))
+Computes n (ToCharacters width) ts t =
     OnNumber ts (λ p. HaveColumns width p × (t ≡ Strings OfCharacters width width))
-Operates n (Fit d) ts t = (u : ValueType) × (ts ≡ u ∷ []) × IsFitted d u × (type_held d ≡ Some t)
-Operates n Add ts t = OnNumbers ts (λ p q. t ≡ Numbers (min n (max p q + 1)))
-Operates n Subtract ts t = OnNumbers ts (λ p q. t ≡ Numbers (min n (max p q + 1)))
-Operates n Multiply ts t = OnNumbers ts (λ p q. t ≡ Numbers (min n (p + q + 1)))
-Operates n Modulo ts t = OnNumbers ts (λ p q. t ≡ Numbers q)
-Operates n Greatest ts t = OnNumbers ts (λ p q. t ≡ Numbers (max p q))
-Operates n Least ts t = OnNumbers ts (λ p q. t ≡ Numbers (max p q))
-Operates n (Divide precision) ts t = OnNumbers ts (λ p q. t ≡ Numbers precision)
-Operates n (Compare relation) ts t =
+Computes n Add ts t = OnNumbers ts (λ p q. t ≡ Numbers (min n (max p q + 1)))
+Computes n Subtract ts t = OnNumbers ts (λ p q. t ≡ Numbers (min n (max p q + 1)))
+Computes n Multiply ts t = OnNumbers ts (λ p q. t ≡ Numbers (min n (p + q + 1)))
+Computes n Modulo ts t = OnNumbers ts (λ p q. t ≡ Numbers q)
+Computes n Greatest ts t = OnNumbers ts (λ p q. t ≡ Numbers (max p q))
+Computes n Least ts t = OnNumbers ts (λ p q. t ≡ Numbers (max p q))
+Computes n (Divide precision) ts t = OnNumbers ts (λ p q. t ≡ Numbers precision)
+Computes n (Compare relation) ts t =
     (OnNumbers ts (λ p q. Unit {0}) ⊎ OnStrings ts (λ k b d. Unit {0})) × (t ≡ Strings OfBits 1 1)
-Operates n Concatenate ts t = OnStrings ts (λ k b d. t ≡ Strings k 0 longest)
-Operates n And ts t = OnStrings ts (λ k b d. (k ≡ OfBits) × (t ≡ Strings OfBits 0 (max b d)))
-Operates n Or ts t = OnStrings ts (λ k b d. (k ≡ OfBits) × (t ≡ Strings OfBits 0 (max b d)))
-Operates n Index ts t = OnStrings ts (λ k b d. (b ≤ longest) × (t ≡ Numbers length_precision))
-Operates n Rest ts t =
+Computes n Concatenate ts t = OnStrings ts (λ k b d. t ≡ Strings k 0 longest)
+Computes n And ts t = OnStrings ts (λ k b d. (k ≡ OfBits) × (t ≡ Strings OfBits 0 (max b d)))
+Computes n Or ts t = OnStrings ts (λ k b d. (k ≡ OfBits) × (t ≡ Strings OfBits 0 (max b d)))
+Computes n Index ts t = OnStrings ts (λ k b d. (b ≤ longest) × (t ≡ Numbers length_precision))
+Computes n Rest ts t =
     (k : StringKind) × (a : ℕ) × (b : ℕ) × (p : ℕ) × (ts ≡ Strings k a b ∷ Numbers p ∷ [])
     × (t ≡ Strings k 0 b)
-Operates n Substring ts t =
+Computes n Substring ts t =
     (k : StringKind) × (a : ℕ) × (b : ℕ) × (p : ℕ) × (q : ℕ)
     × (ts ≡ Strings k a b ∷ Numbers p ∷ Numbers q ∷ []) × (t ≡ Strings k 0 b)
-Operates n Within ts t = OnThreeNumbers ts × (t ≡ Strings OfBits 1 1)
+Computes n Within ts t = OnThreeNumbers ts × (t ≡ Strings OfBits 1 1)
+
+-- an operation of an expression does
+abbrev pub Operates : (greatest : ℕ) → TypedOperation → List ValueType → ValueType → Type 0
+Operates n (Fit d) ts t = (u : ValueType) × (ts ≡ u ∷ []) × IsFitted d u × (type_held d ≡ Some t)
+Operates n (Operate operation) ts t = Computes n operation ts t

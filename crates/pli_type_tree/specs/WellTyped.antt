@@ -9,12 +9,12 @@ use Rattle.pli_map.specs.Description.{Description}
 use Rattle.pli_map.specs.Scalars.{first_scalar, is_area, scalars_of}
 use Rattle.pli_map.specs.Sizes.{size_of}
 use Rattle.pli_map.specs.Values.{holds}
-use Rattle.pli_operation.specs.Operations.{Operation}
 use Rattle.pli_map.specs.Variables.{Variable}
 use Rattle.pli_value.specs.Value.{Value}
 use Rattle.pli_type_tree.specs.Globals.{description_of, signature_of}
 use Rattle.pli_type_tree.specs.Templates.{variable_of}
-use Rattle.pli_type_tree.specs.TypedTree.{Root, InSlot, OfProgram, TypedExpression, Literal, Held, Calculated}
+use Rattle.pli_type_tree.specs.TypedTree.{Root, InSlot, OfProgram, TypedOperation, TypedExpression, Literal}
+use Rattle.pli_type_tree.specs.TypedTree.{Held, Calculated}
 use Rattle.pli_type_tree.specs.TypedTree.{Callee, OfBlock, OfEntry, Global}
 use Rattle.pli_type_tree.specs.TypedTree.{Called, TypedReference, Whole, Part, Operands, NoOperand}
 use Rattle.pli_type_tree.specs.TypedTree.{OperandThen}
@@ -184,7 +184,7 @@ AreItems n s (e ∷ es) = ((kind : StringKind) × IsString n s kind e) × AreIte
 -- groups with a control variable
 
 -- one operation after another takes values of a type to values that a variable of the description holds
-abbrev pub Convert : (greatest : ℕ) → List Operation → ValueType → Description → Type 0
+abbrev pub Convert : (greatest : ℕ) → List TypedOperation → ValueType → Description → Type 0
 Convert n [] t d = IsHeldBy d t
 Convert n (operation ∷ more) t d =
     (u : ValueType) × Operates n operation (t ∷ []) u × Convert n more u d
@@ -199,12 +199,12 @@ IsPossibleNumber n s None = Unit {0}
 IsPossibleNumber n s (Some e) = IsNumber n s e
 
 -- a variable of the description counts: it is a number, and each number is converted to it
-abbrev pub Counts : (greatest : ℕ) → List Operation → Description → Type 0
+abbrev pub Counts : (greatest : ℕ) → List TypedOperation → Description → Type 0
 Counts n conversion d =
     ((q : ℕ) × (type_held d ≡ Some (Numbers q))) × ((p : ℕ) → Convert n conversion (Numbers p) d)
 
 -- with TO or BY the control variable counts, and these are numbers; REPEAT gives values that it holds
-abbrev pub IsRange : (greatest : ℕ) → TypingContext → List Operation → Description → TypedRange → Type 0
+abbrev pub IsRange : (greatest : ℕ) → TypingContext → List TypedOperation → Description → TypedRange → Type 0
 IsRange n s conversion d Once = Unit {0}
 IsRange n s conversion d (ToBy to by) =
     Counts n conversion d × IsNumber n s to × IsPossibleNumber n s by

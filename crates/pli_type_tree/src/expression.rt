@@ -8,19 +8,27 @@ use pli_value::Value;
 pub enum Root {
     /// At a parameter or an AUTOMATIC variable of the activation so many static links outward. Slots are counted from
     /// 0, the parameters first.
-    InSlot { outward: u32, slot: u32 },
+    InSlot { outward: usize, slot: usize },
     /// At a variable that is made before the program begins, by the number of its global. Those of a unit are counted
     /// from 0.
-    OfProgram { number: u32 },
+    OfProgram { number: usize },
 }
 
 /// What is called.
 #[derive(Clone, Copy)]
 pub enum Callee {
     /// A procedure of the unit, by its block.
-    OfBlock { block: u32 },
+    OfBlock { block: usize },
     /// An external procedure, by the number of the entry's global. Those of a unit are counted from 0.
-    OfEntry { number: u32 },
+    OfEntry { number: usize },
+}
+
+/// An operation of an expression (X3.74).
+#[derive(Drop)]
+pub enum TypedOperation {
+    /// A number held against a precision, or a string cut or extended to a length.
+    Fit(Description),
+    Operate(Operation),
 }
 
 /// The bounds of a subscript, from -32,767 to 32,767, and how many bytes each number over the low one leads on.
@@ -78,7 +86,7 @@ pub enum TypedExpression {
     Held(TypedReference),
     /// An operation on as many operands as it takes.
     Calculated {
-        operation: Operation,
+        operation: TypedOperation,
         operands: Vec<TypedExpression>,
     },
     /// A call of a function.

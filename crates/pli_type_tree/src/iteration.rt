@@ -1,6 +1,5 @@
 //! Groups with a control variable (X3.74).
-use crate::expression::{TypedExpression, TypedReference};
-use pli_operation::Operation;
+use crate::expression::{TypedExpression, TypedOperation, TypedReference};
 
 /// What limits or continues an iteration. Limits and steps are numbers.
 #[derive(Drop)]
@@ -28,7 +27,7 @@ pub struct Iteration {
     pub control: TypedReference,
     /// The operations that convert a's value to the control variable, one after the other; with TO or BY they convert
     /// each further number too.
-    pub conversion: Vec<Operation>,
+    pub conversion: Vec<TypedOperation>,
     /// a, which is not converted.
     pub start: TypedExpression,
     pub range: TypedRange,
@@ -36,5 +35,5 @@ pub struct Iteration {
     pub condition: Option<TypedExpression>,
     /// The first of its temporaries, which follow one another: for a, then for TO and BY in the order of the text, or
     /// for TO and 1 where TO stands without BY.
-    pub temporary: u32,
+    pub temporary: usize,
 }

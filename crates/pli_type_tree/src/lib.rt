@@ -8,7 +8,8 @@ mod template;
 mod unit;
 
 pub use expression::{
-    Callee, Root, Stride, TypedArgument, TypedExpression, TypedReference, TypedSubscript,
+    Callee, Root, Stride, TypedArgument, TypedExpression, TypedOperation, TypedReference,
+    TypedSubscript,
 };
 pub use iteration::{Iteration, TypedRange};
 pub use statement::{BlockHead, Form, TypedStatement};

@@ -8,13 +8,13 @@ use crate::template::VariableGroup;
 #[derive(Drop)]
 pub struct BlockHead {
     /// The block.
-    pub number: u32,
+    pub number: usize,
     /// Its PROCEDURE or BEGIN.
     pub statement: u32,
     /// Its AUTOMATIC variables in the order of the text.
     pub variables: Vec<VariableGroup>,
     /// How many temporaries its code has.
-    pub temporaries: u32,
+    pub temporaries: usize,
 }
 
 /// A statement, with all the statements inside it.
@@ -70,15 +70,15 @@ pub enum Form {
     },
     /// The label is that of the statement of this number, in the block so many static links outward.
     Goto {
-        outward: u32,
+        outward: usize,
         label: u32,
     },
     /// RETURN out of so many BEGIN blocks.
     Return {
-        outward: u32,
+        outward: usize,
     },
     ReturnValue {
-        outward: u32,
+        outward: usize,
         value: TypedExpression,
     },
     Stop,

@@ -20,6 +20,6 @@ pub struct Template {
 /// So many variables in a row that are made from one template, as those of one item of DECLARE are.
 #[derive(Drop)]
 pub struct VariableGroup {
-    pub count: u32,
+    pub count: usize,
     pub template: Template,
 }

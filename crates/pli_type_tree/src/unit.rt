@@ -9,8 +9,8 @@ use pli_map::Description;
 pub struct TypedProcedure {
     pub head: BlockHead,
     /// The block in which it stands; none for an external procedure.
-    pub parent: Option<u32>,
-    pub parameters: u32,
+    pub parent: Option<usize>,
+    pub parameters: usize,
     /// The number of a function's END, which must not be reached; none where it returns no value.
     pub function_end: Option<u32>,
     pub statements: Vec<TypedStatement>,

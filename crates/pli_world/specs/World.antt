@@ -1,13 +1,12 @@
 -- What the meaning of a program and the machine share (X3.53): storage, activations, output and column, and
 -- the operations on them. An operation gives a result and a world; or it raises an error, in a world; or it
 -- is one that no well-typed program asks for.
-use Rattle.std.specs.Prelude.{ℕ, suc, ◌+◌, ◌*◌, nat_eq, nat_le, nat_lt, Bool, false, ◌&&◌, not, ℤ, ◌-ℤ◌}
+use Rattle.std.specs.Prelude.{ℕ, suc, ◌+◌, ◌*◌, nat_eq, nat_le, nat_lt, Bool, ◌&&◌, not, ℤ, ◌-ℤ◌}
 use Rattle.std.specs.Prelude.{int_le}
 use Rattle.std.specs.Prelude.{unsigned_abs, Option, Some, None, List, [], ◌∷◌, ◌++◌, length, slice_get}
 use Rattle.std.specs.Prelude.{if◌then◌else◌}
 use Rattle.std.specs.List.{filter, list_any}
-use Rattle.pli_base.specs.Name.{Name}
-use Rattle.pli_base.specs.Words.{same_name}
+use Rattle.std.specs.Map.{lookup}
 use Rattle.pli_run.specs.Print.{print}
 use Rattle.pli_run.specs.declared.ending.RunError.{RunError}
 use Rattle.pli_run.specs.declared.ending.RunError.TheVariants.{SubscriptRange, StringRange, DeadLocator}
@@ -36,12 +35,11 @@ pub data Standing : Type 0 where
   Lies : (place : Place) → Standing
   Stacked : (list : ℕ) → Standing
 
--- a variable that is there before the program begins, as a unit has it: the unit's number and the number among
--- its globals; its name, if it is external; and where it stands, the same in all units that declare the name
+-- a variable that is there before the program begins, as a unit has it: the unit's number and the number
+-- among its globals; and where it stands, the same in all units that share it
 pub record Static : Type 0 where
   pub unit : ℕ
   pub number : ℕ
-  pub external : Option Name
   pub standing : Standing
 
 -- storage with the number that the next generation gets; the variables that were there before the program
@@ -310,20 +308,18 @@ static_place number w =
     further (known (newest_unit w.activations) w)
     (λ unit w. further (known (static_in w.statics unit number) w) place_standing)
 
--- a variable is the external one of this name
-abbrev pub is_named : (name : Name) → Option Name → Bool
-is_named name None = false
-is_named name (Some other) = same_name name other
+-- where a variable stands that was made already: only an external one is made for several units, which know
+-- it by a key: its name, or its number
+abbrev pub made_before : {K : Type 0} → (equal : K → K → Bool) → (external : Option K) → List (K × Standing)
+    → Option Standing
+made_before equal None shared = None
+made_before equal (Some key) shared = lookup (equal key) shared
 
--- where the external variable of a name stands, if it was made already
-abbrev pub external_in : List Static → (name : Name) → Option Standing
-external_in [] name = None
-external_in (s ∷ ss) name = if is_named name s.external then Some s.standing else external_in ss name
-
--- where a variable stands that was made already: only an external one is made for several units
-abbrev pub made_before : (external : Option Name) → List Static → Option Standing
-made_before None ss = None
-made_before (Some name) ss = external_in ss name
+-- the external ones that are made, with this one if it is external
+abbrev pub with_shared : {K : Type 0} → (external : Option K) → Standing → List (K × Standing)
+    → List (K × Standing)
+with_shared None s shared = shared
+with_shared (Some key) s shared = shared ++ (key, s) ∷ []
 
 -- what was made already is not made again
 abbrev pub made_once : Variable → (before : Option Standing) → World → Answer Standing
@@ -331,18 +327,21 @@ made_once v (Some s) w = Yields s w
 made_once v None w = further (made_of v.description AsStatic v.initial w) (λ p w. Yields (Lies p) w)
 
 -- a unit has such a variable, which stands so
-abbrev pub with_static : (unit number : ℕ) (external : Option Name) → Standing → World → World
-with_static unit number external s w = record w {
-  statics = w.statics ++ record { unit = unit; number = number; external = external; standing = s } ∷ [];
-}
+abbrev pub with_static : (unit number : ℕ) → Standing → World → World
+with_static unit number s w =
+    record w { statics = w.statics ++ record { unit = unit; number = number; standing = s } ∷ [] }
 
--- those among the globals of a unit are made, one after another, from a number on
-abbrev pub statics_made : (unit number : ℕ) → List (Option GlobalVariable) → World → Answer Unit
-statics_made unit number [] w = Yields tt w
-statics_made unit number (None ∷ gs) w = statics_made unit (suc number) gs w
-statics_made unit number (Some g ∷ gs) w =
-    further (made_once g.variable (made_before g.external w.statics) w)
-    (λ s w. statics_made unit (suc number) gs (with_static unit number g.external s w))
+-- those among the globals of a unit are made, one after another, from a number on; the external ones that are
+-- made then, of all units so far
+abbrev pub statics_made : {K : Type 0} → (equal : K → K → Bool) → (unit number : ℕ)
+    → List (Option (GlobalVariable K)) → (shared : List (K × Standing)) → World
+    → Answer (List (K × Standing))
+statics_made equal unit number [] shared w = Yields shared w
+statics_made equal unit number (None ∷ gs) shared w = statics_made equal unit (suc number) gs shared w
+statics_made equal unit number (Some g ∷ gs) shared w =
+    further (made_once g.variable (made_before equal g.external shared) w)
+    (λ s w. statics_made equal unit (suc number) gs (with_shared g.external s shared)
+    (with_static unit number s w))
 
 -- output
 

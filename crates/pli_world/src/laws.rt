@@ -1,4 +1,6 @@
 //! Laws of the operations on the world.
+ghost use Rattle.std.specs.Prelude.{ℕ};
+ghost use Rattle.pli_base.specs.Name.{Name};
 ghost use Rattle.pli_world.specs.laws.Operations.{MakingKeeps, LoadingKeeps, StoringKeeps, WalkingKeeps};
 ghost use Rattle.pli_world.specs.laws.Operations.{SlotKeeps, DummyKeeps, EnteringAdds, LeavingTakes};
 ghost use Rattle.pli_world.specs.laws.Operations.{ClearingKeeps, StatementKeeps, PrintingKeeps, SteppingCounts};
@@ -24,7 +26,8 @@ pub fn operations_keep()
     ensures walking { WalkingKeeps }
     ensures slot { SlotKeeps }
     ensures one_static { StaticKeeps }
-    ensures statics { StaticsKeep }
+    ensures statics_by_number { StaticsKeep ℕ }
+    ensures statics_by_name { StaticsKeep Name }
     ensures dummy { DummyKeeps }
     ensures entering { EnteringAdds }
     ensures leaving { LeavingTakes }

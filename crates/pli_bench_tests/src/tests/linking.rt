@@ -1,8 +1,9 @@
 //! Units that are linked, with what a link gives of them.
 use crate::tests::named;
 use pli_base::Name;
-use pli_code::{Code, CodedGlobal, CodedSignature, CodedTemplate, Deck, Instruction, VariableKind};
-use pli_deck_code::Linked;
+use pli_code::{
+    Code, CodedGlobal, CodedSignature, CodedTemplate, Deck, Instruction, LentModule, VariableKind,
+};
 use pli_link::{LinkError, LinkFault, LinkedName, NamedUnit, link};
 use pli_map::{Bounds, Description};
 use pli_text_tests::Shown;
@@ -125,12 +126,12 @@ fn show_fault(text: &mut Shown, fault: LinkFault) {
 }
 
 /// Puts the main unit of a module, and the number of the one step that it has.
-fn show_step(text: &mut Shown, module: &Linked<'_>) {
-    let Some(main) = module.units.get(usize::from(module.main)) else {
+fn show_step(text: &mut Shown, program: &LentModule<'_>) {
+    let Some(main) = program.units.get(usize::from(program.main)) else {
         return text.put("no main unit");
     };
-    text.put_bytes(main.unit.bytes());
-    match main.code.instructions.as_slice() {
+    text.put_bytes(main.name.bytes());
+    match main.deck.code.instructions.as_slice() {
         [Instruction::Step { statement }] => text.put_number(" ", u64::from(*statement)),
         _ => text.put(" with another number of steps"),
     }
@@ -139,7 +140,7 @@ fn show_step(text: &mut Shown, module: &Linked<'_>) {
 /// Puts what a link of these compiled units gives: the module, or its faults.
 fn show_linked(text: &mut Shown, alloc: Global, units: &[NamedUnit<'_>]) {
     match link(alloc, units) {
-        Ok(module) => show_step(text, &module),
+        Ok(linked) => show_step(text, &linked.program),
         Err(LinkError::Fault(faults)) => {
             for fault in &faults {
                 show_fault(text, *fault);

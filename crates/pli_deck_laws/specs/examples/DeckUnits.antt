@@ -4,9 +4,9 @@ use Rattle.pli_gen.specs.Encoding.{code_of}
 use Rattle.pli_gen.specs.Limits.{is_too_long}
 use Rattle.pli_gen.specs.WellNumbered.{IsWellNumbered}
 use Rattle.pli_map.specs.Description.{Description, FixedBinary, Character, Array}
-use Rattle.pli_operation.specs.Operations.{Fit}
 use Rattle.pli_type_tree.specs.Templates.{Template}
-use Rattle.pli_type_tree.specs.TypedTree.{InSlot, TypedExpression, Literal, Calculated, TypedReference, Whole}
+use Rattle.pli_type_tree.specs.TypedTree.{InSlot, Fit, TypedExpression, Literal, Calculated}
+use Rattle.pli_type_tree.specs.TypedTree.{TypedReference, Whole}
 use Rattle.pli_type_tree.specs.TypedTree.{NoOperand, OperandThen, NoArgument, ByPlace, ByDummy, OfBlock}
 use Rattle.pli_type_tree.specs.TypedTree.{TypedStatement, Statement, Iterate, Call, ToBy, NoStatement}
 use Rattle.pli_type_tree.specs.TypedTree.{StatementThen, TypedProcedure, OwnVariable, EntryPoint, TypedUnit}

@@ -1,12 +1,12 @@
-//! Linked modules of units of one kind, each of which has each instruction and all other forms that the machine has.
+//! Modules of units of one kind, each of which has each instruction and all other forms that the machine has.
 use pli_base::Name;
 use pli_base::statement::Condition;
 use pli_code::{
-    Block, BlockKind, Code, CodedGlobal, CodedSignature, CodedTemplate, Instruction, LinkedUnit,
-    Module, VariableKind,
+    Block, BlockKind, Code, CodedGlobal, CodedSignature, CodedTemplate, Deck, External,
+    Instruction, Member, Module, VariableKind,
 };
 use pli_map::{Bounds, Description};
-use pli_operation::Relation;
+use pli_operation::{Operation, Relation};
 use pli_run::RunError;
 use pli_type_tree::InitialScalar;
 use pli_value::Value;
@@ -59,29 +59,29 @@ static INSTRUCTIONS: [Instruction; 67] = [
     Instruction::Copy,
     Instruction::MakeDummy { template: 1 },
     Instruction::Fit { description: 0 },
-    Instruction::ToCharacters { width: 14 },
-    Instruction::FromBits,
-    Instruction::Negate,
-    Instruction::Absolute,
-    Instruction::Sign,
-    Instruction::Not,
-    Instruction::LengthOf,
-    Instruction::Add,
-    Instruction::Subtract,
-    Instruction::Multiply,
-    Instruction::Modulo,
-    Instruction::Greatest,
-    Instruction::Least,
-    Instruction::Divide { precision: 31 },
-    Instruction::Compare(Relation::Equal),
-    Instruction::Compare(Relation::AtLeast),
-    Instruction::Concatenate,
-    Instruction::And,
-    Instruction::Or,
-    Instruction::Index,
-    Instruction::Rest,
-    Instruction::Substring,
-    Instruction::Within,
+    Instruction::Operate(Operation::ToCharacters { width: 14 }),
+    Instruction::Operate(Operation::FromBits),
+    Instruction::Operate(Operation::Negate),
+    Instruction::Operate(Operation::Absolute),
+    Instruction::Operate(Operation::Sign),
+    Instruction::Operate(Operation::Not),
+    Instruction::Operate(Operation::LengthOf),
+    Instruction::Operate(Operation::Add),
+    Instruction::Operate(Operation::Subtract),
+    Instruction::Operate(Operation::Multiply),
+    Instruction::Operate(Operation::Modulo),
+    Instruction::Operate(Operation::Greatest),
+    Instruction::Operate(Operation::Least),
+    Instruction::Operate(Operation::Divide { precision: 31 }),
+    Instruction::Operate(Operation::Compare(Relation::Equal)),
+    Instruction::Operate(Operation::Compare(Relation::AtLeast)),
+    Instruction::Operate(Operation::Concatenate),
+    Instruction::Operate(Operation::And),
+    Instruction::Operate(Operation::Or),
+    Instruction::Operate(Operation::Index),
+    Instruction::Operate(Operation::Rest),
+    Instruction::Operate(Operation::Substring),
+    Instruction::Operate(Operation::Within),
     Instruction::Put,
     Instruction::Skip,
     Instruction::SetTemporary { number: 65_535 },
@@ -239,16 +239,38 @@ fn named(rt: &impl Abort, alloc: Global, front: &str, number: u16) -> Name {
     Name::read(text.as_bytes()).expect(rt, "a name")
 }
 
-/// A unit that shares a variable and calls the next one, which is named.
-fn unit(rt: &impl Abort, alloc: Global, number: u16, shared: u16, next: u16) -> LinkedUnit {
-    let shared = named(rt, alloc, "X", shared);
+/// The name of a variable that units share: names in the order of their numbers, up to 89.
+fn shared_name(rt: &impl Abort, alloc: Global, number: u16) -> Name {
+    named(rt, alloc, "X", number.saturating_add(10))
+}
+
+/// A unit that shares a variable of a number and calls the unit of another, which is named.
+fn unit(rt: &impl Abort, alloc: Global, number: u16, shared: u16, next: u16) -> Member {
     let called = named(rt, alloc, "F", next);
-    LinkedUnit {
-        unit: named(rt, alloc, "U", number),
-        procedure: named(rt, alloc, "F", number),
-        code: code(rt, alloc, shared, called),
-        entries: Vec::from_slice(alloc, &[next]).expect(rt, "memory"),
+    Member {
+        name: named(rt, alloc, "U", number),
+        deck: Deck {
+            name: named(rt, alloc, "F", number),
+            is_main: next == 0,
+            code: code(rt, alloc, shared_name(rt, alloc, shared), called),
+        },
+        links: Vec::from_slice(alloc, &[shared, next]).expect(rt, "memory"),
     }
+}
+
+/// The variables that so many units share, each with its first declaration.
+fn externals(rt: &impl Abort, alloc: Global, count: u16) -> Vec<External> {
+    let mut externals = Vec::new(alloc);
+    for number in 0..count / 2 + 1 {
+        let external = External {
+            name: shared_name(rt, alloc, number),
+            kind: VariableKind::Static,
+            unit: count.saturating_sub(number * 2).saturating_sub(1),
+            global: 1,
+        };
+        externals.push(external).expect(rt, "memory");
+    }
+    externals
 }
 
 /// A module of so many units, each of which calls the next, and the last one the first; the last is the main one. Two
@@ -256,17 +278,13 @@ fn unit(rt: &impl Abort, alloc: Global, number: u16, shared: u16, next: u16) -> 
 pub(crate) fn module(rt: &impl Abort, alloc: Global, count: u16) -> Module {
     let mut units = Vec::new(alloc);
     for number in 0..count {
-        let unit = unit(
-            rt,
-            alloc,
-            number,
-            (count - number) / 2,
-            (number + 1) % count,
-        );
+        let shared = (count - number) / 2;
+        let unit = unit(rt, alloc, number, shared, (number + 1) % count);
         units.push(unit).expect(rt, "memory");
     }
     Module {
-        units,
         main: count.saturating_sub(1),
+        externals: externals(rt, alloc, count),
+        units,
     }
 }

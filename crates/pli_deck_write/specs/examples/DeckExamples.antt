@@ -3,8 +3,10 @@ use Rattle.std.specs.Prelude.{◌≡◌, ℕ, true, false, List, [], ◌∷◌, 
 use Rattle.pli_base.specs.declared.statement.Condition.TheVariants as conditions
 use Rattle.pli_run.specs.declared.ending.RunError.TheVariants as errors
 use Rattle.pli_map.specs.Description.{Bit}
+use Rattle.pli_operation.specs.declared.operation.Operation.TheVariants.{Compare}
 use Rattle.pli_operation.specs.declared.operation.Relation.TheVariants as relations
-use Rattle.pli_deck_write.specs.declared.fault.DeckFault.TheVariants.{BadMagic, Truncated, Trailing, OutOfRange}
+use Rattle.pli_deck_write.specs.declared.fault.DeckFault.TheVariants.{BadMagic, Truncated}
+use Rattle.pli_deck_write.specs.declared.fault.DeckFault.TheVariants.{Trailing, OutOfRange}
 use Rattle.pli_program.specs.Program.{Procedure}
 use Rattle.pli_code.specs.CodeTables.{CodedTemplate, CodedBlock, CodedSignature, Code, Deck}
 use Rattle.pli_code.specs.CodeTables.{ExternalVariable, EntryPoint}
@@ -119,8 +121,8 @@ abbrev pub NumberedSo : Type 0
 NumberedSo =
     (instruction.bytes_of (op.Raise errors.SubscriptRange) ≡ 11 ∷ 1 ∷ [])
     × (instruction.bytes_of (op.Raise errors.TooManyActivations) ≡ 11 ∷ 13 ∷ [])
-    × (instruction.bytes_of (op.Compare relations.Equal) ≡ 36 ∷ 0 ∷ [])
-    × (instruction.bytes_of (op.Compare relations.AtLeast) ≡ 36 ∷ 5 ∷ [])
+    × (instruction.bytes_of (op.Operate (Compare relations.Equal)) ≡ 36 ∷ 0 ∷ [])
+    × (instruction.bytes_of (op.Operate (Compare relations.AtLeast)) ≡ 36 ∷ 5 ∷ [])
     × (instruction.bytes_of (op.On conditions.FixedOverflow 7) ≡ 56 ∷ 0 ∷ 0 ∷ 7 ∷ [])
     × (instruction.bytes_of (op.Signal conditions.Area) ≡ 58 ∷ 2 ∷ [])
     × (instruction.read (11 ∷ 10 ∷ 60 ∷ []) ≡ Ok (op.Raise errors.ZeroDivide, 60 ∷ []))

@@ -1,13 +1,13 @@
 -- Worked examples: modules, each with its bytes, and faults of modules.
 use Rattle.std.specs.Prelude.{◌≡◌, ℕ, List, [], ◌∷◌, Ok, Err, take, ◌++◌, slice_set}
-use Rattle.pli_deck_write.specs.declared.fault.DeckFault.TheVariants.{BadMagic, BadVersion, Truncated, Trailing}
-use Rattle.pli_deck_write.specs.declared.fault.DeckFault.TheVariants.{OutOfRange, BadNumber}
-use Rattle.pli_deck_write.specs.ModuleFields.{DeckModule}
+use Rattle.pli_deck_write.specs.declared.fault.DeckFault.TheVariants.{BadMagic, BadVersion, Truncated}
+use Rattle.pli_deck_write.specs.declared.fault.DeckFault.TheVariants.{Trailing, OutOfRange, BadNumber}
+use Rattle.pli_code.specs.Modules.{Module}
 use Rattle.pli_deck_write.specs.ModuleSpelling.{module_bytes, module_read}
 use Rattle.pli_deck_write.specs.examples.DeckExamples.{smallest, calling, called}
 
 -- one unit
-abbrev pub one_unit : DeckModule
+abbrev pub one_unit : Module
 one_unit = record {
   main = 0;
   externals = [];
@@ -22,7 +22,7 @@ one_unit_bytes =
     0 ∷ 0 ∷ 0 ∷ 0 ∷ 0 ∷ 1 ∷ 0 ∷ 1 ∷ 9 ∷ 0 ∷ 0 ∷ 0 ∷ []
 
 -- two units that share X, the first of which calls the second
-abbrev pub two_units : DeckModule
+abbrev pub two_units : Module
 two_units = record {
   main = 0;
   externals = record { name = 88 ∷ []; kind = 2; unit = 0; global = 0 } ∷ [];

@@ -2,7 +2,7 @@
 use Rattle.std.specs.Prelude.{replicate, ◌≡◌, ℕ, pos, true, false, Some, None, [], ◌∷◌, codes}
 use Rattle.pli_run.specs.declared.ending.RunError.TheVariants.{NoReturnedValue}
 use Rattle.pli_map.specs.Description.{FixedBinary, Character, Bit}
-use Rattle.pli_operation.specs.Operations as calculate
+use Rattle.pli_operation.specs.declared.operation.Operation.TheVariants as calculate
 use Rattle.pli_value.specs.Value.{Number, Characters}
 use Rattle.pli_program.specs.Program.{Instruction, Step, Line, Jump, JumpUnless, Local, Field, Subscript}
 use Rattle.pli_program.specs.Program.{Constant, Load, Store, Copy, MakeDummy, Operate, Skip, Raise}
@@ -16,6 +16,7 @@ use Rattle.pli_type_tree.specs.TypedTree.{Iterate, ToBy}
 use Rattle.pli_type_tree.specs.TypedTree.{Stop, NoElse, Else, NoStatement, StatementThen}
 use Rattle.pli_type_tree.specs.TypedTree.{OfBlock, OfEntry, TypedArguments, OwnVariable, ExternalVariable}
 use Rattle.pli_type_tree.specs.TypedTree.{EntryPoint, TypedUnit, TypedProcedure}
+use Rattle.pli_type_tree.specs.TypedTree as tree
 use Rattle.pli_code.specs.CodeTables as tables
 use Rattle.pli_code.specs.declared.instruction.Instruction.TheVariants as coded
 use Rattle.pli_code.specs.declared.code.VariableKind.TheVariants.{Static}
@@ -43,17 +44,18 @@ AssignedAndPrinted =
     (StatementThen
     (Statement 3
     (Assign first
-    (Calculated (calculate.Fit (FixedBinary 31))
+    (Calculated (tree.Fit (FixedBinary 31))
     (OperandThen
-    (Calculated calculate.Add (OperandThen (number 2) (OperandThen (number 3) NoOperand)))
+    (Calculated (tree.Operate calculate.Add) (OperandThen (number 2) (OperandThen (number 3) NoOperand)))
     NoOperand))))
     (StatementThen
     (Statement 4
-    (Put true (Calculated (calculate.ToCharacters 14) (OperandThen (Held first) NoOperand) ∷ [])))
+    (Put true
+    (Calculated (tree.Operate (calculate.ToCharacters 14)) (OperandThen (Held first) NoOperand) ∷ [])))
     NoStatement))
     0
     ≡ Step 3 ∷ Local 0 0 ∷ Constant (Number (pos 2)) ∷ Constant (Number (pos 3)) ∷ Operate calculate.Add
-    ∷ Operate (calculate.Fit (FixedBinary 31)) ∷ Store
+    ∷ op.Fit (FixedBinary 31) ∷ Store
     ∷ Step 4 ∷ Skip ∷ Local 0 0 ∷ Load ∷ Operate (calculate.ToCharacters 14) ∷ op.Put ∷ []
 
 -- `S.B(1, 4, 1)`, with `DCL 1 S(2), 2 A FIXED BIN(31), 2 B(3:5, 2) CHAR(3)`
@@ -77,9 +79,9 @@ ArgumentsHanded =
     (Call (OfBlock 1)
     (ByPlace first
     (ByDummy (FixedBinary 15)
-    (Calculated (calculate.Fit (FixedBinary 15)) (OperandThen (number 5) NoOperand)) NoArgument))))
+    (Calculated (tree.Fit (FixedBinary 15)) (OperandThen (number 5) NoOperand)) NoArgument))))
     0
-    ≡ Step 2 ∷ Local 0 0 ∷ Constant (Number (pos 5)) ∷ Operate (calculate.Fit (FixedBinary 15))
+    ≡ Step 2 ∷ Local 0 0 ∷ Constant (Number (pos 5)) ∷ op.Fit (FixedBinary 15)
     ∷ MakeDummy (FixedBinary 15) ∷ op.Call 1 2 ∷ []
 
 -- statement 2: `S = T;`, of structures
@@ -96,7 +98,7 @@ Counted =
     (Iterate
     (record {
       control = first;
-      conversion = calculate.Fit (FixedBinary 15) ∷ [];
+      conversion = tree.Fit (FixedBinary 15) ∷ [];
       start = number 1;
       range = ToBy (number 3) None;
       condition = None;
@@ -106,11 +108,11 @@ Counted =
     0
     ≡ Step 2 ∷ Constant (Number (pos 1)) ∷ op.SetTemporary 0 ∷ Constant (Number (pos 3)) ∷ op.SetTemporary 1
     ∷ Constant (Number (pos 1)) ∷ op.SetTemporary 2
-    ∷ Local 0 0 ∷ op.TakeTemporary 0 ∷ Operate (calculate.Fit (FixedBinary 15)) ∷ Store
+    ∷ Local 0 0 ∷ op.TakeTemporary 0 ∷ op.Fit (FixedBinary 15) ∷ Store
     ∷ Local 0 0 ∷ Load ∷ op.TakeTemporary 1 ∷ op.TakeTemporary 2 ∷ Operate calculate.Within ∷ JumpUnless 28
     ∷ Step 2 ∷ Step 3
     ∷ Line 2 ∷ Local 0 0 ∷ Local 0 0 ∷ Load ∷ op.TakeTemporary 2 ∷ Operate calculate.Add
-    ∷ Operate (calculate.Fit (FixedBinary 15)) ∷ Store ∷ Jump 11 ∷ []
+    ∷ op.Fit (FixedBinary 15) ∷ Store ∷ Jump 11 ∷ []
 
 -- a block of this number, which begins at a statement and has no variables
 abbrev head : (number statement : ℕ) → BlockHead
@@ -202,11 +204,11 @@ NumberedWell = IsWellNumbered jumping
 
 -- 5 as characters
 abbrev characters_of_5 : TypedExpression
-characters_of_5 = Calculated (calculate.ToCharacters 4) (OperandThen (number 5) NoOperand)
+characters_of_5 = Calculated (tree.Operate (calculate.ToCharacters 4)) (OperandThen (number 5) NoOperand)
 
 -- ABS(+5)
 abbrev absolute_of_5 : TypedExpression
-absolute_of_5 = Calculated calculate.Absolute (OperandThen (number 5) NoOperand)
+absolute_of_5 = Calculated (tree.Operate calculate.Absolute) (OperandThen (number 5) NoOperand)
 
 -- M: PROC OPTIONS(MAIN); DCL C CHAR(3); CALL S(5); PUT LIST(C, 5, ABS(+5)); END M;
 abbrev printing : TypedProcedure
@@ -225,12 +227,12 @@ printing = record {
       (Statement 3
       (Call (OfBlock 1)
       (ByDummy (Character 2)
-      (Calculated (calculate.Fit (Character 2)) (OperandThen characters_of_5 NoOperand)) NoArgument)))
+      (Calculated (tree.Fit (Character 2)) (OperandThen characters_of_5 NoOperand)) NoArgument)))
       (StatementThen
       (Statement 4
       (Put false
       (Held first ∷ characters_of_5
-      ∷ Calculated (calculate.ToCharacters 5) (OperandThen absolute_of_5 NoOperand) ∷ [])))
+      ∷ Calculated (tree.Operate (calculate.ToCharacters 5)) (OperandThen absolute_of_5 NoOperand) ∷ [])))
       NoStatement);
 }
 
@@ -265,10 +267,11 @@ TablesNumbered = ((code_of printing_unit).descriptions ≡ Character 3 ∷ Chara
 -- the instructions with the numbers of what they name
 abbrev pub InstructionsNumbered : Type 0
 InstructionsNumbered = (code_of printing_unit).instructions
-    ≡ coded.Step 3 ∷ coded.Constant 0 ∷ coded.ToCharacters 4 ∷ coded.Fit 1 ∷ coded.MakeDummy 1
-    ∷ coded.Call 1 1
-    ∷ coded.Step 4 ∷ coded.Local 0 0 ∷ coded.Load ∷ coded.Put ∷ coded.Constant 0 ∷ coded.ToCharacters 4
-    ∷ coded.Put ∷ coded.Constant 0 ∷ coded.Absolute ∷ coded.ToCharacters 5 ∷ coded.Put ∷ coded.Return 0
+    ≡ coded.Step 3 ∷ coded.Constant 0 ∷ coded.Operate (calculate.ToCharacters 4) ∷ coded.Fit 1
+    ∷ coded.MakeDummy 1 ∷ coded.Call 1 1
+    ∷ coded.Step 4 ∷ coded.Local 0 0 ∷ coded.Load ∷ coded.Put ∷ coded.Constant 0
+    ∷ coded.Operate (calculate.ToCharacters 4) ∷ coded.Put ∷ coded.Constant 0
+    ∷ coded.Operate calculate.Absolute ∷ coded.Operate (calculate.ToCharacters 5) ∷ coded.Put ∷ coded.Return 0
     ∷ coded.Return 0 ∷ []
 
 -- its code with so many globals
@@ -327,8 +330,8 @@ GlobalsNumbered =
     × ((code_of calling_unit).globals
     ≡ tables.ExternalVariable (codes "N") Static 0
     ∷ tables.EntryPoint (codes "F") (record { parameters = 0 ∷ []; result = Some 2 })
-    ∷ tables.OwnVariable Static 1 ∷ tables.EntryPoint (codes "G") (record { parameters = 0 ∷ []; result = None })
-    ∷ [])
+    ∷ tables.OwnVariable Static 1
+    ∷ tables.EntryPoint (codes "G") (record { parameters = 0 ∷ []; result = None }) ∷ [])
 
 -- an entry is called by its number among them
 abbrev pub EntriesCalled : Type 0
@@ -337,10 +340,10 @@ EntriesCalled = (code_of calling_unit).instructions
     ∷ coded.Step 4 ∷ coded.Local 0 0 ∷ coded.CallExternal 1 1 ∷ coded.JumpUnless 8 ∷ coded.Step 5
     ∷ coded.Return 0 ∷ []
 
--- with the numbers of the units that have F and G
+-- with the number of N among external variables and those of the units that have F and G
 abbrev pub EntriesLinked : Type 0
-EntriesLinked = (unit_code calling_unit (4 ∷ 2 ∷ [])).globals
-    ≡ op.ExternalVariable (codes "N") (record { description = FixedBinary 15; initial = Number (pos 0) ∷ [] })
+EntriesLinked = (unit_code calling_unit (3 ∷ 4 ∷ 2 ∷ [])).globals
+    ≡ op.ExternalVariable 3 (record { description = FixedBinary 15; initial = Number (pos 0) ∷ [] })
     ∷ op.EntryPoint 4
     ∷ op.OwnVariable (record { description = Character 2; initial = Characters (codes "  ") ∷ [] })
     ∷ op.EntryPoint 2 ∷ []

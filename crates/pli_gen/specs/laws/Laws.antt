@@ -5,8 +5,8 @@ use Rattle.pli_code.specs.CodeTables.{program_of}
 use Rattle.pli_gen_emit.specs.TreeTranslation.{unit_code}
 use Rattle.pli_gen.specs.Encoding.{code_of}
 
--- the code with its tables is the unit's code, when all numbers are looked up and its entries have the
--- numbers of their units
+-- the code with its tables is the unit's code, when all numbers are looked up and its external globals have
+-- their links
 abbrev pub CodeIsLookedUp : Type 0
 CodeIsLookedUp =
-    (u : TypedUnit) (entries : List ℕ) → program_of (code_of u) u.name entries ≡ unit_code u entries
+    (u : TypedUnit) (links : List ℕ) → program_of (code_of u) u.name links ≡ unit_code u links

@@ -1,8 +1,6 @@
 -- What an instruction says that is not numbered yet.
-use Rattle.std.specs.Prelude.{List, map, pos}
+use Rattle.std.specs.Prelude.{◌+◌, List, map, pos}
 use Rattle.pli_map.specs.views.DescriptionView.{description_view}
-use Rattle.pli_operation.specs.Operations as calculate
-use Rattle.pli_operation.specs.views.OperationView.{operation_view}
 use Rattle.pli_value.specs.Value.{Number, value_view}
 use Rattle.pli_program.specs.Program as plain
 use Rattle.pli_gen_emit.specs.declared.naming.NamingInstruction.{NamingInstruction}
@@ -31,12 +29,11 @@ naming_view naming.Load = plain.Load
 naming_view naming.Store = plain.Store
 naming_view naming.CopyParts = plain.Copy
 naming_view (naming.MakeDummy description) = plain.MakeDummy (description_view description.now)
-naming_view (naming.Operate operation) = plain.Operate (operation_view operation.now)
-naming_view (naming.SetTemporary number) = plain.SetTemporary number
-naming_view (naming.TakeTemporary number) = plain.TakeTemporary number
+naming_view (naming.Operate operation) = plain.Operate operation
+naming_view (naming.Fit description) = plain.Fit (description_view description.now)
+naming_view (naming.SetTemporary first behind) = plain.SetTemporary (first + behind)
+naming_view (naming.TakeTemporary first behind) = plain.TakeTemporary (first + behind)
 naming_view naming.One = plain.Constant (Number (pos 1))
-naming_view naming.Add = plain.Operate calculate.Add
-naming_view naming.Within = plain.Operate calculate.Within
 naming_view naming.Put = plain.Put
 naming_view naming.Skip = plain.Skip
 

@@ -4,8 +4,8 @@ use Rattle.std.specs.Global.{Vec}
 use Rattle.pli_link.specs.Link.{in_order, later, mains, none_among}
 use Rattle.pli_link.specs.Units.{Compiled, procedure_of}
 use Rattle.pli_code.specs.Modules.{Module}
-use Rattle.pli_deck_code.specs.views.LinkedView.{linked_view}
-use Rattle.pli_deck_code.specs.declared.linked.Linked.{Linked}
+use Rattle.pli_code.specs.views.CodeView.{lent_module_view}
+use Rattle.pli_link.specs.declared.linked.Linked.{Linked}
 use Rattle.pli_link.specs.declared.linking.LinkFault.{LinkFault}
 use Rattle.pli_link.specs.declared.linking.LinkFault.TheVariants as faults
 use Rattle.pli_base.specs.declared.failure.Failure.{Failure}
@@ -28,6 +28,6 @@ main_faults_of cs =
 
 -- the module, or all faults, unless memory runs out
 abbrev pub Links : Result Linked (Failure (Vec LinkFault)) → Result Module (List LinkFault) → Type 0
-Links (Ok m) given = given ≡ Ok (linked_view m)
+Links (Ok m) given = given ≡ Ok (lent_module_view m.program)
 Links (Err (Fault faults)) given = given ≡ Err faults.items
 Links (Err OutOfMemory) given = Unit {0}

@@ -1,7 +1,11 @@
 -- What the tables of names hold.
 use Rattle.std.specs.Prelude.{◌≡◌, ℕ, ◌≤◌, List, map}
 use Rattle.std.specs.List.{AllByRecursion}
+use Rattle.std.specs.Map.{lookup}
 use Rattle.pli_base.specs.Name.{Name}
+use Rattle.pli_base.specs.Words.{same_name}
+use Rattle.pli_code.specs.declared.module.External.{External}
+use Rattle.pli_link.specs.Links.{number_of}
 use Rattle.pli_link.specs.Names.{procedures, externals}
 use Rattle.pli_link.specs.Units as plain
 use Rattle.pli_link.specs.views.NameView.{externals_view}
@@ -27,3 +31,11 @@ AreNames n =
 -- and the external variables have the classes of their templates
 abbrev pub HaveClasses : List TemplateKey → Names → Type 0
 HaveClasses known n = AreClassed (known_in known) n.externals.now.entries
+
+-- the name of an external variable
+abbrev pub external_name : External → Name
+external_name e = e.name
+
+-- the number of each name among these
+abbrev pub AreNumbered : List (Name × ℕ) → List Name → Type 0
+AreNumbered numbers names = (name : Name) → lookup (same_name name) numbers ≡ number_of 0 names name

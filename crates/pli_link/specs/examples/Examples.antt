@@ -1,8 +1,10 @@
 -- Worked examples of linking.
-use Rattle.std.specs.Prelude.{◌≡◌, ℕ, Bool, true, false, None, Ok, Err, List, [], ◌∷◌, codes, pos, replicate}
+use Rattle.std.specs.Prelude.{◌≡◌, ℕ, Bool, true, false, None, Ok, Err, List, [], ◌∷◌, map, codes, pos}
+use Rattle.std.specs.Prelude.{replicate}
 use Rattle.pli_base.specs.Name.{Name}
 use Rattle.pli_map.specs.Description.{Description, Array, Bit, Character, FixedBinary}
 use Rattle.pli_link.specs.Link.{link_of}
+use Rattle.pli_link.specs.Links.{module_of}
 use Rattle.pli_link.specs.Units.{Compiled}
 use Rattle.pli_link.specs.declared.linking.LinkFault.TheVariants.{NoMainProcedure, TwoMainProcedures}
 use Rattle.pli_link.specs.declared.linking.LinkFault.TheVariants.{Unresolved, DefinedTwice, Mismatch}
@@ -11,7 +13,7 @@ use Rattle.pli_link.specs.declared.units.LinkedName.{LinkedName}
 use Rattle.pli_code.specs.CodeTables.{Code, CodedGlobal, CodedSignature, OwnVariable, ExternalVariable}
 use Rattle.pli_code.specs.CodeTables.{EntryPoint}
 use Rattle.pli_code.specs.declared.code.VariableKind.TheVariants.{Static, Controlled}
-use Rattle.pli_code.specs.Modules.{LinkedUnit}
+use Rattle.pli_code.specs.Modules.{External, Member, Module}
 use Rattle.pli_code.specs.declared.instruction.Instruction.TheVariants as op
 
 -- what a procedure without parameters takes and gives
@@ -44,9 +46,16 @@ abbrev pub named : Name → (unit : Name) → LinkedName
 named n u = record { name = n; unit = u }
 
 -- a unit of a module
-abbrev pub linked : Name → (procedure : Name) → Code → (entries : List ℕ) → LinkedUnit
-linked n procedure code entries =
-    record { unit = n; procedure = procedure; code = code; entries = entries }
+abbrev pub linked : Compiled → (links : List ℕ) → Member
+linked c links = record { name = c.unit; deck = c.deck; links = links }
+
+-- an external variable with its first declaration
+abbrev pub external : Name → (unit global : ℕ) → External
+external name unit global = record { name = name; kind = 2; unit = unit; global = global }
+
+-- a module
+abbrev pub linked_to : (main : ℕ) → List External → List Member → Module
+linked_to main externals units = record { main = main; externals = externals; units = units }
 
 -- one text in two members
 abbrev pub TwoUnits : Type 0
@@ -58,14 +67,10 @@ TwoUnits =
 -- the main procedure stands in the second of three units
 abbrev pub OneOfThree : Type 0
 OneOfThree =
-    link_of (unit (codes "A") (codes "F") false plain ∷ unit (codes "M") (codes "M") true plain
-    ∷ unit (codes "Q") (codes "G") false plain ∷ [])
-    ≡ Ok (record {
-      units =
-          linked (codes "A") (codes "F") plain [] ∷ linked (codes "M") (codes "M") plain []
-          ∷ linked (codes "Q") (codes "G") plain [] ∷ [];
-      main = 1;
-    })
+    let a = unit (codes "A") (codes "F") false plain in
+    let m = unit (codes "M") (codes "M") true plain in
+    let q = unit (codes "Q") (codes "G") false plain in
+    link_of (a ∷ m ∷ q ∷ []) ≡ Ok (linked_to 1 [] (linked a [] ∷ linked m [] ∷ linked q [] ∷ []))
 
 -- no main procedure, and one name twice
 abbrev pub NoneOfTwo : Type 0
@@ -99,17 +104,25 @@ OtherShared =
     ∷ unit (codes "Q") (codes "Q") false (sharing (FixedBinary 31)) ∷ [])
     ≡ Err (Mismatch (named (codes "Z") (codes "Q")) ∷ [])
 
--- where it is of four characters too, both are linked
+-- where it is of four characters too, both are linked: Z is the external variable 0, and Q the unit 1
 abbrev pub SameShared : Type 0
 SameShared =
-    link_of (unit (codes "M") (codes "M") true calling
-    ∷ unit (codes "Q") (codes "Q") false (sharing (Character 4)) ∷ [])
-    ≡ Ok (record {
-      units =
-          linked (codes "M") (codes "M") calling (1 ∷ [])
-          ∷ linked (codes "Q") (codes "Q") (sharing (Character 4)) [] ∷ [];
-      main = 0;
-    })
+    let m = unit (codes "M") (codes "M") true calling in
+    let q = unit (codes "Q") (codes "Q") false (sharing (Character 4)) in
+    link_of (m ∷ q ∷ [])
+    ≡ Ok (linked_to 0 (external (codes "Z") 0 0 ∷ []) (linked m (0 ∷ 1 ∷ []) ∷ linked q (0 ∷ []) ∷ []))
+
+-- the code of a unit that declares these external variables, alike
+abbrev pub declaring : List Name → Code
+declaring names = code_with nothing (Bit 1 ∷ []) (map (λ n. ExternalVariable n Static 0) names)
+
+-- Z and A of one unit, A and B of another: in the order of the names, each with its first declaration
+abbrev pub ByName : Type 0
+ByName =
+    let m = unit (codes "M") (codes "M") true (declaring (codes "Z" ∷ codes "A" ∷ [])) in
+    let q = unit (codes "Q") (codes "Q") false (declaring (codes "A" ∷ codes "B" ∷ [])) in
+    let externals = external (codes "A") 0 1 ∷ external (codes "B") 1 1 ∷ external (codes "Z") 0 0 ∷ [] in
+    module_of (m ∷ q ∷ []) 0 ≡ linked_to 0 externals (linked m (2 ∷ 0 ∷ []) ∷ linked q (0 ∷ 1 ∷ []) ∷ [])
 
 -- a CONTROLLED external variable is not resolved
 abbrev pub ControlledShared : Type 0
@@ -168,12 +181,7 @@ many = replicate 16 (OwnVariable Static 0)
 
 -- they have not
 abbrev pub NotTooLarge : Type 0
-NotTooLarge =
-    link_of (with_strings many ∷ [])
-    ≡ Ok (record {
-      units = linked (codes "M") (codes "M") (with_strings many).deck.code [] ∷ [];
-      main = 0;
-    })
+NotTooLarge = link_of (with_strings many ∷ []) ≡ Ok (linked_to 0 [] (linked (with_strings many) [] ∷ []))
 
 -- one variable declared 17 times
 abbrev pub shared : List CodedGlobal
@@ -183,7 +191,4 @@ shared = replicate 17 (ExternalVariable (codes "Z") Static 0)
 abbrev pub SharedOnce : Type 0
 SharedOnce =
     link_of (with_strings shared ∷ [])
-    ≡ Ok (record {
-      units = linked (codes "M") (codes "M") (with_strings shared).deck.code [] ∷ [];
-      main = 0;
-    })
+    ≡ Ok (linked_to 0 (external (codes "Z") 0 0 ∷ []) (linked (with_strings shared) (replicate 17 0) ∷ []))

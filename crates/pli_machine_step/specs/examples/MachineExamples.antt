@@ -7,7 +7,10 @@ use Rattle.pli_run.specs.declared.ending.Ending.TheVariants.{Ended, OutOfSteps, 
 use Rattle.pli_run.specs.declared.ending.RunError.TheVariants.{TooManyActivations, SubscriptRange}
 use Rattle.pli_run.specs.declared.ending.RunError.TheVariants.{StringRange}
 use Rattle.pli_map.specs.Description.{FixedBinary, Array}
-use Rattle.pli_operation.specs.Operations.{Operation, ToCharacters, Add, Compare, AtMost, Less, Substring}
+use Rattle.pli_operation.specs.declared.operation.Operation.{Operation}
+use Rattle.pli_operation.specs.declared.operation.Operation.TheVariants.{ToCharacters, Add, Compare}
+use Rattle.pli_operation.specs.declared.operation.Operation.TheVariants.{Substring}
+use Rattle.pli_operation.specs.declared.operation.Relation.TheVariants.{AtMost, Less}
 use Rattle.pli_value.specs.Value.{Value, Number, Characters, Bits}
 use Rattle.pli_map.specs.Values.{first_values}
 use Rattle.pli_map.specs.Variables.{Variable}
@@ -350,9 +353,9 @@ unit name globals instructions = record {
 abbrev pub units : (entry : ℕ) → List Instruction → Program
 units entry other = record {
   units =
-      unit (codes "M") (EntryPoint entry ∷ ExternalVariable (codes "X") five ∷ [])
+      unit (codes "M") (EntryPoint entry ∷ ExternalVariable 0 five ∷ [])
       (CallExternal 0 0 ∷ Global 1 ∷ Load ∷ Operate (ToCharacters 1) ∷ Put ∷ Return 0 ∷ [])
-      ∷ unit (codes "N") (ExternalVariable (codes "X") five ∷ []) other ∷ [];
+      ∷ unit (codes "N") (ExternalVariable 0 five ∷ []) other ∷ [];
   main = 0;
   greatest = 31;
 }

@@ -1,13 +1,14 @@
 -- A worked example of the whole way: the members of a first session, the module that a build from scratch
 -- makes of them, and what its runs give.
-use Rattle.std.specs.Prelude.{◌≡◌, None, pos, List, [], ◌∷◌, ◌++◌, replicate, codes}
+use Rattle.std.specs.Prelude.{◌≡◌, true, None, pos, List, [], ◌∷◌, ◌++◌, replicate, codes}
 use Rattle.pli_base.specs.Name.{Name}
 use Rattle.pli_map.specs.Description.{FixedBinary}
 use Rattle.pli_members.specs.Members.{Member}
 use Rattle.pli_members.specs.declared.kind.MemberKind.TheVariants.{Source}
 use Rattle.pli_run.specs.declared.ending.Ending.TheVariants.{Ended, OutOfSteps}
+use Rattle.pli_operation.specs.declared.operation.Operation.TheVariants.{Add, ToCharacters}
 use Rattle.pli_program.specs.Program.{Procedure}
-use Rattle.pli_code.specs.CodeTables.{Code}
+use Rattle.pli_code.specs.CodeTables.{Deck}
 use Rattle.pli_code.specs.Modules.{Module}
 use Rattle.pli_machine_step.specs.ModuleRuns.{RunsTo}
 use Rattle.pli_code.specs.declared.instruction.Instruction.TheVariants as op
@@ -25,33 +26,38 @@ first_members =
     (codes "M: PROC OPTIONS(MAIN);" ∷ codes "DCL X FIXED BIN(31);" ∷ codes "X = 2 + 3;" ∷ codes "PUT LIST(X);"
     ∷ codes "END M;" ∷ [])
 
--- its code
-abbrev pub first_code : Code
-first_code = record {
-  signature = record { parameters = []; result = None };
-  descriptions = FixedBinary 31 ∷ [];
-  templates = record { description = 0; initial = [] } ∷ [];
-  values = Number (pos 2) ∷ Number (pos 3) ∷ [];
-  globals = [];
-  blocks = record {
-    kind = Procedure;
-    parent = None;
-    parameters = 0;
-    variables = 0 ∷ [];
-    temporaries = 0;
-    entry = 0;
-    statement = 1;
-  } ∷ [];
-  instructions =
-      op.Step 3 ∷ op.Local 0 0 ∷ op.Constant 0 ∷ op.Constant 1 ∷ op.Add ∷ op.Fit 0 ∷ op.Store ∷ op.Step 4
-      ∷ op.Local 0 0 ∷ op.Load ∷ op.ToCharacters 14 ∷ op.Put ∷ op.Return 0 ∷ [];
+-- its deck
+abbrev pub first_deck : Deck
+first_deck = record {
+  name = codes "M";
+  is_main = true;
+  code = record {
+    signature = record { parameters = []; result = None };
+    descriptions = FixedBinary 31 ∷ [];
+    templates = record { description = 0; initial = [] } ∷ [];
+    values = Number (pos 2) ∷ Number (pos 3) ∷ [];
+    globals = [];
+    blocks = record {
+      kind = Procedure;
+      parent = None;
+      parameters = 0;
+      variables = 0 ∷ [];
+      temporaries = 0;
+      entry = 0;
+      statement = 1;
+    } ∷ [];
+    instructions =
+        op.Step 3 ∷ op.Local 0 0 ∷ op.Constant 0 ∷ op.Constant 1 ∷ op.Operate Add ∷ op.Fit 0 ∷ op.Store
+        ∷ op.Step 4 ∷ op.Local 0 0 ∷ op.Load ∷ op.Operate (ToCharacters 14) ∷ op.Put ∷ op.Return 0 ∷ [];
+  };
 }
 
 -- its module
 abbrev pub first_module : Module
 first_module = record {
-  units = record { unit = codes "M"; procedure = codes "M"; code = first_code; entries = [] } ∷ [];
   main = 0;
+  externals = [];
+  units = record { name = codes "M"; deck = first_deck; links = [] } ∷ [];
 }
 
 -- a build from scratch gives that module

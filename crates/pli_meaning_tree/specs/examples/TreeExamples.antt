@@ -6,11 +6,13 @@ use Rattle.pli_run.specs.declared.ending.Ending.TheVariants.{Ended, OutOfSteps, 
 use Rattle.pli_run.specs.declared.ending.RunError.TheVariants.{SubscriptRange, FixedOverflow}
 use Rattle.pli_run.specs.declared.ending.RunError.TheVariants.{NoReturnedValue}
 use Rattle.pli_map.specs.Description.{Description, FixedBinary, Array}
-use Rattle.pli_operation.specs.Operations.{Operation, Add, Subtract, Compare, Less, ToCharacters, Fit}
+use Rattle.pli_operation.specs.declared.operation.Operation.{Operation}
+use Rattle.pli_operation.specs.declared.operation.Operation.TheVariants.{Add, Subtract, Compare, ToCharacters}
+use Rattle.pli_operation.specs.declared.operation.Relation.TheVariants.{Less}
 use Rattle.pli_world.specs.World.{nothing, cleared}
 use Rattle.pli_value.specs.Value.{Number, Characters, Bits}
 use Rattle.pli_type_tree.specs.Templates.{Template}
-use Rattle.pli_type_tree.specs.TypedTree.{InSlot, OfProgram, OfBlock, OfEntry, TypedExpression}
+use Rattle.pli_type_tree.specs.TypedTree.{Fit, Operate, InSlot, OfProgram, OfBlock, OfEntry, TypedExpression}
 use Rattle.pli_type_tree.specs.TypedTree.{Literal, Held, Calculated, Called}
 use Rattle.pli_type_tree.specs.TypedTree.{TypedReference, Whole, Part, NoOperand, OperandThen, NoSubscript}
 use Rattle.pli_type_tree.specs.TypedTree.{SubscriptThen, NoArgument, ByPlace, ByDummy}
@@ -99,7 +101,7 @@ held_in outward number = Held (slot outward number)
 
 -- an operation on two
 abbrev pub with_two : Operation → TypedExpression → TypedExpression → TypedExpression
-with_two operation e f = Calculated operation (OperandThen e (OperandThen f NoOperand))
+with_two operation e f = Calculated (Operate operation) (OperandThen e (OperandThen f NoOperand))
 
 -- characters
 abbrev pub text : List ℕ → TypedExpression
@@ -107,7 +109,7 @@ text characters = Literal (Characters characters)
 
 -- a number as characters of 4 columns
 abbrev pub shown : TypedExpression → TypedExpression
-shown e = Calculated (ToCharacters 4) (OperandThen e NoOperand)
+shown e = Calculated (Operate (ToCharacters 4)) (OperandThen e NoOperand)
 
 -- PUT LIST of a text
 abbrev pub prints : List ℕ → Form

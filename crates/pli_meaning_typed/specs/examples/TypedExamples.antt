@@ -1,18 +1,17 @@
 -- Worked examples of well-typed programs.
 use Rattle.std.specs.Prelude.{ℕ, nat_eq, true, false, pos, Option, Some, None, [], ◌∷◌, codes, if◌then◌else◌}
 use Rattle.pli_map.specs.Description.{Description, FixedBinary}
-use Rattle.pli_operation.specs.Operations.{Add, Fit, Compare, Less, ToCharacters}
+use Rattle.pli_operation.specs.declared.operation.Operation.TheVariants.{Add, Compare, ToCharacters}
+use Rattle.pli_operation.specs.declared.operation.Relation.TheVariants.{Less}
 use Rattle.pli_value.specs.Value.{Number}
 use Rattle.pli_type_tree.specs.Templates.{Template}
-use Rattle.pli_type_tree.specs.TypedTree.{InSlot, OfProgram, OfBlock, OfEntry, Signature, Global}
-use Rattle.pli_type_tree.specs.TypedTree.{ExternalVariable, EntryPoint, TypedUnit, TypedExpression, Literal}
-use Rattle.pli_type_tree.specs.TypedTree.{Held, Calculated, Called}
-use Rattle.pli_type_tree.specs.TypedTree.{TypedReference}
-use Rattle.pli_type_tree.specs.TypedTree.{Whole, NoOperand, OperandThen, NoArgument, ByPlace, BlockHead}
-use Rattle.pli_type_tree.specs.TypedTree.{Statement}
-use Rattle.pli_type_tree.specs.TypedTree.{Assign, Put, If, Goto, ReturnValue, NoElse, TypedStatements}
-use Rattle.pli_type_tree.specs.TypedTree.{Form, Iterate, TypedRange, ByTo, Repeated}
-use Rattle.pli_type_tree.specs.TypedTree.{NoStatement, StatementThen, TypedProcedure}
+use Rattle.pli_type_tree.specs.TypedTree.{Fit, Operate, InSlot, OfProgram, OfBlock, OfEntry, Signature}
+use Rattle.pli_type_tree.specs.TypedTree.{Global, ExternalVariable, EntryPoint, TypedUnit, TypedExpression}
+use Rattle.pli_type_tree.specs.TypedTree.{Literal, Held, Calculated, Called, TypedReference, Whole, NoOperand}
+use Rattle.pli_type_tree.specs.TypedTree.{OperandThen, NoArgument, ByPlace, BlockHead, Statement, Assign, Put}
+use Rattle.pli_type_tree.specs.TypedTree.{If, Goto, ReturnValue, NoElse, TypedStatements, Form, Iterate}
+use Rattle.pli_type_tree.specs.TypedTree.{TypedRange, ByTo, Repeated, NoStatement, StatementThen}
+use Rattle.pli_type_tree.specs.TypedTree.{TypedProcedure}
 use Rattle.pli_type_tree.specs.WellTyped.{KnownProcedure, block_of, IsTypedForm}
 use Rattle.pli_meaning_tree.specs.TreeMeaning.{TypedProgram}
 use Rattle.pli_meaning_typed.specs.TypedPrograms.{WellTyped, context_in}
@@ -31,20 +30,23 @@ abbrev pub one_more : TypedExpression
 one_more =
     Calculated (Fit number)
     (OperandThen
-    (Calculated Add (OperandThen (Held counter) (OperandThen (Literal (Number (pos 1))) NoOperand)))
+    (Calculated (Operate Add)
+    (OperandThen (Held counter) (OperandThen (Literal (Number (pos 1))) NoOperand)))
     NoOperand)
 
 -- X < 9
 abbrev pub few : TypedExpression
 few =
-    Calculated (Compare Less) (OperandThen (Held counter) (OperandThen (Literal (Number (pos 9))) NoOperand))
+    Calculated (Operate (Compare Less))
+    (OperandThen (Held counter) (OperandThen (Literal (Number (pos 9))) NoOperand))
 
 -- the statements of P
 abbrev pub counting : TypedStatements
 counting =
     StatementThen (Statement 2 (Assign counter (Called (OfBlock 1) (ByPlace counter NoArgument))))
     (StatementThen
-    (Statement 3 (Put false (Calculated (ToCharacters 14) (OperandThen (Held counter) NoOperand) ∷ [])))
+    (Statement 3 (Put false
+    (Calculated (Operate (ToCharacters 14)) (OperandThen (Held counter) NoOperand) ∷ [])))
     (StatementThen (Statement 4 (If few (Statement 5 (Goto 0 2)) NoElse)) NoStatement))
 
 -- those of F

@@ -9,7 +9,6 @@ use Rattle.pli_base.specs.declared.code.Code.TheVariants.{WrongOperandType, Cann
 use Rattle.pli_base.specs.declared.code.Code.TheVariants.{WrongNumberOfArguments, WrongArgument}
 use Rattle.pli_base.specs.declared.code.Code.TheVariants.{NotCallableHere, BadControlVariable}
 use Rattle.pli_map.specs.Description.{FixedBinary}
-use Rattle.pli_operation.specs.Operations.{Fit}
 use Rattle.pli_type.specs.Checked.{in_unit, first_inside}
 use Rattle.pli_type.specs.ExpressionTypes.{with_one}
 use Rattle.pli_type.specs.Names.{NamedAs, AProcedure, ALabel}
@@ -19,7 +18,7 @@ use Rattle.pli_type.specs.examples.ExampleTrees.{decimal, of_bits, null, a_numbe
 use Rattle.pli_type.specs.examples.ExampleTrees.{x, n, i, a}
 use Rattle.pli_type_tree.specs.TypedTree as typed
 use Rattle.pli_type_tree.specs.TypedTree.{InSlot, OfBlock, Whole, BlockHead, TypedProcedure, NoArgument}
-use Rattle.pli_type_tree.specs.TypedTree.{ByPlace, ByDummy, NoStatement, StatementThen}
+use Rattle.pli_type_tree.specs.TypedTree.{Fit, ByPlace, ByDummy, NoStatement, StatementThen}
 
 -- `DO V = .. range; ; END;`, whose variable stands at token 1 and its `=` at 2
 abbrev pub group : Reference → (first : Expression) → Option Range → Statement

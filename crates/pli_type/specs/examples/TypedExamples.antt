@@ -7,9 +7,9 @@ use Rattle.pli_base.specs.declared.syntax.InfixOperator.TheVariants as infixes
 use Rattle.pli_base.specs.declared.syntax.Joining.TheVariants.{Member}
 use Rattle.pli_base.specs.declared.syntax.PrefixOperator.TheVariants as prefixes
 use Rattle.pli_map.specs.Description.{Character, Varying, Bit, FixedBinary}
-use Rattle.pli_operation.specs.Operations.{Negate, FromBits, ToCharacters, Fit, Add, Compare, Equal}
-use Rattle.pli_operation.specs.Operations.{Concatenate}
-use Rattle.pli_operation.specs.Operations.{Divide}
+use Rattle.pli_operation.specs.declared.operation.Operation.TheVariants.{Negate, FromBits, ToCharacters, Add}
+use Rattle.pli_operation.specs.declared.operation.Operation.TheVariants.{Compare, Concatenate, Divide}
+use Rattle.pli_operation.specs.declared.operation.Relation.TheVariants.{Equal}
 use Rattle.pli_type.specs.ExpressionTypes.{with_one, with_two}
 use Rattle.pli_type.specs.examples.ExampleTrees.{form_of, reference_meant, called, alone_named, named, text}
 use Rattle.pli_type.specs.examples.ExampleTrees.{decimal, assign, put, choice, null, a_number, held}
@@ -18,6 +18,7 @@ use Rattle.pli_type.specs.examples.ExampleTrees.{characters, s_element, x, n, v,
 use Rattle.pli_type.specs.examples.ExampleTrees.{divide}
 use Rattle.pli_type.specs.examples.ExampleTrees.{high_bound}
 use Rattle.pli_type_tree.specs.TypedTree as typed
+use Rattle.pli_type_tree.specs.TypedTree.{Fit, Operate}
 use Rattle.pli_type_tree.specs.TypedTree.{InSlot, Whole, Part, NoSubscript, SubscriptThen, AssignAggregate}
 
 -- A constant that is all that is converted is FIXED DECIMAL; a prefix `+` leaves nothing; every value is
@@ -27,15 +28,15 @@ ConversionsStand =
     -- V = -(12);
     (form_of ((0, v) ∷ []) (assign 1 0 (alone_named (codes "V") 0) 1 (Prefix prefixes.Minus 2 (Parenthesized
     3 (decimal 12 2 4)))) ≡ Some (typed.Assign (Whole (InSlot 0 3)) (with_one (Fit (Varying 20)) (with_one
-    (ToCharacters 5) (with_one Negate (a_number 12))))))
+    (Operate (ToCharacters 5)) (with_one (Operate Negate) (a_number 12))))))
     -- V = +5;
     × (form_of ((0, v) ∷ []) (assign 1 0 (alone_named (codes "V") 0) 1 (Prefix prefixes.Plus 2 (decimal 5 1
-    3))) ≡ Some (typed.Assign (Whole (InSlot 0 3)) (with_one (Fit (Varying 20)) (with_one (ToCharacters 4)
-    (a_number 5)))))
+    3))) ≡ Some (typed.Assign (Whole (InSlot 0 3)) (with_one (Fit (Varying 20)) (with_one
+    (Operate (ToCharacters 4)) (a_number 5)))))
     -- V = 5 + 5;
     × (form_of ((0, v) ∷ []) (assign 1 0 (alone_named (codes "V") 0) 1 (Infix infixes.Add 3 (decimal 5 1 2)
     (decimal 5 1 4))) ≡ Some (typed.Assign (Whole (InSlot 0 3)) (with_one (Fit (Varying 20)) (with_one
-    (ToCharacters 6) (with_two Add (a_number 5) (a_number 5))))))
+    (Operate (ToCharacters 6)) (with_two Add (a_number 5) (a_number 5))))))
     -- N = DIVIDE(1, 1, 031);
     × (form_of ((0, n) ∷ (2, divide) ∷ []) (assign 1 0 (alone_named (codes "N") 0) 1 (Referred (Named
     (called (codes "DIVIDE") 2) (Given (Listed (decimal 1 1 4) (Listed (decimal 1 1 6) (Listed (decimal 31 3
@@ -48,21 +49,23 @@ ConversionsStand =
     -- X = X = '1 ';
     × (form_of ((0, x) ∷ (2, x) ∷ []) (assign 1 0 (alone_named (codes "X") 0) 1 (Infix infixes.Equal 3
     (named (codes "X") 2) (text (codes "1 ") 4))) ≡ Some (typed.Assign (Whole (InSlot 0 0)) (with_one (Fit
-    (Bit 1)) (with_two (Compare Equal) (with_one FromBits (held 0)) (characters (codes "1 "))))))
+    (Bit 1)) (with_two (Compare Equal) (with_one (Operate FromBits) (held 0)) (characters (codes "1 "))))))
     -- C = X || 'X';
     × (form_of ((0, c) ∷ (2, x) ∷ []) (assign 1 0 (alone_named (codes "C") 0) 1 (Infix infixes.Concatenate 3
     (named (codes "X") 2) (text (codes "X") 4))) ≡ Some (typed.Assign (Whole (InSlot 0 4)) (with_one (Fit
-    (Character 6)) (with_two Concatenate (with_one FromBits (held 0)) (characters (codes "X"))))))
+    (Character 6)) (with_two Concatenate (with_one (Operate FromBits) (held 0)) (characters (codes "X"))))))
     -- C = X;
     × (form_of ((0, c) ∷ (2, x) ∷ []) (assign 1 0 (alone_named (codes "C") 0) 1 (named (codes "X") 2)) ≡
-    Some (typed.Assign (Whole (InSlot 0 4)) (with_one (Fit (Character 6)) (with_one FromBits (held 0)))))
+    Some (typed.Assign (Whole (InSlot 0 4)) (with_one (Fit (Character 6)) (with_one (Operate FromBits)
+    (held 0)))))
     -- P = P;
     × (form_of ((0, p) ∷ (2, p) ∷ []) (assign 1 0 (alone_named (codes "P") 0) 1 (named (codes "P") 2)) ≡
     Some (AssignAggregate (Whole (InSlot 0 7)) (Whole (InSlot 0 7))))
     -- PUT SKIP LIST(N, X, C, 007);
     × (form_of ((4, n) ∷ (6, x) ∷ (8, c) ∷ []) (put 1 0 true ((named (codes "N") 4) ∷ (named (codes "X") 6)
-    ∷ (named (codes "C") 8) ∷ (decimal 7 3 10) ∷ [])) ≡ Some (typed.Put true (with_one (ToCharacters 9)
-    (held 1) ∷ held 0 ∷ held 4 ∷ with_one (ToCharacters 6) (a_number 7) ∷ [])))
+    ∷ (named (codes "C") 8) ∷ (decimal 7 3 10) ∷ [])) ≡ Some (typed.Put true (with_one
+    (Operate (ToCharacters 9))
+    (held 1) ∷ held 0 ∷ held 4 ∷ with_one (Operate (ToCharacters 6)) (a_number 7) ∷ [])))
     -- IF X THEN ; ELSE ;
     × (form_of ((1, x) ∷ []) (choice 1 0 (named (codes "X") 1) (null 2 3) (Else (null 3 5))) ≡ Some
     (typed.If (held 0) (typed.Statement 2 typed.Null) (typed.Else (typed.Statement 3 typed.Null))))

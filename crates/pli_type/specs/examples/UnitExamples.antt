@@ -12,7 +12,6 @@ use Rattle.pli_base.specs.declared.declaration.InitialValue.{InitialValue}
 use Rattle.pli_base.specs.declared.declaration.InitialValue.TheVariants as initial
 use Rattle.pli_map.specs.Description as described
 use Rattle.pli_map.specs.Description.{Description, Structure, NoMembers, MemberThen}
-use Rattle.pli_operation.specs.Operations.{Fit}
 use Rattle.pli_type.specs.Checked.{checked}
 use Rattle.pli_type.specs.ExpressionTypes.{with_one}
 use Rattle.pli_type.specs.InitialScalars.{InitialItem, template_of, initial_scalars}
@@ -22,7 +21,7 @@ use Rattle.pli_type.specs.examples.ExampleTrees.{array, naming, compiled, called
 use Rattle.pli_type.specs.examples.ExampleTrees.{of_bits, assign, null, x}
 use Rattle.pli_type_tree.specs.Templates.{InitialScalar}
 use Rattle.pli_type_tree.specs.TypedTree as typed
-use Rattle.pli_type_tree.specs.TypedTree.{TypedUnit, InSlot, Whole, Literal, NoStatement, StatementThen}
+use Rattle.pli_type_tree.specs.TypedTree.{TypedUnit, InSlot, Fit, Whole, Literal, NoStatement, StatementThen}
 use Rattle.pli_value.specs.Value.{Value, Number, Characters, Bits}
 use Rattle.pli_resolve.specs.declared.built_in.BuiltInFunction.TheVariants as functions
 

@@ -39,7 +39,8 @@ abbrev pub HasGlobal : List PlacedMark → (at : ℕ) → UnitGlobal → Type 0
 HasGlobal marks at (globals.OwnVariable made) = HasMadeItem marks made
 HasGlobal marks at (globals.ExternalVariable name made) = HasMadeItem marks made
 HasGlobal marks at (globals.EntryPoint name parameters returned) =
-    HasEntry marks at (map description_view parameters.now) (option_map (λ d. description_view d.now) returned)
+    HasEntry marks at (map description_view parameters.now)
+    (option_map (λ d. description_view d.now) returned)
 
 -- the same of a global with its token
 abbrev pub HasGlobalItem : List PlacedMark → PlacedGlobal → Type 0

@@ -2,11 +2,9 @@
 use Rattle.std.proofs.Common.{◌≡◌, ℕ, Option, Some, None, Vec, Box, Global, refl, ap, ◌∙◌}
 use Rattle.pli_map.specs.declared.description.Description.{Description}
 use Rattle.pli_map.specs.views.DescriptionView.{description_view}
-use Rattle.pli_operation.specs.declared.operation.Operation.{Operation}
-use Rattle.pli_operation.specs.views.OperationView.{operation_view}
 use Rattle.pli_type_tree.specs.TypedTree as plain
-use Rattle.pli_type_tree.specs.views.TypedView.{root_view, callee_view, stride_view, expression_view}
-use Rattle.pli_type_tree.specs.views.TypedView.{reference_view}
+use Rattle.pli_type_tree.specs.views.TypedView.{root_view, callee_view, operation_view, stride_view}
+use Rattle.pli_type_tree.specs.views.TypedView.{expression_view, reference_view}
 use Rattle.pli_type_tree.specs.views.TypedView.{operand_row, subscript_row, argument_row, argument_before}
 use Rattle.pli_type_tree.specs.views.TypedView.{operands_view, subscripts_view, arguments_view, head_view}
 use Rattle.pli_type_tree.specs.views.TypedView.{iteration_view, form_view, statement_row}
@@ -14,6 +12,7 @@ use Rattle.pli_type_tree.specs.views.TypedView.{statement_view, statements_view}
 use Rattle.pli_type_tree.specs.declared.expression.Root.{Root}
 use Rattle.pli_type_tree.specs.declared.expression.Callee.{Callee}
 use Rattle.pli_type_tree.specs.declared.expression.TypedExpression.{TypedExpression, Calculated, Called}
+use Rattle.pli_type_tree.specs.declared.expression.TypedOperation.{TypedOperation}
 use Rattle.pli_type_tree.specs.declared.expression.TypedReference.{Part}
 use Rattle.pli_type_tree.specs.declared.expression.TypedSubscript.{TypedSubscript}
 use Rattle.pli_type_tree.specs.declared.expression.TypedArgument.{TypedArgument}
@@ -42,7 +41,7 @@ arguments_row n block.end_of-TypedArgument = refl
 arguments_row n (block.more_of-TypedArgument {n = m} a more) = ap (argument_before a) (arguments_row m more)
 
 -- an operation on operands in a vector
-pub calculated_made : (operation : Operation) (operands : Vec TypedExpression Global)
+pub calculated_made : (operation : TypedOperation) (operands : Vec TypedExpression Global)
     → expression_view (Calculated operation operands)
     ≡ plain.Calculated (operation_view operation) (operands_view operands.items)
 calculated_made operation operands =

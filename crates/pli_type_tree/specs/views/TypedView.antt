@@ -1,7 +1,6 @@
 -- What a typed tree says, apart from where it lies in memory.
 use Rattle.std.specs.Prelude.{List, [], ◌∷◌, option_map, map}
 use Rattle.pli_map.specs.views.DescriptionView.{description_view}
-use Rattle.pli_operation.specs.views.OperationView.{operation_view}
 use Rattle.pli_value.specs.Value.{value_view}
 use Rattle.pli_type_tree.specs.TypedTree as plain
 use Rattle.pli_type_tree.specs.views.TemplateView.{groups_view}
@@ -22,6 +21,8 @@ use Rattle.pli_type_tree.specs.declared.expression.TypedArgument.TheBlock.{more_
 use Rattle.pli_type_tree.specs.declared.expression.TypedArgument.TheBlock.{Row_of-TypedArgument}
 use Rattle.pli_type_tree.specs.declared.expression.TypedArgument.TheBlock.{end_of-TypedArgument}
 use Rattle.pli_type_tree.specs.declared.expression.TypedArgument.TheBlock.{more_of-TypedArgument}
+use Rattle.pli_type_tree.specs.declared.expression.TypedOperation.{TypedOperation}
+use Rattle.pli_type_tree.specs.declared.expression.TypedOperation.TheVariants as operations
 use Rattle.pli_type_tree.specs.declared.expression.TypedSubscript.{TypedSubscript}
 use Rattle.pli_type_tree.specs.declared.expression.TypedReference.{TypedReference, Whole, Part'}
 use Rattle.pli_type_tree.specs.declared.expression.TypedArgument.{TypedArgument, ByPlace, ByDummy}
@@ -47,6 +48,11 @@ root_view (roots.OfProgram number) = plain.OfProgram number
 abbrev pub callee_view : Callee → plain.Callee
 callee_view (callees.OfBlock block) = plain.OfBlock block
 callee_view (callees.OfEntry number) = plain.OfEntry number
+
+-- an operation
+abbrev pub operation_view : TypedOperation → plain.TypedOperation
+operation_view (operations.Fit description) = plain.Fit (description_view description)
+operation_view (operations.Operate operation) = plain.Operate operation
 
 -- the stride of a subscript
 abbrev pub stride_view : Stride → plain.Stride

@@ -1,24 +1,24 @@
-use pli_map::Description;
 use pli_operation::{Operation, Relation};
-use std::alloc::Global;
-use std::process::Abort;
 use std::test::*;
 
-/// A copy of an operation.
-fn copied(rt: &impl Abort, alloc: Global, operation: Operation) -> Operation {
-    operation.copy(alloc).expect(rt, "memory")
+/// Whether an operation takes so many operands.
+fn takes(operation: Operation, count: usize) -> bool {
+    operation.arity() == count
 }
 
 #[test]
-fn copies(rt: HostRuntime) {
-    let alloc = rt.alloc();
-    let fit = copied(&rt, alloc, Operation::Fit(Description::Varying(20)));
-    assert!(rt; matches!(fit, Operation::Fit(Description::Varying(20))));
-    let divide = copied(&rt, alloc, Operation::Divide { precision: 15 });
-    assert!(rt; matches!(divide, Operation::Divide { precision: 15 }));
-    let compare = copied(&rt, alloc, Operation::Compare(Relation::AtMost));
-    assert!(rt; matches!(compare, Operation::Compare(Relation::AtMost)));
-    let width = copied(&rt, alloc, Operation::ToCharacters { width: 14 });
-    assert!(rt; matches!(width, Operation::ToCharacters { width: 14 }));
-    assert!(rt; matches!(copied(&rt, alloc, Operation::Least), Operation::Least));
+fn operands(rt: HostRuntime) {
+    assert!(rt; takes(Operation::Negate, 1) && takes(Operation::LengthOf, 1));
+    assert!(rt; takes(Operation::FromBits, 1) && takes(Operation::ToCharacters { width: 14 }, 1));
+    assert!(rt; takes(Operation::Add, 2) && takes(Operation::Divide { precision: 15 }, 2));
+    assert!(rt; takes(Operation::Compare(Relation::AtMost), 2) && takes(Operation::Rest, 2));
+    assert!(rt; takes(Operation::Substring, 3) && takes(Operation::Within, 3));
+}
+
+#[test]
+fn equal_operations(rt: HostRuntime) {
+    assert!(rt; Operation::Divide { precision: 15 } == Operation::Divide { precision: 15 });
+    assert!(rt; Operation::Divide { precision: 15 } != Operation::Divide { precision: 16 });
+    assert!(rt; Operation::Compare(Relation::Less) != Operation::Compare(Relation::AtMost));
+    assert!(rt; Operation::Rest != Operation::Substring);
 }

@@ -1,6 +1,6 @@
 -- Worked examples: two activations, the static link between them, and what ends with each; parts of
 -- aggregates; variables that are made once.
-use Rattle.std.specs.Prelude.{◌≡◌, ℕ, ℤ, pos, negsuc, Option, Some, None, List, [], ◌∷◌, codes}
+use Rattle.std.specs.Prelude.{◌≡◌, ℕ, nat_eq, ℤ, pos, negsuc, Option, Some, None, List, [], ◌∷◌, codes}
 use Rattle.pli_map.specs.Description.{Description, FixedBinary, Character, Array, Structure, NoMembers}
 use Rattle.pli_map.specs.Description.{MemberThen}
 use Rattle.pli_value.specs.Value.{Value, Number, Characters}
@@ -158,14 +158,14 @@ abbrev pub once : Variable
 once = record { description = FixedBinary 15; initial = Number (pos 3) ∷ [] }
 
 -- as the one global of a unit
-abbrev pub own : List (Option GlobalVariable)
+abbrev pub own : List (Option (GlobalVariable ℕ))
 own = Some (record { external = None; variable = once }) ∷ []
 
 -- it is there in each activation of its unit, and keeps what it holds
 abbrev pub StaticStays : Type 0
 StaticStays =
     result_of
-    (further (statics_made 0 0 own nothing)
+    (further (statics_made nat_eq 0 0 own [] nothing)
     (λ _ w. further (entered inner 0 [] w)
     (λ _ w. further (static_place 0 w)
     (λ p w. further (stored p (Number (pos 8)) w)
@@ -176,15 +176,14 @@ StaticStays =
 -- that of another unit is not there
 abbrev pub StaticOfOther : Type 0
 StaticOfOther =
-    further (statics_made 1 0 own nothing)
+    further (statics_made nat_eq 1 0 own [] nothing)
     (λ _ w. further (entered inner 0 [] w) (λ _ w. static_place 0 w)) ≡ Wrong
 
 -- the place of a unit's one variable, which is stacked in this list
 abbrev pub newest_of : List Place → Answer Place
 newest_of places =
     further (entered inner 0 [] (record nothing {
-      statics =
-          record { unit = 0; number = 0; external = None; standing = Stacked 0 } ∷ [];
+      statics = record { unit = 0; number = 0; standing = Stacked 0 } ∷ [];
       lists = places ∷ [];
     }))
     (λ _ w. static_place 0 w)
@@ -196,9 +195,9 @@ NewestOfList =
     ≡ Some (whole 2 (FixedBinary 15)))
     × (error_of (newest_of []) ≡ Some NoGeneration)
 
--- a variable that units declare under one name
-abbrev pub shared : GlobalVariable
-shared = record { external = Some (codes "X"); variable = once }
+-- a variable that units share, by its number
+abbrev pub shared : GlobalVariable ℕ
+shared = record { external = Some 0; variable = once }
 
 -- a procedure of another unit
 abbrev pub other : Head
@@ -209,8 +208,8 @@ other = record { unit = 1; block = 0; statement = 1; variables = [] }
 abbrev pub ExternalIsShared : Type 0
 ExternalIsShared =
     result_of
-    (further (statics_made 0 0 (None ∷ Some shared ∷ []) nothing)
-    (λ _ w. further (statics_made 1 0 (Some shared ∷ []) w)
+    (further (statics_made nat_eq 0 0 (None ∷ Some shared ∷ []) [] nothing)
+    (λ known w. further (statics_made nat_eq 1 0 (Some shared ∷ []) known w)
     (λ _ w. further (entered inner 0 [] w)
     (λ _ w. further (static_place 1 w)
     (λ p w. further (stored p (Number (pos 8)) w)

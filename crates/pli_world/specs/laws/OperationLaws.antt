@@ -28,7 +28,7 @@ use Rattle.pli_world.specs.World.{copied, led_on, made_all, in_newest, with_slot
 use Rattle.pli_world.specs.World.{without_handed, entered, left_by, cleared, at_statement, stepped, height_of}
 use Rattle.pli_world.specs.World.{slot_in, slot_place, newest_unit, static_in, newest_in, place_standing}
 use Rattle.pli_world.specs.World.{static_place, made_before}
-use Rattle.pli_world.specs.World.{made_once, with_static, statics_made}
+use Rattle.pli_world.specs.World.{made_once, with_shared, with_static, statics_made}
 use Rattle.pli_world.specs.World.{dummy_of, printed, line_ended}
 use Rattle.pli_world.specs.laws.Operations.{IsPrefix, Follows, AnswerFollows, MakingKeeps, LoadingKeeps}
 use Rattle.pli_world.specs.laws.Operations.{StoringKeeps, PartsHeldKeep, PartsStoredKeep, CopyingKeeps}
@@ -310,17 +310,18 @@ once_keeps v None w =
     further_follows (height w) (height w) w (made_of v.description AsStatic v.initial w) _
     (making_keeps v.description AsStatic v.initial w) refl (λ p v f. f)
 
-pub statics_keep : StaticsKeep
-statics_keep unit number [] w = follows_same w
-statics_keep unit number (None ∷ gs) w = statics_keep unit (suc number) gs w
-statics_keep unit number (Some g ∷ gs) w =
-    further_follows (height w) (height w) w (made_once g.variable (made_before g.external w.statics) w) _
-    (once_keeps g.variable (made_before g.external w.statics) w) refl
+pub statics_keep : (K : Type 0) → StaticsKeep K
+statics_keep K equal unit number [] shared w = follows_same w
+statics_keep K equal unit number (None ∷ gs) shared w = statics_keep K equal unit (suc number) gs shared w
+statics_keep K equal unit number (Some g ∷ gs) shared w =
+    further_follows (height w) (height w) w (made_once g.variable (made_before equal g.external shared) w) _
+    (once_keeps g.variable (made_before equal g.external shared) w) refl
     (λ s v f.
-    let new = with_static unit number g.external s v in
-    behind (height w) w new (statics_made unit (suc number) gs new)
+    let new = with_static unit number s v in
+    let more = with_shared g.external s shared in
+    behind (height w) w new (statics_made equal unit (suc number) gs more new)
     (record { steps = f.steps; heights = f.heights; output = f.output })
-    (statics_keep unit (suc number) gs new))
+    (statics_keep K equal unit (suc number) gs more new))
 
 -- output
 

@@ -1,11 +1,11 @@
 -- What every operation on the world keeps: it takes no step, adds to the output, and leaves as many
 -- activations as it should.
-use Rattle.std.specs.Prelude.{◌≡◌, ℕ, suc, ◌-◌, ℤ, Option, List, ◌++◌}
+use Rattle.std.specs.Prelude.{◌≡◌, ℕ, suc, ◌-◌, Bool, ℤ, Option, List, ◌++◌}
 use Rattle.pli_map.specs.Description.{Description}
 use Rattle.pli_value.specs.Value.{Value}
 use Rattle.pli_operation.specs.Operations.{Calculation}
 use Rattle.pli_world.specs.Storage.{Made, Place}
-use Rattle.pli_world.specs.World.{World, Answer, Yields, Raises, Wrong, height, made_of}
+use Rattle.pli_world.specs.World.{Standing, World, Answer, Yields, Raises, Wrong, height, made_of}
 use Rattle.pli_map.specs.Variables.{GlobalVariable}
 use Rattle.pli_world.specs.Activations.{Head}
 use Rattle.pli_world.specs.World.{parts_held, parts_stored, held, stored, copied, led_on, subscripted}
@@ -88,10 +88,11 @@ DummyKeeps = (d : Description) (v : Value) → Keeps (dummy_of d v)
 abbrev pub StaticKeeps : Type 0
 StaticKeeps = (number : ℕ) → Keeps (static_place number)
 
--- making such variables is such an operation
-abbrev pub StaticsKeep : Type 0
-StaticsKeep =
-    (unit number : ℕ) (gs : List (Option GlobalVariable)) → Keeps (statics_made unit number gs)
+-- making such variables is such an operation, whatever units know the external ones by
+abbrev pub StaticsKeep : (K : Type 0) → Type 0
+StaticsKeep K =
+    (equal : K → K → Bool) → (unit number : ℕ) (gs : List (Option (GlobalVariable K)))
+    (shared : List (K × Standing)) → Keeps (statics_made equal unit number gs shared)
 
 -- entering a block adds an activation, also where there is no room for its variables
 abbrev pub EnteringAdds : Type 0

@@ -1,7 +1,7 @@
 use Rattle.std.proofs.Common.{◌≡◌, ◌≤◌, ◌+◌, drop, map}
 use Rattle.std.specs.List.{sum_by}
 use Rattle.pli_deck_write.specs.ModuleSpelling.{external_bytes}
-use Rattle.pli_deck_write.specs.ModuleView.{external_view, member_view}
+use Rattle.pli_code.specs.views.CodeView.{external_view, member_view}
 use Rattle.pli_deck_faults.proofs.extent.behind_externals.Given as goal
 
 -- what is left and all together are what there was and those that are left

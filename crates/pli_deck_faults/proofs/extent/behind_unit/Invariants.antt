@@ -1,7 +1,6 @@
 use Rattle.std.proofs.Common.{◌≡◌, ◌≤◌, ◌+◌, drop, map}
 use Rattle.std.specs.List.{sum_by}
-use Rattle.pli_code.specs.views.CodeView.{code_view}
-use Rattle.pli_code.specs.views.CodeView.{global_view}
+use Rattle.pli_code.specs.views.CodeView.{code_view, global_view}
 use Rattle.pli_deck_write.specs.ModuleSpelling.{static_bytes}
 use Rattle.pli_deck_faults.proofs.extent.behind_unit.Given as goal
 

@@ -1,8 +1,8 @@
 use Rattle.std.proofs.Common.{◌≡◌, ◌<◌, length, get_or, ap, sym, ◌∙◌, arith}
 use Rattle.std.specs.List.{sum_by}
-use Rattle.pli_deck_write.specs.ModuleFields.{Member}
+use Rattle.pli_code.specs.Modules.{Member}
 use Rattle.pli_deck_write.specs.ModuleSpelling.{static_bytes}
-use Rattle.pli_deck_write.specs.ModuleView.{member_view}
+use Rattle.pli_code.specs.views.CodeView.{member_view}
 use Rattle.pli_deck_faults.specs.CutSizes.{unit_sizes}
 use Rattle.pli_deck_faults.proofs.UnitSizes.{sizes_at, next_said, over_by_one, one_behind}
 use Rattle.pli_deck_faults.proofs.extent.behind_units.Goals as goal

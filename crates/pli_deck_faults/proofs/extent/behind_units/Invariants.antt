@@ -1,7 +1,7 @@
 use Rattle.std.proofs.Common.{◌≡◌, ◌≤◌, ◌+◌, drop, map}
 use Rattle.std.specs.List.{sum_by}
 use Rattle.pli_deck_write.specs.ModuleSpelling.{static_bytes}
-use Rattle.pli_deck_write.specs.ModuleView.{member_view}
+use Rattle.pli_code.specs.views.CodeView.{member_view}
 use Rattle.pli_deck_faults.proofs.extent.behind_units.Given as goal
 
 -- what is left and all together are what there was and those that are left

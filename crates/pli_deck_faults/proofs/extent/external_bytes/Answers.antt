@@ -1,6 +1,6 @@
 use Rattle.std.proofs.Common.{min, map, slice_get, ap, sym, ◌∙◌}
 use Rattle.pli_deck_write.specs.ModuleSpelling.{bytes_in_unit}
-use Rattle.pli_deck_write.specs.ModuleView.{member_view}
+use Rattle.pli_code.specs.views.CodeView.{member_view}
 use Rattle.pli_deck_faults.proofs.UnitSizes.{sizes_at, unit_there}
 use Rattle.pli_deck_faults.proofs.extent.external_bytes.Goals as goal
 

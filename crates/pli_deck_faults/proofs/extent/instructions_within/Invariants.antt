@@ -1,6 +1,6 @@
 use Rattle.std.proofs.Common.{◌≡◌, ◌≤◌, nat_le, length, drop, map}
 use Rattle.std.specs.List.{sum_by}
-use Rattle.pli_deck_write.specs.ModuleView.{member_view}
+use Rattle.pli_code.specs.views.CodeView.{member_view}
 use Rattle.pli_deck_faults.proofs.extent.instructions_within.Given as goal
 
 -- those that are left fit into what is left as all fit into the limit

@@ -1,7 +1,7 @@
 use Rattle.std.proofs.Common.{◌≡◌, drop, map}
 use Rattle.std.specs.List.{list_all}
 use Rattle.pli_deck_write.specs.ModuleSpelling.{has_kind, global_at}
-use Rattle.pli_deck_write.specs.ModuleView.{external_view, member_view}
+use Rattle.pli_code.specs.views.CodeView.{external_view, member_view}
 use Rattle.pli_deck_faults.proofs.links.externals_stand.Given as goal
 
 -- what is left passes as all pass

@@ -1,9 +1,8 @@
 use Rattle.std.proofs.Common.{◌≡◌, drop, map}
 use Rattle.std.specs.List.{filter}
-use Rattle.pli_code.specs.views.CodeView.{global_view}
+use Rattle.pli_code.specs.views.CodeView.{global_view, module_view}
 use Rattle.pli_deck_write.specs.ModuleFields.{is_external}
 use Rattle.pli_deck_write.specs.ModuleSpelling.{are_good_links}
-use Rattle.pli_deck_write.specs.ModuleView.{module_view}
 use Rattle.pli_deck_faults.proofs.links.globals_linked.Given as goal
 
 -- what is left of the globals and of their links is good as all is

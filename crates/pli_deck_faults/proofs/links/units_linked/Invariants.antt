@@ -2,7 +2,7 @@ use Rattle.std.proofs.Common.{◌≡◌, drop, map}
 use Rattle.std.specs.List.{filter, list_all}
 use Rattle.pli_deck_write.specs.ModuleFields.{is_external}
 use Rattle.pli_deck_write.specs.ModuleSpelling.{are_good_links}
-use Rattle.pli_deck_write.specs.ModuleView.{member_view, module_view}
+use Rattle.pli_code.specs.views.CodeView.{member_view, module_view}
 use Rattle.pli_deck_faults.proofs.links.units_linked.Given as goal
 
 -- what is left passes as all pass

@@ -1,8 +1,7 @@
 use Rattle.std.proofs.Common.{◌≡◌, drop, map}
 use Rattle.std.specs.List.{list_all}
 use Rattle.pli_deck_write.specs.DeckFaults.{is_there, named_by_block}
-use Rattle.pli_code.specs.views.CodeView.{code_view}
-use Rattle.pli_code.specs.views.CodeView.{block_view}
+use Rattle.pli_code.specs.views.CodeView.{block_view, code_view}
 use Rattle.pli_deck_faults.proofs.standing.blocks_stand.Given as goal
 
 -- what is left passes as all pass

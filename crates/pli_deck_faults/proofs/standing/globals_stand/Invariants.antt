@@ -1,8 +1,7 @@
 use Rattle.std.proofs.Common.{◌≡◌, drop, map}
 use Rattle.std.specs.List.{list_all}
 use Rattle.pli_deck_write.specs.DeckFaults.{is_there, named_by_global}
-use Rattle.pli_code.specs.views.CodeView.{code_view}
-use Rattle.pli_code.specs.views.CodeView.{global_view}
+use Rattle.pli_code.specs.views.CodeView.{code_view, global_view}
 use Rattle.pli_deck_faults.proofs.standing.globals_stand.Given as goal
 
 -- what is left passes as all pass

@@ -1,8 +1,8 @@
 use Rattle.std.proofs.Common.{◌≡◌, ◌-◌, ◌+◌, ◌++◌, ◌∷◌, [], List, map, None, Ok, ap, ◌∙◌, subst}
 use Rattle.std.proofs.lemmas.List.{map_push}
 use Rattle.pli_deck_write.specs.ModuleFields.{external_behind, many_behind}
-use Rattle.pli_deck_write.specs.ModuleView.{external_view}
-use Rattle.pli_deck_write.specs.declared.module.External.{External}
+use Rattle.pli_code.specs.views.CodeView.{external_view}
+use Rattle.pli_code.specs.declared.module.External.{External}
 use Rattle.pli_deck_read.specs.Earlier.{last_of}
 use Rattle.pli_base.specs.answers.FailureAnswers.{Fails}
 use Rattle.pli_deck_read.proofs.LoopLemmas.{with_front}

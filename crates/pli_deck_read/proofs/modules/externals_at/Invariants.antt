@@ -1,6 +1,6 @@
 use Rattle.std.proofs.Common.{◌≡◌, ◌-◌, map, None}
 use Rattle.pli_deck_write.specs.ModuleFields.{external_behind, many_behind}
-use Rattle.pli_deck_write.specs.ModuleView.{external_view}
+use Rattle.pli_code.specs.views.CodeView.{external_view}
 use Rattle.pli_deck_read.proofs.LoopLemmas.{with_front}
 use Rattle.pli_deck_read.specs.Earlier.{last_of}
 use Rattle.pli_deck_read.proofs.modules.externals_at.Given as goal

@@ -1,7 +1,7 @@
 use Rattle.std.proofs.Common.{◌≡◌, ◌++◌, map, drop}
 use Rattle.std.specs.List.{flat_map}
 use Rattle.pli_deck_write.specs.ModuleFields.{member}
-use Rattle.pli_deck_write.specs.ModuleView.{lent_member_view}
+use Rattle.pli_code.specs.views.CodeView.{lent_member_view}
 use Rattle.pli_deck_write.proofs.modules.put_members.Given as goal
 
 -- what was put so far, in front of what is left, is all that is put

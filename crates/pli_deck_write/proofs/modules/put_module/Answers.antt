@@ -3,7 +3,7 @@ use Rattle.std.proofs.lemmas.Result.{on_ok_weaker}
 use Rattle.std.specs.List.{flat_map}
 use Rattle.byteorder.specs.Endian.{big_bytes}
 use Rattle.pli_deck_write.specs.ModuleFields.{external_behind, bytes_behind, member, module_field}
-use Rattle.pli_deck_write.specs.ModuleView.{external_view, lent_member_view}
+use Rattle.pli_code.specs.views.CodeView.{external_view, lent_member_view}
 use Rattle.pli_deck_write.proofs.ModulePuts.{external_bytes, behind_bytes}
 use Rattle.pli_deck_write.proofs.PutLemmas.{then_put, mapped_length}
 use Rattle.pli_deck_write.proofs.modules.put_module.Goals as goal

@@ -1,10 +1,9 @@
 use Rattle.std.proofs.Common.{◌++◌, ◌∷◌, [], length, arith, ap, ◌∙◌, sym, append_assoc}
 use Rattle.pli_program.specs.Program as op
 use Rattle.pli_map.specs.views.DescriptionView.{description_view}
-use Rattle.pli_operation.specs.views.OperationView.{operation_view}
 use Rattle.pli_type_tree.specs.TypedTree.{NoArgument}
-use Rattle.pli_type_tree.specs.views.TypedView.{root_view, callee_view, argument_before, expression_view, reference_view, operands_view, arguments_view, subscripts_view}
-use Rattle.pli_gen_emit.specs.TreeTranslation.{root_code, call_instruction, arguments_code, operands_code, subscripts_code, value_code, place_code}
+use Rattle.pli_type_tree.specs.views.TypedView.{root_view, callee_view, operation_view, argument_before, expression_view, reference_view, operands_view, arguments_view, subscripts_view}
+use Rattle.pli_gen_emit.specs.TreeTranslation.{root_code, call_instruction, operation_code, arguments_code, operands_code, subscripts_code, value_code, place_code}
 use Rattle.pli_gen_emit.proofs.EmitLemmas.{emits_as, emits_both, then_emits, amid_next}
 use Rattle.pli_gen_emit.proofs.TreeCode.{argument_first, operation_code_made, call_code_made, part_code_made}
 use Rattle.pli_gen_emit.proofs.expression.+emit.Goals as goal
@@ -18,8 +17,9 @@ emit_arguments-loop-argument-preserved t c =
 pub emit_value-returns-in-Calculated : goal.emit_value-returns-in-Calculated
 emit_value-returns-in-Calculated t c =
     let b = c.in-Calculated in
-    let last = op.Operate (operation_view b.operation) ∷ [] in
-    then_emits c.args.code.now c.emit_operands.new.code c.emit-in-Calculated.new.self _ last _ c.emit_operands.ensures c.emit-in-Calculated.ensures
+    let last = operation_code (operation_view b.operation) ∷ [] in
+    then_emits c.args.code.now c.emit_operands.new.code c.emit-in-Calculated.new.self _ last _ c.emit_operands.ensures
+    (emits_as c.emit_operands.new.code c.emit-in-Calculated.new.self _ last c.emit-in-Calculated.ensures (ap (λ i. i ∷ []) c.operation_instruction.ensures))
     (ap (λ xs. operands_code (operands_view xs) ++ last) c.as_slice.ensures.value
     ∙ sym (ap (λ e. value_code (expression_view e)) b.is ∙ operation_code_made b.operation b.operands))
 

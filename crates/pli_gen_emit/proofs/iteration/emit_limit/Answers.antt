@@ -1,5 +1,5 @@
-use Rattle.std.proofs.Common.{◌≡◌, ◌+◌, ◌++◌, ◌∷◌, [], Some, length, ap, ◌∙◌, sym}
-use Rattle.pli_operation.specs.Operations.{Within}
+use Rattle.std.proofs.Common.{◌+◌, ◌++◌, ◌∷◌, [], Some, length, ap, ◌∙◌, sym}
+use Rattle.pli_operation.specs.declared.operation.Operation.TheVariants.{Within}
 use Rattle.pli_type_tree.specs.views.TypedView.{iteration_view}
 use Rattle.pli_type_tree.specs.Iterations.{step_number}
 use Rattle.pli_gen_emit.specs.TreeTranslation.{test_against, place_code}
@@ -21,11 +21,8 @@ returns-clause-place c =
     let two = c.emit-2.new.self in
     let three = c.emit-3.new.self in
     let four = c.emit-4.new.self in
-    let first : c.from-first.result + c.from.result ≡ i.temporary + limit = ap (λ a. a + c.from.result) c.from-first.ensures ∙ ap (λ b. i.temporary + b) c.from.ensures in
-    let second : c.from-first.result + c.from-2.result ≡ i.temporary + step =
-    ap (λ a. a + c.from-2.result) c.from-first.ensures ∙ ap (λ b. i.temporary + b) (c.from-2.ensures ∙ c.step_number.ensures) in
-    let a = op.TakeTemporary (c.from-first.result + c.from.result) in
-    let b = op.TakeTemporary (c.from-first.result + c.from-2.result) in
+    let a = op.TakeTemporary (i.temporary + limit) in
+    let b = op.TakeTemporary (i.temporary + c.step_number-step.result) in
     let rest = a ∷ b ∷ op.Operate Within ∷ [] in
     let loaded : Emits placed four (op.Load ∷ rest) =
     emits_both placed c.emit.new.self four (op.Load ∷ []) rest c.emit.ensures
@@ -33,6 +30,5 @@ returns-clause-place c =
     (emits_both two three four (b ∷ []) (op.Operate Within ∷ []) c.emit-3.ensures c.emit-4.ensures)) in
     let all : Emits old four (place ++ op.Load ∷ rest) = emits_both old placed four place (op.Load ∷ rest) c.emit_place.ensures loaded in
     λ h. ap Some (c.place-test.ensures ∙ longer old.code.items four.code.items (place ++ op.Load ∷ rest) (all.1 (c.emit-5.ensures.0 h)))
-    ∙ ap (λ n. jump_place (Some (place ++ op.Load ∷ op.TakeTemporary n ∷ b ∷ op.Operate Within ∷ [])) (length old.code.items)) first
-    ∙ ap (λ n. jump_place (Some (place ++ op.Load ∷ op.TakeTemporary (i.temporary + limit) ∷ op.TakeTemporary n ∷ op.Operate Within ∷ [])) (length old.code.items)) second
+    ∙ ap (λ n. jump_place (Some (place ++ op.Load ∷ a ∷ op.TakeTemporary (i.temporary + n) ∷ op.Operate Within ∷ [])) (length old.code.items)) c.step_number-step.ensures
     ∙ ap (λ o. jump_place (test_against i o step) (length old.code.items)) (sym c.in-Some.is ∙ c.limit_number.ensures)

@@ -1,5 +1,5 @@
 use Rattle.std.proofs.Common.{drop, map}
-use Rattle.pli_operation.specs.views.OperationView.{operation_view}
+use Rattle.pli_type_tree.specs.views.TypedView.{operation_view}
 use Rattle.pli_gen_emit.specs.TreeTranslation.{conversion_code}
 use Rattle.pli_gen_emit.proofs.EmitLemmas.{IsAmid}
 use Rattle.pli_gen_emit.proofs.iteration.emit_store.Given as goal

@@ -12,7 +12,7 @@ use Rattle.pli_link.proofs.sizes.bytes_made.Goals as goal
 pub returns-in_err-with_all_own : goal.returns-in_err-with_all_own
 returns-in_err-with_all_own c =
     let cs = units_in c.args.names.now in
-    let shared = flat_map there (values_of (externals cs)) in
+    let shared = flat_map (λ d. there d.template) (values_of (externals cs)) in
     c.from_residual.ensures
     ∙ ap (λ o. if_counted o (λ more. counted more shared)) (sym c.in_err-with_all_own.was ∙ c.with_all_own.ensures.counts)
     ∙ sym (counted_behind 0 (all_own cs) shared)
@@ -20,8 +20,8 @@ returns-in_err-with_all_own c =
 pub returns : goal.returns
 returns c =
     let cs = units_in c.args.names.now in
-    let shared = flat_map there (values_of (externals cs)) in
+    let shared = flat_map (λ d. there d.template) (values_of (externals cs)) in
     c.with_externals.ensures.counts
-    ∙ ap (λ es. counted c.in_ok-with_all_own.field-0 (flat_map there (values_of es))) c.requires.1
+    ∙ ap (λ es. counted c.in_ok-with_all_own.field-0 (flat_map (λ d. there d.template) (values_of es))) c.requires.1
     ∙ ap (λ o. if_counted o (λ more. counted more shared)) (sym c.in_ok-with_all_own.was ∙ c.with_all_own.ensures.counts)
     ∙ sym (counted_behind 0 (all_own cs) shared)

@@ -13,4 +13,4 @@ invariant-loop-external l =
     (goal.iterator-loop-external).can_next l.external-iterator × (goal.iterator-loop-external).is_finite l.external-iterator
     × (l.bytes ≤ 16777216)
     × (counted l.bytes (shown l.external-iterator)
-    ≡ counted l.initial.bytes (flat_map there (values_of (externals_view l.externals.entries))))
+    ≡ counted l.initial.bytes (flat_map (λ d. there d.template) (values_of (externals_view l.externals.entries))))

@@ -7,11 +7,11 @@ use Rattle.pli_machine_perform.proofs.calling.call.Goals as goal
 
 pub returns-in-Some : goal.returns-in-Some
 returns-in-Some c =
-    block_found (called c.args.number c.args.arguments) (code_view c.args.unit.now.linked.now.code) c.args.number (block_view c.in-Some.block.now)
+    block_found (called c.args.number c.args.arguments) (code_view c.args.unit.now.linked.now.deck.code) c.args.number (block_view c.in-Some.block.now)
     c.args.machine.now c.call_with.new.machine c.call_with.result
     (rw c.in-Some.is at c.block_at.ensures) c.call_with.ensures
 
 pub returns-in-None : goal.returns-in-None
 returns-in-None c = λ image.
-    block_moves image (called c.args.number c.args.arguments) (code_view c.args.unit.now.linked.now.code) c.args.number None c.args.machine.now
+    block_moves image (called c.args.number c.args.arguments) (code_view c.args.unit.now.linked.now.deck.code) c.args.number None c.args.machine.now
     c.args.machine.now (Some stop.Fault) (rw c.in-None.is at c.block_at.ensures) (λ put. refl)

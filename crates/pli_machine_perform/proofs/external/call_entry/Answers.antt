@@ -5,7 +5,7 @@ use Rattle.pli_world.specs.World.{World}
 use Rattle.pli_program.specs.Program.{GlobalCode, OwnVariable, ExternalVariable, ControlledVariable, EntryPoint, UnitCode}
 use Rattle.pli_machine_step.specs.Machine.{Frame, called_entry, called_unit}
 use Rattle.pli_code.specs.Modules.{unit_of, program_of}
-use Rattle.pli_code.specs.views.CodeView.{unit_view}
+use Rattle.pli_code.specs.views.CodeView.{member_view}
 use Rattle.pli_machine_perform.specs.views.ImageView.{image_of}
 use Rattle.pli_machine_perform.specs.views.MachineView.{frame_view, frames_of, world_of, left_of, leads}
 use Rattle.pli_machine_perform.specs.views.TableView.{entry_at}
@@ -43,7 +43,7 @@ returns-in-Some c =
     (λ stop moves put.
     ap (λ move. leads move (left_of m))
     (entry_called (program_of image.linked).units c.args.arguments c.in-Some.number
-    (slice_get (unit_of (unit_view u.linked.now)).globals c.args.global) (frame_view m.here)
+    (slice_get (unit_of (member_view u.linked.now)).globals c.args.global) (frame_view m.here)
     (frames_of m.waiting.items) (world_of image m put) there)
     ∙ moves image put)
     c.call_unit.ensures

@@ -9,17 +9,11 @@ returns-in-Some-EntryPoint c =
     let globals = c.args.globals.now in
     ap entry_found (slice_get_read globals (length globals) c.args.number c.in-Some-EntryPoint.field-0.now refl h.3.0 h.1 ∙ ap Some c.in-Some-EntryPoint.field-0-is)
 
-pub returns-in-Some-OwnVariable : goal.returns-in-Some-OwnVariable
-returns-in-Some-OwnVariable c =
-    let h = c.in-Some-OwnVariable.ensures.lookup in
+pub returns-in-Some-Variable : goal.returns-in-Some-Variable
+returns-in-Some-Variable c =
+    let h = c.in-Some-Variable.ensures.lookup in
     let globals = c.args.globals.now in
-    ap entry_found (slice_get_read globals (length globals) c.args.number c.in-Some-OwnVariable.field-0.now refl h.3.0 h.1 ∙ ap Some c.in-Some-OwnVariable.field-0-is)
-
-pub returns-in-Some-ExternalVariable : goal.returns-in-Some-ExternalVariable
-returns-in-Some-ExternalVariable c =
-    let h = c.in-Some-ExternalVariable.ensures.lookup in
-    let globals = c.args.globals.now in
-    ap entry_found (slice_get_read globals (length globals) c.args.number c.in-Some-ExternalVariable.field-0.now refl h.3.0 h.1 ∙ ap Some c.in-Some-ExternalVariable.field-0-is)
+    ap entry_found (slice_get_read globals (length globals) c.args.number c.in-Some-Variable.field-0.now refl h.3.0 h.1 ∙ ap Some c.in-Some-Variable.field-0-is)
 
 pub returns-in-Some-ControlledVariable : goal.returns-in-Some-ControlledVariable
 returns-in-Some-ControlledVariable c =

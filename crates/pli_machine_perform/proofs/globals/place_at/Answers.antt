@@ -3,17 +3,11 @@ use Rattle.std.proofs.lemmas.Option.{slice_get_read, slice_get_past}
 use Rattle.pli_machine_perform.specs.views.TableView.{standing_of}
 use Rattle.pli_machine_perform.proofs.globals.place_at.Goals as goal
 
-pub returns-in-Some-OwnVariable : goal.returns-in-Some-OwnVariable
-returns-in-Some-OwnVariable c =
-    let h = c.in-Some-OwnVariable.ensures.lookup in
+pub returns-in-Some-Variable : goal.returns-in-Some-Variable
+returns-in-Some-Variable c =
+    let h = c.in-Some-Variable.ensures.lookup in
     let globals = c.args.globals.now in
-    sym (ap standing_of (slice_get_read globals (length globals) c.args.number c.in-Some-OwnVariable.field-0.now refl h.3.0 h.1 ∙ ap Some c.in-Some-OwnVariable.field-0-is))
-
-pub returns-in-Some-ExternalVariable : goal.returns-in-Some-ExternalVariable
-returns-in-Some-ExternalVariable c =
-    let h = c.in-Some-ExternalVariable.ensures.lookup in
-    let globals = c.args.globals.now in
-    sym (ap standing_of (slice_get_read globals (length globals) c.args.number c.in-Some-ExternalVariable.field-0.now refl h.3.0 h.1 ∙ ap Some c.in-Some-ExternalVariable.field-0-is))
+    sym (ap standing_of (slice_get_read globals (length globals) c.args.number c.in-Some-Variable.field-0.now refl h.3.0 h.1 ∙ ap Some c.in-Some-Variable.field-0-is))
 
 pub returns-in-Some-EntryPoint : goal.returns-in-Some-EntryPoint
 returns-in-Some-EntryPoint c =

@@ -3,7 +3,7 @@ use Rattle.std.proofs.lemmas.Int.{to_z-of_z}
 use Rattle.std.proofs.lemmas.Result.{IfOk-weaker}
 use Rattle.pli_code.specs.Modules.{unit_of}
 use Rattle.pli_code.specs.declared.instruction.Instruction.TheVariants as coded
-use Rattle.pli_code.specs.views.CodeView.{unit_view}
+use Rattle.pli_code.specs.views.CodeView.{member_view}
 use Rattle.pli_machine_perform.specs.views.ImageView.{image_of}
 use Rattle.pli_machine_perform.specs.declared.machine.Stop.TheVariants as stop
 use Rattle.pli_machine_perform.proofs.InstructionsDo.{one_performs, does_performs, moves_performs, same_performs}
@@ -11,196 +11,112 @@ use Rattle.pli_machine_perform.proofs.performing.perform.Goals as goal
 
 pub returns-in-Step : goal.returns-in-Step
 returns-in-Step c =
-    one_performs (image_of c.args.unit.now.loaded.now) (unit_view c.args.unit.now.linked.now) c.args.instruction (coded.Step c.in-Step.statement) c.args.machine.now c.step.new.machine (c.step.result) c.in-Step.is c.step.ensures
+    one_performs (image_of c.args.unit.now.loaded.now) (member_view c.args.unit.now.linked.now) c.args.instruction (coded.Step c.in-Step.statement) c.args.machine.now c.step.new.machine (c.step.result) c.in-Step.is c.step.ensures
 
 pub returns-in-Line : goal.returns-in-Line
 returns-in-Line c =
-    one_performs (image_of c.args.unit.now.loaded.now) (unit_view c.args.unit.now.linked.now) c.args.instruction (coded.Line c.in-Line.statement) c.args.machine.now c.line.new.machine c.line.result c.in-Line.is c.line.ensures
+    one_performs (image_of c.args.unit.now.loaded.now) (member_view c.args.unit.now.linked.now) c.args.instruction (coded.Line c.in-Line.statement) c.args.machine.now c.line.new.machine c.line.result c.in-Line.is c.line.ensures
 
 pub returns-in-Jump : goal.returns-in-Jump
 returns-in-Jump c =
-    one_performs (image_of c.args.unit.now.loaded.now) (unit_view c.args.unit.now.linked.now) c.args.instruction (coded.Jump c.in-Jump.target) c.args.machine.now c.jump.new.machine (c.jump.result) c.in-Jump.is c.jump.ensures
+    one_performs (image_of c.args.unit.now.loaded.now) (member_view c.args.unit.now.linked.now) c.args.instruction (coded.Jump c.in-Jump.target) c.args.machine.now c.jump.new.machine (c.jump.result) c.in-Jump.is c.jump.ensures
 
 pub returns-in-JumpUnless : goal.returns-in-JumpUnless
 returns-in-JumpUnless c =
-    one_performs (image_of c.args.unit.now.loaded.now) (unit_view c.args.unit.now.linked.now) c.args.instruction (coded.JumpUnless c.in-JumpUnless.target) c.args.machine.now c.jump_unless.new.machine (c.jump_unless.result) c.in-JumpUnless.is c.jump_unless.ensures
+    one_performs (image_of c.args.unit.now.loaded.now) (member_view c.args.unit.now.linked.now) c.args.instruction (coded.JumpUnless c.in-JumpUnless.target) c.args.machine.now c.jump_unless.new.machine (c.jump_unless.result) c.in-JumpUnless.is c.jump_unless.ensures
 
 pub returns-in-Goto : goal.returns-in-Goto
 returns-in-Goto c =
-    one_performs (image_of c.args.unit.now.loaded.now) (unit_view c.args.unit.now.linked.now) c.args.instruction (coded.Goto c.in-Goto.outward c.in-Goto.target) c.args.machine.now c.go_to.new.machine (c.go_to.result) c.in-Goto.is c.go_to.ensures
+    one_performs (image_of c.args.unit.now.loaded.now) (member_view c.args.unit.now.linked.now) c.args.instruction (coded.Goto c.in-Goto.outward c.in-Goto.target) c.args.machine.now c.go_to.new.machine (c.go_to.result) c.in-Goto.is c.go_to.ensures
 
 pub returns-in-Call : goal.returns-in-Call
 returns-in-Call c =
-    moves_performs (image_of c.args.unit.now.loaded.now) (unit_view c.args.unit.now.linked.now) c.args.instruction (coded.Call c.in-Call.block c.in-Call.arguments) c.args.machine.now c.call.new.machine c.call.result c.in-Call.is c.call.ensures
+    moves_performs (image_of c.args.unit.now.loaded.now) (member_view c.args.unit.now.linked.now) c.args.instruction (coded.Call c.in-Call.block c.in-Call.arguments) c.args.machine.now c.call.new.machine c.call.result c.in-Call.is c.call.ensures
 
 pub returns-in-Begin : goal.returns-in-Begin
 returns-in-Begin c =
-    moves_performs (image_of c.args.unit.now.loaded.now) (unit_view c.args.unit.now.linked.now) c.args.instruction (coded.Begin c.in-Begin.block) c.args.machine.now c.begin.new.machine c.begin.result c.in-Begin.is c.begin.ensures
+    moves_performs (image_of c.args.unit.now.loaded.now) (member_view c.args.unit.now.linked.now) c.args.instruction (coded.Begin c.in-Begin.block) c.args.machine.now c.begin.new.machine c.begin.result c.in-Begin.is c.begin.ensures
 
 pub returns-in-Return : goal.returns-in-Return
 returns-in-Return c =
-    one_performs (image_of c.args.unit.now.loaded.now) (unit_view c.args.unit.now.linked.now) c.args.instruction (coded.Return c.in-Return.outward) c.args.machine.now c.return_from.new.machine (c.return_from.result) c.in-Return.is c.return_from.ensures
+    one_performs (image_of c.args.unit.now.loaded.now) (member_view c.args.unit.now.linked.now) c.args.instruction (coded.Return c.in-Return.outward) c.args.machine.now c.return_from.new.machine (c.return_from.result) c.in-Return.is c.return_from.ensures
 
 pub returns-in-ReturnValue : goal.returns-in-ReturnValue
 returns-in-ReturnValue c =
-    does_performs (image_of c.args.unit.now.loaded.now) (unit_view c.args.unit.now.linked.now) c.args.instruction (coded.ReturnValue c.in-ReturnValue.outward) c.args.machine.now c.return_value.new.machine c.return_value.result c.in-ReturnValue.is c.return_value.ensures
+    does_performs (image_of c.args.unit.now.loaded.now) (member_view c.args.unit.now.linked.now) c.args.instruction (coded.ReturnValue c.in-ReturnValue.outward) c.args.machine.now c.return_value.new.machine c.return_value.result c.in-ReturnValue.is c.return_value.ensures
 
 pub returns-in-Raise : goal.returns-in-Raise
 returns-in-Raise c =
-    one_performs (image_of c.args.unit.now.loaded.now) (unit_view c.args.unit.now.linked.now) c.args.instruction (coded.Raise c.in-Raise.error) c.args.machine.now c.args.machine.now (Some (stop.Raised c.in-Raise.error)) c.in-Raise.is (λ u image put. refl)
+    one_performs (image_of c.args.unit.now.loaded.now) (member_view c.args.unit.now.linked.now) c.args.instruction (coded.Raise c.in-Raise.error) c.args.machine.now c.args.machine.now (Some (stop.Raised c.in-Raise.error)) c.in-Raise.is (λ u image put. refl)
 
 pub returns-in-Stop : goal.returns-in-Stop
 returns-in-Stop c =
-    one_performs (image_of c.args.unit.now.loaded.now) (unit_view c.args.unit.now.linked.now) c.args.instruction coded.Stop c.args.machine.now c.args.machine.now (Some stop.Ended) c.in-Stop.is (λ u image put. refl)
+    one_performs (image_of c.args.unit.now.loaded.now) (member_view c.args.unit.now.linked.now) c.args.instruction coded.Stop c.args.machine.now c.args.machine.now (Some stop.Ended) c.in-Stop.is (λ u image put. refl)
 
 pub returns-in-Local : goal.returns-in-Local
 returns-in-Local c =
-    does_performs (image_of c.args.unit.now.loaded.now) (unit_view c.args.unit.now.linked.now) c.args.instruction (coded.Local c.in-Local.outward c.in-Local.slot) c.args.machine.now c.local.new.machine c.local.result c.in-Local.is c.local.ensures
+    does_performs (image_of c.args.unit.now.loaded.now) (member_view c.args.unit.now.linked.now) c.args.instruction (coded.Local c.in-Local.outward c.in-Local.slot) c.args.machine.now c.local.new.machine c.local.result c.in-Local.is c.local.ensures
 
 pub returns-in-Global : goal.returns-in-Global
 returns-in-Global c =
-    same_performs (image_of c.args.unit.now.loaded.now) (unit_view c.args.unit.now.linked.now) c.args.instruction (coded.Global c.in-Global.number) c.args.machine.now c.global.new.machine c.global.result c.in-Global.is
-    (IfOk-weaker c.global.result _ _ (λ s moves. moves (unit_of (unit_view c.args.unit.now.linked.now))) c.global.ensures)
+    same_performs (image_of c.args.unit.now.loaded.now) (member_view c.args.unit.now.linked.now) c.args.instruction (coded.Global c.in-Global.number) c.args.machine.now c.global.new.machine c.global.result c.in-Global.is
+    (IfOk-weaker c.global.result _ _ (λ s moves. moves (unit_of (member_view c.args.unit.now.linked.now))) c.global.ensures)
 
 pub returns-in-CallExternal : goal.returns-in-CallExternal
 returns-in-CallExternal c =
-    same_performs (image_of c.args.unit.now.loaded.now) (unit_view c.args.unit.now.linked.now) c.args.instruction (coded.CallExternal c.in-CallExternal.global c.in-CallExternal.arguments) c.args.machine.now c.call_entry.new.machine c.call_entry.result c.in-CallExternal.is
+    same_performs (image_of c.args.unit.now.loaded.now) (member_view c.args.unit.now.linked.now) c.args.instruction (coded.CallExternal c.in-CallExternal.global c.in-CallExternal.arguments) c.args.machine.now c.call_entry.new.machine c.call_entry.result c.in-CallExternal.is
     c.call_entry.ensures
 
 pub returns-in-Field : goal.returns-in-Field
 returns-in-Field c =
-    does_performs (image_of c.args.unit.now.loaded.now) (unit_view c.args.unit.now.linked.now) c.args.instruction (coded.Field c.in-Field.offset c.in-Field.description) c.args.machine.now c.field.new.machine c.field.result c.in-Field.is c.field.ensures
+    does_performs (image_of c.args.unit.now.loaded.now) (member_view c.args.unit.now.linked.now) c.args.instruction (coded.Field c.in-Field.offset c.in-Field.description) c.args.machine.now c.field.new.machine c.field.result c.in-Field.is c.field.ensures
 
 pub returns-in-Subscript : goal.returns-in-Subscript
 returns-in-Subscript c =
     let low : SFits w32 c.in-Subscript.low = search rules in
     let high : SFits w32 c.in-Subscript.high = search rules in
-    does_performs (image_of c.args.unit.now.loaded.now) (unit_view c.args.unit.now.linked.now) c.args.instruction (coded.Subscript c.in-Subscript.low c.in-Subscript.high c.in-Subscript.multiplier) c.args.machine.now c.subscript.new.machine c.subscript.result c.in-Subscript.is (rw (to_z-of_z w32 c.in-Subscript.low low, to_z-of_z w32 c.in-Subscript.high high) at c.subscript.ensures)
+    does_performs (image_of c.args.unit.now.loaded.now) (member_view c.args.unit.now.linked.now) c.args.instruction (coded.Subscript c.in-Subscript.low c.in-Subscript.high c.in-Subscript.multiplier) c.args.machine.now c.subscript.new.machine c.subscript.result c.in-Subscript.is (rw (to_z-of_z w32 c.in-Subscript.low low, to_z-of_z w32 c.in-Subscript.high high) at c.subscript.ensures)
 
 pub returns-in-Constant : goal.returns-in-Constant
 returns-in-Constant c =
-    does_performs (image_of c.args.unit.now.loaded.now) (unit_view c.args.unit.now.linked.now) c.args.instruction (coded.Constant c.in-Constant.value) c.args.machine.now c.constant.new.machine c.constant.result c.in-Constant.is c.constant.ensures
+    does_performs (image_of c.args.unit.now.loaded.now) (member_view c.args.unit.now.linked.now) c.args.instruction (coded.Constant c.in-Constant.value) c.args.machine.now c.constant.new.machine c.constant.result c.in-Constant.is c.constant.ensures
 
 pub returns-in-Load : goal.returns-in-Load
 returns-in-Load c =
-    does_performs (image_of c.args.unit.now.loaded.now) (unit_view c.args.unit.now.linked.now) c.args.instruction coded.Load c.args.machine.now c.load.new.machine c.load.result c.in-Load.is c.load.ensures
+    does_performs (image_of c.args.unit.now.loaded.now) (member_view c.args.unit.now.linked.now) c.args.instruction coded.Load c.args.machine.now c.load.new.machine c.load.result c.in-Load.is c.load.ensures
 
 pub returns-in-Store : goal.returns-in-Store
 returns-in-Store c =
-    does_performs (image_of c.args.unit.now.loaded.now) (unit_view c.args.unit.now.linked.now) c.args.instruction coded.Store c.args.machine.now c.store.new.machine c.store.result c.in-Store.is c.store.ensures
+    does_performs (image_of c.args.unit.now.loaded.now) (member_view c.args.unit.now.linked.now) c.args.instruction coded.Store c.args.machine.now c.store.new.machine c.store.result c.in-Store.is c.store.ensures
 
 pub returns-in-Copy : goal.returns-in-Copy
 returns-in-Copy c =
-    does_performs (image_of c.args.unit.now.loaded.now) (unit_view c.args.unit.now.linked.now) c.args.instruction coded.Copy c.args.machine.now c.copy.new.machine c.copy.result c.in-Copy.is c.copy.ensures
+    does_performs (image_of c.args.unit.now.loaded.now) (member_view c.args.unit.now.linked.now) c.args.instruction coded.Copy c.args.machine.now c.copy.new.machine c.copy.result c.in-Copy.is c.copy.ensures
 
 pub returns-in-MakeDummy : goal.returns-in-MakeDummy
 returns-in-MakeDummy c =
-    does_performs (image_of c.args.unit.now.loaded.now) (unit_view c.args.unit.now.linked.now) c.args.instruction (coded.MakeDummy c.in-MakeDummy.template) c.args.machine.now c.make_dummy.new.machine c.make_dummy.result c.in-MakeDummy.is c.make_dummy.ensures
+    does_performs (image_of c.args.unit.now.loaded.now) (member_view c.args.unit.now.linked.now) c.args.instruction (coded.MakeDummy c.in-MakeDummy.template) c.args.machine.now c.make_dummy.new.machine c.make_dummy.result c.in-MakeDummy.is c.make_dummy.ensures
 
 pub returns-in-Fit : goal.returns-in-Fit
 returns-in-Fit c =
-    does_performs (image_of c.args.unit.now.loaded.now) (unit_view c.args.unit.now.linked.now) c.args.instruction (coded.Fit c.in-Fit.description) c.args.machine.now c.fit.new.machine c.fit.result c.in-Fit.is c.fit.ensures
+    does_performs (image_of c.args.unit.now.loaded.now) (member_view c.args.unit.now.linked.now) c.args.instruction (coded.Fit c.in-Fit.description) c.args.machine.now c.fit.new.machine c.fit.result c.in-Fit.is c.fit.ensures
 
-pub returns-in-ToCharacters : goal.returns-in-ToCharacters
-returns-in-ToCharacters c =
-    does_performs (image_of c.args.unit.now.loaded.now) (unit_view c.args.unit.now.linked.now) c.args.instruction (coded.ToCharacters c.in-ToCharacters.width) c.args.machine.now c.from_one.new.machine c.from_one.result c.in-ToCharacters.is c.from_one.ensures
-
-pub returns-in-FromBits : goal.returns-in-FromBits
-returns-in-FromBits c =
-    does_performs (image_of c.args.unit.now.loaded.now) (unit_view c.args.unit.now.linked.now) c.args.instruction coded.FromBits c.args.machine.now c.from_one-in-FromBits.new.machine c.from_one-in-FromBits.result c.in-FromBits.is c.from_one-in-FromBits.ensures
-
-pub returns-in-Negate : goal.returns-in-Negate
-returns-in-Negate c =
-    does_performs (image_of c.args.unit.now.loaded.now) (unit_view c.args.unit.now.linked.now) c.args.instruction coded.Negate c.args.machine.now c.from_one-in-Negate.new.machine c.from_one-in-Negate.result c.in-Negate.is c.from_one-in-Negate.ensures
-
-pub returns-in-Absolute : goal.returns-in-Absolute
-returns-in-Absolute c =
-    does_performs (image_of c.args.unit.now.loaded.now) (unit_view c.args.unit.now.linked.now) c.args.instruction coded.Absolute c.args.machine.now c.from_one-in-Absolute.new.machine c.from_one-in-Absolute.result c.in-Absolute.is c.from_one-in-Absolute.ensures
-
-pub returns-in-Sign : goal.returns-in-Sign
-returns-in-Sign c =
-    does_performs (image_of c.args.unit.now.loaded.now) (unit_view c.args.unit.now.linked.now) c.args.instruction coded.Sign c.args.machine.now c.from_one-in-Sign.new.machine c.from_one-in-Sign.result c.in-Sign.is c.from_one-in-Sign.ensures
-
-pub returns-in-Not : goal.returns-in-Not
-returns-in-Not c =
-    does_performs (image_of c.args.unit.now.loaded.now) (unit_view c.args.unit.now.linked.now) c.args.instruction coded.Not c.args.machine.now c.from_one-in-Not.new.machine c.from_one-in-Not.result c.in-Not.is c.from_one-in-Not.ensures
-
-pub returns-in-LengthOf : goal.returns-in-LengthOf
-returns-in-LengthOf c =
-    does_performs (image_of c.args.unit.now.loaded.now) (unit_view c.args.unit.now.linked.now) c.args.instruction coded.LengthOf c.args.machine.now c.from_one-in-LengthOf.new.machine c.from_one-in-LengthOf.result c.in-LengthOf.is c.from_one-in-LengthOf.ensures
-
-pub returns-in-Add : goal.returns-in-Add
-returns-in-Add c =
-    does_performs (image_of c.args.unit.now.loaded.now) (unit_view c.args.unit.now.linked.now) c.args.instruction coded.Add c.args.machine.now c.from_two.new.machine c.from_two.result c.in-Add.is c.from_two.ensures
-
-pub returns-in-Subtract : goal.returns-in-Subtract
-returns-in-Subtract c =
-    does_performs (image_of c.args.unit.now.loaded.now) (unit_view c.args.unit.now.linked.now) c.args.instruction coded.Subtract c.args.machine.now c.from_two-in-Subtract.new.machine c.from_two-in-Subtract.result c.in-Subtract.is c.from_two-in-Subtract.ensures
-
-pub returns-in-Multiply : goal.returns-in-Multiply
-returns-in-Multiply c =
-    does_performs (image_of c.args.unit.now.loaded.now) (unit_view c.args.unit.now.linked.now) c.args.instruction coded.Multiply c.args.machine.now c.from_two-in-Multiply.new.machine c.from_two-in-Multiply.result c.in-Multiply.is c.from_two-in-Multiply.ensures
-
-pub returns-in-Modulo : goal.returns-in-Modulo
-returns-in-Modulo c =
-    does_performs (image_of c.args.unit.now.loaded.now) (unit_view c.args.unit.now.linked.now) c.args.instruction coded.Modulo c.args.machine.now c.from_two-in-Modulo.new.machine c.from_two-in-Modulo.result c.in-Modulo.is c.from_two-in-Modulo.ensures
-
-pub returns-in-Greatest : goal.returns-in-Greatest
-returns-in-Greatest c =
-    does_performs (image_of c.args.unit.now.loaded.now) (unit_view c.args.unit.now.linked.now) c.args.instruction coded.Greatest c.args.machine.now c.from_two-in-Greatest.new.machine c.from_two-in-Greatest.result c.in-Greatest.is c.from_two-in-Greatest.ensures
-
-pub returns-in-Least : goal.returns-in-Least
-returns-in-Least c =
-    does_performs (image_of c.args.unit.now.loaded.now) (unit_view c.args.unit.now.linked.now) c.args.instruction coded.Least c.args.machine.now c.from_two-in-Least.new.machine c.from_two-in-Least.result c.in-Least.is c.from_two-in-Least.ensures
-
-pub returns-in-Divide : goal.returns-in-Divide
-returns-in-Divide c =
-    does_performs (image_of c.args.unit.now.loaded.now) (unit_view c.args.unit.now.linked.now) c.args.instruction (coded.Divide c.in-Divide.precision) c.args.machine.now c.from_two-in-Divide.new.machine c.from_two-in-Divide.result c.in-Divide.is c.from_two-in-Divide.ensures
-
-pub returns-in-Compare : goal.returns-in-Compare
-returns-in-Compare c =
-    does_performs (image_of c.args.unit.now.loaded.now) (unit_view c.args.unit.now.linked.now) c.args.instruction (coded.Compare c.in-Compare.relation) c.args.machine.now c.from_two-in-Compare.new.machine c.from_two-in-Compare.result c.in-Compare.is c.from_two-in-Compare.ensures
-
-pub returns-in-Concatenate : goal.returns-in-Concatenate
-returns-in-Concatenate c =
-    does_performs (image_of c.args.unit.now.loaded.now) (unit_view c.args.unit.now.linked.now) c.args.instruction coded.Concatenate c.args.machine.now c.from_two-in-Concatenate.new.machine c.from_two-in-Concatenate.result c.in-Concatenate.is c.from_two-in-Concatenate.ensures
-
-pub returns-in-And : goal.returns-in-And
-returns-in-And c =
-    does_performs (image_of c.args.unit.now.loaded.now) (unit_view c.args.unit.now.linked.now) c.args.instruction coded.And c.args.machine.now c.from_two-in-And.new.machine c.from_two-in-And.result c.in-And.is c.from_two-in-And.ensures
-
-pub returns-in-Or : goal.returns-in-Or
-returns-in-Or c =
-    does_performs (image_of c.args.unit.now.loaded.now) (unit_view c.args.unit.now.linked.now) c.args.instruction coded.Or c.args.machine.now c.from_two-in-Or.new.machine c.from_two-in-Or.result c.in-Or.is c.from_two-in-Or.ensures
-
-pub returns-in-Index : goal.returns-in-Index
-returns-in-Index c =
-    does_performs (image_of c.args.unit.now.loaded.now) (unit_view c.args.unit.now.linked.now) c.args.instruction coded.Index c.args.machine.now c.from_two-in-Index.new.machine c.from_two-in-Index.result c.in-Index.is c.from_two-in-Index.ensures
-
-pub returns-in-Rest : goal.returns-in-Rest
-returns-in-Rest c =
-    does_performs (image_of c.args.unit.now.loaded.now) (unit_view c.args.unit.now.linked.now) c.args.instruction coded.Rest c.args.machine.now c.from_two-in-Rest.new.machine c.from_two-in-Rest.result c.in-Rest.is c.from_two-in-Rest.ensures
-
-pub returns-in-Substring : goal.returns-in-Substring
-returns-in-Substring c =
-    does_performs (image_of c.args.unit.now.loaded.now) (unit_view c.args.unit.now.linked.now) c.args.instruction coded.Substring c.args.machine.now c.from_three.new.machine c.from_three.result c.in-Substring.is c.from_three.ensures
-
-pub returns-in-Within : goal.returns-in-Within
-returns-in-Within c =
-    does_performs (image_of c.args.unit.now.loaded.now) (unit_view c.args.unit.now.linked.now) c.args.instruction coded.Within c.args.machine.now c.within.new.machine c.within.result c.in-Within.is c.within.ensures
+pub returns-in-Operate : goal.returns-in-Operate
+returns-in-Operate c =
+    does_performs (image_of c.args.unit.now.loaded.now) (member_view c.args.unit.now.linked.now) c.args.instruction (coded.Operate c.in-Operate.operation) c.args.machine.now c.calculate.new.machine c.calculate.result c.in-Operate.is c.calculate.ensures
 
 pub returns-in-Put : goal.returns-in-Put
 returns-in-Put c =
-    does_performs (image_of c.args.unit.now.loaded.now) (unit_view c.args.unit.now.linked.now) c.args.instruction coded.Put c.args.machine.now c.put.new.machine c.put.result c.in-Put.is c.put.ensures
+    does_performs (image_of c.args.unit.now.loaded.now) (member_view c.args.unit.now.linked.now) c.args.instruction coded.Put c.args.machine.now c.put.new.machine c.put.result c.in-Put.is c.put.ensures
 
 pub returns-in-Skip : goal.returns-in-Skip
 returns-in-Skip c =
-    does_performs (image_of c.args.unit.now.loaded.now) (unit_view c.args.unit.now.linked.now) c.args.instruction coded.Skip c.args.machine.now c.skip.new.machine c.skip.result c.in-Skip.is c.skip.ensures
+    does_performs (image_of c.args.unit.now.loaded.now) (member_view c.args.unit.now.linked.now) c.args.instruction coded.Skip c.args.machine.now c.skip.new.machine c.skip.result c.in-Skip.is c.skip.ensures
 
 pub returns-in-SetTemporary : goal.returns-in-SetTemporary
 returns-in-SetTemporary c =
-    does_performs (image_of c.args.unit.now.loaded.now) (unit_view c.args.unit.now.linked.now) c.args.instruction (coded.SetTemporary c.in-SetTemporary.number) c.args.machine.now c.set_temporary.new.machine c.set_temporary.result c.in-SetTemporary.is c.set_temporary.ensures
+    does_performs (image_of c.args.unit.now.loaded.now) (member_view c.args.unit.now.linked.now) c.args.instruction (coded.SetTemporary c.in-SetTemporary.number) c.args.machine.now c.set_temporary.new.machine c.set_temporary.result c.in-SetTemporary.is c.set_temporary.ensures
 
 pub returns-in-TakeTemporary : goal.returns-in-TakeTemporary
 returns-in-TakeTemporary c =
-    does_performs (image_of c.args.unit.now.loaded.now) (unit_view c.args.unit.now.linked.now) c.args.instruction (coded.TakeTemporary c.in-TakeTemporary.number) c.args.machine.now c.take_temporary.new.machine c.take_temporary.result c.in-TakeTemporary.is c.take_temporary.ensures
+    does_performs (image_of c.args.unit.now.loaded.now) (member_view c.args.unit.now.linked.now) c.args.instruction (coded.TakeTemporary c.in-TakeTemporary.number) c.args.machine.now c.take_temporary.new.machine c.take_temporary.result c.in-TakeTemporary.is c.take_temporary.ensures

@@ -12,7 +12,7 @@ use Rattle.pli_machine_perform.proofs.EnteredBlocks.{block_there}
 use Rattle.pli_machine_perform.proofs.starting.begin_first.Goals as goal
 
 pub begin_main-requires : goal.begin_main-requires
-begin_main-requires c = sym (c.is_main.ensures (code_view c.args.unit.now.code)) ∙ c.if-is_main.true
+begin_main-requires c = sym (c.is_main.ensures (code_view c.args.unit.now.deck.code)) ∙ c.if-is_main.true
 
 pub returns-then-is_main : goal.returns-then-is_main
 returns-then-is_main c =
@@ -21,13 +21,13 @@ returns-then-is_main c =
     (λ beginning begins image named.
     begins_as image _ _ beginning
     (ap (λ o. resume (main_block c.args.number o (first_world c.args.storage image.statics)) c.args.limit)
-    (block_there (code_view c.args.unit.now.code) 0 (Some (block_view c.in-Some.block.now)) there))
+    (block_there (code_view c.args.unit.now.deck.code) 0 (Some (block_view c.in-Some.block.now)) there))
     (begins image named))
     c.begin_main.ensures
 
 pub returns-in-Some : goal.returns-in-Some
 returns-in-Some c = λ image named.
-    let code = code_view c.args.unit.now.code in
+    let code = code_view c.args.unit.now.deck.code in
     let there = rw c.in-Some.is at c.block_at.ensures in
     record {
       end = MachineFault;
@@ -46,6 +46,6 @@ returns c = λ image named.
       end = MachineFault;
       over =
           ap (λ o. shown (resume (main_block c.args.number o (first_world c.args.storage image.statics)) c.args.limit))
-          (block_there (code_view c.args.unit.now.code) 0 None there);
+          (block_there (code_view c.args.unit.now.deck.code) 0 None there);
       is = refl;
     }

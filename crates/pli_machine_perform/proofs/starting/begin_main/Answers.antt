@@ -19,14 +19,14 @@ pub returns-then-limit-eq0 : goal.returns-then-limit-eq0
 returns-then-limit-eq0 c = λ image named. record {
   end = OutOfSteps;
   over =
-      no_step c.args.number (block_looked_up (code_view c.args.unit.now.code) (block_view c.args.block.now))
+      no_step c.args.number (block_looked_up (code_view c.args.unit.now.deck.code) (block_view c.args.block.now))
       c.args.storage image.statics c.args.limit c.requires c.if-limit-eq0.true;
   is = refl;
 }
 
 pub returns-in-Ok : goal.returns-in-Ok
 returns-in-Ok c = λ image named.
-    let code = code_view c.args.unit.now.code in
+    let code = code_view c.args.unit.now.deck.code in
     let b = block_looked_up code (block_view c.args.block.now) in
     let is = begun_main image c.args.storage c.in_ok-here.here c.new-3.result.items c.new-4.result.items c.args.number b
     c.new.result.items c.new-2.result.items
@@ -44,7 +44,7 @@ returns-in-Ok c = λ image named.
 
 pub returns : goal.returns
 returns c = λ image named.
-    let code = code_view c.args.unit.now.code in
+    let code = code_view c.args.unit.now.deck.code in
     let b = block_looked_up code (block_view c.args.block.now) in
     let is = begun_main image c.args.storage c.in_ok-here.here c.new-3.result.items c.new-4.result.items c.args.number b
     c.new.result.items c.new-2.result.items
@@ -57,7 +57,7 @@ returns c = λ image named.
     let ends = subst (λ ns. EndsAs c.in-Err.fault (made_all (variables_at code ns) mid) v) c.deref.ensures.value (c.in-Err.ensures.made image []) in
     let begun =
     one_step c.args.number b c.args.storage image.statics c.args.limit (c.args.limit - 1) c.requires (omega arith) in
-    ends_main c.in-Err.fault image last c.args.unit.now.unit c.args.block.now.statement c.in_ok-ending-in-Err.ending _ (frame_view last.here) []
+    ends_main c.in-Err.fault image last c.args.unit.now.name c.args.block.now.statement c.in_ok-ending-in-Err.ending _ (frame_view last.here) []
     (λ s stops. ap shown begun ∙ enters_stops c.args.number 0 b 0 [] (stepped (first_world c.args.storage image.statics)) mid is
     [] (c.args.limit - 1) c.in-Err.fault s (frame_view last.here) [] v 0 ends stops same.output same.column)
     c.in_ok-ending-in-Err.ensures

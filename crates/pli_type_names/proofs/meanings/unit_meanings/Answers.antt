@@ -5,9 +5,19 @@ use Rattle.pli_type.specs.NamedUnits.{all_tokens, block_symbols, globals_in, par
 use Rattle.pli_type.specs.TextOrder.{text_places}
 use Rattle.pli_type_names.specs.BlockFacts.{facts_of}
 use Rattle.pli_type_names.specs.Seen.{Kept, kept_symbols}
-use Rattle.pli_type_names.proofs.BlockLemmas.{rows_of, row_there, symbols_there, all_rows, globals_more}
+use Rattle.pli_type_names.proofs.BlockLemmas.{rows_of, row_there, symbols_there, all_rows, globals_more, globals_placed}
 use Rattle.pli_type_names.proofs.ListLemmas.{take_one_more}
 use Rattle.pli_type_names.proofs.meanings.unit_meanings.Goals as goal
+
+pub put_meanings-requires : goal.put_meanings-requires
+put_meanings-requires c =
+    let r = resolved_unit_of (unit_view c.args.resolved.now) in
+    omega (arith, c.loop-block.invariant.globals, globals_placed (all_symbols r) c.loop-block.block, ap length (c.deref.ensures.value ∙ c.in_ok-places.ensures))
+
+pub put_meanings-requires-2 : goal.put_meanings-requires-2
+put_meanings-requires-2 c =
+    let r = resolved_unit_of (unit_view c.args.resolved.now) in
+    omega (arith, c.loop-block.invariant.globals, globals_placed (all_symbols r) c.loop-block.block, ap length (c.deref-2.ensures.value ∙ c.in_ok-places.ensures))
 
 pub loop-block-preserved : goal.loop-block-preserved
 loop-block-preserved c =

@@ -8,14 +8,14 @@ use Rattle.pli_type_names.proofs.order.places_among.Goals as goal
 pub loop-place-init : goal.loop-place-init
 loop-place-init c =
     c.in_ok-places.ensures.items_if_clones_equal (λ y e. e)
-    ∙ places_first c.args.numbers.now c.in-Ok.count (omega (arith, c.in-Ok.ensures.1))
+    ∙ places_first c.args.numbers.now (length c.args.numbers.now) (omega arith)
 
 pub index_mut-requires : goal.index_mut-requires
 index_mut-requires c =
     let l = c.loop-place in
     let numbers = c.args.numbers.now in
     let place = l.place - 1 in
-    let within : place < length numbers = omega (arith, c.in-Ok.ensures.1, l.auto.place, c.loop-place-test.true) in
+    let within : place < length numbers = omega (arith, l.auto.place, c.loop-place-test.true) in
     let long : length l.places.items ≡ length numbers =
     ap (λ (xs : List ℕ). length xs) l.invariant
     ∙ length-map (numbers_from 0 (length numbers)) (λ n. place_from l.place n (drop l.place numbers))
@@ -29,7 +29,7 @@ loop-place-preserved c =
     let place = l.place - 1 in
     let number = get_or numbers place 0 in
     let next : l.place ≡ place + 1 = omega (arith, c.loop-place-test.true) in
-    let within : place < length numbers = omega (arith, c.in-Ok.ensures.1, l.auto.place, c.loop-place-test.true) in
+    let within : place < length numbers = omega (arith, l.auto.place, c.loop-place-test.true) in
     ap (λ xs. slice_set xs number place)
     (l.invariant ∙ ap (λ k. map (λ n. place_from k n (drop k numbers)) (numbers_from 0 (length numbers))) next)
     ∙ place_more numbers place number (length numbers) within refl

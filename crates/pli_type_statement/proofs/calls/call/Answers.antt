@@ -1,4 +1,4 @@
-use Rattle.std.proofs.Common.{None, Some, map, option_map, ap, sym, ◌∙◌, rules, subst}
+use Rattle.std.proofs.Common.{None, Some, map, option_map, ap, sym, ◌∙◌, subst}
 use Rattle.std.proofs.lemmas.Result.{err_from_is_err_and}
 use Rattle.pli_base.specs.views.SyntaxView as syntax
 use Rattle.pli_map.specs.views.DescriptionView.{description_view}

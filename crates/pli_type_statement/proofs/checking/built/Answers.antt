@@ -14,6 +14,7 @@ use Rattle.pli_type_statement.specs.Parts.{told, Adds, unit_named}
 use Rattle.pli_type_statement.specs.Walking.{finished, unit_with}
 use Rattle.pli_type_statement.proofs.WalkEndLemmas.{all_of, built_first, first_entered, placed_first}
 use Rattle.pli_type_statement.proofs.WalkEndLemmas.{globals_first, templates_first, whole_walked}
+use Rattle.pli_type_statement.proofs.RoomLeft.{room_at_first}
 use Rattle.pli_type_statement.proofs.Units.{faulty, returned_found, typed, typed_list}
 use Rattle.pli_type_statement.proofs.checking.built.Goals as goal
 
@@ -31,6 +32,7 @@ type_statements-requires c =
           placed_first u _ _ _ c.in_ok-templates.templates named c.in_ok-surroundings.ensures refl
           c.in_ok-templates.ensures.automatic c.take-variables.ensures.others;
       built = built_first u c.enter.new.self c.as_slice-statements.result.now named same built;
+      room = room_at_first u c.as_slice-statements.result.now same c.in_ok-templates.ensures.regions;
     }
 
 pub returns-in_ok-typed_unit-in-Some : goal.returns-in_ok-typed_unit-in-Some

@@ -1,4 +1,4 @@
-use Rattle.std.proofs.Common.{None, ap, sym, ◌∙◌, subst}
+use Rattle.std.proofs.Common.{ap, sym, ◌∙◌, subst}
 use Rattle.pli_base.specs.declared.code.Code.TheVariants.{NotYetBuilt}
 use Rattle.pli_type.specs.StatementTyping as spec
 use Rattle.pli_base.specs.answers.FailureAnswers.{Fails}
@@ -25,4 +25,4 @@ returns-in-None c =
     subst (λ e. Fails e (spec.goto_typed n s c.args.label)) (sym c.fault-in-None.ensures)
     (ap (λ m. or_fault NotYetBuilt c.args.label.at (spec.jump s m)) is
     ∙ ap (λ o. or_fault NotYetBuilt c.args.label.at (spec.jump_to c.in-Label.statement o))
-    (ap (λ ls. spec.label_found (blocks_of (lists_view ls)) c.in-Label.statement) (sym c.as_slice.ensures.value) ∙ sym c.in_ok-outward.ensures ∙ c.in-None.is))
+    (ap (λ ls. spec.label_found (blocks_of (lists_view ls)) c.in-Label.statement) (sym c.as_slice.ensures.value) ∙ sym c.outward_to.ensures ∙ c.in-None.is))

@@ -1,10 +1,9 @@
 use Rattle.std.proofs.Common.{option_map, ap, sym, ◌∙◌}
 use Rattle.pli_base.specs.views.SyntaxView as syntax
-use Rattle.pli_type.specs.StatementTyping as spec
 use Rattle.pli_type.specs.Unbuilt.{later_expression, later_part}
 use Rattle.pli_type.specs.views.ValueView.{value_view}
 use Rattle.pli_type_expression.proofs.BindLemmas.{exits}
-use Rattle.pli_type_names.specs.UnitNaming.{compiled_in, naming_in}
+use Rattle.pli_type_names.specs.UnitNaming.{compiled_in}
 use Rattle.pli_type_statement.specs.Around.{surroundings_of}
 use Rattle.pli_type_statement.specs.views.AroundView.{around_view}
 use Rattle.pli_type_tree.specs.views.TypedView.{form_view}

@@ -1,9 +1,12 @@
-use Rattle.std.proofs.Common.{◌≡◌, None, false, drop}
+use Rattle.std.proofs.Common.{◌≡◌, ◌<◌, None, false, drop}
+use Rattle.std.specs.Prelude.{IfSome}
 use Rattle.pli_type_statement.specs.views.AroundView.{lists_view}
 use Rattle.pli_type_statement.proofs.SearchLemmas.{searched}
 use Rattle.pli_type_statement.proofs.labels.outward_to.Given as goal
 
--- the lists that are left give what all give
+-- the lists that are left give what all give; fewer links lead outward than there are lists
 abbrev pub invariant-loop-list : goal.invariant-loop-list
-invariant-loop-list l =
-    searched l.label l.outward l.is_inside (lists_view (drop l.list-index l.lists)) ≡ searched l.label None false (lists_view l.lists)
+invariant-loop-list l = record {
+  left : searched l.label l.outward l.is_inside (lists_view (drop l.list-index l.lists)) ≡ searched l.label None false (lists_view l.lists);
+  few : IfSome l.outward (λ links. links < l.list-index);
+}

@@ -1,24 +1,25 @@
-use Rattle.std.proofs.Common.{◌≡◌, IfOk, ◌+◌, ◌<◌, ◌≤◌, ◌&&◌, ℕ, suc, None, Some, Vec, Global, length, map, drop, option_map, refl, ap, sym, ◌∙◌, subst, arith, true, false}
+use Rattle.std.proofs.Common.{◌≡◌, IfOk, ◌+◌, ◌<◌, ◌≤◌, ◌&&◌, suc, None, Vec, Global, length, map, drop, option_map, refl, ap, sym, ◌∙◌, subst, arith, true}
 use Rattle.pli_base.specs.Statements as tree
 use Rattle.pli_base.specs.declared.statement.Procedure.{out-Procedure}
 use Rattle.pli_base.specs.laws.StatementLaws as laws
 use Rattle.pli_base.specs.views.StatementView as source
 use Rattle.pli_base.specs.views.SyntaxView as syntax
+use Rattle.pli_declare_outline.specs.Outlines.{regions_among, regions_else, regions_of}
 use Rattle.pli_map.specs.views.DescriptionView.{description_view}
 use Rattle.pli_type.specs.StatementTyping as spec
 use Rattle.pli_type.specs.StatementTyping.{labels_of}
 use Rattle.pli_type.specs.Temporaries.{behind}
 use Rattle.pli_type.specs.Unbuilt.{later_alternative, later_body, later_statement, later_statements}
-use Rattle.pli_type_names.specs.UnitNaming.{Names, compiled_in, procedure_in}
+use Rattle.pli_type_names.specs.UnitNaming.{Names, compiled_in}
 use Rattle.pli_type_tree.specs.TypedTree as plain
 use Rattle.pli_type_tree.specs.declared.statement.TypedStatement.{TypedStatement}
-use Rattle.pli_type_tree.specs.views.TypedView.{expression_view, form_view, head_view, statement_view, statements_view}
-use Rattle.pli_type_statement.specs.Walking.{WalksBody, WalksList, around, next_at, unit_at}
-use Rattle.pli_type_statement.specs.views.AroundView.{around_view}
+use Rattle.pli_type_tree.specs.views.TypedView.{form_view, statement_view, statements_view}
+use Rattle.pli_type_statement.specs.Walking.{HasRoom, WalksBody, WalksList, around, next_at, unit_at}
 use Rattle.pli_type_statement.specs.views.HeaderView.{header_view}
 use Rattle.pli_type_statement.proofs.Blocks.{begin_walked, block_placed, block_walked, group_placed, group_walked, in_group_around, procedure_answer, returned_is}
 use Rattle.pli_type_statement.proofs.NothingLater.{statement_built, procedure_built, do_built, if_built}
-use Rattle.pli_type_statement.proofs.SizeLemmas.{statement_size, body_size, list_size, alternative_size, item_size}
+use Rattle.pli_type_statement.proofs.RoomLeft.{room_behind, room_controlled, room_else, room_first, room_if, room_inside, room_next}
+use Rattle.pli_type_statement.proofs.SizeLemmas.{statement_size, body_size, alternative_size, item_size}
 use Rattle.pli_type_statement.proofs.TurnLemmas.{all_walked, do_walked, goes_on_first, goes_on_next, if_next_none, if_next_some, in_front, next_built, none_walked, simple_answer}
 use Rattle.pli_type_statement.proofs.WalkLemmas.{as_typed, if_walked, made_walked, back_then, moved, nothing_walked}
 use Rattle.pli_type_statement.proofs.statement.+typed.Goals as goal
@@ -33,7 +34,10 @@ type_statement-type_body-requires t c =
       omega (arith, c.decreases),
       (
         c.requires.placed,
-        statement_built (compiled_in n) s.number s.label s.at (source.body_view s.body) c.requires.built,
+        (
+          statement_built (compiled_in n) s.number s.label s.at (source.body_view s.body) c.requires.built,
+          c.requires.room,
+        ),
       ),
     )
 
@@ -49,8 +53,11 @@ type_block-type_statements-requires t c =
     let ss = source.statements_view c.args.statements.now in (
       omega (arith, c.decreases),
       (
-        block_placed c.args.walk.now _ c.in_ok-block.block _ _ _ c.requires.placed c.in_ok-block.ensures,
-        subst (λ (n : Names). later_statements (compiled_in n) ss ≡ None) (sym c.in_ok-block.ensures.naming) c.requires.built,
+        block_placed c.args.walk.now _ c.in_ok-block.block _ _ _ c.requires.deep c.requires.placed c.in_ok-block.ensures,
+        (
+          subst (λ (n : Names). later_statements (compiled_in n) ss ≡ None) (sym c.in_ok-block.ensures.naming) c.requires.built,
+          subst (λ x. HasRoom x (regions_among ss)) (sym c.in_ok-block.ensures.next) (room_inside (next_at c.args.walk.now) (regions_among ss) c.requires.room),
+        ),
       ),
     )
 
@@ -72,7 +79,13 @@ type_body-type_block-requires t c =
       omega (arith, c.decreases, ap body_size is),
       (
         c.requires.placed,
-        procedure_built (compiled_in n) c.requires.built.0 h ss end (ap (later_body (compiled_in n) c.requires.built.0) (sym is) ∙ c.requires.built.1),
+        (
+          procedure_built (compiled_in n) c.requires.built.0 h ss end (ap (later_body (compiled_in n) c.requires.built.0) (sym is) ∙ c.requires.built.1),
+          (
+            subst (λ b. HasRoom (next_at c.args.walk.now) (regions_of b)) is c.requires.room,
+            omega arith,
+          ),
+        ),
       ),
     )
 
@@ -100,7 +113,13 @@ type_body-type_block-requires-in-Begin t c =
       omega (arith, c.decreases, ap body_size is),
       (
         c.requires.placed,
-        ap (later_body (compiled_in n) c.requires.built.0) (sym is) ∙ c.requires.built.1,
+        (
+          ap (later_body (compiled_in n) c.requires.built.0) (sym is) ∙ c.requires.built.1,
+          (
+            subst (λ b. HasRoom (next_at c.args.walk.now) (regions_of b)) is c.requires.room,
+            omega (arith, c.requires.placed.deep),
+          ),
+        ),
       ),
     )
 
@@ -111,10 +130,10 @@ type_body-returns-in_ok-block-in-Begin t c =
     let ss = source.statements_view c.as_slice.result.now in
     let is : source.body_view c.args.body.now ≡ tree.Begin ss b.end =
     ap source.body_view b.is ∙ laws.begin_made b.statements b.end ∙ ap (λ xs. tree.Begin (source.statements_view xs) b.end) (sym c.as_slice.ensures.value) in
-    let one_more : c.in_ok-begins-in-Begin.begins ≡ suc w.surroundings.begins = c.in_ok-begins-in-Begin.ensures ∙ omega arith in
+    let one_more : w.surroundings.begins + 1 ≡ suc w.surroundings.begins = omega arith in
     subst (λ x. WalksBody w c.type_block-in-Begin.new.walk c.args.number c.args.at x (option_map form_view c.begin_form.result)) (sym is)
     (as_typed _ _ _ _ _ _ _ _ refl refl c.begin_form.ensures
-    (begin_walked w _ c.args.number c.args.at ss b.end c.in_ok-begins-in-Begin.begins c.in_ok-block-in-Begin.block.head _ one_more c.in_ok-block-in-Begin.ensures))
+    (begin_walked w _ c.args.number c.args.at ss b.end (w.surroundings.begins + 1) c.in_ok-block-in-Begin.block.head _ one_more c.in_ok-block-in-Begin.ensures))
 
 -- groups
 
@@ -129,6 +148,9 @@ type_body-type_header-requires-clause-built t c =
     (do_built (compiled_in n) c.requires.built.0 (option_map source.control_view b.control) (source.statements_view b.statements.items) b.end
     (ap (later_body (compiled_in n) c.requires.built.0) (sym is) ∙ c.requires.built.1)).0
 
+pub type_body-type_header-requires-clause-room : goal.type_body-type_header-requires-clause-room
+type_body-type_header-requires-clause-room t c = omega (arith, c.requires.room.temporaries)
+
 pub type_body-type_group-requires : goal.type_body-type_group-requires
 type_body-type_group-requires t c =
     let n = c.args.walk.now.naming in
@@ -142,7 +164,12 @@ type_body-type_group-requires t c =
       omega (arith, c.decreases, ap body_size is),
       (
         c.in_ok-header-in-Do.ensures.back.placed,
-        subst (λ (n : Names). later_statements (compiled_in n) ss ≡ None) (sym c.in_ok-header-in-Do.ensures.back.naming) built,
+        (
+          subst (λ (n : Names). later_statements (compiled_in n) ss ≡ None) (sym c.in_ok-header-in-Do.ensures.back.naming) built,
+          subst (λ x. HasRoom x (regions_among ss)) (sym c.in_ok-header-in-Do.ensures.next)
+              (room_controlled (next_at c.args.walk.now) (option_map source.control_view b.control) (regions_among ss)
+              (subst (λ b. HasRoom (next_at c.args.walk.now) (regions_of b)) is c.requires.room)),
+        ),
       ),
     )
 
@@ -165,7 +192,10 @@ type_group-type_statements-requires t c = (
   omega (arith, c.decreases),
   (
     group_placed c.args.walk.now _ c.in_ok-labels.labels.items c.requires.placed refl (in_group_around c.args.walk.now.surroundings c.enter.new.self _ _ refl c.in_ok-enter.ensures.lists c.enter.ensures.begins c.enter.ensures.value) refl refl,
-    c.requires.built,
+    (
+      c.requires.built,
+      c.requires.room,
+    ),
   ),
 )
 
@@ -201,7 +231,12 @@ type_body-type_statement-requires t c =
       omega (arith, c.decreases, ap body_size is, ap (λ s. statement_size (source.statement_view s)) c.deref.ensures),
       (
         back.placed,
-        ap (λ (n : Names). later_statement (compiled_in n) (source.statement_view c.deref.result.now)) back.naming ∙ ap (λ s. later_statement (compiled_in n) (source.statement_view s)) c.deref.ensures ∙ parts.consequence,
+        (
+          ap (λ (n : Names). later_statement (compiled_in n) (source.statement_view c.deref.result.now)) back.naming ∙ ap (λ s. later_statement (compiled_in n) (source.statement_view s)) c.deref.ensures ∙ parts.consequence,
+          room_first _ _ (regions_else (laws.boxed_view b.alternative))
+              (room_if (next_at c.args.walk.now) _ _ (syntax.expression_view b.condition) (source.statement_view b.consequence.value) _ (laws.boxed_view b.alternative) is
+              c.in_ok-tested-in-If.ensures.next (ap source.statement_view c.deref.ensures) c.requires.room),
+        ),
       ),
     )
 
@@ -216,7 +251,13 @@ type_body-type_statement-requires-in-Some t c =
       omega (arith, c.decreases, ap body_size is, ap (λ a. alternative_size (laws.boxed_view a)) c.in-Some.is, ap (λ s. statement_size (source.statement_view s)) c.deref-in-Some.ensures),
       (
         c.in_ok-typed-in-If.ensures.back.placed,
-        ap (λ (n : Names). later_statement (compiled_in n) (source.statement_view c.deref-in-Some.result.now)) naming ∙ ap (λ s. later_statement (compiled_in n) (source.statement_view s)) c.deref-in-Some.ensures ∙ ap (λ a. later_alternative (compiled_in n) (laws.boxed_view a)) (sym c.in-Some.is) ∙ parts.alternative,
+        (
+          ap (λ (n : Names). later_statement (compiled_in n) (source.statement_view c.deref-in-Some.result.now)) naming ∙ ap (λ s. later_statement (compiled_in n) (source.statement_view s)) c.deref-in-Some.ensures ∙ ap (λ a. later_alternative (compiled_in n) (laws.boxed_view a)) (sym c.in-Some.is) ∙ parts.alternative,
+          room_else _ _ (source.statement_view c.deref.result.now) (laws.boxed_view b.alternative) (source.statement_view c.in-Some.statement.value) _ c.in_ok-typed-in-If.ensures.next
+              (ap laws.boxed_view c.in-Some.is) (ap source.statement_view c.deref-in-Some.ensures)
+              (room_if (next_at c.args.walk.now) _ _ (syntax.expression_view b.condition) (source.statement_view b.consequence.value) _ (laws.boxed_view b.alternative) is
+              c.in_ok-tested-in-If.ensures.next (ap source.statement_view c.deref.ensures) c.requires.room),
+        ),
       ),
     )
 
@@ -237,6 +278,7 @@ type_statements-loop-statement-init t c =
       goes = λ new part w. subst (λ ts. WalksList c.args.walk.now new (around c.args.walk.now) (source.statements_view c.args.statements.now) (in_front true (map statement_view ts) part))
           (sym c.new-typed.ensures.items) (goes_on_first c.args.walk.now (source.statements_view c.args.statements.now) new part w);
       built = c.requires.built;
+      room = c.requires.room;
     }
 
 pub type_statements-type_statement-requires : goal.type_statements-type_statement-requires
@@ -249,7 +291,10 @@ type_statements-type_statement-requires t c =
       omega (arith, c.decreases, item_size ss l.statement-index c.statement-item.result inside c.statement-item.is),
       (
         l.invariant.back.placed,
-        ap (λ (n : Names). later_statement (compiled_in n) (source.statement_view c.statement-item.result)) l.invariant.back.naming ∙ built,
+        (
+          ap (λ (n : Names). later_statement (compiled_in n) (source.statement_view c.statement-item.result)) l.invariant.back.naming ∙ built,
+          room_first _ _ _ (room_next (next_at l.walk) ss l.statement-index c.statement-item.result c.statement-item.is inside l.invariant.room),
+        ),
       ),
     )
 
@@ -271,6 +316,8 @@ type_statements-loop-statement-preserved t c =
           c.statement-item.is inside c.leaves_nothing-leaves_nothing.ensures c.in_ok-is_kept.ensures.kept both c.in_ok-is_kept.ensures.statements
           c.in_ok-kept.ensures l.invariant.goes;
       built = (next_built (compiled_in n) ss i s c.statement-item.is inside l.invariant.built).1;
+      room = subst (λ x. HasRoom x (regions_among (source.statements_view (drop (i + 1) ss)))) (sym c.in_ok-kept.ensures.next)
+          (room_behind (next_at l.walk) (source.statement_view s) _ (room_next (next_at l.walk) ss i s c.statement-item.is inside l.invariant.room));
     }
 
 pub type_statements-returns : goal.type_statements-returns

@@ -29,8 +29,8 @@ returns c =
     let n = c.args.head.number in
     let parent : c.innermost-parent.result ≡ spec.block_at (around w) =
     c.innermost-parent.ensures ∙ ap (λ ls. number_of (blocks_of (lists_view ls))) c.as_slice.ensures.value in
-    let many : c.in_ok-parameters.parameters ≡ length ((unit_at w).parameters n) =
-    c.in_ok-parameters.ensures ∙ parameters_are w n c.procedure-procedure.result c.procedure-procedure.ensures in
+    let many : length c.procedure-procedure.result.parameters.now ≡ length ((unit_at w).parameters n) =
+    parameters_are w n c.procedure-procedure.result c.procedure-procedure.ensures in
     let end : c.end_of-function_end.result ≡ spec.function_end ((unit_at w).returned n) c.args.end =
     c.end_of-function_end.ensures ∙ ap (λ d. spec.function_end d c.args.end) (returned_is w n c.procedure-procedure.result c.procedure-procedure.ensures) in
     let put : finished (record { naming = w.naming; surroundings = w.surroundings; next = w.next; templates = w.templates; faults = w.faults; procedures = c.push.new.self })

@@ -14,5 +14,5 @@ returns-clause-walked c =
     let w = c.args.walk.now in
     own_walked w _ form_view (λ n. simple_typed n (around w) c.args.at (source.body_view c.args.body.now)) c.simple-form.result c.noted.result _
     c.requires.placed c.simple-form.ensures c.noted.ensures.part c.noted.ensures.faults c.noted.ensures.known
-    (record { naming = refl; around = refl; globals = refl; placed = record { blocks = c.requires.placed.blocks; templates = c.requires.placed.templates } })
+    (record { naming = refl; around = refl; globals = refl; placed = record { blocks = c.requires.placed.blocks; templates = c.requires.placed.templates; deep = c.requires.placed.deep } })
     refl refl

@@ -1,4 +1,4 @@
-use Rattle.std.proofs.Common.{◌≡◌, ◌<◌, length, subst, sym, ap, ◌∙◌, arith}
+use Rattle.std.proofs.Common.{◌≡◌, subst, sym, ap, ◌∙◌}
 use Rattle.std.proofs.lemmas.List.Elements.{All-get_or, All-more}
 use Rattle.pli_type_templates.specs.declared.made_variable.MadeVariable.{MadeVariable}
 use Rattle.pli_type_templates.specs.views.ItemView.{HasMadeItem, made_template}
@@ -10,7 +10,7 @@ loop-count-preserved c = λ first all.
     let l = c.loop-count in
     let more = c.args.more.now in
     let x = c.index-more-count.result in
-    let within : l.count < length more = omega (arith, c.min-most.ensures, c.loop-count-test.true) in
+    let within = c.loop-count-test.true in
     let has = All-get_or (HasMadeItem (marks_of c.args.items.now)) more l.count x within all in
     let alike = c.is_made_alike.ensures c.if-not-is_made_alike.false first (subst (HasMadeItem (marks_of c.args.items.now)) (sym c.index-more-count.is) has) in
     All-more (λ (m : MadeVariable). made_template m ≡ made_template c.args.first.now) more l.count x within (l.invariant first all)

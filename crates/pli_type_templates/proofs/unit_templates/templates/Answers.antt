@@ -6,7 +6,7 @@ use Rattle.pli_base.specs.views.StatementView.{unit_view}
 use Rattle.pli_declare_outline.specs.Outlines.{outline_of}
 use Rattle.pli_resolve.specs.ResolvedUnits.{all_symbols, resolved_unit_of}
 use Rattle.pli_type.specs.NamedUnits.{all_globals, is_automatic, templates_of}
-use Rattle.pli_type_templates.specs.ItemNames.{AreOfItems}
+use Rattle.pli_type_templates.specs.ItemNames.{AreOfItems, HasFewRegions}
 use Rattle.pli_type_templates.specs.declared.block_names.BlockNames.{BlockNames}
 use Rattle.pli_type_templates.specs.views.BlockView.{block_symbols}
 use Rattle.pli_type_templates.specs.views.UnitView.{row_view}
@@ -23,12 +23,12 @@ all_said u unit blocks same symbols =
 
 pub automatic_groups-requires-clause-items : goal.automatic_groups-requires-clause-items
 automatic_groups-requires-clause-items c =
-    all_said c.args.resolved.now c.in_ok-items.items.unit.now c.deref.result.now (c.in_ok-items.ensures ∙ c.unit.ensures)
+    all_said c.args.resolved.now c.in_ok-items.items.unit.now c.deref.result.now (c.in_ok-items.ensures.unit ∙ c.unit.ensures)
     (ap (map block_symbols) c.deref.ensures.value ∙ c.in_ok-blocks.ensures.symbols)
 
 pub sorted_groups-requires-clause-items : goal.sorted_groups-requires-clause-items
 sorted_groups-requires-clause-items c =
-    all_said c.args.resolved.now c.in_ok-items.items.unit.now c.deref-2.result.now (c.in_ok-items.ensures ∙ c.unit.ensures)
+    all_said c.args.resolved.now c.in_ok-items.items.unit.now c.deref-2.result.now (c.in_ok-items.ensures.unit ∙ c.unit.ensures)
     (ap (map block_symbols) c.deref-2.ensures.value ∙ c.in_ok-blocks.ensures.symbols)
 
 pub returns : goal.returns
@@ -40,4 +40,5 @@ returns c =
       automatic = automatic_rows (resolved_unit_of u) (map row_view c.in_ok-automatic.automatic.items)
           (c.in_ok-automatic.ensures ∙ ap (map (templates_of (is_automatic 31))) first);
       globals = c.in_ok-globals.ensures ∙ ap (all_globals 31) second;
+      regions = subst (λ (p : Procedure). HasFewRegions (unit_view p)) c.unit.ensures c.in_ok-items.ensures.regions;
     }

@@ -58,8 +58,11 @@ returns-clause-calculating c = law.calculating_keeps
 pub returns-clause-one_static : goal.returns-clause-one_static
 returns-clause-one_static c = law.static_keeps
 
-pub returns-clause-statics : goal.returns-clause-statics
-returns-clause-statics c = law.statics_keep
+pub returns-clause-statics_by_number : goal.returns-clause-statics_by_number
+returns-clause-statics_by_number c = law.statics_keep _
+
+pub returns-clause-statics_by_name : goal.returns-clause-statics_by_name
+returns-clause-statics_by_name c = law.statics_keep _
 
 pub returns-clause-line : goal.returns-clause-line
 returns-clause-line c = law.line_keeps

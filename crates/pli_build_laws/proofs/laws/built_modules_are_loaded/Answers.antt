@@ -1,5 +1,0 @@
-use Rattle.pli_build_laws.proofs.BuiltModules as built
-use Rattle.pli_build_laws.proofs.laws.built_modules_are_loaded.Goals as goal
-
-pub returns : goal.returns
-returns c = built.built_modules_are_loaded

@@ -1,2 +1,0 @@
-pub mod DeclarationTables
-pub mod TableLemmas

@@ -1,4 +1,0 @@
-pub mod CodeModules
-pub mod answers
-pub mod examples
-pub mod views

@@ -1,2 +1,0 @@
-pub mod LinkedEntries
-pub mod ModulesLoad
