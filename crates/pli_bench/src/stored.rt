@@ -10,6 +10,7 @@ use pli_code::LentMember;
 use pli_deck_laws::units_are_typed;
 use pli_deck_write::write_deck;
 use pli_link::Linked;
+use pli_link_laws::short_modules_have_short_decks;
 use std::alloc::{AllocError, Global};
 
 /// The greatest number of bytes of a deck: its length in a module has four bytes (own).
@@ -40,9 +41,10 @@ pub fn stored(alloc: Global, linked: &Linked<'_>) -> Result<StoredModule, AllocE
     ensures typed { AllByRecursion IsTypedUnit (map lent_member_view linked.now.program.units.items) }
 {
     units_are_typed(linked.program.units.as_slice());
-    if !have_short_decks(alloc, linked.program.units.as_slice())? {
+    short_modules_have_short_decks();
+    let bytes = linked.bytes(alloc)?;
+    if bytes.len() > BYTE_LIMIT && !have_short_decks(alloc, linked.program.units.as_slice())? {
         return Err(AllocError);
     }
-    let bytes = linked.bytes(alloc)?;
     Ok(StoredModule { bytes })
 }

@@ -4,6 +4,7 @@ pub mod ModuleFits
 pub mod ModuleLimits
 pub mod ModulesSay
 pub mod ResolvedEntries
+pub mod ShortDecks
 pub mod Sums
 pub mod UnitDeclarations
 pub mod UnitLinks

@@ -1,7 +1,7 @@
 pub mod CallLemmas
 pub mod DecodedLemmas
 pub mod MoveLemmas
-pub mod NumbersPut
+pub mod OverLemmas
 pub mod PassLemmas
 pub mod RunLemmas
 pub mod SlotLemmas

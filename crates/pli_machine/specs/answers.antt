@@ -1,5 +1,6 @@
 pub mod CurrentUnit
 pub mod DecodedCode
+pub mod OverCells
 pub mod Passes
 pub mod Runs
 pub mod Slots

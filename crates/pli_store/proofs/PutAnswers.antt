@@ -1,17 +1,17 @@
 -- What is answered where a number is put at a place, and where characters are put behind others.
-use Rattle.std.proofs.Common.{◌≡◌, ℕ, ℤ, Bool, true, false, List, [], ◌∷◌, ◌++◌, length, subst, ap, ◌∙◌, sym}
+use Rattle.std.proofs.Common.{◌≡◌, ℕ, Bool, true, false, List, [], ◌∷◌, ◌++◌, length, subst, ap, ◌∙◌, sym}
 use Rattle.std.proofs.lemmas.Bool.{le-leb}
 use Rattle.pli_map.specs.Description.{Description, Varying}
 use Rattle.pli_map.specs.Scalars.{is_scalar}
 use Rattle.pli_map.specs.Values.{holds}
-use Rattle.pli_value.specs.Value.{Value, Number, Characters}
+use Rattle.pli_value.specs.Value.{Value, Characters}
 use Rattle.pli_world.specs.Storage.{Place, values_from}
 use Rattle.pli_world.specs.World.{World, Yields, stored}
 use Rattle.pli_store.specs.answers.Found.{PartStands, LeadsTo}
 use Rattle.pli_store.specs.answers.Puts.{ValuesPut, ValuesPutOrSame, LengthenedOrSame}
 use Rattle.pli_store.specs.declared.part.GenerationPart.{GenerationPart}
 use Rattle.pli_store.specs.declared.storage.Storage.{Storage}
-use Rattle.pli_store.specs.views.StorageView.{storage_view, made_count, with_storage, NumberPut, Appended}
+use Rattle.pli_store.specs.views.StorageView.{storage_view, made_count, with_storage, ValuePut, Appended}
 use Rattle.pli_store.proofs.PartAnswers.{held_scalar, stored_done}
 
 module _ (old new : Storage) (p : Place) (part : GenerationPart) (d : Description) (is : p.description ≡ d)
@@ -23,9 +23,9 @@ module _ (old new : Storage) (p : Place) (part : GenerationPart) (d : Descriptio
       (subst (λ e. ValuesPut (storage_view old) (storage_view new) part e (v ∷ [])) (sym is) put)
       ∙ ap (λ m. Yields tt (record w { storage = storage_view new; made = m })) (sym same)
 
-  pub number_is_put : (b : Bool) (x : ℤ) → holds d (Number x) ≡ true → ValuesPutOrSame b (storage_view old) (storage_view new) part d (Number x ∷ []) → NumberPut b old new p x
-  number_is_put true x fits put = stored_new (Number x) fits put
-  number_is_put false x fits put = record { storage = put; made = same }
+  pub value_is_put : (b : Bool) (v : Value) → holds d v ≡ true → ValuesPutOrSame b (storage_view old) (storage_view new) part d (v ∷ []) → ValuePut b old new p v
+  value_is_put true v fits put = stored_new v fits put
+  value_is_put false v fits put = record { storage = put; made = same }
 
 pub is_appended : (old new : Storage) (p : Place) (part : GenerationPart) (greatest : ℕ) → p.description ≡ Varying greatest → made_count new ≡ made_count old
     → LeadsTo (storage_view old) p part → (b : Bool) (more : List ℕ) (room : ℕ)

@@ -1,10 +1,10 @@
 -- What is read in the bytes of the store is what places hold.
-use Rattle.std.proofs.Common.{◌≡◌, ℕ, true, ℤ, List, [], ◌∷◌, get_or, Option, IfSome, Bor, sym, ap, ◌∙◌}
+use Rattle.std.proofs.Common.{◌≡◌, ℕ, Bool, true, ℤ, List, [], ◌∷◌, get_or, Option, IfSome, Bor, sym, ap, ◌∙◌}
 use Rattle.std.proofs.lemmas.Option.{IfSome_then}
 use Rattle.pli_bytes.specs.Contents.{value_in}
-use Rattle.pli_map.specs.Description.{Description, FixedBinary}
+use Rattle.pli_map.specs.Description.{Description, Bit, FixedBinary}
 use Rattle.pli_map.specs.Scalars.{is_scalar}
-use Rattle.pli_value.specs.Value.{Value, Number, Characters}
+use Rattle.pli_value.specs.Value.{Value, Bits, Number, Characters}
 use Rattle.pli_world.specs.Storage as plain
 use Rattle.pli_world.specs.World.{World, Yields, held}
 use Rattle.pli_store.specs.answers.Found.{LeadsTo}
@@ -32,6 +32,14 @@ module _ (s : Storage) (p : plain.Place) (part : GenerationPart) (l : LeadsTo (s
   number_read precision is r found =
       IfSome_then r found
       (λ x value. value_read (Number x) (ap is_scalar is)
+      (ap (λ (d : Description). value_in bytes (record { offset = part.offset; description = d })) is ∙ value))
+
+  pub bit_read : p.description ≡ Bit 1 → (r : Option Bool)
+      → IfSome r (λ b. value_in bytes (record { offset = part.offset; description = Bit 1 }) ≡ Bits (b ∷ []))
+      → IfSome r (λ b. held p (with_storage s w) ≡ Yields (Bits (b ∷ [])) (with_storage s w))
+  bit_read is r found =
+      IfSome_then r found
+      (λ b value. value_read (Bits (b ∷ [])) (ap is_scalar is)
       (ap (λ (d : Description). value_in bytes (record { offset = part.offset; description = d })) is ∙ value))
 
   pub text_read : (r : Option (Bor (List ℕ)))

@@ -2,10 +2,12 @@
 //! lies at its offset.
 //!
 //! `place` says where references lead, `part` which bytes of a generation stand there, `living` what the number of a
-//! generation finds; `storage` reads, puts, copies, makes and ends, by `putting` and `copying`, which change bytes; `spare`
+//! generation finds; `storage` reads, puts, copies, makes and ends, by `putting` and `copying`, which change bytes; `bits` tells a
+//! lone bit from its byte; `spare`
 //! keeps memory for generations to come.
 #![tactic(auto)]
 
+mod bits;
 mod copying;
 mod fault;
 mod generation;

@@ -3,6 +3,7 @@ ghost use Rattle.std.specs.Prelude.{◌≡◌, ◌<◌, ◌/◌, ◌%◌, ◌∷
 ghost use Rattle.std.specs.Option.{is_some};
 ghost use Rattle.pli_map.specs.Description as tree;
 ghost use Rattle.pli_map.specs.Scalars.{first_scalar};
+ghost use Rattle.pli_map.specs.Sizes.{number_bytes, size_of};
 ghost use Rattle.pli_map.specs.views.DescriptionView.{description_view};
 
 use pli_map::{Bounds, Description, first_scalar};
@@ -47,7 +48,49 @@ pub fn is_number_of(description: &Description, precision: u8) -> bool
     }
 }
 
-/// Whether both are numbers of one precision, or strings of characters of one length: the second then stands where the
+/// Whether a description is of strings of one bit.
+#[inline(always)]
+pub fn is_one_bit(description: &Description) -> bool
+    ensures { result ≡ true → description_view description.now ≡ tree.Bit 1 }
+{
+    match description {
+        Description::Bit(length) => *length == 1,
+        _ => false,
+    }
+}
+
+/// Whether so many bytes are a multiple of the width of a number of so many binary digits.
+#[inline(always)]
+fn is_multiple(offset: usize, precision: u8) -> bool
+    ensures { result ≡ true → offset % number_bytes precision ≡ 0 }
+{
+    match precision {
+        0..=15 => offset % 2 == 0,
+        16..=31 => offset % 4 == 0,
+        _ => offset % 8 == 0,
+    }
+}
+
+/// Whether a number of so many binary digits stands so many bytes behind the beginning of a whole of so many bytes: alone, or
+/// as an element of an array.
+#[inline(always)]
+pub fn is_number_at(whole: &Description, size: usize, offset: usize, precision: u8) -> bool
+    requires { size ≡ size_of (description_view whole.now) }
+    ensures { result ≡ true → is_some (first_scalar (description_view whole.now) offset (tree.FixedBinary precision)) ≡ true }
+{
+    match whole {
+        Description::FixedBinary(has) => offset == 0 && *has == precision,
+        Description::Array { element, .. } => match &**element {
+            Description::FixedBinary(has) => {
+                *has == precision && is_multiple(offset, precision) && offset < size
+            }
+            _ => false,
+        },
+        _ => false,
+    }
+}
+
+/// Whether both are numbers of one precision, or strings of one length: the second then stands where the
 /// first begins.
 #[inline(always)]
 fn are_same_scalars(whole: &Description, part: &Description) -> bool
@@ -57,6 +100,7 @@ fn are_same_scalars(whole: &Description, part: &Description) -> bool
         (Description::FixedBinary(has), Description::FixedBinary(wanted)) => *has == *wanted,
         (Description::Varying(has), Description::Varying(wanted)) => *has == *wanted,
         (Description::Character(has), Description::Character(wanted)) => *has == *wanted,
+        (Description::Bit(has), Description::Bit(wanted)) => *has == *wanted,
         _ => false,
     }
 }
@@ -83,8 +127,16 @@ fn is_number_in(bounds: Bounds, precision: u8, offset: u32) -> bool
     }
 }
 
+/// The same of an array of one dimension of strings of one bit.
+#[inline(always)]
+fn is_bit_in(bounds: Bounds, offset: u32) -> bool
+    ensures { result ≡ is_some (first_scalar (tree.Array (bounds ∷ []) (tree.Bit 1)) offset (tree.Bit 1)) }
+{
+    is_element(bounds.extent(), offset, 1)
+}
+
 /// Whether a part of this description stands so many bytes behind the beginning of a whole. A number and a string of
-/// characters that stand alone, and a number in an array of one dimension, take the short way.
+/// characters that stand alone, and a number and one bit in an array of one dimension, take the short way.
 #[inline(always)]
 pub fn is_part(whole: &Description, offset: u32, part: &Description) -> bool
     ensures { result ≡ is_some (first_scalar (description_view whole.now) offset (description_view part.now)) }
@@ -101,6 +153,10 @@ pub fn is_part(whole: &Description, offset: u32, part: &Description) -> bool
                 _ => first_scalar(whole, offset, part).is_some(),
             }
         }
+        (Description::Array { bounds, element }, Description::Bit(1)) => match &**element {
+            Description::Bit(1) if bounds.len() == 1 => is_bit_in(bounds[0], offset),
+            _ => first_scalar(whole, offset, part).is_some(),
+        },
         _ => first_scalar(whole, offset, part).is_some(),
     }
 }

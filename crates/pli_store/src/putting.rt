@@ -1,13 +1,14 @@
 //! Values put into generations.
 ghost use Rattle.std.specs.Prelude.{◌≡◌, ◌∷◌, [], map, true};
-ghost use Rattle.pli_map.specs.Description.{FixedBinary, Varying};
+ghost use Rattle.pli_map.specs.Description.{FixedBinary, Varying, Bit};
 ghost use Rattle.pli_map.specs.Values.{holds};
 ghost use Rattle.pli_map.specs.views.DescriptionView.{description_view};
 ghost use Rattle.pli_store.specs.answers.Found.{PartStands};
 ghost use Rattle.pli_store.specs.answers.Puts.{ValuesPut, ValuesPutOrSame, LengthenedOrSame};
 ghost use Rattle.pli_store.specs.views.GenerationView.{generation_view};
-ghost use Rattle.pli_value.specs.Value.{value_view, Number};
+ghost use Rattle.pli_value.specs.Value.{value_view, Number, Bits};
 
+use crate::bits::put_bit_at;
 use crate::generation::Generation;
 use crate::part::GenerationPart;
 use pli_bytes::{append_at, put_number_at, put_value_at};
@@ -53,6 +54,17 @@ pub fn put_number(
 {
     let generation = &mut generations[part.at];
     put_number_at(&mut generation.bytes, part.offset, precision, number)
+}
+
+/// The same of a string of one bit; `false` where it has no room.
+#[inline(always)]
+pub fn put_bit(generations: &mut Vec<Generation<'_>>, part: GenerationPart, bit: bool) -> bool
+    requires { PartStands (map generation_view generations.old.items) part (Bit 1) }
+    ensures { ValuesPutOrSame result (map generation_view generations.old.items) (map generation_view generations.new.items)
+        part (Bit 1) (Bits (bit ∷ []) ∷ []) }
+{
+    let generation = &mut generations[part.at];
+    put_bit_at(&mut generation.bytes, part.offset, bit)
 }
 
 /// Puts characters behind those of a string of CHARACTER VARYING of so many at most, where both are no more than that and

@@ -7,7 +7,7 @@ ghost use Rattle.pli_map.specs.Sizes.{size_of};
 ghost use Rattle.pli_map.specs.Values.{are_held};
 ghost use Rattle.pli_map.specs.views.DescriptionView.{description_view};
 ghost use Rattle.pli_value.specs.Value as plain;
-ghost use Rattle.pli_value.specs.Value.{value_view, Number, Characters};
+ghost use Rattle.pli_value.specs.Value.{value_view, Number, Characters, Bits};
 ghost use Rattle.pli_world.specs.Storage.{generation_in, live_bytes, without};
 ghost use Rattle.pli_world.specs.World.{World, Yields, held, stored, copied, made_of, dummy_of, in_newest};
 ghost use Rattle.pli_store.specs.answers.Answered.{Answered};
@@ -16,13 +16,17 @@ ghost use Rattle.pli_store.specs.answers.Found.{StandsAt, Leads, LeadsTo};
 ghost use Rattle.pli_store.specs.answers.Kept.{rise};
 ghost use Rattle.pli_store.specs.views.GenerationView.{generation_view, made_view};
 
+use crate::bits::bit_at;
 use crate::copying::copy_part;
 use crate::fault::StoreFault;
 use crate::generation::{Generation, Made};
 use crate::living::LivingGeneration;
-use crate::part::{GenerationPart, greatest_length, is_number_of, is_part, number_precision};
+use crate::part::{
+    GenerationPart, greatest_length, is_number_at, is_number_of, is_one_bit, is_part,
+    number_precision,
+};
 use crate::place::Place;
-use crate::putting::{holds_number, lengthen, put_number, put_value};
+use crate::putting::{holds_number, lengthen, put_bit, put_number, put_value};
 use crate::spare::SpareBytes;
 use pli_bytes::{number_at, put_value_at, text_at, value_at};
 use pli_map::{Description, far_size, holds, is_area, is_scalar};
@@ -53,7 +57,7 @@ pub struct Storage<'m> {
 
 impl<'m> Storage<'m> {
     ghost use Rattle.pli_store.specs.answers.Living.{IsLiving};
-    ghost use Rattle.pli_store.specs.views.StorageView.{place_view, storage_view, made_count, with_storage, NumberPut, Appended, RoomFor, SameStorage};
+    ghost use Rattle.pli_store.specs.views.StorageView.{place_view, storage_view, made_count, with_storage, NumberPut, ValuePut, Appended, RoomFor, SameStorage};
 
     /// Storage in which nothing lives, before anything was made.
     pub fn new(alloc: Global) -> Storage<'m>
@@ -141,6 +145,32 @@ impl<'m> Storage<'m> {
         Some(place.hint)
     }
 
+    /// The number of so many binary digits to which a place leads, if its generation stands where it was made and is that
+    /// number or an array of such numbers: no search and no walk is needed then.
+    #[inline]
+    fn number_part(&self, place: Place<'_>, precision: u8) -> Option<GenerationPart>
+        requires { description_view place.description.now ≡ FixedBinary precision }
+        ensures { IfSome result (λ part. LeadsTo (storage_view self.now) (place_view place.entry) part) }
+    {
+        let generation = self.generations.get(place.hint)?;
+        if generation.number != place.generation {
+            return None;
+        }
+        let offset = place.offset as usize;
+        if !is_number_at(
+            generation.description,
+            generation.bytes.len(),
+            offset,
+            precision,
+        ) {
+            return None;
+        }
+        Some(GenerationPart {
+            at: place.hint,
+            offset,
+        })
+    }
+
     /// What the place of a scalar holds. Only a string takes memory. `DeadLocator` where the generation has ended, `NoRule`
     /// where the place leads to no scalar of it.
     pub fn held(&self, alloc: Global, place: Place<'_>) -> Result<Value, StoreFault>
@@ -157,7 +187,7 @@ impl<'m> Storage<'m> {
 
     /// The number that the place of a number of so many binary digits holds, found by a walk over the description.
     #[inline(never)]
-    fn far_number(&self, place: Place<'_>, precision: u8) -> Option<i64>
+    fn walked_number(&self, place: Place<'_>, precision: u8) -> Option<i64>
         requires { description_view place.description.now ≡ FixedBinary precision }
         ensures { (w : World) → IfSome result (λ x. held (place_view place.entry) (with_storage self.now w)
             ≡ Yields (Number x) (with_storage self.now w)) }
@@ -165,6 +195,20 @@ impl<'m> Storage<'m> {
         match self.part(place) {
             Ok(part) => number_at(&self.generations[part.at].bytes, part.offset, precision),
             Err(_fault) => None,
+        }
+    }
+
+    /// The number that the place of a number of so many binary digits holds, which is not alone: in an array it is found at
+    /// once, and else by a walk.
+    #[inline(never)]
+    fn far_number(&self, place: Place<'_>, precision: u8) -> Option<i64>
+        requires { description_view place.description.now ≡ FixedBinary precision }
+        ensures { (w : World) → IfSome result (λ x. held (place_view place.entry) (with_storage self.now w)
+            ≡ Yields (Number x) (with_storage self.now w)) }
+    {
+        match self.number_part(place, precision) {
+            Some(part) => number_at(&self.generations[part.at].bytes, part.offset, precision),
+            None => self.walked_number(place, precision),
         }
     }
 
@@ -179,6 +223,22 @@ impl<'m> Storage<'m> {
         match self.lone(place, precision) {
             Some(at) => number_at(&self.generations[at].bytes, 0, precision),
             None => self.far_number(place, precision),
+        }
+    }
+
+    /// The bit that the place of a scalar of BIT of one bit holds; `None` where it holds none, or nothing, of which `held`
+    /// tells.
+    #[inline]
+    pub fn bit_at(&self, place: Place<'_>) -> Option<bool>
+        ensures { (w : World) → IfSome result (λ b. held (place_view place.entry) (with_storage self.now w)
+            ≡ Yields (Bits (b ∷ [])) (with_storage self.now w)) }
+    {
+        if !is_one_bit(place.description) {
+            return None;
+        }
+        match self.part(place) {
+            Ok(part) => bit_at(&self.generations[part.at].bytes, part.offset),
+            Err(_fault) => None,
         }
     }
 
@@ -251,13 +311,26 @@ impl<'m> Storage<'m> {
 
     /// A number put at the place of a number of so many binary digits that is found by a walk over the description.
     #[inline(never)]
-    fn put_far_number(&mut self, place: Place<'_>, precision: u8, number: i64) -> bool
+    fn put_walked_number(&mut self, place: Place<'_>, precision: u8, number: i64) -> bool
         requires { description_view place.description.now ≡ FixedBinary precision }
         ensures { NumberPut result self.old self.new (place_view place.entry) number }
     {
         match self.part(place) {
             Ok(part) => self.put_number_in(place, part, precision, number),
             Err(_fault) => false,
+        }
+    }
+
+    /// A number put at the place of a number of so many binary digits, which is not alone: in an array it is found at once,
+    /// and else by a walk.
+    #[inline(never)]
+    fn put_far_number(&mut self, place: Place<'_>, precision: u8, number: i64) -> bool
+        requires { description_view place.description.now ≡ FixedBinary precision }
+        ensures { NumberPut result self.old self.new (place_view place.entry) number }
+    {
+        match self.number_part(place, precision) {
+            Some(part) => self.put_number_in(place, part, precision, number),
+            None => self.put_walked_number(place, precision, number),
         }
     }
 
@@ -275,6 +348,20 @@ impl<'m> Storage<'m> {
                 self.put_number_in(place, GenerationPart { at, offset: 0 }, precision, number)
             }
             None => self.put_far_number(place, precision, number),
+        }
+    }
+
+    /// A bit put at the place of a scalar of BIT of one bit; where it is not, nothing has changed, and `stored` tells why.
+    #[inline]
+    pub fn put_bit(&mut self, place: Place<'_>, bit: bool) -> bool
+        ensures { ValuePut result self.old self.new (place_view place.entry) (Bits (bit ∷ [])) }
+    {
+        if !is_one_bit(place.description) {
+            return false;
+        }
+        match self.part(place) {
+            Ok(part) => put_bit(&mut self.generations, part, bit),
+            Err(_fault) => false,
         }
     }
 

@@ -40,11 +40,14 @@ pub record SameStorage (old new : Storage) : Type 0 where
   pub storage : storage_view new ≡ storage_view old
   pub made : made_count new ≡ made_count old
 
--- a number is put at a place, or nothing has changed
+-- a value is put at a place, or nothing has changed
+abbrev pub ValuePut : Bool → (old new : Storage) → plain.Place → Value → Type 0
+ValuePut true old new p v = (w : World) → stored p v (with_storage old w) ≡ Yields tt (with_storage new w)
+ValuePut false old new p v = SameStorage old new
+
+-- the same of a number
 abbrev pub NumberPut : Bool → (old new : Storage) → plain.Place → ℤ → Type 0
-NumberPut true old new p x =
-    (w : World) → stored p (Number x) (with_storage old w) ≡ Yields tt (with_storage new w)
-NumberPut false old new p x = SameStorage old new
+NumberPut b old new p x = ValuePut b old new p (Number x)
 
 -- characters are put behind those that a place holds, and both are no more than so many
 pub record IsAppended (old new : Storage) (p : plain.Place) (more : List ℕ) (room : ℕ) : Type 0 where

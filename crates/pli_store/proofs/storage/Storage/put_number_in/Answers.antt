@@ -6,7 +6,7 @@ use Rattle.pli_store.specs.answers.Found.{PartStands}
 use Rattle.pli_store.specs.views.GenerationView.{generation_view}
 use Rattle.pli_store.specs.views.StorageView.{place_view, storage_view}
 use Rattle.pli_store.proofs.PartAnswers.{kept_or_same}
-use Rattle.pli_store.proofs.PutAnswers.{number_is_put}
+use Rattle.pli_store.proofs.PutAnswers.{value_is_put}
 use Rattle.pli_store.proofs.storage.Storage.put_number_in.Goals as goal
 
 pub put_number-requires : goal.put_number-requires
@@ -24,5 +24,5 @@ pub returns : goal.returns
 returns c =
     let fits : SFits w64 c.args.number = search rules in
     let whole = to_z-of_z w64 c.args.number fits in
-    number_is_put c.args.self.now _ (place_view c.args.place) c.args.part (FixedBinary c.args.precision) c.requires.precision refl c.requires.leads
-    c.put_number.result c.args.number (rw whole at (c.if-not-holds_number.ensures refl)) (rw whole at c.put_number.ensures)
+    value_is_put c.args.self.now _ (place_view c.args.place) c.args.part (FixedBinary c.args.precision) c.requires.precision refl c.requires.leads
+    c.put_number.result (Number c.args.number) (rw whole at (c.if-not-holds_number.ensures refl)) (rw whole at c.put_number.ensures)

@@ -1,0 +1,11 @@
+use Rattle.std.proofs.Common.{[], ◌∷◌, refl}
+use Rattle.pli_map.specs.Description.{Bit}
+use Rattle.pli_value.specs.Value.{Bits}
+use Rattle.pli_store.proofs.PutsSaid.{put_or_same}
+use Rattle.pli_store.proofs.putting.put_bit.Goals as goal
+
+pub returns : goal.returns
+returns c =
+    put_or_same c.args.generations.now.items c.args.part (Bit 1) c.requires c.index_mut-generation.result.now
+    c.index_mut-generation.ensures.value c.deref_mut.result.now c.put_bit_at.new.bytes c.deref_mut.ensures.value
+    c.put_bit_at.auto.bytes _ c.put_bit_at.result (Bits (c.args.bit ∷ [])) refl c.put_bit_at.ensures
