@@ -1,0 +1,11 @@
+pub mod AreaLawsHold
+pub mod AreaOperations
+pub mod AssignedAreas
+pub mod BlocksApart
+pub mod ChangedAreas
+pub mod FoundAreas
+pub mod HeldBlocks
+pub mod Options
+pub mod PlacedBlocks
+pub mod RefusedOperations
+pub mod ViewedBlocks

@@ -1,0 +1,27 @@
+use Rattle.std.specs.Prelude.{refl}
+use Rattle.pli_world.specs.World.{nothing, made_of, held, stored, parts_held, parts_stored}
+use Rattle.pli_locators.specs.Locating.{located, based, allocated, freed, addressed}
+use Rattle.pli_area_storage.specs.InAreas.{area_used, area_found, begun, allocated_in, block_living, block_found, based_in, freed_in, block_addressed, block_held, block_stored, emptied, assigned, offset_in, pointer_in}
+use Rattle.pli_area_storage.proofs.laws.worked_examples.Goals as goal
+
+-- each by computing it
+pub returns : goal.returns
+unfolding nothing made_of held stored parts_held parts_stored located based allocated freed addressed area_used area_found
+    begun allocated_in block_living block_found based_in freed_in block_addressed block_held block_stored emptied assigned
+    offset_in pointer_in
+returns c = record {
+  block_begins = (refl, refl);
+  third_finds_no_room = (refl, refl);
+  hole_is_taken = refl;
+  order_of_errors = (refl, refl, refl, refl, refl);
+  outside_as_before = (refl, refl);
+  freed_is_dead = (refl, refl);
+  place_is_tested_at_use = (refl, refl, refl);
+  ends_with_generation = refl;
+  other_blocks_stay = (refl, refl);
+  address_of_block = refl;
+  empty_has_room = (refl, refl);
+  offsets_keep_their_meaning = (refl, refl);
+  itself_stays = refl;
+  pointers_as_offsets = (refl, refl, refl, refl, refl, refl);
+}

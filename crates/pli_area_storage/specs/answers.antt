@@ -1,0 +1,5 @@
+pub mod Assigning
+pub mod Changes
+pub mod Found
+pub mod Known
+pub mod LedOn

@@ -1,0 +1,3 @@
+pub mod AreasView
+pub mod InhabitedView
+pub mod ReferenceView
