@@ -1,4 +1,10 @@
 pub mod CodeFields
 pub mod CodeTables
+pub mod FaultNumbers
+pub mod Fields
+pub mod Instructions
 pub mod Modules
+pub mod Numbered
+pub mod Operands
+pub mod examples
 pub mod views

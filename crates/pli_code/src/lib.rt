@@ -1,12 +1,23 @@
-//! The code of a unit, with the tables that its instructions name; and modules of units.
+//! The code of a unit, with the tables that its instructions name; the bytes of instructions; and modules of units.
 #![tactic(auto)]
 
 mod code;
+mod decoding;
+mod encoding;
+mod fault;
+pub mod fields;
 mod instruction;
+mod laws;
 mod module;
+mod numbered;
+mod operands;
 
 pub use code::{
     Block, BlockKind, Code, CodedGlobal, CodedSignature, CodedTemplate, Deck, VariableKind,
 };
+pub use decoding::decode;
+pub use encoding::encode;
+pub use fault::DeckFault;
 pub use instruction::Instruction;
+pub use laws::{instructions_both_ways, worked_instructions};
 pub use module::{External, LentMember, LentModule, Member, Module};

@@ -8,8 +8,7 @@ use crate::extent::module_within;
 use crate::limits::within_limits;
 use crate::links::links_stand;
 use crate::standing::{all_stand, jumps_stand};
-use pli_code::{Deck, Module};
-use pli_deck_write::DeckFault;
+use pli_code::{Deck, DeckFault, Module};
 use std::alloc::{AllocError, Global};
 
 /// The first of the faults that are looked for once a deck is read: a jump to no instruction, a number of no entry, or

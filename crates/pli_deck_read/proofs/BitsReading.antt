@@ -4,8 +4,8 @@ use Rattle.std.specs.Str.{bytes_eq}
 use Rattle.std.proofs.lemmas.Bool.{lt-ltb, le-ltb}
 use Rattle.pli_value.specs.Packing.{IsPacked, packed, unpacked}
 use Rattle.pli_value.proofs.PackedLaws.{packed_is}
-use Rattle.pli_deck_write.specs.declared.fault.DeckFault.TheVariants.{Truncated}
-use Rattle.pli_deck_write.specs.Fields.{held}
+use Rattle.pli_code.specs.declared.fault.DeckFault.TheVariants.{Truncated}
+use Rattle.pli_code.specs.Fields.{held}
 use Rattle.pli_deck_write.specs.DeckFields.{byte_count, bits_in, bits_at}
 
 pub bits_short : (count : ℕ) (bytes : List ℕ) → length bytes < byte_count count → bits_at count bytes ≡ Err Truncated

@@ -2,8 +2,8 @@
 use Rattle.std.proofs.Common.{◌≡◌, ℕ, List, [], ◌∷◌, ap}
 use Rattle.std.specs.Int.{is_in_range}
 use Rattle.pli_base.specs.Results.{◌>>=◌}
-use Rattle.pli_deck_write.specs.Fields.{held, number_at, byte_at, from_to, count_of_one, u1}
-use Rattle.pli_deck_write.proofs.FieldLaws.{count_read, no_count}
+use Rattle.pli_code.specs.Fields.{held, number_at, byte_at, from_to, count_of_one, u1}
+use Rattle.pli_code.proofs.FieldLaws.{count_read, no_count}
 
 one_byte : (bytes : List ℕ) → number_at 1 bytes ≡ byte_at bytes
 unfolding byte_at

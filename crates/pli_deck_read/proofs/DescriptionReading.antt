@@ -2,25 +2,20 @@
 use Rattle.std.proofs.Common.{◌≡◌, ℕ, zero, suc, ◌-◌, ◌<◌, List, [], get_or, Result, Ok, Err, ◌⊎◌, inl, inr, sym, ap, ◌∙◌, arith}
 use Rattle.std.proofs.lemmas.List.{get_or_past}
 use Rattle.pli_map.specs.Description.{Description}
-use Rattle.pli_deck_write.specs.declared.fault.DeckFault.{DeckFault}
-use Rattle.pli_deck_write.specs.declared.fault.DeckFault.TheVariants.{OutOfRange}
-use Rattle.pli_base.specs.declared.failure.Failure.{Failure}
-use Rattle.pli_base.specs.declared.failure.Failure.TheVariants as errors
+use Rattle.pli_code.specs.declared.fault.DeckFault.{DeckFault}
+use Rattle.pli_code.specs.declared.fault.DeckFault.TheVariants.{OutOfRange}
 use Rattle.pli_base.specs.Results.{◌>>=◌}
-use Rattle.pli_deck_write.specs.Fields.{Field, Reader, byte_at, unknown}
+use Rattle.pli_code.specs.Fields.{Field, Reader, byte_at, unknown}
 use Rattle.pli_deck_write.specs.Descriptions.{description_readers, described, description_within}
-use Rattle.pli_base.specs.answers.FailureAnswers.{Fails}
 
 abbrev by_tag : List (Reader Description) → ℕ × List ℕ → Result (Description × List ℕ) DeckFault
 by_tag readers t = get_or readers t.0 unknown t.1
 
 -- no tag
-pub without_tag : (levels : ℕ) (bytes : List ℕ) (e : Failure DeckFault) → Fails e (byte_at bytes) → Fails e ((description_within levels).read bytes)
+pub without_tag : (levels : ℕ) (bytes : List ℕ) (f : DeckFault) → byte_at bytes ≡ Err f → (description_within levels).read bytes ≡ Err f
 unfolding description_within
-without_tag zero bytes errors.OutOfMemory h = tt
-without_tag (suc n) bytes errors.OutOfMemory h = tt
-without_tag zero bytes (errors.Fault f) h = ap (λ r. r >>= by_tag []) h
-without_tag (suc n) bytes (errors.Fault f) h = ap (λ r. r >>= by_tag (description_readers (description_within n))) h
+without_tag zero bytes f h = ap (λ r. r >>= by_tag []) h
+without_tag (suc n) bytes f h = ap (λ r. r >>= by_tag (description_readers (description_within n))) h
 
 -- a level too many
 pub below_all : (levels : ℕ) (bytes : List ℕ) (tag : ℕ) (rest : List ℕ) → levels ≡ 0 → byte_at bytes ≡ Ok (tag, rest) → (description_within levels).read bytes ≡ Err OutOfRange

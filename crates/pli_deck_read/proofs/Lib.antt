@@ -6,5 +6,4 @@ pub mod HeadingLemmas
 pub mod LoopLemmas
 pub mod LoopBehindLemmas
 pub mod ModuleGiven
-pub mod OperandReading
 pub mod WholeReading

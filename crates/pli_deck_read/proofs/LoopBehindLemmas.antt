@@ -1,8 +1,8 @@
 -- Reading values one after the other, each by the field that the one before gives.
 use Rattle.std.proofs.Common.{◌≡◌, ℕ, zero, suc, ◌-◌, ◌+◌, ◌≤◌, ◌<◌, List, [], ◌∷◌, ◌++◌, length, map, get_or, Option, Some, None, Result, Ok, Err, refl, sym, ap, ◌∙◌, arith}
 use Rattle.std.proofs.lemmas.List.{append-nil}
-use Rattle.pli_deck_write.specs.declared.fault.DeckFault.{DeckFault}
-use Rattle.pli_deck_write.specs.Fields.{Field}
+use Rattle.pli_code.specs.declared.fault.DeckFault.{DeckFault}
+use Rattle.pli_code.specs.Fields.{Field}
 use Rattle.pli_deck_write.specs.ModuleFields.{many_behind}
 use Rattle.pli_base.specs.declared.failure.Failure.{Failure}
 use Rattle.pli_base.specs.declared.failure.Failure.TheVariants as errors

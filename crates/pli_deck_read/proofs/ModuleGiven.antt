@@ -3,12 +3,12 @@ use Rattle.std.proofs.Common.{ℕ, List, Result, Ok, Err, IfOk, subst}
 use Rattle.pli_code.specs.Modules as plain
 use Rattle.pli_code.specs.declared.module.Module.{Module}
 use Rattle.pli_code.specs.views.CodeView.{module_view}
-use Rattle.pli_deck_write.specs.Fields.{AreBytes}
+use Rattle.pli_code.specs.Fields.{AreBytes}
 use Rattle.pli_deck_write.specs.ModuleSpelling.{SpellsModule, module_read}
 use Rattle.pli_deck_write.proofs.ModuleLaws.{read_module_is_spelled, spelled_module_is_read}
 use Rattle.pli_base.specs.answers.FailureAnswers.{Gives}
 use Rattle.pli_base.specs.declared.failure.Failure.{Failure}
-use Rattle.pli_deck_write.specs.declared.fault.DeckFault.{DeckFault}
+use Rattle.pli_code.specs.declared.fault.DeckFault.{DeckFault}
 
 pub spelled_if_read : (bytes : List ℕ) (result : Result Module (Failure DeckFault)) → AreBytes bytes → Gives module_view result (module_read bytes) → IfOk result (λ m. SpellsModule bytes (module_view m))
 spelled_if_read bytes (Ok m) fits given = read_module_is_spelled bytes (module_view m) fits given

@@ -1,7 +1,7 @@
 -- What stands behind what is read whole.
 use Rattle.std.proofs.Common.{◌≡◌, ℕ, ◌<◌, List, [], ◌∷◌, length, Option, Err, refl, arith}
-use Rattle.pli_deck_write.specs.declared.fault.DeckFault.{DeckFault}
-use Rattle.pli_deck_write.specs.declared.fault.DeckFault.TheVariants.{Trailing}
+use Rattle.pli_code.specs.declared.fault.DeckFault.{DeckFault}
+use Rattle.pli_code.specs.declared.fault.DeckFault.TheVariants.{Trailing}
 use Rattle.pli_deck_write.specs.Whole.{unless_faulty, whole}
 
 pub more_left : {X : Type 0} (fault_of : X → Option DeckFault) (x : X) (rest : List ℕ) → 0 < length rest → whole fault_of x rest ≡ Err Trailing

@@ -1,7 +1,7 @@
 //! Constants, initial values and templates at the front of bytes.
 ghost use Rattle.std.specs.Prelude.{◌≡◌, ◌≤◌, ◌<◌, ℕ, slice_index, map};
 ghost use Rattle.std.specs.Str.{bytes_eq};
-ghost use Rattle.pli_deck_write.specs.Fields.{made, list_of, u4};
+ghost use Rattle.pli_code.specs.Fields.{made, list_of, u4};
 ghost use Rattle.pli_deck_write.specs.DeckFields as deck_fields;
 ghost use Rattle.pli_type_tree.specs.Templates as templates;
 ghost use Rattle.pli_type_tree.specs.views.TemplateView.{initial_view};
@@ -12,11 +12,9 @@ ghost use Rattle.pli_value.specs.Value.{value_view};
 ghost use Rattle.pli_base.specs.answers.FailureAnswers.{Gives};
 
 use crate::error::ReadError;
-use crate::reading::{
-    ReadsOne, byte_of, many_of, short_of, short_within, signed_within, text_of, word_of,
-};
-use pli_code::CodedTemplate;
-use pli_deck_write::DeckFault;
+use crate::reading::{ReadsOne, many_of, short_within, text_of};
+use pli_code::fields::{byte_of, short_of, signed_within, word_of};
+use pli_code::{CodedTemplate, DeckFault};
 use pli_type_tree::InitialScalar;
 use pli_value::bit::Bits;
 use pli_value::{Locator, Value};

@@ -2,17 +2,17 @@
 ghost use Rattle.std.specs.Prelude.{◌≡◌, ◌≤◌, ◌%◌, map, IfOk};
 ghost use Rattle.pli_map.specs.Description as plain;
 ghost use Rattle.pli_map.specs.views.DescriptionView.{description_view};
-ghost use Rattle.pli_deck_write.specs.Fields.{Field, many, list};
+ghost use Rattle.pli_code.specs.Fields.{Answers, Field, many, list};
+ghost use Rattle.pli_code.specs.Instructions as instruction_fields;
 ghost use Rattle.pli_deck_write.specs.Descriptions as description_fields;
 ghost use Rattle.pli_deck_write.specs.Descriptions.{description, description_within, described};
 ghost use Rattle.pli_base.specs.answers.FailureAnswers.{Gives};
 
 use crate::error::ReadError;
-use crate::reading::{
-    ReadsOne, byte_of, byte_within, count_within, many_of, short_of, short_within, signed_within,
-    word_of,
-};
-use pli_deck_write::{DeckFault, LEVELS};
+use crate::reading::{ReadsOne, count_within, many_of, short_within};
+use pli_code::DeckFault;
+use pli_code::fields::{byte_of, byte_within, short_of, signed_within, word_of};
+use pli_deck_write::LEVELS;
 use pli_map::{Bounds, Description};
 use std::alloc::Global;
 
@@ -20,8 +20,8 @@ use std::alloc::Global;
 const AREA_LIMIT: u32 = 1_000_000;
 
 /// A bound of an array's dimension.
-fn bound_of(bytes: &[u8]) -> Result<(i16, &[u8]), ReadError>
-    ensures { Gives (λ x. (x.0, x.1.now)) result (description_fields.bound.read bytes.now) }
+fn bound_of(bytes: &[u8]) -> Result<(i16, &[u8]), DeckFault>
+    ensures { Answers (λ x. (x.0, x.1.now)) result (instruction_fields.bound.read bytes.now) }
 {
     let (number, rest) = signed_within(bytes, 32767)?;
     Ok((number as i16, rest))
@@ -61,15 +61,15 @@ fn dimensions_of(alloc: Global, bytes: &[u8]) -> Result<(Vec<Bounds>, &[u8]), Re
 }
 
 /// An area's size in bytes, a multiple of 8.
-fn area_size_of(bytes: &[u8]) -> Result<(u32, &[u8]), ReadError>
-    ensures read { Gives (λ x. (x.0, x.1.now)) result (description_fields.area_size.read bytes.now) }
+fn area_size_of(bytes: &[u8]) -> Result<(u32, &[u8]), DeckFault>
+    ensures read { Answers (λ x. (x.0, x.1.now)) result (description_fields.area_size.read bytes.now) }
     ensures even { IfOk result (λ x. x.0 % 8 ≡ 0) }
 {
     let (size, rest) = word_of(bytes)?;
     if 1 <= size && size <= AREA_LIMIT && size % 8 == 0 {
         Ok((size, rest))
     } else {
-        Err(ReadError::Fault(DeckFault::OutOfRange))
+        Err(DeckFault::OutOfRange)
     }
 }
 

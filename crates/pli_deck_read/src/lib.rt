@@ -4,11 +4,8 @@
 mod constants;
 mod described;
 mod error;
-mod instructions;
 mod module;
 mod modules;
-mod numbered;
-mod operands;
 mod read;
 mod reading;
 mod tables;

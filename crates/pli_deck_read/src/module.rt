@@ -8,9 +8,8 @@ ghost use Rattle.pli_base.specs.answers.FailureAnswers.{Gives};
 
 use crate::error::ReadError;
 use crate::modules::module_at;
-use pli_code::Module;
+use pli_code::{DeckFault, Module};
 use pli_deck_faults::module_fault;
-use pli_deck_write::DeckFault;
 use std::alloc::Global;
 
 /// A module, if no bytes stand behind it and it has no fault.

@@ -1,7 +1,7 @@
 //! Modules at the front of bytes.
 ghost use Rattle.std.specs.Prelude.{◌≡◌, None, length, map};
 ghost use Rattle.std.specs.List.{filter};
-ghost use Rattle.pli_deck_write.specs.Fields.{u1, from_to};
+ghost use Rattle.pli_code.specs.Fields.{Answers, u1, from_to};
 ghost use Rattle.pli_deck_write.specs.DeckFields as deck_fields;
 ghost use Rattle.pli_code.specs.Modules as plain;
 ghost use Rattle.pli_code.specs.views.CodeView.{deck_view, external_view, global_view, kind_number, member_view, module_view};
@@ -11,22 +11,19 @@ ghost use Rattle.pli_base.specs.answers.FailureAnswers.{Gives};
 
 use crate::error::ReadError;
 use crate::read::read;
-use crate::reading::{
-    ReadsOne, byte_of, byte_within, many_of, name_text_of, short_of, short_within, upper_name,
-    word_of,
-};
+use crate::reading::{ReadsOne, many_of, name_text_of, short_within, upper_name};
 use crate::tables::numbers_of;
 use crate::whole::behind;
 use pli_base::Name;
-use pli_code::{CodedGlobal, Deck, External, Member, Module, VariableKind};
+use pli_code::fields::{byte_of, byte_within, short_of, word_of};
+use pli_code::{CodedGlobal, Deck, DeckFault, External, Member, Module, VariableKind};
 use pli_deck_faults::is_external;
-use pli_deck_write::DeckFault;
 use std::alloc::Global;
 use std::cmp::Ordering;
 
 /// What an external variable is: 2 for static, 3 for controlled.
-fn kind_of(bytes: &[u8]) -> Result<(VariableKind, &[u8]), ReadError>
-    ensures { Gives (λ x. (kind_number x.0, x.1.now)) result ((from_to 2 3 u1).read bytes.now) }
+fn kind_of(bytes: &[u8]) -> Result<(VariableKind, &[u8]), DeckFault>
+    ensures { Answers (λ x. (kind_number x.0, x.1.now)) result ((from_to 2 3 u1).read bytes.now) }
 {
     let (number, rest) = byte_within(bytes, 2, 3)?;
     let kind = if number == 2 {

@@ -9,9 +9,8 @@ ghost use Rattle.pli_base.specs.answers.FailureAnswers.{Gives};
 
 use crate::error::ReadError;
 use crate::whole::deck_at;
-use pli_code::Deck;
+use pli_code::{Deck, DeckFault};
 use pli_deck_faults::deck_fault;
-use pli_deck_write::DeckFault;
 use std::alloc::Global;
 
 /// A deck, if no bytes stand behind it and it has no fault.

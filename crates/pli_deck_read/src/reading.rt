@@ -1,97 +1,38 @@
 //! Numbers, names and lists at the front of bytes.
-ghost use Rattle.std.specs.Prelude.{◌≡◌, ◌≤◌, List, Result, length, map, true, false, IfOk, IfSome, IfNone, unsigned_abs};
-ghost use Rattle.pli_deck_write.specs.Fields.{byte_at, number_at, many, byte, list, list_of, u1, u2, count_of_one, from_to, signed};
-ghost use Rattle.pli_deck_write.specs.Fields as fields;
+ghost use Rattle.std.specs.Prelude.{◌≡◌, ◌≤◌, length, map, true, false, IfSome, IfNone};
+ghost use Rattle.pli_code.specs.Fields.{Answers, byte_at, many, byte, list, list_of, u2, count_of_one, from_to};
+ghost use Rattle.pli_code.specs.Fields as fields;
 ghost use Rattle.pli_deck_write.specs.DeckFields as deck_fields;
 ghost use Rattle.pli_base.specs.answers.FailureAnswers.{Gives};
 
 use crate::error::ReadError;
-use byteorder::{BigEndian, ByteOrder};
 use pli_base::Name;
-use pli_deck_write::DeckFault;
+use pli_code::DeckFault;
+use pli_code::fields::{byte_within, short_of};
 use std::alloc::Global;
 
-/// One byte.
-#[tactic(auto, unfolding(pli_deck_write::specs::Fields::byte_at))]
-pub fn byte_of(bytes: &[u8]) -> Result<(u8, &[u8]), ReadError>
-    ensures { Gives (λ x. (x.0, x.1.now)) result (byte_at bytes.now) }
-{
-    match bytes {
-        [] => Err(ReadError::Fault(DeckFault::Truncated)),
-        [first, rest @ ..] => Ok((*first, rest)),
-    }
-}
-
-/// A number of two bytes.
-#[tactic(auto, unfolding(pli_deck_write::specs::Fields::number_at))]
-pub fn short_of(bytes: &[u8]) -> Result<(u16, &[u8]), ReadError>
-    ensures { Gives (λ x. (x.0, x.1.now)) result (number_at 2 bytes.now) }
-{
-    if bytes.len() < 2 {
-        return Err(ReadError::Fault(DeckFault::Truncated));
-    }
-    Ok((BigEndian::read_u16(bytes), &bytes[2..]))
-}
-
-/// A number of four bytes.
-#[tactic(auto, unfolding(pli_deck_write::specs::Fields::number_at))]
-pub fn word_of(bytes: &[u8]) -> Result<(u32, &[u8]), ReadError>
-    ensures { Gives (λ x. (x.0, x.1.now)) result (number_at 4 bytes.now) }
-{
-    if bytes.len() < 4 {
-        return Err(ReadError::Fault(DeckFault::Truncated));
-    }
-    Ok((BigEndian::read_u32(bytes), &bytes[4..]))
-}
-
-/// One byte from `low` to `high`.
-pub fn byte_within(bytes: &[u8], low: u8, high: u8) -> Result<(u8, &[u8]), ReadError>
-    ensures { Gives (λ x. (x.0, x.1.now)) result ((from_to low high u1).read bytes.now) }
-{
-    let (number, rest) = byte_of(bytes)?;
-    if low <= number && number <= high {
-        Ok((number, rest))
-    } else {
-        Err(ReadError::Fault(DeckFault::OutOfRange))
-    }
-}
-
 /// A count of one byte, from `low` to `high`.
-pub fn count_within(bytes: &[u8], low: u8, high: u8) -> Result<(u8, &[u8]), ReadError>
-    ensures { Gives (λ x. (x.0, x.1.now)) result ((from_to low high count_of_one).read bytes.now) }
+pub fn count_within(bytes: &[u8], low: u8, high: u8) -> Result<(u8, &[u8]), DeckFault>
+    ensures { Answers (λ x. (x.0, x.1.now)) result ((from_to low high count_of_one).read bytes.now) }
 {
     byte_within(bytes, low, high)
 }
 
 /// A number of two bytes from `low` to `high`.
-pub fn short_within(bytes: &[u8], low: u16, high: u16) -> Result<(u16, &[u8]), ReadError>
-    ensures { Gives (λ x. (x.0, x.1.now)) result ((from_to low high u2).read bytes.now) }
+pub fn short_within(bytes: &[u8], low: u16, high: u16) -> Result<(u16, &[u8]), DeckFault>
+    ensures { Answers (λ x. (x.0, x.1.now)) result ((from_to low high u2).read bytes.now) }
 {
     let (number, rest) = short_of(bytes)?;
     if low <= number && number <= high {
         Ok((number, rest))
     } else {
-        Err(ReadError::Fault(DeckFault::OutOfRange))
-    }
-}
-
-/// A signed number of four bytes that is at most `bound` from 0.
-pub fn signed_within(bytes: &[u8], bound: u32) -> Result<(i32, &[u8]), ReadError>
-    ensures read { Gives (λ x. (x.0, x.1.now)) result ((signed bound).read bytes.now) }
-    ensures near { IfOk result (λ x. unsigned_abs x.0 ≤ bound) }
-{
-    let (bits, rest) = word_of(bytes)?;
-    let number = bits.cast_signed();
-    if number.unsigned_abs() <= bound {
-        Ok((number, rest))
-    } else {
-        Err(ReadError::Fault(DeckFault::OutOfRange))
+        Err(DeckFault::OutOfRange)
     }
 }
 
 /// 0 for no, 1 for yes.
-pub fn flag_of(bytes: &[u8]) -> Result<(bool, &[u8]), ReadError>
-    ensures { Gives (λ x. (x.0, x.1.now)) result (deck_fields.flag.read bytes.now) }
+pub fn flag_of(bytes: &[u8]) -> Result<(bool, &[u8]), DeckFault>
+    ensures { Answers (λ x. (x.0, x.1.now)) result (deck_fields.flag.read bytes.now) }
 {
     let (number, rest) = byte_within(bytes, 0, 1)?;
     Ok((number == 1, rest))
@@ -99,8 +40,8 @@ pub fn flag_of(bytes: &[u8]) -> Result<(bool, &[u8]), ReadError>
 
 /// A number below 65,535, or none.
 #[tactic(auto, unfolding(pli_deck_write::specs::DeckFields::optional))]
-pub fn optional_of(bytes: &[u8]) -> Result<(Option<u16>, &[u8]), ReadError>
-    ensures { Gives (λ x. (x.0, x.1.now)) result (deck_fields.optional.read bytes.now) }
+pub fn optional_of(bytes: &[u8]) -> Result<(Option<u16>, &[u8]), DeckFault>
+    ensures { Answers (λ x. (x.0, x.1.now)) result (deck_fields.optional.read bytes.now) }
 {
     let (number, rest) = short_of(bytes)?;
     let present = if number < 65535 { Some(number) } else { None };
@@ -108,18 +49,18 @@ pub fn optional_of(bytes: &[u8]) -> Result<(Option<u16>, &[u8]), ReadError>
 }
 
 /// So many bytes.
-pub fn text_of(bytes: &[u8], count: usize) -> Result<(&[u8], &[u8]), ReadError>
-    ensures { Gives (λ x. (x.0.now, x.1.now)) result (many byte_at count bytes.now) }
+pub fn text_of(bytes: &[u8], count: usize) -> Result<(&[u8], &[u8]), DeckFault>
+    ensures { Answers (λ x. (x.0.now, x.1.now)) result (many byte_at count bytes.now) }
 {
     if bytes.len() < count {
-        return Err(ReadError::Fault(DeckFault::Truncated));
+        return Err(DeckFault::Truncated);
     }
     Ok(bytes.split_at(count))
 }
 
 /// The characters of a name, which may be none.
-pub fn name_text_of(bytes: &[u8]) -> Result<(&[u8], &[u8]), ReadError>
-    ensures { Gives (λ x. (x.0.now, x.1.now)) result ((list_of (from_to 1 31 count_of_one) byte).read bytes.now) }
+pub fn name_text_of(bytes: &[u8]) -> Result<(&[u8], &[u8]), DeckFault>
+    ensures { Answers (λ x. (x.0.now, x.1.now)) result ((list_of (from_to 1 31 count_of_one) byte).read bytes.now) }
 {
     let (count, rest) = count_within(bytes, 1, 31)?;
     text_of(rest, usize::from(count))

@@ -1,22 +1,21 @@
 //! The items of a deck's tables at the front of bytes.
 ghost use Rattle.std.specs.Prelude.{◌≡◌, ℕ, List, map};
-ghost use Rattle.pli_deck_write.specs.Fields.{Field, many, u2, list, made, ◌⊗◌};
+ghost use Rattle.pli_code.specs.Fields.{Answers, Field, many, u2, list, made, ◌⊗◌};
 ghost use Rattle.pli_deck_write.specs.DeckFields as deck_fields;
-ghost use Rattle.pli_deck_write.specs.Instructions.{instruction};
+ghost use Rattle.pli_code.specs.Instructions.{instruction};
 ghost use Rattle.pli_code.specs.CodeTables as code;
 ghost use Rattle.pli_code.specs.CodeTables.{CodedBlock};
 ghost use Rattle.pli_code.specs.views.CodeView.{kind_view, block_view, signature_view, global_view};
 ghost use Rattle.pli_base.specs.answers.FailureAnswers.{Gives};
 
 use crate::error::ReadError;
-use crate::instructions::instruction_of;
-use crate::numbered::kind_of;
 use crate::reading::{
-    ReadsOne, byte_of, byte_within, count_within, list_at, many_of, name_text_of, optional_of,
-    short_of, upper_name, word_of,
+    ReadsOne, count_within, list_at, many_of, name_text_of, optional_of, upper_name,
 };
-use pli_code::{Block, BlockKind, CodedGlobal, CodedSignature, Instruction, VariableKind};
-use pli_deck_write::DeckFault;
+use pli_code::fields::{byte_of, byte_within, short_of, word_of};
+use pli_code::{
+    Block, BlockKind, CodedGlobal, CodedSignature, DeckFault, Instruction, VariableKind, decode,
+};
 use std::alloc::Global;
 
 /// Reads a number of two bytes.
@@ -32,7 +31,7 @@ impl ReadsOne for Numbers {
     ghost field = { u2 };
 
     fn read<'a>(&self, _alloc: Global, bytes: &'a [u8]) -> Result<(u16, &'a [u8]), ReadError> {
-        short_of(bytes)
+        Ok(short_of(bytes)?)
     }
 }
 
@@ -139,9 +138,20 @@ impl ReadsOne for Globals {
     }
 }
 
+/// The kind of blocks of a number from 0 to 2.
+fn kind_of(number: u8) -> BlockKind
+    ensures { kind_view result ≡ deck_fields.kind_of number }
+{
+    match number {
+        0 => BlockKind::Procedure,
+        1 => BlockKind::Begin,
+        _ => BlockKind::OnUnit,
+    }
+}
+
 /// The kind of a block.
-fn block_kind_of(bytes: &[u8]) -> Result<(BlockKind, &[u8]), ReadError>
-    ensures { Gives (λ x. (kind_view x.0, x.1.now)) result (deck_fields.block_kind.read bytes.now) }
+fn block_kind_of(bytes: &[u8]) -> Result<(BlockKind, &[u8]), DeckFault>
+    ensures { Answers (λ x. (kind_view x.0, x.1.now)) result (deck_fields.block_kind.read bytes.now) }
 {
     let (number, rest) = byte_within(bytes, 0, 2)?;
     Ok((kind_of(number), rest))
@@ -184,7 +194,7 @@ impl ReadsOne for Blocks {
 }
 
 /// Reads an instruction.
-struct Instructions;
+pub struct Instructions;
 
 impl ReadsOne for Instructions {
     ghost use Rattle.pli_code.specs.declared.instruction.Instruction.{Instruction};
@@ -197,20 +207,11 @@ impl ReadsOne for Instructions {
 
     ghost field = { instruction };
 
-    #[tactic(auto, unfolding(pli_deck_write::specs::Instructions::instruction, pli_deck_write::specs::Instructions::reader_of))]
     fn read<'a>(
         &self,
         _alloc: Global,
         bytes: &'a [u8],
     ) -> Result<(Instruction, &'a [u8]), ReadError> {
-        let (code, rest) = byte_of(bytes)?;
-        instruction_of(code, rest)
+        Ok(decode(bytes)?)
     }
-}
-
-/// A list of instructions.
-pub fn instructions_of(alloc: Global, bytes: &[u8]) -> Result<(Vec<Instruction>, &[u8]), ReadError>
-    ensures { Gives (λ x. (x.0.items, x.1.now)) result ((list instruction).read bytes.now) }
-{
-    list_at(alloc, &Instructions, bytes)
 }

@@ -1,6 +1,6 @@
 //! Whole decks at the front of bytes.
 ghost use Rattle.std.specs.Prelude.{◌≡◌, option_map};
-ghost use Rattle.pli_deck_write.specs.Fields.{Reader};
+ghost use Rattle.pli_code.specs.Fields.{Reader};
 ghost use Rattle.pli_deck_write.specs.DeckFields as deck_fields;
 ghost use Rattle.pli_code.specs.views.CodeView.{code_view, deck_view};
 ghost use Rattle.pli_base.specs.answers.FailureAnswers.{Gives};
@@ -8,10 +8,10 @@ ghost use Rattle.pli_base.specs.answers.FailureAnswers.{Gives};
 use crate::constants::{Constants, Templates, are_same};
 use crate::described::descriptions_of;
 use crate::error::ReadError;
-use crate::reading::{byte_of, flag_of, list_at, name_text_of, upper_name};
-use crate::tables::{Blocks, Globals, instructions_of, signature_of};
-use pli_code::{Code, Deck};
-use pli_deck_write::DeckFault;
+use crate::reading::{flag_of, list_at, name_text_of, upper_name};
+use crate::tables::{Blocks, Globals, Instructions, signature_of};
+use pli_code::fields::byte_of;
+use pli_code::{Code, Deck, DeckFault};
 use std::alloc::Global;
 
 /// The code of a unit: its signature, its tables, each with its count, and its instructions.
@@ -25,7 +25,7 @@ fn code_of(alloc: Global, bytes: &[u8]) -> Result<(Code, &[u8]), ReadError>
     let (values, rest) = list_at(alloc, &Constants, rest)?;
     let (globals, rest) = list_at(alloc, &Globals, rest)?;
     let (blocks, rest) = list_at(alloc, &Blocks, rest)?;
-    let (instructions, rest) = instructions_of(alloc, rest)?;
+    let (instructions, rest) = list_at(alloc, &Instructions, rest)?;
     Ok((
         Code {
             signature,

@@ -10,20 +10,21 @@ use Rattle.pli_base.specs.laws.NameLaws.{pointwise-refl}
 use Rattle.pli_value.specs.Packing.{packed_bit, packed, unpacked}
 use Rattle.pli_value.proofs.PackedLaws.{unpacked_packed, packed_length}
 use Rattle.byteorder.specs.Endian.{big_bytes}
-use Rattle.pli_deck_write.specs.declared.fault.DeckFault.{DeckFault}
-use Rattle.pli_deck_write.specs.declared.fault.DeckFault.TheVariants.{Truncated, BadMagic, BadVersion}
+use Rattle.pli_code.specs.declared.fault.DeckFault.{DeckFault}
+use Rattle.pli_code.specs.declared.fault.DeckFault.TheVariants.{Truncated, BadMagic, BadVersion}
 use Rattle.pli_base.specs.Results.{◌>>=◌}
-use Rattle.pli_deck_write.specs.Fields.{AreBytes, Reader, Field, nothing, byte, held, ◌⊗◌, list_of, unknown, u1, u2, u4, count_of_one, byte_at, from_to, list}
+use Rattle.pli_code.specs.Fields.{AreBytes, Reader, Field, nothing, byte, held, ◌⊗◌, list_of, unknown, u1, u2, u4, count_of_one, byte_at, from_to, list}
 use Rattle.pli_value.specs.Value.{Value, Number, Characters, Bits, Located}
 use Rattle.pli_value.specs.declared.locator.Locator.TheVariants as locators
 use Rattle.pli_deck_write.specs.Descriptions.{description}
-use Rattle.pli_deck_write.specs.Instructions.{instruction}
-use Rattle.pli_deck_write.specs.DeckFields.{is_name, name, flag, number_if, none_last, is_number_if, optional, byte_count, bits_in, bits_at, bit_string, integer, characters, constant_form, constant_readers, constant, initial, template, parameter_count, parameter_number, signature, global_form, global_readers, global, block_kind, block_of, block_parts, block, behind, past, after_magic, if_first, versioned, after_version, code_of, code_parts, code, deck_of, deck_parts, contents, deck}
-use Rattle.pli_deck_write.proofs.FieldLaws.{AreBytes-drop, bind_ok, held_ok, guard_ok, both_true, Taken, IsField, nothing_law, byte_law, u2_law, u4_law, count_law, byte_again, as_shaped, answered, checked_law, signed_law, ◌⊠◌, shaped_law, list_law, from_to_law}
-use Rattle.pli_deck_write.proofs.FormLaws.{AllRead, unknown_reads, made_reads, made_again, tagged_law}
+use Rattle.pli_code.specs.Instructions.{instruction}
+use Rattle.pli_deck_write.specs.DeckFields.{is_name, name, flag, number_if, none_last, is_number_if, optional, byte_count, bits_in, bits_at, bit_string, integer, characters, constant_form, constant_readers, constant, initial, template, parameter_count, parameter_number, signature, global_form, global_readers, global, kind_number, kind_of, block_kind, block_of, block_parts, block, behind, past, after_magic, if_first, versioned, after_version, code_of, code_parts, code, deck_of, deck_parts, contents, deck}
+use Rattle.pli_code.proofs.FieldLaws.{AreBytes-drop, bind_ok, held_ok, guard_ok, both_true, Taken, IsField, nothing_law, byte_law, u2_law, u4_law, count_law, byte_again, as_shaped, answered, checked_law, signed_law, ◌⊠◌, shaped_law, list_law, from_to_law}
+use Rattle.pli_code.proofs.FormLaws.{AllRead, unknown_reads, made_reads, made_again, tagged_law}
 use Rattle.pli_deck_write.proofs.DescriptionLaws.{description_law}
-use Rattle.pli_deck_write.proofs.InstructionLaws.{instruction_law}
-use Rattle.pli_deck_write.proofs.NumberedLaws.{block_kind_law}
+use Rattle.pli_code.proofs.InstructionLaws.{instruction_law}
+use Rattle.pli_code.proofs.NumberedLaws.{over}
+use Rattle.pli_program.specs.Program.{BlockKind, Procedure, BeginBlock, OnUnit}
 use Rattle.pli_code.specs.CodeTables.{CodedGlobal, OwnVariable, ExternalVariable, EntryPoint}
 use Rattle.pli_code.specs.declared.code.VariableKind.TheVariants.{Static, Controlled}
 
@@ -215,6 +216,20 @@ signature_law =
     (list_law parameter_count u2 parameter_count_law u2_law ⊠ optional_law) (λ p h. refl) (λ s h. refl)
 
 -- ---- globals and blocks
+
+kind_there : (n : ℕ) → is_in_range 0 2 n ≡ true → kind_number (kind_of n) ≡ n
+kind_there zero h = refl
+kind_there (suc zero) h = refl
+kind_there (suc (suc zero)) h = refl
+kind_there (suc (suc (suc n))) h = absurd (over 0 2 (suc (suc (suc n))) (omega arith) h)
+
+kind_back : (x : BlockKind) → kind_of (kind_number x) ≡ x
+kind_back Procedure = refl
+kind_back BeginBlock = refl
+kind_back OnUnit = refl
+
+block_kind_law : IsField block_kind
+block_kind_law = shaped_law kind_of kind_number (from_to 0 2 u1) (from_to_law 0 2 u1 byte_law) (λ n h. kind_there n (and_parts (nat_lt n 256) (is_in_range 0 2 n) h).1) (λ x h. kind_back x)
 
 globals_read : AllRead global_form 0 global_readers
 globals_read =

@@ -4,22 +4,18 @@ use Rattle.std.specs.Prelude.{int_le}
 use Rattle.pli_map.specs.Description.{Description, FixedBinary, Character, Varying, Bit, Pointer, Offset}
 use Rattle.pli_map.specs.Description.{Area, Array, Structure, Members, NoMembers, MemberThen}
 use Rattle.pli_map.specs.views.DescriptionView.{members_of}
-use Rattle.pli_deck_write.specs.Fields.{BothWays, Field, nothing, ◌⊗◌, form, unknown, u1, u2, u4, count_of_one, from_to, checked}
-use Rattle.pli_deck_write.specs.Descriptions.{precision, string_length, area_size, bound, bounds, dimensions, listed, members, description_form, description_readers, too_deep, description_within, description}
-use Rattle.pli_deck_write.proofs.FieldLaws.{IsField, byte_law, count_law, u2_law, u4_law, nothing_law, checked_law, from_to_law, signed_law, pair_law, shaped_law, list_law, both_ways}
-use Rattle.pli_deck_write.proofs.FormLaws.{AllRead, unknown_reads, made_reads, made_again, tagged_law}
-
-pub precision_law : IsField precision
-precision_law = from_to_law 1 31 u1 byte_law
+use Rattle.pli_code.specs.Fields.{BothWays, Field, nothing, ◌⊗◌, form, unknown, u2, u4, count_of_one, from_to, checked}
+use Rattle.pli_deck_write.specs.Descriptions.{string_length, area_size, bounds, dimensions, listed, members, description_form, description_readers, too_deep, description_within, description}
+use Rattle.pli_code.specs.Instructions.{precision, bound}
+use Rattle.pli_code.proofs.InstructionLaws.{precision_law, bound_law}
+use Rattle.pli_code.proofs.FieldLaws.{IsField, count_law, u2_law, u4_law, nothing_law, checked_law, from_to_law, pair_law, shaped_law, list_law, both_ways}
+use Rattle.pli_code.proofs.FormLaws.{AllRead, unknown_reads, made_reads, made_again, tagged_law}
 
 pub length_law : IsField string_length
 length_law = from_to_law 1 32767 u2 u2_law
 
 pub area_law : IsField area_size
 area_law = checked_law (λ n. nat_eq (n % 8) 0) (from_to 1 1000000 u4) (from_to_law 1 1000000 u4 u4_law)
-
-pub bound_law : IsField bound
-bound_law = signed_law 32767 (omega arith)
 
 bounds_law : IsField bounds
 bounds_law =

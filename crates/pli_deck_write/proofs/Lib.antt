@@ -2,13 +2,9 @@ pub mod DeckLaws
 pub mod DescriptionLaws
 pub mod DescriptionPuts
 pub mod DescriptionViews
-pub mod FieldLaws
-pub mod FormLaws
-pub mod InstructionLaws
 pub mod LowBytes
 pub mod ModuleLaws
 pub mod ModulePuts
-pub mod NumberedLaws
 pub mod PutLemmas
 pub mod SpellingLaws
 pub mod WholeLaws

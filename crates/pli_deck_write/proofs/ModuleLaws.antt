@@ -3,10 +3,10 @@ use Rattle.std.proofs.Common.{◌≡◌, ℕ, zero, suc, nat_eq, nat_lt, true, f
 use Rattle.std.specs.List.{flat_map, list_all, filter}
 use Rattle.std.proofs.lemmas.Bool.{ltb-false, le-ltb, and_parts, eqb-true, eq-eqb}
 use Rattle.std.proofs.lemmas.List.{take_at, drop_at, take-append-drop, length-append, length-take-le}
-use Rattle.pli_deck_write.specs.declared.fault.DeckFault.{DeckFault}
-use Rattle.pli_deck_write.specs.declared.fault.DeckFault.TheVariants.{Truncated}
+use Rattle.pli_code.specs.declared.fault.DeckFault.{DeckFault}
+use Rattle.pli_code.specs.declared.fault.DeckFault.TheVariants.{Truncated}
 use Rattle.pli_base.specs.Results.{◌>>=◌}
-use Rattle.pli_deck_write.specs.Fields.{AreBytes, Field, many, checked, followed, ◌⊗◌, shaped, u1, u2, u4, from_to}
+use Rattle.pli_code.specs.Fields.{AreBytes, Field, many, checked, followed, ◌⊗◌, shaped, u1, u2, u4, from_to}
 use Rattle.pli_code.specs.CodeTables.{Deck}
 use Rattle.pli_code.specs.Modules.{External, Member}
 use Rattle.pli_deck_write.specs.DeckFields.{name, after_version, deck}
@@ -14,7 +14,7 @@ use Rattle.pli_deck_write.specs.DeckFaults.{fault_of}
 use Rattle.pli_deck_write.specs.Spelling.{deck_bytes, deck_read, SpellsDeck}
 use Rattle.pli_deck_write.specs.ModuleFields.{comes_after, external_of, external_parts, external_behind, bytes_behind, fit_behind, many_behind, chain, is_none, and_rest, deck_in, sized_deck, is_external, links_of, member_of, member_parts, member, exactly, module_of, module_parts, module_field}
 use Rattle.pli_deck_write.specs.ModuleSpelling.{module_fault, module_read, ReadModuleIsSpelled, SpelledModuleIsRead, OneModule}
-use Rattle.pli_deck_write.proofs.FieldLaws.{AreBytes-drop, AreBytes-take, bind_ok, ok_is, guard_ok, both_true, Taken, IsField, byte_law, u2_law, u4_law, checked_law, followed_law, ◌⊠◌, shaped_law, list_law, from_to_law, many_takes, many_again}
+use Rattle.pli_code.proofs.FieldLaws.{AreBytes-drop, AreBytes-take, bind_ok, ok_is, guard_ok, both_true, Taken, IsField, byte_law, u2_law, u4_law, checked_law, followed_law, ◌⊠◌, shaped_law, list_law, from_to_law, many_takes, many_again}
 use Rattle.pli_deck_write.proofs.DeckLaws.{name_law, magic_law, version_law}
 use Rattle.pli_deck_write.proofs.SpellingLaws.{read_is_spelled, spelled_is_read}
 use Rattle.pli_deck_write.proofs.WholeLaws.{taken_whole, read_again}

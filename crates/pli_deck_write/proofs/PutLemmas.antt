@@ -1,12 +1,8 @@
--- Values put one behind another.
+-- Lists of values, and parts one behind another.
 use Rattle.std.proofs.Common.{◌≡◌, List, [], ◌∷◌, ◌++◌, ℕ, map, length, refl, sym, ap, ◌∙◌, append_assoc}
 use Rattle.std.specs.List.{flat_map}
 use Rattle.std.proofs.lemmas.List.{length-map}
 use Rattle.byteorder.specs.Endian.{big_bytes}
-
--- what is put behind what was put makes a whole
-pub then_put : (out before after x y whole : List ℕ) → before ≡ out ++ x → whole ≡ x ++ y → after ≡ before ++ y → after ≡ out ++ whole
-then_put out before after x y whole p w q = q ∙ ap (λ bs. bs ++ y) p ∙ append_assoc out x y ∙ ap (λ bs. out ++ bs) (sym w)
 
 -- values that are what is said of them
 pub unmapped : {X : Type 0} (xs : List X) → map (λ x. x) xs ≡ xs

@@ -3,7 +3,7 @@ use Rattle.std.proofs.Common.{sym, ◌∙◌}
 use Rattle.pli_deck_write.specs.DeckFields.{deck}
 use Rattle.pli_deck_write.specs.DeckFaults.{fault_of}
 use Rattle.pli_deck_write.specs.Spelling.{deck_read, ReadIsSpelled, SpelledIsRead, OneSpelling, OneDeck}
-use Rattle.pli_deck_write.proofs.FieldLaws.{ok_is}
+use Rattle.pli_code.proofs.FieldLaws.{ok_is}
 use Rattle.pli_deck_write.proofs.DeckLaws.{deck_law}
 use Rattle.pli_deck_write.proofs.WholeLaws.{taken_whole, read_again}
 

@@ -1,11 +1,11 @@
 -- What is read whole is spelled so, and what is spelled so is read whole.
 use Rattle.std.proofs.Common.{◌≡◌, ℕ, true, List, [], ◌∷◌, ◌++◌, Option, Some, None, Result, Ok, refl, sym, ap, ◌∙◌, subst}
 use Rattle.std.proofs.lemmas.List.{append-nil}
-use Rattle.pli_deck_write.specs.declared.fault.DeckFault.{DeckFault}
+use Rattle.pli_code.specs.declared.fault.DeckFault.{DeckFault}
 use Rattle.pli_base.specs.Results.{◌>>=◌}
-use Rattle.pli_deck_write.specs.Fields.{AreBytes, Field}
+use Rattle.pli_code.specs.Fields.{AreBytes, Field}
 use Rattle.pli_deck_write.specs.Whole.{unless_faulty, whole, whole_read}
-use Rattle.pli_deck_write.proofs.FieldLaws.{IsField, bind_ok, ok_is}
+use Rattle.pli_code.proofs.FieldLaws.{IsField, bind_ok, ok_is}
 
 unless_ok : {X : Type 0} (o : Option DeckFault) (x y : X) → unless_faulty o x ≡ Ok y → (o ≡ None) × (x ≡ y)
 unless_ok None x y h = (refl, ok_is x y h)

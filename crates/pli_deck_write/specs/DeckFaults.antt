@@ -9,8 +9,8 @@ use Rattle.pli_map.specs.Sizes.{alignment_of, size_of, stride_of}
 use Rattle.pli_map.specs.Values.{holds}
 use Rattle.pli_type_tree.specs.Templates.{InitialScalar}
 use Rattle.pli_value.specs.Value.{Value}
-use Rattle.pli_deck_write.specs.declared.fault.DeckFault.{DeckFault}
-use Rattle.pli_deck_write.specs.declared.fault.DeckFault.TheVariants.{BadJump, BadNumber, OverLimit}
+use Rattle.pli_code.specs.declared.fault.DeckFault.{DeckFault}
+use Rattle.pli_code.specs.declared.fault.DeckFault.TheVariants.{BadJump, BadNumber, OverLimit}
 use Rattle.pli_code.specs.CodeTables.{CodedTemplate, CodedBlock, CodedSignature, Code, Deck}
 use Rattle.pli_code.specs.CodeTables.{CodedGlobal, OwnVariable, ExternalVariable, EntryPoint}
 use Rattle.pli_code.specs.declared.instruction.Instruction.{Instruction}

@@ -1,7 +1,7 @@
 -- The bytes of a deck's items.
 use Rattle.std.specs.Prelude.{ℕ, ◌+◌, ◌/◌, nat_eq, nat_le, nat_lt, Bool, true, false, ℤ}
 use Rattle.std.specs.Prelude.{List, [], ◌∷◌, ◌++◌, length, take, drop, Option, Some, None, Result, Ok}
-use Rattle.std.specs.Prelude.{Err}
+use Rattle.std.specs.Prelude.{Err, get_or}
 use Rattle.std.specs.Prelude.{if◌then◌else◌}
 use Rattle.std.specs.Str.{bytes_eq}
 use Rattle.pli_base.specs.Name.{Name, name_of}
@@ -11,20 +11,19 @@ use Rattle.pli_value.specs.Packing.{packed, unpacked}
 use Rattle.pli_value.specs.Value.{Value, Number, Characters, Bits, Located}
 use Rattle.pli_value.specs.declared.locator.Locator.{Locator}
 use Rattle.pli_value.specs.declared.locator.Locator.TheVariants as locators
-use Rattle.pli_deck_write.specs.declared.fault.DeckFault.TheVariants.{Truncated, BadMagic, BadVersion}
-use Rattle.pli_deck_write.specs.declared.fault.DeckFault.{DeckFault}
-use Rattle.pli_program.specs.Program.{BlockKind}
+use Rattle.pli_code.specs.declared.fault.DeckFault.TheVariants.{Truncated, BadMagic, BadVersion}
+use Rattle.pli_code.specs.declared.fault.DeckFault.{DeckFault}
+use Rattle.pli_program.specs.Program.{BlockKind, Procedure, BeginBlock, OnUnit}
 use Rattle.pli_type_tree.specs.Templates.{InitialScalar}
 use Rattle.pli_code.specs.CodeTables.{CodedTemplate, CodedBlock, CodedSignature, Code, Deck}
 use Rattle.pli_code.specs.CodeTables.{CodedGlobal, OwnVariable, ExternalVariable, EntryPoint}
 use Rattle.pli_code.specs.declared.instruction.Instruction.{Instruction}
 use Rattle.pli_base.specs.Results.{◌>>=◌}
-use Rattle.pli_deck_write.specs.Fields.{Field, Form, Reader, byte_at, nothing, checked, held, signed, ◌⊗◌}
-use Rattle.pli_deck_write.specs.Fields.{shaped, list_of, form, made, unknown, tagged, byte, u1, u2, u4}
-use Rattle.pli_deck_write.specs.Fields.{from_to, count_of_one, list}
+use Rattle.pli_code.specs.Fields.{Field, Form, Reader, byte_at, nothing, checked, held, signed, ◌⊗◌}
+use Rattle.pli_code.specs.Fields.{shaped, list_of, form, made, unknown, tagged, byte, u1, u2, u4}
+use Rattle.pli_code.specs.Fields.{from_to, count_of_one, list}
 use Rattle.pli_deck_write.specs.Descriptions.{description}
-use Rattle.pli_deck_write.specs.Instructions.{instruction}
-use Rattle.pli_deck_write.specs.Numbered.{kind_number, kind_of}
+use Rattle.pli_code.specs.Instructions.{instruction}
 use Rattle.pli_code.specs.declared.code.VariableKind.TheVariants.{Static, Controlled}
 
 -- a text is this name, as it is written in upper case
@@ -167,6 +166,16 @@ global_readers =
 -- a global
 unfoldable pub global : Field CodedGlobal
 global = tagged global_form global_readers
+
+-- the number of a block's kind: 0 for a procedure, 1 for a BEGIN block and 2 for an ON-unit
+abbrev pub kind_number : BlockKind → ℕ
+kind_number Procedure = 0
+kind_number BeginBlock = 1
+kind_number OnUnit = 2
+
+-- the kind of a number from 0 to 2
+abbrev pub kind_of : ℕ → BlockKind
+kind_of n = get_or (Procedure ∷ BeginBlock ∷ []) n OnUnit
 
 -- the kind of a block, by its number from 0 to 2
 abbrev pub block_kind : Field BlockKind

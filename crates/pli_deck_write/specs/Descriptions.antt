@@ -1,16 +1,12 @@
 -- The bytes of descriptions (own).
-use Rattle.std.specs.Prelude.{ℕ, zero, suc, ◌%◌, nat_eq, int_le, List, [], ◌∷◌, ℤ, false, get_or}
+use Rattle.std.specs.Prelude.{ℕ, zero, suc, ◌%◌, nat_eq, int_le, List, [], ◌∷◌, false, get_or}
 use Rattle.pli_map.specs.declared.description.Bounds.{Bounds}
 use Rattle.pli_map.specs.Description.{Description, FixedBinary, Character, Varying, Bit, Pointer, Offset}
 use Rattle.pli_map.specs.Description.{Area, Array, Structure, Members, NoMembers, MemberThen}
 use Rattle.pli_map.specs.views.DescriptionView.{members_of}
-use Rattle.pli_deck_write.specs.Fields.{Field, Form, Reader, nothing, checked, signed, ◌⊗◌}
-use Rattle.pli_deck_write.specs.Fields.{shaped, list_of, form, made, unknown, tagged, u1, u2, u4, from_to}
-use Rattle.pli_deck_write.specs.Fields.{count_of_one}
-
--- a precision of FIXED BINARY
-abbrev pub precision : Field ℕ
-precision = from_to 1 31 u1
+use Rattle.pli_code.specs.Fields.{Field, Form, Reader, nothing, checked, ◌⊗◌, shaped, list_of, form, made}
+use Rattle.pli_code.specs.Fields.{unknown, tagged, u2, u4, from_to, count_of_one}
+use Rattle.pli_code.specs.Instructions.{precision, bound}
 
 -- a length of a string
 abbrev pub string_length : Field ℕ
@@ -19,10 +15,6 @@ string_length = from_to 1 32767 u2
 -- an area's size, a multiple of 8
 abbrev pub area_size : Field ℕ
 area_size = checked (λ n. nat_eq (n % 8) 0) (from_to 1 1000000 u4)
-
--- a bound, which is at most 32,767 from 0
-abbrev pub bound : Field ℤ
-bound = signed 32767
 
 -- the bounds of a dimension: no low one is over its high one
 abbrev pub bounds : Field Bounds

@@ -1,12 +1,8 @@
 pub mod DeckFaults
 pub mod DeckFields
 pub mod Descriptions
-pub mod FaultNumbers
-pub mod Fields
-pub mod Instructions
 pub mod ModuleFields
 pub mod ModuleSpelling
-pub mod Numbered
 pub mod Spelling
 pub mod Whole
 pub mod examples

@@ -9,11 +9,11 @@ use Rattle.std.specs.declared.cmp.Ordering.TheVariants.{Less}
 use Rattle.std.specs.Ordering.{nat_cmp}
 use Rattle.pli_base.specs.Name.{Name}
 use Rattle.pli_code.specs.Modules.{External, Member, Module}
-use Rattle.pli_deck_write.specs.declared.fault.DeckFault.{DeckFault}
-use Rattle.pli_deck_write.specs.declared.fault.DeckFault.TheVariants.{Truncated}
+use Rattle.pli_code.specs.declared.fault.DeckFault.{DeckFault}
+use Rattle.pli_code.specs.declared.fault.DeckFault.TheVariants.{Truncated}
 use Rattle.pli_base.specs.Results.{◌>>=◌}
-use Rattle.pli_deck_write.specs.Fields.{Field, Reader, many, checked, followed, ◌⊗◌, shaped, list_of}
-use Rattle.pli_deck_write.specs.Fields.{u1, u2, u4, from_to}
+use Rattle.pli_code.specs.Fields.{Field, Reader, many, checked, followed, ◌⊗◌, shaped, list_of}
+use Rattle.pli_code.specs.Fields.{u1, u2, u4, from_to}
 use Rattle.pli_deck_write.specs.DeckFields.{name, after_magic, after_version, deck}
 use Rattle.pli_deck_write.specs.DeckFaults.{fault_of}
 use Rattle.pli_deck_write.specs.Spelling.{deck_bytes, deck_read}

@@ -5,9 +5,9 @@ use Rattle.std.specs.Prelude.{if◌then◌else◌}
 use Rattle.std.specs.List.{list_all, sum_by, filter}
 use Rattle.pli_map.specs.Description.{Description}
 use Rattle.pli_map.specs.Sizes.{size_of}
-use Rattle.pli_deck_write.specs.declared.fault.DeckFault.{DeckFault}
-use Rattle.pli_deck_write.specs.declared.fault.DeckFault.TheVariants.{BadNumber, OverLimit}
-use Rattle.pli_deck_write.specs.Fields.{AreBytes}
+use Rattle.pli_code.specs.declared.fault.DeckFault.{DeckFault}
+use Rattle.pli_code.specs.declared.fault.DeckFault.TheVariants.{BadNumber, OverLimit}
+use Rattle.pli_code.specs.Fields.{AreBytes}
 use Rattle.pli_deck_write.specs.ModuleFields.{global_tag, is_external, module_field}
 use Rattle.pli_deck_write.specs.Whole.{whole_read}
 use Rattle.pli_code.specs.Modules.{External, Member, Module}

@@ -1,7 +1,7 @@
 -- Which bytes spell a deck, and what reading them gives (own).
 use Rattle.std.specs.Prelude.{◌≡◌, ℕ, List, None, Result, Ok, true}
-use Rattle.pli_deck_write.specs.declared.fault.DeckFault.{DeckFault}
-use Rattle.pli_deck_write.specs.Fields.{AreBytes}
+use Rattle.pli_code.specs.declared.fault.DeckFault.{DeckFault}
+use Rattle.pli_code.specs.Fields.{AreBytes}
 use Rattle.pli_code.specs.CodeTables.{Deck}
 use Rattle.pli_deck_write.specs.DeckFields.{deck}
 use Rattle.pli_deck_write.specs.DeckFaults.{fault_of}

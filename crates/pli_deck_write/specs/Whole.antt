@@ -1,9 +1,9 @@
 -- What is read whole from bytes: nothing stands behind its last item, and then it has no fault as a whole.
 use Rattle.std.specs.Prelude.{ℕ, List, [], ◌∷◌, Option, Some, None, Result, Ok, Err}
-use Rattle.pli_deck_write.specs.declared.fault.DeckFault.{DeckFault}
-use Rattle.pli_deck_write.specs.declared.fault.DeckFault.TheVariants.{Trailing}
+use Rattle.pli_code.specs.declared.fault.DeckFault.{DeckFault}
+use Rattle.pli_code.specs.declared.fault.DeckFault.TheVariants.{Trailing}
 use Rattle.pli_base.specs.Results.{◌>>=◌}
-use Rattle.pli_deck_write.specs.Fields.{Field}
+use Rattle.pli_code.specs.Fields.{Field}
 
 -- what was read, if it has no fault as a whole
 abbrev pub unless_faulty : {X : Type 0} → Option DeckFault → X → Result X DeckFault

@@ -7,10 +7,8 @@ ghost use Rattle.pli_map.specs.views.DescriptionView.{description_view};
 ghost use Rattle.pli_deck_write.specs.Descriptions as description_fields;
 ghost use Rattle.pli_deck_write.specs.Descriptions.{description, description_within};
 
-use crate::writing::{
-    PutsOne, put_all, put_byte, put_count, put_large_count, put_signed, put_small_count,
-    put_with_byte, put_with_short,
-};
+use crate::writing::{PutsOne, put_all, put_count, put_large_count, put_small_count};
+use pli_code::fields::{put_byte, put_signed, put_with_byte, put_with_short};
 use pli_map::{Bounds, Description};
 use std::alloc::AllocError;
 

@@ -1,21 +1,14 @@
 //! Laws of the bytes of decks.
-ghost use Rattle.pli_deck_write.specs.Fields.{BothWays};
+ghost use Rattle.pli_code.specs.Fields.{BothWays};
 ghost use Rattle.pli_deck_write.specs.Descriptions.{description};
-ghost use Rattle.pli_deck_write.specs.Instructions.{instruction};
 ghost use Rattle.pli_deck_write.specs.Spelling.{ReadIsSpelled, SpelledIsRead, OneSpelling, OneDeck};
 ghost use Rattle.pli_deck_write.specs.ModuleSpelling.{ReadModuleIsSpelled, SpelledModuleIsRead, OneModule};
-ghost use Rattle.pli_deck_write.specs.examples.DeckExamples.{WrittenSo, NumberedSo, ReadSo};
+ghost use Rattle.pli_deck_write.specs.examples.DeckExamples.{WrittenSo, ReadSo};
 ghost use Rattle.pli_deck_write.specs.examples.FaultExamples.{DeckFaultsAre};
 ghost use Rattle.pli_deck_write.specs.examples.ModuleExamples.{ModulesWrittenSo, ModulesReadSo, ModuleFaultsAre};
 
-/// A law: an instruction that is read is spelled by the bytes that were there, and one that is spelled is read again,
+/// A law: a description that is read is spelled by the bytes that were there, and one that is spelled is read again,
 /// whatever stands behind it.
-#[tactic(auto, using(crate::proofs::InstructionLaws::instructions_both_ways))]
-pub fn instructions_both_ways()
-    ensures { BothWays instruction }
-{}
-
-/// The same law of descriptions.
 #[tactic(auto, using(crate::proofs::DescriptionLaws::descriptions_both_ways))]
 pub fn descriptions_both_ways()
     ensures { BothWays description }
@@ -40,10 +33,9 @@ pub fn modules_both_ways()
 {}
 
 /// Worked examples: decks with their bytes, and bytes that are none.
-#[tactic(auto, using(crate::proofs::Worked::written_so, crate::proofs::Worked::numbered_so, crate::proofs::Worked::read_so))]
+#[tactic(auto, using(crate::proofs::Worked::written_so, crate::proofs::Worked::read_so))]
 pub fn worked_decks()
     ensures written { WrittenSo }
-    ensures numbered { NumberedSo }
     ensures read { ReadSo }
     ensures faults { DeckFaultsAre }
 {}

@@ -1,21 +1,16 @@
 //! Decks and modules as bytes: what spells them, the laws of that, and what writes them.
 #![tactic(auto)]
 
-mod coding;
 mod describing;
-mod fault;
 mod laws;
 mod modules;
-mod numbered;
 mod putting;
 mod write;
 mod writing;
 
 pub use describing::LEVELS;
-pub use fault::DeckFault;
 pub use laws::{
-    decks_both_ways, descriptions_both_ways, instructions_both_ways, modules_both_ways,
-    worked_decks, worked_modules,
+    decks_both_ways, descriptions_both_ways, modules_both_ways, worked_decks, worked_modules,
 };
 pub use modules::write_module;
 pub use write::write_deck;

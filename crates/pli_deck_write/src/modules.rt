@@ -9,9 +9,8 @@ ghost use Rattle.pli_deck_write.specs.ModuleSpelling.{module_bytes, module_fault
 
 use crate::putting::put_numbers;
 use crate::write::write_deck;
-use crate::writing::{
-    PutsOne, put_byte, put_bytes, put_count, put_large_count, put_list, put_name, put_short,
-};
+use crate::writing::{PutsOne, put_bytes, put_count, put_large_count, put_list, put_name};
+use pli_code::fields::{put_byte, put_short};
 use pli_code::{External, LentMember, LentModule, VariableKind};
 use std::alloc::{AllocError, Global};
 

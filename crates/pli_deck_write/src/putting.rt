@@ -2,22 +2,24 @@
 ghost use Rattle.std.specs.Prelude.{◌≡◌, ◌∷◌, ◌++◌, ℕ, List, length, map, OnOk};
 ghost use Rattle.std.specs.List.{flat_map};
 ghost use Rattle.byteorder.specs.Endian.{big_bytes};
-ghost use Rattle.pli_deck_write.specs.Fields.{u2, ◌⊗◌};
+ghost use Rattle.pli_code.specs.Fields.{u2, ◌⊗◌};
 ghost use Rattle.pli_deck_write.specs.DeckFields as deck_fields;
 ghost use Rattle.pli_type_tree.specs.Templates as templates;
 ghost use Rattle.pli_type_tree.specs.views.TemplateView.{initial_view};
 ghost use Rattle.pli_code.specs.CodeTables as tables;
-ghost use Rattle.pli_code.specs.views.CodeView.{block_view, coded_template_view, global_view, signature_view};
+ghost use Rattle.pli_code.specs.views.CodeView.{block_view, coded_template_view, global_view, kind_view, signature_view};
 ghost use Rattle.pli_value.specs.Value as values;
 ghost use Rattle.pli_value.specs.Value.{value_view};
 
-use crate::numbered::kind_number;
 use crate::writing::{
-    PutsOne, put_all, put_bits, put_byte, put_characters, put_integer, put_large_count, put_list,
-    put_name, put_optional, put_short, put_small_count, put_with_short, put_word,
+    PutsOne, put_all, put_bits, put_characters, put_integer, put_large_count, put_list, put_name,
+    put_optional, put_small_count,
 };
 use pli_base::Name;
-use pli_code::{Block, CodedGlobal, CodedSignature, CodedTemplate, VariableKind};
+use pli_code::fields::{put_byte, put_short, put_with_short, put_word};
+use pli_code::{
+    Block, BlockKind, CodedGlobal, CodedSignature, CodedTemplate, Instruction, VariableKind, encode,
+};
 use pli_type_tree::InitialScalar;
 use pli_value::{Locator, Value};
 use std::alloc::AllocError;
@@ -205,6 +207,17 @@ impl PutsOne for Globals {
     }
 }
 
+/// The number of a kind of blocks.
+fn kind_number(kind: BlockKind) -> u8
+    ensures { result ≡ deck_fields.kind_number (kind_view kind) }
+{
+    match kind {
+        BlockKind::Procedure => 0,
+        BlockKind::Begin => 1,
+        BlockKind::OnUnit => 2,
+    }
+}
+
 /// Puts a block.
 pub struct Blocks;
 
@@ -226,5 +239,25 @@ impl PutsOne for Blocks {
         put_short(out, value.temporaries)?;
         put_short(out, value.entry)?;
         put_word(out, value.statement)
+    }
+}
+
+/// Puts an instruction.
+pub struct Instructions;
+
+impl PutsOne for Instructions {
+    ghost use Rattle.pli_code.specs.declared.instruction.Instruction.{Instruction};
+    ghost use Rattle.pli_code.specs.Instructions.{instruction};
+
+    type Value = Instruction;
+
+    ghost Said = { Instruction };
+
+    ghost say = { λ i. i };
+
+    ghost bytes_of = { instruction.bytes_of };
+
+    fn put(&self, out: &mut Vec<u8>, value: &Instruction) -> Result<(), AllocError> {
+        encode(*value, out)
     }
 }

@@ -4,10 +4,10 @@ ghost use Rattle.pli_deck_write.specs.DeckFields as deck_fields;
 ghost use Rattle.pli_deck_write.specs.Spelling.{deck_bytes, IsDeck, SpellsDeck};
 ghost use Rattle.pli_code.specs.views.CodeView.{code_view, deck_view};
 
-use crate::coding::Instructions;
 use crate::describing::Descriptions;
-use crate::putting::{Blocks, Constants, Globals, Templates, put_signature};
-use crate::writing::{put_byte, put_bytes, put_flag, put_list, put_name};
+use crate::putting::{Blocks, Constants, Globals, Instructions, Templates, put_signature};
+use crate::writing::{put_bytes, put_flag, put_list, put_name};
+use pli_code::fields::put_byte;
 use pli_code::{Code, Deck};
 use std::alloc::{AllocError, Global};
 

@@ -1,22 +1,14 @@
 //! Numbers, names and lists at the end of bytes.
-ghost use Rattle.std.specs.Prelude.{◌≡◌, ◌<◌, ◌++◌, ◌∷◌, [], ℕ, List, length, map, OnOk, slice_index};
+ghost use Rattle.std.specs.Prelude.{◌≡◌, ◌<◌, ◌++◌, ℕ, List, length, map, OnOk, slice_index};
 ghost use Rattle.std.specs.Int.{w32, cast_unsigned};
 ghost use Rattle.std.specs.List.{flat_map};
 ghost use Rattle.byteorder.specs.Endian.{big_bytes};
 ghost use Rattle.pli_deck_write.specs.DeckFields as deck_fields;
 
-use byteorder::{BigEndian, ByteOrder};
 use pli_base::Name;
+use pli_code::fields::{put_byte, put_short, put_word};
 use pli_value::bit::Bits;
 use std::alloc::AllocError;
-
-/// Puts one byte.
-pub fn put_byte(out: &mut Vec<u8>, number: u8) -> Result<(), AllocError>
-    ensures { OnOk result (out.new.items ≡ out.old.items ++ (number ∷ [])) }
-{
-    out.push(number)?;
-    Ok(())
-}
 
 /// Puts bytes.
 pub fn put_bytes(out: &mut Vec<u8>, bytes: &[u8]) -> Result<(), AllocError>
@@ -24,31 +16,6 @@ pub fn put_bytes(out: &mut Vec<u8>, bytes: &[u8]) -> Result<(), AllocError>
     ensures bytes { (place : ℕ) → slice_index bytes.now place < 256 }
 {
     out.extend_from_slice(bytes)
-}
-
-/// Puts a number of two bytes.
-pub fn put_short(out: &mut Vec<u8>, number: u16) -> Result<(), AllocError>
-    ensures { OnOk result (out.new.items ≡ out.old.items ++ big_bytes 2 number) }
-{
-    let mut bytes = [0u8; 2];
-    BigEndian::write_u16(&mut bytes, number);
-    out.extend_from_slice(&bytes)
-}
-
-/// Puts a number of four bytes.
-pub fn put_word(out: &mut Vec<u8>, number: u32) -> Result<(), AllocError>
-    ensures { OnOk result (out.new.items ≡ out.old.items ++ big_bytes 4 number) }
-{
-    let mut bytes = [0u8; 4];
-    BigEndian::write_u32(&mut bytes, number);
-    out.extend_from_slice(&bytes)
-}
-
-/// Puts a signed number of four bytes.
-pub fn put_signed(out: &mut Vec<u8>, number: i32) -> Result<(), AllocError>
-    ensures { OnOk result (out.new.items ≡ out.old.items ++ big_bytes 4 (cast_unsigned w32 number)) }
-{
-    put_word(out, number.cast_unsigned())
 }
 
 /// The number that stands for another in four bytes: itself, or in two's complement where it is negative. For those
@@ -69,22 +36,6 @@ pub fn put_integer(out: &mut Vec<u8>, number: i64) -> Result<(), AllocError>
     ensures { OnOk result (out.new.items ≡ out.old.items ++ big_bytes 4 (cast_unsigned w32 number)) }
 {
     put_word(out, (unsigned_word(number) % 4_294_967_296) as u32)
-}
-
-/// Puts the byte that says which form stands there, and one more.
-pub fn put_with_byte(out: &mut Vec<u8>, tag: u8, number: u8) -> Result<(), AllocError>
-    ensures { OnOk result (out.new.items ≡ out.old.items ++ (tag ∷ number ∷ [])) }
-{
-    put_byte(out, tag)?;
-    put_byte(out, number)
-}
-
-/// Puts the byte that says which form stands there, and a number of two bytes.
-pub fn put_with_short(out: &mut Vec<u8>, tag: u8, number: u16) -> Result<(), AllocError>
-    ensures { OnOk result (out.new.items ≡ out.old.items ++ (tag ∷ big_bytes 2 number)) }
-{
-    put_byte(out, tag)?;
-    put_short(out, number)
 }
 
 /// Puts a count of one byte: no such list of a deck is longer.

@@ -8,9 +8,9 @@ use Rattle.pli_type_tree.specs.Templates.{InitialScalar, Template}
 use Rattle.pli_code.specs.CodeTables.{CodedTemplate, CodedGlobal, OwnVariable, ExternalVariable, EntryPoint, Code, Deck, there, described, with_description, template_at}
 use Rattle.pli_code.specs.declared.code.VariableKind.TheVariants.{Static, Controlled}
 use Rattle.pli_link.specs.ModuleSize.{own_of}
-use Rattle.pli_deck_write.specs.Fields.{u2, list}
+use Rattle.pli_code.specs.Fields.{u2, list}
 use Rattle.pli_deck_write.specs.Descriptions.{description}
-use Rattle.pli_deck_write.specs.Instructions.{instruction}
+use Rattle.pli_code.specs.Instructions.{instruction}
 use Rattle.pli_deck_write.specs.DeckFields.{name, flag, constant, template, signature, global, block, code, contents, deck}
 use Rattle.pli_deck_write.specs.ModuleSpelling.{description_bytes, bytes_by_template, template_bytes, static_bytes}
 use Rattle.pli_link_laws.proofs.Sums.{total, total_joined, both_of}

@@ -5,12 +5,12 @@ use Rattle.std.specs.Int.{is_in_range}
 use Rattle.pli_base.specs.Name.{Name}
 use Rattle.pli_deck_write.specs.DeckFields.{name, deck}
 use Rattle.pli_deck_write.specs.DeckFaults.{fault_of}
-use Rattle.pli_deck_write.specs.Fields.{u1, u2, u4, from_to}
+use Rattle.pli_code.specs.Fields.{u1, u2, u4, from_to}
 use Rattle.pli_code.specs.Modules.{External, Member, Module}
 use Rattle.pli_deck_write.specs.ModuleFields.{is_less, comes_after, external_behind, fit_behind, is_none, is_external, member, module_field}
 use Rattle.pli_deck_write.specs.ModuleSpelling.{has_kind, global_at, are_good_links, links_stand, module_within_limits, module_bytes, SpellsModule}
 use Rattle.pli_deck_write.specs.Spelling.{deck_bytes}
-use Rattle.pli_deck_write.specs.declared.fault.DeckFault.TheVariants.{BadNumber, OverLimit}
+use Rattle.pli_code.specs.declared.fault.DeckFault.TheVariants.{BadNumber, OverLimit}
 use Rattle.pli_link.specs.Links.{short, external_of}
 use Rattle.pli_link.specs.Names.{Declaration}
 use Rattle.pli_link_laws.specs.LinkedModules.{IsSaidAlone}

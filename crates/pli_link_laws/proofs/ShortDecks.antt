@@ -2,7 +2,7 @@
 use Rattle.std.proofs.Common.{ℕ, ◌<◌, List, [], ◌∷◌, ◌++◌, length, length-append, arith}
 use Rattle.std.specs.List.{flat_map, AllByRecursion}
 use Rattle.pli_deck_write.specs.DeckFields.{name}
-use Rattle.pli_deck_write.specs.Fields.{u2, u4, from_to, ◌⊗◌}
+use Rattle.pli_code.specs.Fields.{u2, u4, from_to, ◌⊗◌}
 use Rattle.pli_code.specs.Modules.{Member}
 use Rattle.pli_deck_write.specs.ModuleFields.{external_behind, chain, links_of, member, module_field}
 use Rattle.pli_deck_write.specs.Spelling.{deck_bytes}

@@ -8,7 +8,7 @@ use Rattle.pli_code.specs.CodeTables.{Code, CodedGlobal, OwnVariable, ExternalVa
 use Rattle.pli_code.specs.declared.code.VariableKind.TheVariants.{Static, Controlled}
 use Rattle.pli_link.specs.Names.{Declaration, shared_from, all_shared, meant, procedures}
 use Rattle.pli_link.specs.Units.{Compiled}
-use Rattle.pli_deck_write.specs.Fields.{u2}
+use Rattle.pli_code.specs.Fields.{u2}
 use Rattle.pli_code.specs.Modules.{Member, Module}
 use Rattle.pli_deck_write.specs.ModuleFields.{is_external}
 use Rattle.pli_deck_write.specs.ModuleSpelling.{is_of_kind, is_good_link, are_good_links}

@@ -1,17 +1,11 @@
 -- Worked examples: decks, each with its bytes.
 use Rattle.std.specs.Prelude.{◌≡◌, ℕ, true, false, List, [], ◌∷◌, None, Ok, Err, take, ◌++◌}
-use Rattle.pli_base.specs.declared.statement.Condition.TheVariants as conditions
-use Rattle.pli_run.specs.declared.ending.RunError.TheVariants as errors
 use Rattle.pli_map.specs.Description.{Bit}
-use Rattle.pli_operation.specs.declared.operation.Operation.TheVariants.{Compare}
-use Rattle.pli_operation.specs.declared.operation.Relation.TheVariants as relations
-use Rattle.pli_deck_write.specs.declared.fault.DeckFault.TheVariants.{BadMagic, Truncated}
-use Rattle.pli_deck_write.specs.declared.fault.DeckFault.TheVariants.{Trailing, OutOfRange}
+use Rattle.pli_code.specs.declared.fault.DeckFault.TheVariants.{BadMagic, Truncated, Trailing}
 use Rattle.pli_program.specs.Program.{Procedure}
 use Rattle.pli_code.specs.CodeTables.{CodedTemplate, CodedBlock, CodedSignature, Code, Deck}
 use Rattle.pli_code.specs.CodeTables.{ExternalVariable, EntryPoint}
 use Rattle.pli_code.specs.declared.instruction.Instruction.TheVariants as op
-use Rattle.pli_deck_write.specs.Instructions.{instruction}
 use Rattle.pli_deck_write.specs.Spelling.{deck_bytes, deck_read}
 use Rattle.pli_code.specs.declared.code.VariableKind.TheVariants.{Static}
 
@@ -115,19 +109,6 @@ abbrev pub WrittenSo : Type 0
 WrittenSo =
     (deck_bytes smallest ≡ smallest_bytes) × (deck_bytes calling ≡ calling_bytes)
     × (deck_bytes called ≡ called_bytes)
-
--- instructions with an error, a relation and a condition; the first and the last number of each
-abbrev pub NumberedSo : Type 0
-NumberedSo =
-    (instruction.bytes_of (op.Raise errors.SubscriptRange) ≡ 11 ∷ 1 ∷ [])
-    × (instruction.bytes_of (op.Raise errors.TooManyActivations) ≡ 11 ∷ 13 ∷ [])
-    × (instruction.bytes_of (op.Operate (Compare relations.Equal)) ≡ 36 ∷ 0 ∷ [])
-    × (instruction.bytes_of (op.Operate (Compare relations.AtLeast)) ≡ 36 ∷ 5 ∷ [])
-    × (instruction.bytes_of (op.On conditions.FixedOverflow 7) ≡ 56 ∷ 0 ∷ 0 ∷ 7 ∷ [])
-    × (instruction.bytes_of (op.Signal conditions.Area) ≡ 58 ∷ 2 ∷ [])
-    × (instruction.read (11 ∷ 10 ∷ 60 ∷ []) ≡ Ok (op.Raise errors.ZeroDivide, 60 ∷ []))
-    × (instruction.read (11 ∷ 0 ∷ []) ≡ Err OutOfRange) × (instruction.read (11 ∷ 14 ∷ []) ≡ Err OutOfRange)
-    × (instruction.read (36 ∷ 6 ∷ []) ≡ Err OutOfRange) × (instruction.read (57 ∷ 3 ∷ []) ≡ Err OutOfRange)
 
 -- how they are read, and what is wrong where a byte is missing or one stands behind
 abbrev pub ReadSo : Type 0

@@ -2,7 +2,7 @@
 use Rattle.std.specs.Prelude.{◌≡◌, ℕ, List, [], ◌∷◌, Some, None, pos, negsuc}
 use Rattle.pli_map.specs.declared.description.Bounds.{Bounds}
 use Rattle.pli_map.specs.Description.{Description, Character, Array, FixedBinary}
-use Rattle.pli_deck_write.specs.declared.fault.DeckFault.TheVariants.{BadJump, BadNumber, OverLimit}
+use Rattle.pli_code.specs.declared.fault.DeckFault.TheVariants.{BadJump, BadNumber, OverLimit}
 use Rattle.pli_code.specs.declared.instruction.Instruction.{Instruction}
 use Rattle.pli_code.specs.declared.instruction.Instruction.TheVariants as op
 use Rattle.pli_code.specs.CodeTables.{CodedTemplate, Deck}

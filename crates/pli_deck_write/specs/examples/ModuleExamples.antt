@@ -1,7 +1,7 @@
 -- Worked examples: modules, each with its bytes, and faults of modules.
 use Rattle.std.specs.Prelude.{◌≡◌, ℕ, List, [], ◌∷◌, Ok, Err, take, ◌++◌, slice_set}
-use Rattle.pli_deck_write.specs.declared.fault.DeckFault.TheVariants.{BadMagic, BadVersion, Truncated}
-use Rattle.pli_deck_write.specs.declared.fault.DeckFault.TheVariants.{Trailing, OutOfRange, BadNumber}
+use Rattle.pli_code.specs.declared.fault.DeckFault.TheVariants.{BadMagic, BadVersion, Truncated}
+use Rattle.pli_code.specs.declared.fault.DeckFault.TheVariants.{Trailing, OutOfRange, BadNumber}
 use Rattle.pli_code.specs.Modules.{Module}
 use Rattle.pli_deck_write.specs.ModuleSpelling.{module_bytes, module_read}
 use Rattle.pli_deck_write.specs.examples.DeckExamples.{smallest, calling, called}

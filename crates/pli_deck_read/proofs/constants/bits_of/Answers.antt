@@ -1,5 +1,5 @@
 use Rattle.std.proofs.Common.{ap, ◌∙◌}
-use Rattle.pli_deck_write.specs.Fields.{held}
+use Rattle.pli_code.specs.Fields.{held}
 use Rattle.pli_deck_read.proofs.BitsReading.{bits_short, bits_read}
 use Rattle.pli_deck_read.proofs.constants.bits_of.Goals as goal
 

@@ -3,7 +3,7 @@ use Rattle.std.proofs.lemmas.Bool.{cases_lt}
 use Rattle.std.proofs.lemmas.Result.{err_from_is_err_and}
 use Rattle.std.proofs.lemmas.List.{map_push}
 use Rattle.pli_map.specs.views.DescriptionView.{description_view}
-use Rattle.pli_deck_write.specs.Fields.{many}
+use Rattle.pli_code.specs.Fields.{many}
 use Rattle.pli_deck_write.specs.Descriptions.{description_within}
 use Rattle.pli_deck_read.proofs.DescriptionReading.{without_tag, below_all, behind_tag, no_form}
 use Rattle.pli_deck_read.proofs.LoopLemmas.{goes_on, ends, is_done}

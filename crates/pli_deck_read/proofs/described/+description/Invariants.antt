@@ -1,6 +1,6 @@
 use Rattle.std.proofs.Common.{◌≡◌, ◌+◌, ◌*◌, ◌-◌, map}
 use Rattle.pli_map.specs.views.DescriptionView.{description_view}
-use Rattle.pli_deck_write.specs.Fields.{many}
+use Rattle.pli_code.specs.Fields.{many}
 use Rattle.pli_deck_write.specs.Descriptions.{description_within}
 use Rattle.pli_deck_read.proofs.LoopLemmas.{with_front}
 use Rattle.pli_deck_read.proofs.described.+description.Given as goal

@@ -2,7 +2,7 @@ use Rattle.std.proofs.lemmas.Result.{err_from_is_err_and}
 use Rattle.pli_map.specs.Description.{Character}
 use Rattle.pli_deck_write.specs.Descriptions.{string_length, described}
 use Rattle.pli_deck_write.proofs.DescriptionViews.{character_said}
-use Rattle.pli_deck_read.proofs.OperandReading.{one_err, one_ok}
+use Rattle.pli_code.proofs.OperandReading.{one_err, one_ok}
 use Rattle.pli_deck_read.proofs.described.scalar_of.Goals as goal
 
 pub returns-in_err-length-in-2 : goal.returns-in_err-length-in-2

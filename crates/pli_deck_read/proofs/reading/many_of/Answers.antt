@@ -1,7 +1,7 @@
 use Rattle.std.proofs.Common.{◌≡◌, ◌++◌, ◌∷◌, [], map}
 use Rattle.std.proofs.lemmas.Result.{err_from_is_err_and}
 use Rattle.std.proofs.lemmas.List.{map_push}
-use Rattle.pli_deck_write.specs.Fields.{many}
+use Rattle.pli_code.specs.Fields.{many}
 use Rattle.pli_deck_read.proofs.LoopLemmas.{goes_on, ends, is_done}
 use Rattle.pli_deck_read.proofs.reading.many_of.Goals as goal
 

@@ -1,5 +1,5 @@
 use Rattle.std.proofs.Common.{◌≡◌, ◌-◌, map}
-use Rattle.pli_deck_write.specs.Fields.{many}
+use Rattle.pli_code.specs.Fields.{many}
 use Rattle.pli_deck_read.proofs.LoopLemmas.{with_front}
 use Rattle.pli_deck_read.proofs.reading.many_of.Given as goal
 

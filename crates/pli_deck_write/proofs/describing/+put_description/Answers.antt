@@ -5,7 +5,7 @@ use Rattle.pli_deck_write.specs.Descriptions.{dimensions, description_within}
 use Rattle.std.proofs.lemmas.Result.{on_ok_weaker}
 use Rattle.pli_deck_write.proofs.DescriptionPuts.{too_deep_bytes, fixed_bytes, character_bytes, varying_bytes, bit_bytes, pointer_bytes, offset_bytes, area_bytes, array_bytes, structure_bytes}
 use Rattle.pli_map.specs.views.DescriptionView.{description_view}
-use Rattle.pli_deck_write.proofs.PutLemmas.{then_put}
+use Rattle.pli_code.proofs.PutLemmas.{then_put}
 use Rattle.pli_deck_write.proofs.describing.+put_description.Goals as goal
 
 pub put_within-returns-then-levels-eq0 : goal.put_within-returns-then-levels-eq0

@@ -5,7 +5,8 @@ use Rattle.byteorder.specs.Endian.{big_bytes}
 use Rattle.pli_deck_write.specs.ModuleFields.{external_behind, bytes_behind, member, module_field}
 use Rattle.pli_code.specs.views.CodeView.{external_view, lent_member_view}
 use Rattle.pli_deck_write.proofs.ModulePuts.{external_bytes, behind_bytes}
-use Rattle.pli_deck_write.proofs.PutLemmas.{then_put, mapped_length}
+use Rattle.pli_code.proofs.PutLemmas.{then_put}
+use Rattle.pli_deck_write.proofs.PutLemmas.{mapped_length}
 use Rattle.pli_deck_write.proofs.modules.put_module.Goals as goal
 
 abbrev whole : (units main externals members : List ℕ) → List ℕ

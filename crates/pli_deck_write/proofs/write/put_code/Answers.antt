@@ -5,9 +5,10 @@ use Rattle.pli_code.specs.views.CodeView.{block_view, code_view, coded_template_
 use Rattle.pli_value.specs.Value.{value_view}
 use Rattle.pli_deck_write.specs.DeckFields.{signature, template, constant, global, block, code}
 use Rattle.pli_deck_write.specs.Descriptions.{description}
-use Rattle.pli_deck_write.specs.Fields.{list}
-use Rattle.pli_deck_write.specs.Instructions.{instruction}
-use Rattle.pli_deck_write.proofs.PutLemmas.{then_put, unmapped, list_put, seven_parts}
+use Rattle.pli_code.specs.Fields.{list}
+use Rattle.pli_code.specs.Instructions.{instruction}
+use Rattle.pli_code.proofs.PutLemmas.{then_put}
+use Rattle.pli_deck_write.proofs.PutLemmas.{unmapped, list_put, seven_parts}
 use Rattle.pli_deck_write.proofs.write.put_code.Goals as goal
 
 pub returns : goal.returns

@@ -4,7 +4,7 @@ use Rattle.byteorder.specs.Endian.{big_bytes}
 use Rattle.pli_value.specs.Packing.{packed}
 use Rattle.pli_value.proofs.PackedLaws.{packed_is}
 use Rattle.pli_deck_write.specs.DeckFields.{bit_string}
-use Rattle.pli_deck_write.proofs.PutLemmas.{then_put}
+use Rattle.pli_code.proofs.PutLemmas.{then_put}
 use Rattle.pli_deck_write.proofs.writing.put_bits.Goals as goal
 
 pub returns : goal.returns

@@ -3,7 +3,7 @@ use Rattle.std.proofs.lemmas.Result.{on_ok_weaker}
 use Rattle.byteorder.specs.Endian.{big_bytes}
 use Rattle.pli_deck_write.specs.DeckFields.{characters}
 use Rattle.pli_deck_write.proofs.LowBytes.{byte_by_byte}
-use Rattle.pli_deck_write.proofs.PutLemmas.{then_put}
+use Rattle.pli_code.proofs.PutLemmas.{then_put}
 use Rattle.pli_deck_write.proofs.writing.put_characters.Goals as goal
 
 pub returns : goal.returns

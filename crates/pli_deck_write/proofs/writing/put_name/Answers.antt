@@ -4,7 +4,7 @@ use Rattle.std.specs.List.{flat_map}
 use Rattle.byteorder.specs.Endian.{big_bytes}
 use Rattle.pli_deck_write.specs.DeckFields.{name}
 use Rattle.pli_deck_write.proofs.LowBytes.{byte_by_byte}
-use Rattle.pli_deck_write.proofs.PutLemmas.{then_put}
+use Rattle.pli_code.proofs.PutLemmas.{then_put}
 use Rattle.pli_deck_write.proofs.writing.put_name.Goals as goal
 
 pub returns : goal.returns

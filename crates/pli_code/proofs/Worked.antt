@@ -1,0 +1,9 @@
+-- The worked examples compute.
+use Rattle.std.proofs.Common.{refl}
+use Rattle.pli_code.specs.Fields.{byte_at, number_at}
+use Rattle.pli_code.specs.Instructions.{instruction}
+use Rattle.pli_code.specs.examples.InstructionExamples.{NumberedSo}
+
+pub numbered_so : NumberedSo
+unfolding byte_at number_at instruction
+numbered_so = (refl, refl, refl, refl, refl, refl, refl, refl, refl, refl, refl)

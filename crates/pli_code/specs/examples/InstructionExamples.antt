@@ -1,0 +1,22 @@
+-- Worked examples: instructions, each with its bytes.
+use Rattle.std.specs.Prelude.{◌≡◌, [], ◌∷◌, Ok, Err}
+use Rattle.pli_base.specs.declared.statement.Condition.TheVariants as conditions
+use Rattle.pli_run.specs.declared.ending.RunError.TheVariants as errors
+use Rattle.pli_operation.specs.declared.operation.Operation.TheVariants.{Compare}
+use Rattle.pli_operation.specs.declared.operation.Relation.TheVariants as relations
+use Rattle.pli_code.specs.declared.fault.DeckFault.TheVariants.{OutOfRange}
+use Rattle.pli_code.specs.declared.instruction.Instruction.TheVariants as op
+use Rattle.pli_code.specs.Instructions.{instruction}
+
+-- instructions with an error, a relation and a condition; the first and the last number of each
+abbrev pub NumberedSo : Type 0
+NumberedSo =
+    (instruction.bytes_of (op.Raise errors.SubscriptRange) ≡ 11 ∷ 1 ∷ [])
+    × (instruction.bytes_of (op.Raise errors.TooManyActivations) ≡ 11 ∷ 13 ∷ [])
+    × (instruction.bytes_of (op.Operate (Compare relations.Equal)) ≡ 36 ∷ 0 ∷ [])
+    × (instruction.bytes_of (op.Operate (Compare relations.AtLeast)) ≡ 36 ∷ 5 ∷ [])
+    × (instruction.bytes_of (op.On conditions.FixedOverflow 7) ≡ 56 ∷ 0 ∷ 0 ∷ 7 ∷ [])
+    × (instruction.bytes_of (op.Signal conditions.Area) ≡ 58 ∷ 2 ∷ [])
+    × (instruction.read (11 ∷ 10 ∷ 60 ∷ []) ≡ Ok (op.Raise errors.ZeroDivide, 60 ∷ []))
+    × (instruction.read (11 ∷ 0 ∷ []) ≡ Err OutOfRange) × (instruction.read (11 ∷ 14 ∷ []) ≡ Err OutOfRange)
+    × (instruction.read (36 ∷ 6 ∷ []) ≡ Err OutOfRange) × (instruction.read (57 ∷ 3 ∷ []) ≡ Err OutOfRange)

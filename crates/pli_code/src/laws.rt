@@ -1,0 +1,17 @@
+//! Laws of the bytes of instructions.
+ghost use Rattle.pli_code.specs.Fields.{BothWays};
+ghost use Rattle.pli_code.specs.Instructions.{instruction};
+ghost use Rattle.pli_code.specs.examples.InstructionExamples.{NumberedSo};
+
+/// A law: an instruction that is read is spelled by the bytes that were there, and one that is spelled is read again,
+/// whatever stands behind it.
+#[tactic(auto, using(crate::proofs::InstructionLaws::instructions_both_ways))]
+pub fn instructions_both_ways()
+    ensures { BothWays instruction }
+{}
+
+/// Worked examples: instructions with their bytes, and bytes that are none.
+#[tactic(auto, using(crate::proofs::Worked::numbered_so))]
+pub fn worked_instructions()
+    ensures { NumberedSo }
+{}
