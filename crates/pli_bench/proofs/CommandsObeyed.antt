@@ -18,7 +18,7 @@ use Rattle.pli_code.specs.Modules.{Module, program_of}
 use Rattle.pli_bench.specs.answers.Standing.{IsOfMembers, IsStanding}
 use Rattle.pli_bench.specs.declared.stored.StoredModule.{StoredModule}
 use Rattle.pli_deck_write.specs.ModuleSpelling.{SpellsModule}
-use Rattle.pli_deck_write.specs.declared.fault.DeckFault.{DeckFault}
+use Rattle.pli_code.specs.declared.fault.DeckFault.{DeckFault}
 use Rattle.pli_run.specs.declared.ending.Ending.{Ending}
 use Rattle.pli_run.specs.declared.ending.Ran.{Ran}
 use Rattle.pli_meaning.specs.Scratch.{Built, Made, scratch}

@@ -13,19 +13,19 @@ use Rattle.pli_type_tree.specs.Templates.{InitialScalar, Template}
 use Rattle.pli_type_tree.specs.TypedTree.{Global, TypedUnit}
 use Rattle.pli_code.specs.CodeTables.{CodedTemplate, CodedBlock, Code, Deck}
 use Rattle.pli_gen_emit.specs.TreeTranslation.{BlockTree, blocks_of, instructions_of}
-use Rattle.pli_gen.specs.Encoding.{NumberedTables, tables_for, descriptions_named, templates_named, values_named, template_code, global_code, instruction_code, coded_blocks, code_of}
+use Rattle.pli_gen_emit.specs.Encoding.{NumberedTables, tables_for, descriptions_named, templates_named, values_named, template_code, global_code, instruction_code, coded_blocks, code_of}
 use Rattle.pli_gen.specs.Limits.{has_many_members, bytes_of, initial_bytes_of, is_too_long}
 use Rattle.pli_gen.specs.WellNumbered.{IsWellNumbered}
 use Rattle.pli_gen.proofs.SimpleCode.{all_both}
-use Rattle.pli_gen.proofs.TableNumbers.{number_stands}
+use Rattle.pli_gen_emit.proofs.TableNumbers.{number_stands}
 use Rattle.pli_gen.proofs.UnitLemmas.{tables_stand}
 use Rattle.pli_gen.specs.laws.ListLaws.{all_front, all_back}
-use Rattle.pli_deck_write.specs.Fields.{Field, u2, list}
+use Rattle.pli_code.specs.Fields.{Field, u2, list}
 use Rattle.pli_deck_write.specs.Descriptions.{description}
-use Rattle.pli_deck_write.specs.Instructions.{instruction}
+use Rattle.pli_code.specs.Instructions.{instruction}
 use Rattle.pli_deck_write.specs.DeckFields.{name, flag, constant, template, signature, global, block, contents}
 use Rattle.pli_deck_write.specs.DeckFields as field
-use Rattle.pli_deck_write.specs.declared.fault.DeckFault.TheVariants.{BadJump, BadNumber, OverLimit}
+use Rattle.pli_code.specs.declared.fault.DeckFault.TheVariants.{BadJump, BadNumber, OverLimit}
 use Rattle.pli_deck_write.specs.DeckFaults.{Naming, OfDescription, OfTemplate, OfValue, OfGlobal, OfBlock, OfInstruction, named_by_signature, named_by_template, named_by_global, named_by_block, named_by_instruction, named_by_variables, named_by_blocks, named_by}
 use Rattle.pli_deck_write.specs.DeckFaults.{is_there, targets_of, jumps_within, is_good_template, within_limits}
 use Rattle.pli_deck_write.specs.DeckFaults as fault

@@ -9,8 +9,9 @@ use Rattle.pli_base.specs.Name.{Name, name_of, is_upper, is_lower, is_letter, is
 use Rattle.pli_map.specs.declared.description.Bounds.{Bounds}
 use Rattle.pli_map.specs.Description.{Description, FixedBinary, Character, Varying, Bit, Pointer, Offset, Area, Array, Structure, Members, NoMembers, MemberThen}
 use Rattle.pli_value.specs.Value.{Value, Number, Characters, Bits, Located}
-use Rattle.pli_deck_write.specs.Fields.{Field, u1, u2, u4, byte, from_to, list_of, count_of_one, ◌⊗◌}
-use Rattle.pli_deck_write.specs.Descriptions.{precision, string_length, area_size, bound, bounds, dimensions, listed, members, description_within}
+use Rattle.pli_code.specs.Fields.{Field, u1, u2, u4, byte, from_to, list_of, count_of_one, ◌⊗◌}
+use Rattle.pli_code.specs.Instructions.{precision, bound}
+use Rattle.pli_deck_write.specs.Descriptions.{string_length, area_size, bounds, dimensions, listed, members, description_within}
 use Rattle.pli_deck_write.specs.DeckFields.{is_written, is_name, name, optional, bit_string, integer, characters, constant, signature, parameter_count}
 use Rattle.pli_gen.specs.Limits.{member_count, has_many_members, one_has_many}
 use Rattle.pli_deck_laws.specs.Limits.{IfThere, IsPrecision, IsLength, IsBound, AreBounds, IsDescribed, AreDescribed, IsConstant}

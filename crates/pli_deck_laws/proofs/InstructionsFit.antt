@@ -15,10 +15,9 @@ use Rattle.pli_value.specs.Value.{Value}
 use Rattle.pli_code.specs.declared.instruction.Instruction.{Instruction}
 use Rattle.pli_code.specs.declared.instruction.Instruction.TheVariants as coded
 use Rattle.pli_type_keys.specs.Same.{same_value}
-use Rattle.pli_gen.specs.Encoding.{NumberedTables, number_in, dummy, descriptions_named, templates_named, values_named, description_number, template_number, instruction_code}
-use Rattle.pli_deck_write.specs.Fields.{u1, u2, u4, ◌⊗◌}
-use Rattle.pli_deck_write.specs.Descriptions.{bound}
-use Rattle.pli_deck_write.specs.Instructions.{error, relation, instruction}
+use Rattle.pli_gen_emit.specs.Encoding.{NumberedTables, number_in, dummy, descriptions_named, templates_named, values_named, description_number, template_number, instruction_code}
+use Rattle.pli_code.specs.Fields.{u1, u2, u4, ◌⊗◌}
+use Rattle.pli_code.specs.Instructions.{bound, error, relation, instruction}
 use Rattle.pli_deck_write.specs.DeckFaults.{Naming, OfDescription, OfTemplate, OfValue, OfGlobal, OfBlock, OfInstruction, named_by_instruction, targets_of}
 use Rattle.pli_deck_laws.specs.Limits.{link_limit, parameter_limit, IsOperation}
 use Rattle.pli_deck_laws.proofs.AllowedLemmas.{Allowed}

@@ -9,7 +9,7 @@ use Rattle.pli_type_tree.specs.TypedTree.{TypedUnit}
 use Rattle.pli_code.specs.CodeFields.{is_byte, is_short, instruction_fits, parent_fits, block_fits}
 use Rattle.pli_code.specs.declared.instruction.Instruction.{Instruction}
 use Rattle.pli_gen_emit.specs.TreeTranslation.{BlockTree, behind, block_code, blocks_code, blocks_of, instructions_of}
-use Rattle.pli_gen.specs.Encoding.{NumberedTables, tables_for, instruction_code, global_code, coded_block, coded_blocks, code_of}
+use Rattle.pli_gen_emit.specs.Encoding.{NumberedTables, tables_for, instruction_code, global_code, coded_block, coded_blocks, code_of}
 use Rattle.pli_gen.proofs.CodeEnds.{both_within}
 use Rattle.pli_gen.proofs.LimitLemmas.{few, blocks_counted}
 use Rattle.pli_deck_laws.specs.DeckLaws.{HasShortTables, NumbersFit}

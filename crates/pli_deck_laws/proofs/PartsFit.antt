@@ -11,10 +11,10 @@ use Rattle.pli_type_tree.specs.TypedTree.{Signature, Global, OwnVariable, Extern
 use Rattle.pli_code.specs.CodeTables as code
 use Rattle.pli_code.specs.CodeTables.{there}
 use Rattle.pli_gen_emit.specs.TreeTranslation.{BlockTree, behind, block_code, blocks_code}
-use Rattle.pli_gen.specs.Encoding.{NumberedTables, signature_descriptions, global_descriptions, global_templates, block_templates, description_number, template_number, template_code, signature_code, global_code, coded_block, coded_blocks}
+use Rattle.pli_gen_emit.specs.Encoding.{NumberedTables, signature_descriptions, global_descriptions, global_templates, block_templates, description_number, template_number, template_code, signature_code, global_code, coded_block, coded_blocks}
 use Rattle.pli_gen.specs.laws.ListLaws.{all_front, all_back}
 use Rattle.pli_gen.proofs.SimpleCode.{all_both}
-use Rattle.pli_deck_write.specs.Fields.{u1, u2, u4, list_of, ◌⊗◌}
+use Rattle.pli_code.specs.Fields.{u1, u2, u4, list_of, ◌⊗◌}
 use Rattle.pli_deck_write.specs.DeckFields.{name, constant, initial, template, signature, global, block_kind, optional, block}
 use Rattle.pli_deck_write.specs.DeckFaults.{Naming, OfDescription, OfTemplate, OfInstruction, named_by_result, named_by_signature, named_by_template, named_by_global, named_by_parent, named_by_block}
 use Rattle.pli_deck_write.specs.DeckFaults.{scalar_at, fits_scalar, is_good_template}

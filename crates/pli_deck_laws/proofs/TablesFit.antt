@@ -12,14 +12,14 @@ use Rattle.pli_type_tree.specs.TypedTree.{Signature, Global, OwnVariable, Extern
 use Rattle.pli_code.specs.CodeTables.{there}
 use Rattle.pli_value.specs.Value.{Value}
 use Rattle.pli_gen_emit.specs.TreeTranslation.{BlockTree, behind, block_code}
-use Rattle.pli_gen.specs.Encoding.{number_in, descriptions_named, templates_named, values_named, signature_descriptions, global_descriptions, global_templates, block_templates}
-use Rattle.pli_gen.specs.Encoding.{NumberedTables, tables_for, description_number, template_number, coded_blocks}
+use Rattle.pli_gen_emit.specs.Encoding.{number_in, descriptions_named, templates_named, values_named, signature_descriptions, global_descriptions, global_templates, block_templates}
+use Rattle.pli_gen_emit.specs.Encoding.{NumberedTables, tables_for, description_number, template_number, coded_blocks}
 use Rattle.pli_gen.specs.Limits.{has_many_slots}
 use Rattle.pli_type_keys.specs.Same.{same_value, same_template}
 use Rattle.pli_type_keys.specs.laws.KeyLaws.{value_decides, template_decides}
 use Rattle.pli_gen.specs.laws.ListLaws.{all_front, all_back}
 use Rattle.pli_gen.proofs.SimpleCode.{all_both}
-use Rattle.pli_gen.proofs.TableNumbers.{Has, number_stands, has_all}
+use Rattle.pli_gen_emit.proofs.TableNumbers.{Has, number_stands, has_all}
 use Rattle.pli_gen.proofs.UnitLemmas.{put_all}
 use Rattle.pli_gen.proofs.LimitLemmas.{few}
 use Rattle.pli_deck_laws.specs.Limits.{IfThere, IsDescription, IsConstant, IsTemplate, IsSignature, IsGlobal}

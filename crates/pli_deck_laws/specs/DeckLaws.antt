@@ -8,7 +8,7 @@ use Rattle.pli_bytes.specs.Contents.{scalar_on, scalars_at}
 use Rattle.pli_map.specs.Parts.{PlacedPart}
 use Rattle.pli_deck_laws.specs.UnitTypes.{IsTypedDeck}
 use Rattle.pli_deck_laws.specs.WellFormed.{IsWellFormed}
-use Rattle.pli_gen.specs.Encoding.{code_of}
+use Rattle.pli_gen_emit.specs.Encoding.{code_of}
 use Rattle.pli_gen.specs.Limits.{is_over, has_many_slots, has_wide_number, is_too_long}
 use Rattle.pli_gen.specs.WellNumbered.{IsWellNumbered}
 use Rattle.pli_map.specs.Description.{Description}

@@ -9,7 +9,7 @@ use Rattle.pli_base.specs.FaultPlaces.{StandsAtToken}
 use Rattle.pli_base.specs.declared.token.Fault.{Fault}
 use Rattle.pli_base.specs.declared.token.Origin.{Origin}
 use Rattle.pli_declare.specs.Resolution.{resolution_faults}
-use Rattle.pli_gen.specs.Encoding.{code_of}
+use Rattle.pli_gen_emit.specs.Encoding.{code_of}
 use Rattle.pli_gen.specs.Limits.{is_too_long}
 use Rattle.pli_include.specs.Expanded.{look_in}
 use Rattle.pli_include.specs.Expansion.{token_limit}

@@ -1,5 +1,5 @@
 -- Targets of jumps are not past the end of code, and neither are places of statements and entries of blocks.
-use Rattle.std.proofs.Common.{◌≡◌, ℕ, zero, suc, ◌≤◌, ◌<◌, nat_eq, Bool, true, false, if◌then◌else◌, Option, Some, None, List, [], ◌∷◌, ◌++◌, get_or, length, refl, ap, sym, subst, arith}
+use Rattle.std.proofs.Common.{◌≡◌, ℕ, zero, suc, ◌≤◌, ◌<◌, nat_eq, Bool, true, false, if◌then◌else◌, Option, Some, None, List, [], ◌∷◌, ◌++◌, get_or, length, refl, ap, arith}
 use Rattle.std.specs.List.{AllByRecursion}
 use Rattle.pli_program.specs.Program as op
 use Rattle.pli_type_tree.specs.TypedTree.{TypedExpression, TypedStatement, Statement, TypedStatements, NoStatement, StatementThen, NoElse, Else}
@@ -8,9 +8,8 @@ use Rattle.pli_type_tree.specs.Iterations.{is_iterated}
 use Rattle.pli_gen_emit.specs.TreeTranslation.{start_code, tests_code, advances_code, back_code, turn_place, list_place}
 use Rattle.pli_gen_emit.specs.TreeTranslation.{BlockTree, behind, value_code, statement_code, form_code, list_code, end_code, block_code, blocks_code}
 use Rattle.pli_gen_emit.specs.answers.Pieces.{simple_code, entries_of}
-use Rattle.pli_gen.specs.answers.Pieces.{step_place, Fits}
-use Rattle.pli_gen_emit.specs.views.NamingView.{naming_view, naming_code}
-use Rattle.pli_gen_emit.specs.declared.naming.NamingInstruction.{NamingInstruction}
+use Rattle.pli_gen_emit.specs.answers.Instructions.{step_place}
+use Rattle.pli_gen.specs.answers.Pieces.{Fits}
 use Rattle.pli_gen.proofs.IterationCode.{start_simple, advances_simple, tests_fit, back_fits}
 use Rattle.pli_gen.proofs.CodeEnds.{grows, both_within, one_way_within, two_ways_within, turns_within, iterate_within}
 use Rattle.pli_gen_emit.proofs.JumpLemmas.{behind_is}
@@ -121,12 +120,3 @@ entries_fit bs k n h lt = entry_within bs 0 k n (at_start (blocks_code bs 0) n h
 pub entries_counted : (bs : List BlockTree) (p : ℕ) → length (entries_of bs p) ≡ length bs
 entries_counted [] p = refl
 entries_counted (b ∷ bs) p = ap suc (entries_counted bs (behind (block_code b p) p))
-
--- an instruction of code that fits
-pub fits_at : (code : List NamingInstruction) (i : ℕ) (x : NamingInstruction) (n : ℕ) → i < length code → x ≡ get_or code i x → AllByRecursion (Fits n) (naming_code code) → Fits n (naming_view x)
-fits_at code i x n lt is h = subst (λ y. Fits n (naming_view y)) (sym is) (at code i lt h)
-  where
-    at : (xs : List NamingInstruction) (k : ℕ) → k < length xs → AllByRecursion (Fits n) (naming_code xs) → Fits n (naming_view (get_or xs k x))
-    at [] k lt h = absurd (omega (arith, lt))
-    at (y ∷ ys) zero lt h = h.0
-    at (y ∷ ys) (suc k) lt h = at ys k (omega (arith, lt)) h.1

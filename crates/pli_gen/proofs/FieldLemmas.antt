@@ -4,8 +4,9 @@ use Rattle.std.specs.List.{list_all}
 use Rattle.pli_program.specs.Program as op
 use Rattle.pli_code.specs.CodeFields as fields
 use Rattle.pli_gen_emit.specs.TreeTranslation.{BlockTree, behind, block_code}
-use Rattle.pli_gen.specs.Encoding.{NumberedTables, instruction_code, coded_blocks}
-use Rattle.pli_gen.specs.answers.Pieces.{block_fits, instruction_fits}
+use Rattle.pli_gen_emit.specs.Encoding.{NumberedTables, instruction_code, coded_blocks}
+use Rattle.pli_gen_emit.specs.answers.Instructions.{instruction_fits}
+use Rattle.pli_gen.specs.answers.Pieces.{block_fits}
 
 pub both_of : (x y : Bool) → (x && y) ≡ true → (x ≡ true) × (y ≡ true)
 both_of true y h = (refl, h)

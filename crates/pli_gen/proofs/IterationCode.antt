@@ -7,7 +7,8 @@ use Rattle.pli_type_tree.specs.Iterations.{kept_by, limit_number, step_number, i
 use Rattle.pli_type_tree.specs.TypedTree.{TypedOperation, TypedExpression, Iteration, TypedRange, Once, ToBy, ByTo, Repeated}
 use Rattle.pli_gen_emit.specs.TreeTranslation.{value_code, place_code, behind, keeps_code, conversion_code, sets_code, start_code, test_against, limit_test, while_test, guarded}
 use Rattle.pli_gen_emit.specs.TreeTranslation.{tests_code, counted_code, advances_code, back_code, turn_place, list_place, iterate_code}
-use Rattle.pli_gen.specs.answers.Pieces.{step_place, Fits}
+use Rattle.pli_gen_emit.specs.answers.Instructions.{step_place}
+use Rattle.pli_gen.specs.answers.Pieces.{Fits}
 use Rattle.pli_gen.proofs.SimpleCode.{AllSimple, all_both, simple_both, operation_simple, value_simple, place_simple, simple_fits, none_begins}
 use Rattle.pli_gen.proofs.SimpleCode.{step_place_behind, behind_both}
 

@@ -1,14 +1,11 @@
+pub mod CodeEmitted
 pub mod CodeEnds
 pub mod CodeFits
 pub mod FieldLemmas
-pub mod GlobalLemmas
 pub mod IterationCode
-pub mod KeyLemmas
 pub mod LimitLemmas
-pub mod NumberLemmas
-pub mod NumberingLemmas
 pub mod SimpleCode
 pub mod StepPlaces
-pub mod TableNumbers
 pub mod TablesLookUp
+pub mod UnitEmitted
 pub mod UnitLemmas

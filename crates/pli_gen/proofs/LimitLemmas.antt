@@ -20,16 +20,15 @@ use Rattle.pli_type_tree.specs.TypedTree as typed
 use Rattle.pli_type_tree.specs.TypedTree.{TypedUnit}
 use Rattle.pli_code.specs.CodeFields as fields
 use Rattle.pli_gen_emit.specs.TreeTranslation.{BlockTree, behind, block_code}
-use Rattle.pli_gen.specs.Encoding.{NumberedTables, number_in, template_number, template_code, global_code, instruction_code, coded_blocks, coded_unit}
+use Rattle.pli_gen_emit.specs.Encoding.{NumberedTables, number_in, template_number, template_code, global_code, instruction_code, coded_blocks, coded_unit}
 use Rattle.pli_gen.specs.Limits.{is_over, member_count, has_many_members, one_has_many, has_many_slots, bytes_of, initial_bytes_of, initial_bytes, has_wide_number, is_too_long}
-use Rattle.pli_gen.specs.answers.Pieces.{block_fits, instruction_fits, takes_many_slots, template_bytes, HaveDescriptions}
+use Rattle.pli_gen_emit.specs.answers.Instructions.{instruction_fits}
+use Rattle.pli_gen.specs.answers.Pieces.{block_fits, takes_many_slots, template_bytes, HaveDescriptions}
 use Rattle.pli_gen.proofs.FieldLemmas.{blocks_as_coded, instructions_as_coded, both_of}
-use Rattle.pli_gen.proofs.TableNumbers.{Has, number_stands}
+use Rattle.pli_gen_emit.proofs.TableNumbers.{Has, number_stands}
 use Rattle.pli_gen_emit.specs.views.BlockView.{block_tree, block_trees}
 use Rattle.pli_type_keys.specs.views.KeyView.{templated}
-use Rattle.pli_gen_emit.specs.views.NamingView.{naming_view, naming_code}
 use Rattle.pli_gen_emit.specs.declared.block.BlockSource.{BlockSource}
-use Rattle.pli_gen_emit.specs.declared.naming.NamingInstruction.{NamingInstruction}
 use Rattle.pli_type_keys.specs.declared.key.TemplateKey.{TemplateKey}
 
 pub over : (limit n : ℕ) → limit < n → nat_lt limit n ≡ true
@@ -167,11 +166,11 @@ module _ (t : NumberedTables) (u : TypedUnit) (bs : List BlockTree) (code : List
       ∙ ap (whole n g b i s e) wide_as_coded
       )
 
-pub lists_viewed : (globals : List typed.Global) (blocks : List BlockSource) (code : List NamingInstruction)
-    → (is_over globals || is_over blocks || is_over code) ≡ (is_over globals || is_over (block_trees blocks) || is_over (naming_code code))
-lists_viewed globals blocks code =
-    ap (λ n. is_over globals || nat_lt 65535 n || is_over code) (sym (length-map blocks block_tree))
-    ∙ ap (λ n. is_over globals || is_over (block_trees blocks) || nat_lt 65535 n) (sym (length-map code naming_view))
+pub lists_viewed : (globals : List typed.Global) (blocks : List BlockSource) (n m : ℕ) → n ≡ m
+    → (is_over globals || is_over blocks || nat_lt 65535 n) ≡ (is_over globals || is_over (block_trees blocks) || nat_lt 65535 m)
+lists_viewed globals blocks n m e =
+    ap (λ k. is_over globals || nat_lt 65535 k || nat_lt 65535 n) (sym (length-map blocks block_tree))
+    ∙ ap (λ k. is_over globals || is_over (block_trees blocks) || nat_lt 65535 k) e
 
 -- what is not too long
 none_of : (x y : Bool) → (x || y) ≡ false → (x ≡ false) × (y ≡ false)

@@ -8,13 +8,15 @@ use Rattle.pli_type_tree.specs.TypedTree.{Operands, NoOperand, OperandThen, Subs
 use Rattle.pli_type_tree.specs.TypedTree.{Form, Null, Assign, AssignAggregate, Put, If, Begin, Group, While, Iterate, Call, Goto, Return, ReturnValue, Stop}
 use Rattle.pli_gen_emit.specs.TreeTranslation.{argument_count, root_code, call_instruction, operation_code, value_code, place_code, operands_code, subscripts_code, arguments_code, skip_code, items_code, behind}
 use Rattle.pli_gen_emit.specs.answers.Pieces.{simple_code}
-use Rattle.pli_gen.specs.answers.Pieces.{step_place, Fits}
+use Rattle.pli_gen_emit.specs.answers.Instructions.{step_place}
+use Rattle.pli_gen.specs.answers.Pieces.{Fits}
 
 -- no step and no jump
 abbrev pub IsSimple : op.Instruction → Type 0
 IsSimple (op.Step s) = ⊥
 IsSimple (op.Jump target) = ⊥
 IsSimple (op.JumpUnless target) = ⊥
+IsSimple op.Nothing = ⊥
 IsSimple i = Unit {0}
 
 abbrev pub AllSimple : List op.Instruction → Type 0
@@ -101,6 +103,7 @@ form_simple (Iterate iteration statements) = tt
 one_fits : (i : op.Instruction) (n : ℕ) → IsSimple i → Fits n i
 one_fits (op.Jump target) n h = absurd h
 one_fits (op.JumpUnless target) n h = absurd h
+one_fits op.Nothing n h = absurd h
 one_fits i n h = tt
 
 pub simple_fits : (is : List op.Instruction) (n : ℕ) → AllSimple is → AllByRecursion (Fits n) is

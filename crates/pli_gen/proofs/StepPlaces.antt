@@ -1,31 +1,47 @@
 -- The first steps in the code of blocks stand where their statements begin.
-use Rattle.std.proofs.Common.{◌≡◌, ℕ, suc, ◌+◌, ◌<◌, nat_eq, Bool, true, false, if◌then◌else◌, Option, Some, None, unwrap_or, List, [], ◌∷◌, ◌++◌, drop, get_or, length, refl, sym, ap, ◌∙◌, add-one}
+use Rattle.std.proofs.Common.{◌≡◌, ℕ, suc, ◌+◌, ◌<◌, nat_eq, Bool, true, false, if◌then◌else◌, Option, Some, None, unwrap_or, List, [], ◌∷◌, ◌++◌, drop, get_or, length, map, refl, sym, ap, ◌∙◌, add-one}
 use Rattle.std.proofs.lemmas.List.{at_drop_more}
 use Rattle.pli_program.specs.Program as op
+use Rattle.pli_code.specs.declared.instruction.Instruction.{Instruction}
+use Rattle.pli_code.specs.declared.instruction.Instruction.TheVariants as coded
 use Rattle.pli_type_tree.specs.TypedTree.{TypedExpression, TypedStatement, Statement, TypedStatements, NoStatement, StatementThen, NoElse, Else}
 use Rattle.pli_type_tree.specs.TypedTree.{Form, Null, Assign, AssignAggregate, Put, If, Begin, Group, While, Iterate, Call, Goto, Return, ReturnValue, Stop}
 use Rattle.pli_gen_emit.specs.TreeTranslation.{BlockTree, behind, value_code, statement_code, form_code, list_code, end_code, block_code, blocks_code}
 use Rattle.pli_gen_emit.specs.TreeTranslation.{places_in, places_in_form, places_among, places_of, statement_place, list_place}
-use Rattle.pli_gen.specs.answers.Pieces.{step_place}
-use Rattle.pli_gen_emit.specs.views.NamingView.{naming_view, naming_code}
-use Rattle.pli_gen_emit.specs.declared.naming.NamingInstruction.{NamingInstruction}
+use Rattle.pli_gen_emit.specs.answers.Instructions.{step_place}
+use Rattle.pli_gen_emit.specs.Encoding.{NumberedTables}
+use Rattle.pli_gen_emit.specs.answers.Emitting.{emitted}
+use Rattle.pli_gen.specs.answers.Pieces.{first_step}
 use Rattle.pli_gen.proofs.IterationCode.{iterate_passed}
 use Rattle.pli_gen.proofs.SimpleCode.{none_in_value, none_in_form, step_place_behind, behind_both}
 
 -- one instruction more
-pub more_steps : (code : List NamingInstruction) (i : ℕ) (x : NamingInstruction) (was now : Option ℕ) (n whole : ℕ) → i < length code → x ≡ get_or code i x
-    → ((d : ℕ) → unwrap_or now d ≡ unwrap_or was (step_place (naming_view x ∷ []) i n d))
-    → unwrap_or was (step_place (naming_code (drop i code)) i n 0) ≡ whole
-    → unwrap_or now (step_place (naming_code (drop (i + 1) code)) (i + 1) n 0) ≡ whole
-more_steps code i x was now n whole lt read step all =
-    let rest = naming_code (drop (i + 1) code) in
-    let here : step_place (naming_code (drop i code)) i n 0 ≡ step_place (naming_view (get_or code i x) ∷ rest) i n 0 =
-    at_drop_more (λ ys. step_place (naming_code ys) i n 0) code i x lt in
-    let apart : step_place (naming_view x ∷ rest) i n 0 ≡ step_place (naming_view x ∷ []) i n (step_place rest (i + 1) n 0) =
-    step_place_behind (naming_view x ∷ []) rest i n 0 ∙ ap (λ k. step_place (naming_view x ∷ []) i n (step_place rest k n 0)) (sym (add-one i)) in
-    step (step_place rest (i + 1) n 0)
-    ∙ ap (unwrap_or was) (sym apart ∙ ap (λ y. step_place (naming_view y ∷ rest) i n 0) read ∙ sym here)
-    ∙ all
+first_then : (x : Instruction) (rest : List Instruction) (p n : ℕ) → first_step (x ∷ rest) p n 0 ≡ first_step (x ∷ []) p n (first_step rest (suc p) n 0)
+first_then (coded.Step s) rest p n = refl
+first_then x rest p n = refl
+
+pub more_steps : (code : List Instruction) (i : ℕ) (d : Instruction) (was now : Option ℕ) (n whole : ℕ) → i < length code
+    → ((other : ℕ) → unwrap_or now other ≡ unwrap_or was (first_step (get_or code i d ∷ []) i n other))
+    → unwrap_or was (first_step (drop i code) i n 0) ≡ whole
+    → unwrap_or now (first_step (drop (i + 1) code) (i + 1) n 0) ≡ whole
+more_steps code i d was now n whole lt step all =
+    let x = get_or code i d in
+    let rest = drop (i + 1) code in
+    let apart : first_step (x ∷ rest) i n 0 ≡ first_step (x ∷ []) i n (first_step rest (i + 1) n 0) =
+    first_then x rest i n ∙ ap (λ k. first_step (x ∷ []) i n (first_step rest k n 0)) (sym (add-one i)) in
+    step (first_step rest (i + 1) n 0) ∙ ap (unwrap_or was) (sym apart ∙ sym (at_drop_more (λ ys. first_step ys i n 0) code i d lt)) ∙ all
+
+-- steps are emitted as they are
+step_emitted : (t : NumberedTables) (i : op.Instruction) (rest : List Instruction) (p n d : ℕ)
+    → first_step (emitted t i ∷ rest) p n d ≡ step_place (i ∷ []) p n (first_step rest (suc p) n d)
+step_emitted t (op.Step s) rest p n d = refl
+step_emitted t (op.Operate operation) rest p n d = refl
+step_emitted t i rest p n d = refl
+
+pub steps_emitted : (t : NumberedTables) (is : List op.Instruction) (p n d : ℕ) → first_step (map (emitted t) is) p n d ≡ step_place is p n d
+steps_emitted t [] p n d = refl
+steps_emitted t (i ∷ is) p n d =
+    step_emitted t i (map (emitted t) is) p n d ∙ ap (step_place (i ∷ []) p n) (steps_emitted t is (suc p) n d) ∙ sym (step_place_behind (i ∷ []) is p n d)
 
 -- the place of a statement among places; another one if it is not there
 abbrev place_or : List (ℕ × ℕ) → (number other : ℕ) → ℕ

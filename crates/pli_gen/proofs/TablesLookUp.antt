@@ -13,14 +13,14 @@ use Rattle.pli_type_tree.specs.TypedTree.{Global, OwnVariable, ExternalVariable,
 use Rattle.pli_code.specs.CodeTables.{Code, looked_up, template_at, variables_at, block_looked_up, program_of, there, naming, with_description, described}
 use Rattle.pli_code.specs.CodeTables.{global_before, globals_linked}
 use Rattle.pli_gen_emit.specs.TreeTranslation.{BlockTree, blocks_of, blocks_at, block_at, block_code, behind, instructions_of, globals_code, unit_code}
-use Rattle.pli_gen.specs.Encoding.{NumberedTables, tables_for, descriptions_named, templates_named, values_named, dummy}
+use Rattle.pli_gen_emit.specs.Encoding.{NumberedTables, tables_for, descriptions_named, templates_named, values_named, dummy}
 use Rattle.pli_type_keys.specs.Same.{same_value, same_template}
-use Rattle.pli_gen.specs.Encoding.{signature_descriptions, global_descriptions, global_templates, block_templates}
-use Rattle.pli_gen.specs.Encoding.{description_number, template_number, instruction_code, template_code, global_code, coded_blocks, coded_unit, code_of}
+use Rattle.pli_gen_emit.specs.Encoding.{signature_descriptions, global_descriptions, global_templates, block_templates}
+use Rattle.pli_gen_emit.specs.Encoding.{description_number, template_number, instruction_code, template_code, global_code, coded_blocks, coded_unit, code_of}
 use Rattle.pli_gen.specs.laws.ListLaws.{all_front, all_back}
 use Rattle.pli_map.specs.laws.SameLaws.{same_decides}
 use Rattle.pli_type_keys.specs.laws.KeyLaws.{value_decides, template_decides}
-use Rattle.pli_gen.proofs.TableNumbers.{Has, number_stands, has_all}
+use Rattle.pli_gen_emit.proofs.TableNumbers.{Has, number_stands, has_all}
 use Rattle.pli_gen.proofs.UnitLemmas.{globals_described}
 
 module _ (tables : NumberedTables) (u : TypedUnit) (bs : List BlockTree) (code : List op.Instruction) where

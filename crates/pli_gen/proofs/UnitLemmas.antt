@@ -13,18 +13,18 @@ use Rattle.pli_code.specs.CodeFields as fields
 use Rattle.pli_code.specs.CodeTables.{CodedTemplate, CodedBlock, CodedSignature, CodedGlobal, Code}
 use Rattle.pli_code.specs.declared.instruction.Instruction.{Instruction}
 use Rattle.pli_gen_emit.specs.TreeTranslation.{BlockTree, behind, block_code, blocks_code, blocks_of, places_of, statement_place, with_target, instructions_of}
-use Rattle.pli_gen.specs.Encoding.{NumberedTables, tables_for, numbered, descriptions_named, templates_named, values_named}
+use Rattle.pli_gen_emit.specs.Encoding.{NumberedTables, tables_for, numbered, descriptions_named, templates_named, values_named}
 use Rattle.pli_type_keys.specs.Same.{same_template, same_value}
-use Rattle.pli_gen.specs.Encoding.{signature_descriptions, global_descriptions, global_templates, block_templates}
-use Rattle.pli_gen.specs.Encoding.{template_code, signature_code, global_code, instruction_code, coded_block, coded_blocks, coded_unit, code_of}
+use Rattle.pli_gen_emit.specs.Encoding.{signature_descriptions, global_descriptions, global_templates, block_templates}
+use Rattle.pli_gen_emit.specs.Encoding.{template_code, signature_code, global_code, instruction_code, coded_block, coded_blocks, coded_unit, code_of}
 use Rattle.pli_gen.specs.Limits.{is_over, has_many_slots, has_many_members, initial_bytes, is_too_long}
 use Rattle.pli_gen.specs.laws.ListLaws.{all_front, all_back}
 use Rattle.pli_gen_emit.specs.answers.Pieces.{entries_of}
-use Rattle.pli_gen.specs.answers.Pieces.{instruction_fits, step_place, retargeted, blocks_with_entries, HaveDescriptions, no_code}
+use Rattle.pli_gen_emit.specs.answers.Instructions.{instruction_fits, retargeted}
+use Rattle.pli_gen.specs.answers.Pieces.{blocks_with_entries, HaveDescriptions, no_code}
 use Rattle.pli_gen.proofs.FieldLemmas.{instructions_as_coded}
 use Rattle.pli_gen.proofs.SimpleCode.{all_both}
-use Rattle.pli_gen.proofs.StepPlaces.{steps_are_places}
-use Rattle.pli_gen.proofs.TableNumbers.{Has, has_all}
+use Rattle.pli_gen_emit.proofs.TableNumbers.{Has, has_all}
 
 -- entries that are numbered are among those that were put
 module _ {X : Type 0} (P : X → Type 0) (alike : X → X → Bool) where
@@ -114,7 +114,7 @@ module _ (places : List (ℕ × ℕ)) where
     one_target (op.Goto outward label) = ap (op.Goto outward) (e label)
     one_target i = refl
 
-    all_targets : (is : List op.Instruction) → map (retargeted place) is ≡ map (with_target places) is
+    pub all_targets : (is : List op.Instruction) → map (retargeted place) is ≡ map (with_target places) is
     all_targets [] = refl
     all_targets (i ∷ is) = ap (λ x. x ∷ map (retargeted place) is) (one_target i) ∙ ap (λ xs. with_target places i ∷ xs) (all_targets is)
 
@@ -127,19 +127,14 @@ module _ (t : NumberedTables) where
   blocks_placed (b ∷ bs) p = ap (λ cs. coded_block t b p ∷ cs) (blocks_placed bs (behind (block_code b p) p))
 
   -- a unit's code, part by part
-  pub unit_coded : (u : TypedUnit) (bs : List BlockTree) (code : List op.Instruction) (place : ℕ → ℕ) (entries : List ℕ)
+  pub unit_coded : (u : TypedUnit) (bs : List BlockTree) (code : List op.Instruction) (entries : List ℕ)
       (s : CodedSignature) (ds : List Description) (ts : List CodedTemplate) (vs : List Value) (gs : List CodedGlobal) (cs : List CodedBlock) (is : List Instruction)
-      → entries ≡ entries_of bs 0 → code ≡ blocks_code bs 0 → ((n : ℕ) → place n ≡ step_place code 0 n 0)
-      → s ≡ signature_code t u.signature
+      → entries ≡ entries_of bs 0 → s ≡ signature_code t u.signature
       → ds ≡ t.descriptions → ts ≡ map (template_code t) t.templates → vs ≡ t.values → gs ≡ map (global_code t) u.globals → cs ≡ blocks_with_entries t bs entries
-      → is ≡ map (instruction_code t) (map (retargeted place) code)
-      → coded s ds ts vs gs cs is ≡ coded_unit t u bs (instructions_of bs)
-  unit_coded u bs code place entries s ds ts vs gs cs is begin made leads sign d te v g c i =
+      → is ≡ map (instruction_code t) code
+      → coded s ds ts vs gs cs is ≡ coded_unit t u bs code
+  unit_coded u bs code entries s ds ts vs gs cs is begin sign d te v g c i =
       let blocks : cs ≡ coded_blocks t bs 0 = c ∙ ap (blocks_with_entries t bs) begin ∙ blocks_placed bs 0 in
-      let targets : (n : ℕ) → place n ≡ statement_place (places_of bs 0) n =
-      λ n. leads n ∙ ap (λ is. step_place is 0 n 0) made ∙ steps_are_places bs n in
-      let instructions : is ≡ map (instruction_code t) (instructions_of bs) =
-      i ∙ ap (λ is. map (instruction_code t) (map (retargeted place) is)) made ∙ ap (map (instruction_code t)) (all_targets (places_of bs 0) place targets (blocks_code bs 0)) in
       let signature = signature_code t u.signature in
       let templates = map (template_code t) t.templates in
       let globals = map (global_code t) u.globals in
@@ -147,7 +142,7 @@ module _ (t : NumberedTables) where
       ∙ ap (λ x. coded signature t.descriptions templates x gs cs is) v
       ∙ ap (λ x. coded signature t.descriptions templates t.values x cs is) g
       ∙ ap (λ x. coded signature t.descriptions templates t.values globals x is) blocks
-      ∙ ap (coded signature t.descriptions templates t.values globals (coded_blocks t bs 0)) instructions
+      ∙ ap (coded signature t.descriptions templates t.values globals (coded_blocks t bs 0)) i
 
 tables_again : (u : TypedUnit) (bs : List BlockTree) → tables_for u bs (blocks_code bs 0) ≡ tables_for u bs (instructions_of bs)
 tables_again u bs =

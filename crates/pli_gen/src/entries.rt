@@ -5,12 +5,12 @@ ghost use Rattle.pli_map.specs.views.DescriptionView.{description_view};
 ghost use Rattle.pli_value.specs.Value.{value_view};
 ghost use Rattle.pli_type_tree.specs.views.TemplateView.{initial_view, groups_view};
 ghost use Rattle.pli_code.specs.views.CodeView.{coded_template_view};
-ghost use Rattle.pli_gen.specs.Encoding.{template_code, template_number};
-ghost use Rattle.pli_gen.specs.views.TableView.{tables_view};
+ghost use Rattle.pli_gen_emit.specs.Encoding.{template_code, template_number};
+ghost use Rattle.pli_gen_emit.specs.views.TableView.{tables_view};
 
 use crate::numbers::Numbers;
-use crate::table::{NumberedTables, template_key};
 use pli_code::CodedTemplate;
+use pli_gen_emit::{NumberedTables, template_key};
 use pli_map::Description;
 use pli_type_tree::{InitialScalar, VariableGroup};
 use pli_value::Value;

@@ -1,21 +1,15 @@
 //! The code of a typed unit.
-ghost use Rattle.std.specs.Prelude.{◌≡◌, false};
+ghost use Rattle.std.specs.Prelude.{◌≡◌};
 ghost use Rattle.pli_type_tree.specs.views.TypedView.{unit_view};
 ghost use Rattle.pli_gen_emit.specs.answers.Units.{IsEmitted};
-ghost use Rattle.pli_gen_emit.specs.views.BlockView.{block_trees};
-ghost use Rattle.pli_gen_emit.specs.views.NamingView.{naming_code};
-ghost use Rattle.pli_gen.specs.Encoding.{code_of, tables_for};
+ghost use Rattle.pli_gen_emit.specs.Encoding.{code_of};
 ghost use Rattle.pli_gen.specs.answers.Answers.{Generates};
 ghost use Rattle.pli_gen.specs.declared.generating.GenerateError.TheVariants.{OutOfMemory};
-ghost use Rattle.pli_gen.specs.views.TableView.{tables_view};
 
 use crate::limits::is_too_long;
-use crate::one::One;
-use crate::table::{NumberedTables, number_unit};
 use crate::unit::encode_unit;
-use indexmap::IndexSet;
 use pli_code::{Code, CodedSignature};
-use pli_gen_emit::{Emitted, emit_procedures};
+use pli_gen_emit::{Emitted, One, emit_unit};
 use pli_type_tree::TypedUnit;
 use pli_value::Value;
 use std::alloc::{AllocError, Global};
@@ -42,24 +36,16 @@ impl From<AllocError> for GenerateError {
     }
 }
 
-/// The code of a unit whose blocks and instructions are these, with these tables, unless it is too long (G1) or memory
-/// runs out or was wanting for the tables.
-fn code_numbered<'a>(
+/// The code of a unit of which this was emitted, unless it is too long (G1) or memory runs out.
+fn code_emitted(
     alloc: Global,
-    one: One<'a>,
-    unit: &'a TypedUnit,
-    emitted: &Emitted<'a>,
-    tables: &NumberedTables<'a>,
+    unit: &TypedUnit,
+    emitted: &Emitted<'_>,
 ) -> Result<Code, GenerateError>
-    requires emitted { IsEmitted (unit_view unit.now).procedures emitted.now }
-    requires tables { tables.now.lacks_memory ≡ false → tables_view tables.now
-        ≡ tables_for (unit_view unit.now) (block_trees emitted.now.blocks.items) (naming_code emitted.now.code.items) }
+    requires { IsEmitted (unit_view unit.now) emitted.now }
     ensures { Generates result (code_of (unit_view unit.now)) }
 {
-    if tables.lacks_memory {
-        return Err(GenerateError::OutOfMemory);
-    }
-    if is_too_long(unit, emitted, tables) {
+    if is_too_long(unit, emitted) {
         return Err(GenerateError::TooLong);
     }
     let mut code = Code {
@@ -74,33 +60,11 @@ fn code_numbered<'a>(
         blocks: Vec::new(alloc),
         instructions: Vec::new(alloc),
     };
-    if encode_unit(alloc, tables, one, unit, emitted, &mut code).is_err() {
+    if encode_unit(alloc, unit, emitted, &mut code).is_err() {
         drop(code);
         return Err(GenerateError::OutOfMemory);
     }
     Ok(code)
-}
-
-/// The code of a unit whose blocks and instructions are these, unless it is too long (G1) or memory runs out.
-fn code_emitted<'a>(
-    alloc: Global,
-    one: One<'a>,
-    unit: &'a TypedUnit,
-    emitted: &Emitted<'a>,
-) -> Result<Code, GenerateError>
-    requires { IsEmitted (unit_view unit.now).procedures emitted.now }
-    ensures { Generates result (code_of (unit_view unit.now)) }
-{
-    let mut tables = NumberedTables {
-        descriptions: IndexSet::new(alloc),
-        templates: IndexSet::new(alloc),
-        values: IndexSet::new(alloc),
-        lacks_memory: false,
-    };
-    number_unit(&mut tables, one, unit, emitted);
-    let code = code_numbered(alloc, one, unit, emitted, &tables);
-    drop(tables);
-    code
 }
 
 /// The code of a typed unit, with the number 1 as a value that it may name, unless it is too long (G1) or memory runs
@@ -108,8 +72,8 @@ fn code_emitted<'a>(
 fn code_with<'a>(alloc: Global, one: One<'a>, unit: &'a TypedUnit) -> Result<Code, GenerateError>
     ensures { Generates result (code_of (unit_view unit.now)) }
 {
-    let emitted = emit_procedures(alloc, unit.procedures.as_slice())?;
-    let code = code_emitted(alloc, one, unit, &emitted);
+    let emitted = emit_unit(alloc, one, unit)?;
+    let code = code_emitted(alloc, unit, &emitted);
     drop(emitted);
     code
 }

@@ -5,13 +5,13 @@ ghost use Rattle.pli_type_tree.specs.views.GlobalView.{signature_view, global_gr
 ghost use Rattle.pli_code.specs.CodeTables as plain;
 ghost use Rattle.pli_code.specs.views.CodeView.{global_view};
 ghost use Rattle.pli_code.specs.declared.code.VariableKind.TheVariants.{Static};
-ghost use Rattle.pli_gen.specs.Encoding.{description_number, signature_code, global_code};
-ghost use Rattle.pli_gen.specs.views.TableView.{tables_view};
+ghost use Rattle.pli_gen_emit.specs.Encoding.{description_number, signature_code, global_code};
+ghost use Rattle.pli_gen_emit.specs.views.TableView.{tables_view};
 
 use crate::numbers::Numbers;
-use crate::table::template_key;
 use pli_base::Name;
 use pli_code::{CodedGlobal, CodedSignature, VariableKind};
+use pli_gen_emit::template_key;
 use pli_map::Description;
 use pli_type_tree::{GlobalGroup, Signature};
 use std::alloc::{AllocError, Global};

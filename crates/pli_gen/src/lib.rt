@@ -1,18 +1,14 @@
 //! The generator: the code of a typed unit, with its tables.
 #![tactic(auto)]
 
-mod encode;
 mod entries;
 mod examples;
-mod fields;
 mod generating;
 mod globals;
+mod gotos;
 mod laws;
 mod limits;
 mod numbers;
-mod one;
-mod places;
-mod table;
 mod unit;
 
 pub use examples::worked_examples;

@@ -1,28 +1,28 @@
 //! Which code is too long.
 ghost use Rattle.std.specs.Prelude.{◌≡◌, ◌+◌, ◌≤◌, ◌||◌, ◌&&◌, not, nat_lt, min, map, length};
-ghost use Rattle.std.specs.List.{list_all, list_any, sum_by, AllByRecursion};
+ghost use Rattle.std.specs.List.{list_all, list_any, sum_by};
 ghost use Rattle.pli_map.specs.views.DescriptionView.{description_view, members_view};
 ghost use Rattle.pli_type_tree.specs.views.GlobalView.{global_group_view, globals_view};
 ghost use Rattle.pli_type_tree.specs.views.TemplateView.{groups_view};
 ghost use Rattle.pli_type_tree.specs.views.TypedView.{unit_view};
-ghost use Rattle.pli_gen.specs.Encoding.{coded_unit};
+ghost use Rattle.pli_gen_emit.specs.Encoding.{code_of};
+ghost use Rattle.pli_gen_emit.specs.answers.Units.{IsEmitted};
 ghost use Rattle.pli_gen.specs.Limits.{is_over, has_many_members, one_has_many, is_too_long};
-ghost use Rattle.pli_gen.specs.answers.Pieces.{takes_many_slots, template_bytes, HaveDescriptions};
-ghost use Rattle.pli_gen.specs.answers.Pieces.{block_fits, instruction_fits};
+ghost use Rattle.pli_gen.specs.answers.Pieces.{takes_many_slots, template_bytes, block_fits};
 ghost use Rattle.pli_gen_emit.specs.views.BlockView.{block_tree, block_trees};
 ghost use Rattle.pli_type_keys.specs.views.KeyView.{templated};
-ghost use Rattle.pli_gen_emit.specs.views.NamingView.{naming_code};
-ghost use Rattle.pli_gen.specs.views.TableView.{tables_view};
+ghost use Rattle.pli_gen_emit.specs.views.TableView.{tables_view};
 
-use crate::fields::has_wide_number;
-use crate::table::NumberedTables;
-use pli_gen_emit::{BlockSource, Emitted};
+use pli_gen_emit::{BlockSource, Emitted, NumberedTables};
 use pli_map::{Description, far_size};
 use pli_type_keys::TemplateKey;
 use pli_type_tree::{GlobalGroup, TypedUnit, VariableGroup};
 
 /// The greatest number of entries of a table of a unit, of slots of a block and of members of a structure (own).
 const ENTRY_LIMIT: usize = 65_535;
+
+/// The greatest number in a field of one byte.
+const BYTE_LIMIT: usize = 255;
 
 /// The greatest number of bytes of templates that have initial values (own).
 const INITIAL_LIMIT: u64 = 16_777_216;
@@ -128,6 +128,29 @@ fn has_long_table(tables: &NumberedTables<'_>) -> bool
         || tables.values.len() > ENTRY_LIMIT
 }
 
+/// Whether the numbers of a block are within their fields. The greatest number of two bytes stands for no block around.
+fn block_fits(block: BlockSource<'_>) -> bool
+    ensures { result ≡ block_fits (block_tree block.entry) }
+{
+    let parent_fits = match block.parent {
+        None => true,
+        Some(parent) => parent < ENTRY_LIMIT,
+    };
+    parent_fits && block.parameters <= BYTE_LIMIT && block.head.temporaries <= ENTRY_LIMIT
+}
+
+/// Whether those of each block are.
+fn blocks_fit(blocks: &[BlockSource<'_>]) -> bool
+    ensures { result ≡ list_all block_fits (block_trees blocks.now) }
+{
+    for block in blocks {
+        if !block_fits(*block) {
+            return false;
+        }
+    }
+    true
+}
+
 /// How many globals a group has.
 fn global_count(group: &GlobalGroup) -> usize
     ensures { result ≡ length (global_group_view group.now) }
@@ -156,40 +179,44 @@ fn has_many_globals(groups: &[GlobalGroup]) -> bool
 
 /// Whether a unit has too many globals, too many blocks or too many instructions.
 fn has_long_list(groups: &[GlobalGroup], emitted: &Emitted<'_>) -> bool
-    ensures { result
-        ≡ is_over (globals_view groups.now) || is_over emitted.now.blocks.items || is_over emitted.now.code.items }
+    ensures { let e = emitted.now in
+        result ≡ is_over (globals_view groups.now) || is_over e.blocks.items || is_over e.emitter.code.items }
 {
     has_many_globals(groups)
         || emitted.blocks.len() > ENTRY_LIMIT
-        || emitted.code.len() > ENTRY_LIMIT
+        || emitted.emitter.code.len() > ENTRY_LIMIT
+}
+
+/// Whether a number of a unit's code is wider than its field.
+fn has_wide_number(emitted: &Emitted<'_>) -> bool
+    ensures { let e = emitted.now in
+        result ≡ not (list_all block_fits (block_trees e.blocks.items) && not e.emitter.is_wide) }
+{
+    !(blocks_fit(emitted.blocks.as_slice()) && !emitted.emitter.is_wide)
 }
 
 /// Whether a part of a unit is too large: a block, a structure, all initial values, or a number.
-fn has_large_part(emitted: &Emitted<'_>, tables: &NumberedTables<'_>) -> bool
-    ensures { let t = tables_view tables.now in
-        let blocks = block_trees emitted.now.blocks.items in
+fn has_large_part(emitted: &Emitted<'_>) -> bool
+    ensures { let e = emitted.now in
+        let t = tables_view e.emitter.tables in
+        let blocks = block_trees e.blocks.items in
         result
         ≡ list_any takes_many_slots blocks || list_any has_many_members t.descriptions
         || nat_lt 16777216 (sum_by template_bytes t.templates)
-        || not (list_all block_fits blocks && list_all instruction_fits (naming_code emitted.now.code.items)) }
+        || not (list_all block_fits blocks && not e.emitter.is_wide) }
 {
     has_wide_block(emitted.blocks.as_slice())
-        || has_wide_structure(tables)
-        || has_many_bytes(tables)
+        || has_wide_structure(&emitted.emitter.tables)
+        || has_many_bytes(&emitted.emitter.tables)
         || has_wide_number(emitted)
 }
 
 /// Whether a unit's code is too long (G1).
-pub(crate) fn is_too_long(
-    unit: &TypedUnit,
-    emitted: &Emitted<'_>,
-    tables: &NumberedTables<'_>,
-) -> bool
-    requires { HaveDescriptions (tables_view tables.now) }
-    ensures { let blocks = block_trees emitted.now.blocks.items in
-        result ≡ is_too_long (coded_unit (tables_view tables.now) (unit_view unit.now) blocks (naming_code emitted.now.code.items)) }
+pub(crate) fn is_too_long(unit: &TypedUnit, emitted: &Emitted<'_>) -> bool
+    requires { IsEmitted (unit_view unit.now) emitted.now }
+    ensures { result ≡ is_too_long (code_of (unit_view unit.now)) }
 {
-    has_long_table(tables)
+    has_long_table(&emitted.emitter.tables)
         || has_long_list(unit.globals.as_slice(), emitted)
-        || has_large_part(emitted, tables)
+        || has_large_part(emitted)
 }

@@ -1,30 +1,20 @@
-//! The numbers that instructions have in place of what they name.
-ghost use Rattle.std.specs.Prelude.{◌≡◌, ◌≤◌, ℕ, length, nat_eq, unwrap_or};
-ghost use Rattle.std.specs.HashMap.{get};
+//! The numbers that descriptions and templates have in their tables.
+ghost use Rattle.std.specs.Prelude.{◌≡◌, ◌≤◌, length};
 ghost use Rattle.pli_map.specs.views.DescriptionView.{description_view};
-ghost use Rattle.pli_value.specs.Value.{value_view};
-ghost use Rattle.pli_gen.specs.Encoding.{description_number, template_number, number_in};
-ghost use Rattle.pli_type_keys.specs.Same.{same_value};
+ghost use Rattle.pli_gen_emit.specs.Encoding.{description_number, template_number};
+ghost use Rattle.pli_gen_emit.specs.views.TableView.{tables_view};
 ghost use Rattle.pli_type_keys.specs.views.KeyView.{templated};
-ghost use Rattle.pli_gen.specs.views.TableView.{tables_view};
 
-use crate::one::One;
-use crate::table::NumberedTables;
+use pli_gen_emit::NumberedTables;
 use pli_map::Description;
-use pli_type_keys::{DescriptionKey, TemplateKey, ValueKey};
-use pli_value::Value;
-use std::collections::HashMap;
+use pli_type_keys::{DescriptionKey, TemplateKey};
 
-/// The tables of a unit, of at most 65,535 entries each, the places at which its statements begin, and the number 1.
+/// The tables of a unit, of at most 65,535 entries each.
 #[derive(Clone, Copy)]
 pub(crate) struct Numbers<'t, 'a> {
     pub tables: &'t NumberedTables<'a>,
-    pub places: &'t HashMap<u32, usize>,
-    pub one: One<'a>,
     ghost few_descriptions: { length tables.now.descriptions.keys ≤ 65535 },
     ghost few_templates: { length tables.now.templates.keys ≤ 65535 },
-    ghost few_values: { length tables.now.values.keys ≤ 65535 },
-    ghost near: { (n : ℕ) → unwrap_or (get nat_eq places.now n) 0 ≤ 65535 },
 }
 
 impl<'a> Numbers<'_, 'a> {
@@ -44,22 +34,5 @@ impl<'a> Numbers<'_, 'a> {
     {
         let table = &self.tables.templates;
         table.get_index_of(&template).unwrap_or(table.len()) as u16
-    }
-
-    /// The number of a value.
-    pub(crate) fn value(&self, value: &'a Value) -> u16
-        ensures { result ≡ number_in same_value (tables_view self.now.tables.now).values (value_view value.now) }
-    {
-        let table = &self.tables.values;
-        table
-            .get_index_of(&ValueKey { value })
-            .unwrap_or(table.len()) as u16
-    }
-
-    /// The place of a statement; 0 if it has none.
-    pub(crate) fn place(&self, statement: u32) -> u16
-        ensures { result ≡ unwrap_or (get nat_eq self.now.places.now statement) 0 }
-    {
-        self.places.get(&statement).copied().unwrap_or(0) as u16
     }
 }

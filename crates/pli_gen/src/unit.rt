@@ -4,22 +4,17 @@ ghost use Rattle.std.specs.List.{list_all};
 ghost use Rattle.pli_type_tree.specs.views.TypedView.{unit_view};
 ghost use Rattle.pli_code.specs.CodeFields.{parent_fits};
 ghost use Rattle.pli_code.specs.views.CodeView.{block_view, code_view};
-ghost use Rattle.pli_gen_emit.specs.TreeTranslation.{blocks_code, instructions_of};
-ghost use Rattle.pli_gen_emit.specs.answers.Pieces.{entries_of};
+ghost use Rattle.pli_gen_emit.specs.answers.Units.{IsEmitted};
 ghost use Rattle.pli_gen_emit.specs.views.BlockView.{block_tree, block_trees};
-ghost use Rattle.pli_gen_emit.specs.views.NamingView.{naming_code};
-ghost use Rattle.pli_gen.specs.Encoding.{coded_block, coded_unit};
+ghost use Rattle.pli_gen_emit.specs.Encoding.{coded_block, code_of};
 ghost use Rattle.pli_gen.specs.Limits.{is_too_long};
 ghost use Rattle.pli_gen.specs.answers.Pieces.{block_fits, blocks_with_entries, no_code};
-ghost use Rattle.pli_gen.specs.views.TableView.{tables_view};
+ghost use Rattle.pli_gen_emit.specs.views.TableView.{tables_view};
 
-use crate::encode::encode_code;
 use crate::entries::{copy_descriptions, copy_values, encode_templates, encode_variables};
 use crate::globals::{encode_descriptions, encode_globals, result_number};
+use crate::gotos::land_gotos;
 use crate::numbers::Numbers;
-use crate::one::One;
-use crate::places::step_places;
-use crate::table::NumberedTables;
 use pli_code::{Block, Code};
 use pli_gen_emit::{BlockSource, Emitted};
 use pli_type_tree::TypedUnit;
@@ -83,29 +78,19 @@ fn encode_blocks<'a>(
 
 /// Fills the code of a unit that is not too long, which has nothing before: what its external procedure takes and
 /// gives, its tables, its globals, its blocks with their entries, and its instructions.
-pub(crate) fn encode_unit<'a>(
+pub(crate) fn encode_unit(
     alloc: Global,
-    tables: &NumberedTables<'a>,
-    one: One<'a>,
-    unit: &'a TypedUnit,
-    emitted: &Emitted<'a>,
+    unit: &TypedUnit,
+    emitted: &Emitted<'_>,
     code: &mut Code,
 ) -> Result<(), AllocError>
-    requires entries { emitted.now.entries.items ≡ entries_of (block_trees emitted.now.blocks.items) 0 }
-    requires code { naming_code emitted.now.code.items ≡ blocks_code (block_trees emitted.now.blocks.items) 0 }
-    requires short { let blocks = block_trees emitted.now.blocks.items in
-        is_too_long (coded_unit (tables_view tables.now) (unit_view unit.now) blocks (naming_code emitted.now.code.items)) ≡ false }
+    requires emitted { IsEmitted (unit_view unit.now) emitted.now }
+    requires short { is_too_long (code_of (unit_view unit.now)) ≡ false }
     requires empty { code_view code.old ≡ no_code }
-    ensures { let blocks = block_trees emitted.now.blocks.items in
-        OnOk result
-        (code_view code.new ≡ coded_unit (tables_view tables.now) (unit_view unit.now) blocks (instructions_of blocks)) }
+    ensures { OnOk result (code_view code.new ≡ code_of (unit_view unit.now)) }
 {
-    let places = step_places(alloc, emitted.code.as_slice())?;
-    let numbers = Numbers {
-        tables,
-        places: &places,
-        one,
-    };
+    let tables = &emitted.emitter.tables;
+    let numbers = Numbers { tables };
     let taken = unit.signature.parameters.as_slice();
     encode_descriptions(numbers, taken, &mut code.signature.parameters)?;
     code.signature.result = result_number(numbers, &unit.signature.result);
@@ -116,6 +101,12 @@ pub(crate) fn encode_unit<'a>(
     let blocks = emitted.blocks.as_slice();
     let entries = emitted.entries.as_slice();
     encode_blocks(alloc, numbers, blocks, entries, &mut code.blocks)?;
-    encode_code(numbers, emitted.code.as_slice(), &mut code.instructions)?;
+    let instructions = emitted.emitter.code.as_slice();
+    code.instructions.extend_from_slice(instructions)?;
+    land_gotos(
+        alloc,
+        emitted.emitter.gotos.as_slice(),
+        &mut code.instructions,
+    )?;
     Ok(())
 }

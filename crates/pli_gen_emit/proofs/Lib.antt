@@ -2,7 +2,13 @@ pub mod BlockLemmas
 pub mod CollectLemmas
 pub mod EmitLemmas
 pub mod EmittedJumps
+pub mod GlobalLemmas
 pub mod IterationLemmas
 pub mod JumpLemmas
+pub mod KeyLemmas
 pub mod LoopLemmas
+pub mod NamedLemmas
+pub mod NumberLemmas
+pub mod NumberingLemmas
+pub mod TableNumbers
 pub mod TreeCode

@@ -1,3 +1,4 @@
 pub mod answers
+pub mod Encoding
 pub mod TreeTranslation
 pub mod views

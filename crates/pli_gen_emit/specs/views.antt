@@ -1,2 +1,2 @@
 pub mod BlockView
-pub mod NamingView
+pub mod TableView

@@ -1,44 +1,56 @@
 //! What is emitted for a unit.
-ghost use Rattle.std.specs.Prelude.{map, IfOk};
-ghost use Rattle.pli_type_tree.specs.views.TypedView.{procedure_view};
+ghost use Rattle.std.specs.Prelude.{IfOk};
+ghost use Rattle.pli_type_tree.specs.views.TypedView.{unit_view};
 ghost use Rattle.pli_gen_emit.specs.answers.Units.{IsEmitted};
 
 use crate::block::{BlockSource, blocks_by_number};
 use crate::emitter::Emitter;
 use crate::layout::emit_blocks;
-use crate::naming::NamingInstruction;
-use pli_type_tree::TypedProcedure;
+use crate::one::One;
+use crate::table::{NumberedTables, number_unit};
+use indexmap::IndexSet;
+use pli_type_tree::TypedUnit;
 use std::alloc::{AllocError, Global};
 
-/// The blocks of a unit by their numbers, their code, one behind the other, and the places of their first
-/// instructions in it, counted from 0.
+/// The blocks of a unit by their numbers, the places of their first instructions, counted from 0, and their code, one
+/// behind the other, with its tables.
 #[derive(Drop)]
 pub struct Emitted<'a> {
     pub blocks: Vec<BlockSource<'a>>,
-    pub code: Vec<NamingInstruction<'a>>,
     pub entries: Vec<usize>,
+    pub emitter: Emitter<'a>,
 }
 
-/// The blocks of a unit with these procedures, and their code, unless memory runs out.
-pub fn emit_procedures(
+/// The blocks of a unit, and their code, with the number 1 as a value that it may name, unless memory runs out.
+pub fn emit_unit<'a>(
     alloc: Global,
-    procedures: &[TypedProcedure],
-) -> Result<Emitted<'_>, AllocError>
-    ensures { IfOk result (IsEmitted (map procedure_view procedures.now)) }
+    one: One<'a>,
+    unit: &'a TypedUnit,
+) -> Result<Emitted<'a>, AllocError>
+    ensures { IfOk result (IsEmitted (unit_view unit.now)) }
 {
-    let blocks = blocks_by_number(alloc, procedures)?;
-    let mut code = Emitter {
-        code: Vec::new(alloc),
-        refused: None,
-    };
+    let blocks = blocks_by_number(alloc, unit.procedures.as_slice())?;
     let mut entries = Vec::new(alloc);
-    emit_blocks(blocks.as_slice(), &mut code, &mut entries);
-    match code.refused {
-        None => Ok(Emitted {
-            blocks,
-            code: code.code,
-            entries,
-        }),
-        Some(error) => Err(error),
+    let mut emitter = Emitter {
+        one,
+        tables: NumberedTables {
+            descriptions: IndexSet::new(alloc),
+            templates: IndexSet::new(alloc),
+            values: IndexSet::new(alloc),
+            lacks_memory: false,
+        },
+        code: Vec::new(alloc),
+        gotos: Vec::new(alloc),
+        is_wide: false,
+    };
+    number_unit(&mut emitter.tables, unit, blocks.as_slice());
+    emit_blocks(blocks.as_slice(), &mut emitter, &mut entries);
+    if emitter.tables.lacks_memory {
+        return Err(AllocError);
     }
+    Ok(Emitted {
+        blocks,
+        entries,
+        emitter,
+    })
 }

@@ -1,52 +1,16 @@
 //! The code of references and expressions.
-ghost use Rattle.std.specs.Prelude.{◌≡◌, ◌∷◌, []};
-ghost use Rattle.pli_type_tree.specs.views.TypedView.{root_view, callee_view, operation_view, expression_view, reference_view};
+#![tactic(auto, using(crate::proofs::EmitLemmas::extended_both))]
+
+ghost use Rattle.pli_type_tree.specs.views.TypedView.{expression_view, reference_view};
 ghost use Rattle.pli_type_tree.specs.views.TypedView.{argument_before};
 ghost use Rattle.pli_type_tree.specs.views.TypedView.{operands_view, subscripts_view, arguments_view};
 ghost use Rattle.pli_type_tree.specs.TypedTree.{NoArgument};
-ghost use Rattle.pli_gen_emit.specs.TreeTranslation.{root_code, call_instruction, operation_code};
 ghost use Rattle.pli_gen_emit.specs.TreeTranslation.{value_code, place_code, operands_code, subscripts_code, arguments_code};
 ghost use Rattle.pli_gen_emit.specs.answers.Emitting.{Emits};
-ghost use Rattle.pli_gen_emit.specs.views.NamingView.{naming_view, naming_code};
 
 use crate::emitter::Emitter;
-use crate::naming::NamingInstruction;
-use pli_type_tree::{
-    Callee, Root, TypedArgument, TypedExpression, TypedOperation, TypedReference, TypedSubscript,
-};
-
-/// The instruction for the place at which a reference begins.
-fn root_instruction<'a>(root: Root) -> NamingInstruction<'a>
-    ensures { naming_code (result ∷ []) ≡ root_code (root_view root) }
-{
-    match root {
-        Root::InSlot { outward, slot } => NamingInstruction::Local { outward, slot },
-        Root::OfProgram { number } => NamingInstruction::Global { number },
-    }
-}
-
-/// The instruction of an operation.
-pub(crate) fn operation_instruction<'a>(operation: &'a TypedOperation) -> NamingInstruction<'a>
-    ensures { naming_view result ≡ operation_code (operation_view operation.now) }
-{
-    match operation {
-        TypedOperation::Fit(description) => NamingInstruction::Fit(description),
-        TypedOperation::Operate(operation) => NamingInstruction::Operate(*operation),
-    }
-}
-
-/// The instruction of a call with so many arguments.
-pub(crate) fn call_instruction<'a>(callee: Callee, arguments: usize) -> NamingInstruction<'a>
-    ensures { naming_view result ≡ call_instruction (callee_view callee) arguments }
-{
-    match callee {
-        Callee::OfBlock { block } => NamingInstruction::Call { block, arguments },
-        Callee::OfEntry { number } => NamingInstruction::CallExternal {
-            global: number,
-            arguments,
-        },
-    }
-}
+use pli_code::Instruction;
+use pli_type_tree::{TypedArgument, TypedExpression, TypedReference, TypedSubscript};
 
 /// Emits the code of an expression.
 #[cycle(emit)]
@@ -54,22 +18,22 @@ pub(crate) fn emit_value<'a>(expression: &'a TypedExpression, code: &mut Emitter
     ensures { Emits code.old code.new (value_code (expression_view expression.now)) }
 {
     match expression {
-        TypedExpression::Literal(value) => { code.emit(NamingInstruction::Constant(value)) }
+        TypedExpression::Literal(value) => { code.constant(value) }
         TypedExpression::Held(variable) => {
             emit_place(variable, code);
-            code.emit(NamingInstruction::Load)
+            code.emit(Instruction::Load)
         }
         TypedExpression::Calculated {
             operation,
             operands,
         } => {
             emit_operands(operands.as_slice(), code);
-            code.emit(operation_instruction(operation))
+            code.operation(operation)
         }
         TypedExpression::Called { callee, arguments } => {
             let arguments = arguments.as_slice();
             emit_arguments(arguments, code);
-            code.emit(call_instruction(*callee, arguments.len()))
+            code.call(*callee, arguments.len())
         }
     }
 }
@@ -90,18 +54,15 @@ pub(crate) fn emit_place<'a>(reference: &'a TypedReference, code: &mut Emitter<'
     ensures { Emits code.old code.new (place_code (reference_view reference.now)) }
 {
     match reference {
-        TypedReference::Whole(root) => { code.emit(root_instruction(*root)) }
+        TypedReference::Whole(root) => { code.root(*root) }
         TypedReference::Part {
             root,
             offset,
             description,
             subscripts,
         } => {
-            code.emit(root_instruction(*root));
-            code.emit(NamingInstruction::Field {
-                offset: *offset,
-                description,
-            });
+            code.root(*root);
+            code.field(*offset, description);
             emit_subscripts(subscripts.as_slice(), code)
         }
     }
@@ -114,7 +75,7 @@ fn emit_subscripts<'a>(subscripts: &'a [TypedSubscript], code: &mut Emitter<'a>)
 {
     for subscript in subscripts {
         emit_value(&subscript.value, code);
-        code.emit(NamingInstruction::Subscript(subscript.stride));
+        code.subscript(subscript.stride);
     }
 }
 
@@ -127,7 +88,7 @@ fn emit_argument<'a>(argument: &'a TypedArgument, code: &mut Emitter<'a>)
         TypedArgument::ByPlace(variable) => emit_place(variable, code),
         TypedArgument::ByDummy { description, value } => {
             emit_value(value, code);
-            code.emit(NamingInstruction::MakeDummy(description))
+            code.make_dummy(description)
         }
     }
 }

@@ -1,5 +1,7 @@
 //! The code of groups with a control variable, round their lists.
-ghost use Rattle.std.specs.Prelude.{◌≡◌, ◌++◌, ◌∷◌, [], None, suc, map, length};
+#![tactic(auto, using(crate::proofs::EmitLemmas::extended_both))]
+
+ghost use Rattle.std.specs.Prelude.{◌≡◌, ◌++◌, ◌∷◌, [], false, suc, map, length};
 ghost use Rattle.pli_program.specs.Program as op;
 ghost use Rattle.pli_type_tree.specs.Iterations as plain;
 ghost use Rattle.pli_type_tree.specs.Iterations.{kept_by};
@@ -8,12 +10,11 @@ ghost use Rattle.pli_gen_emit.specs.TreeTranslation.{keeps_code, conversion_code
 ghost use Rattle.pli_gen_emit.specs.TreeTranslation.{limit_test, while_test, guarded, tests_code};
 ghost use Rattle.pli_gen_emit.specs.TreeTranslation.{counted_code, advances_code, back_code};
 ghost use Rattle.pli_gen_emit.specs.answers.Emitting.{Emits};
-ghost use Rattle.pli_gen_emit.specs.answers.Pieces.{jump_place, landed, IsTurn};
+ghost use Rattle.pli_gen_emit.specs.answers.Pieces.{jump_place, IsTurn, LandsTurn};
 
 use crate::emitter::Emitter;
-use crate::expression::{emit_place, emit_value, operation_instruction};
-use crate::jump::land_guard;
-use crate::naming::NamingInstruction;
+use crate::expression::{emit_place, emit_value};
+use pli_code::Instruction;
 use pli_operation::Operation;
 use pli_type_tree::{Iteration, TypedOperation, TypedRange};
 
@@ -33,21 +34,30 @@ fn emit_kept<'a>(range: &'a TypedRange, first: usize, code: &mut Emitter<'a>)
         TypedRange::Once | TypedRange::Repeated(_) => {}
         TypedRange::ToBy { to, by } => {
             emit_value(to, code);
-            code.emit(NamingInstruction::SetTemporary { first, behind: 1 });
+            code.set_temporary(first, 1);
             match by {
-                None => code.emit(NamingInstruction::One),
+                None => code.constant_one(),
                 Some(by) => emit_value(by, code),
             }
-            code.emit(NamingInstruction::SetTemporary { first, behind: 2 });
+            code.set_temporary(first, 2);
         }
         TypedRange::ByTo { by, to } => {
             emit_value(by, code);
-            code.emit(NamingInstruction::SetTemporary { first, behind: 1 });
+            code.set_temporary(first, 1);
             if let Some(to) = to {
                 emit_value(to, code);
-                code.emit(NamingInstruction::SetTemporary { first, behind: 2 });
+                code.set_temporary(first, 2);
             }
         }
+    }
+}
+
+/// Emits the conversion to the control variable.
+fn emit_conversion<'a>(conversion: &'a [TypedOperation], code: &mut Emitter<'a>)
+    ensures { Emits code.old code.new (conversion_code (map operation_view conversion.now)) }
+{
+    for operation in conversion {
+        code.operation(operation);
     }
 }
 
@@ -55,10 +65,8 @@ fn emit_kept<'a>(range: &'a TypedRange, first: usize, code: &mut Emitter<'a>)
 fn emit_store<'a>(conversion: &'a [TypedOperation], code: &mut Emitter<'a>)
     ensures { Emits code.old code.new (conversion_code (map operation_view conversion.now) ++ op.Store ∷ []) }
 {
-    for operation in conversion {
-        code.emit(operation_instruction(operation));
-    }
-    code.emit(NamingInstruction::Store);
+    emit_conversion(conversion, code);
+    code.emit(Instruction::Store);
 }
 
 /// Emits what is done before the first turn.
@@ -67,10 +75,10 @@ pub(crate) fn emit_start<'a>(iteration: &'a Iteration, code: &mut Emitter<'a>)
 {
     let first = iteration.temporary;
     emit_value(&iteration.start, code);
-    code.emit(NamingInstruction::SetTemporary { first, behind: 0 });
+    code.set_temporary(first, 0);
     emit_kept(&iteration.range, first, code);
     emit_place(&iteration.control, code);
-    code.emit(NamingInstruction::TakeTemporary { first, behind: 0 });
+    code.take_temporary(first, 0);
     emit_store(iteration.conversion.as_slice(), code);
 }
 
@@ -102,7 +110,7 @@ fn step_number(range: &TypedRange) -> u8
 /// Emits the test against the limit, if there is one, and says where its jump stands.
 fn emit_limit<'a>(iteration: &'a Iteration, code: &mut Emitter<'a>) -> Option<usize>
     ensures code { Emits code.old code.new (guarded (limit_test (iteration_view iteration.now)) 0) }
-    ensures place { code.new.refused ≡ None →
+    ensures place { code.new.tables.lacks_memory ≡ false →
         result ≡ jump_place (limit_test (iteration_view iteration.now)) (length code.old.code.items) }
 {
     let Some(limit) = limit_number(&iteration.range) else {
@@ -111,25 +119,19 @@ fn emit_limit<'a>(iteration: &'a Iteration, code: &mut Emitter<'a>) -> Option<us
     let first = iteration.temporary;
     let step = step_number(&iteration.range);
     emit_place(&iteration.control, code);
-    code.emit(NamingInstruction::Load);
-    code.emit(NamingInstruction::TakeTemporary {
-        first,
-        behind: limit,
-    });
-    code.emit(NamingInstruction::TakeTemporary {
-        first,
-        behind: step,
-    });
-    code.emit(NamingInstruction::Operate(Operation::Within));
+    code.emit(Instruction::Load);
+    code.take_temporary(first, limit);
+    code.take_temporary(first, step);
+    code.emit(Instruction::Operate(Operation::Within));
     let test = code.place();
-    code.emit(NamingInstruction::JumpUnless { target: 0 });
+    code.jump_unless(0);
     Some(test)
 }
 
 /// Emits the test of WHILE, if there is one, and says where its jump stands.
 fn emit_while<'a>(iteration: &'a Iteration, code: &mut Emitter<'a>) -> Option<usize>
     ensures code { Emits code.old code.new (guarded (while_test (iteration_view iteration.now).condition) 0) }
-    ensures place { code.new.refused ≡ None →
+    ensures place { code.new.tables.lacks_memory ≡ false →
         result ≡ jump_place (while_test (iteration_view iteration.now).condition) (length code.old.code.items) }
 {
     match &iteration.condition {
@@ -137,7 +139,7 @@ fn emit_while<'a>(iteration: &'a Iteration, code: &mut Emitter<'a>) -> Option<us
         Some(condition) => {
             emit_value(condition, code);
             let test = code.place();
-            code.emit(NamingInstruction::JumpUnless { target: 0 });
+            code.jump_unless(0);
             Some(test)
         }
     }
@@ -146,7 +148,7 @@ fn emit_while<'a>(iteration: &'a Iteration, code: &mut Emitter<'a>) -> Option<us
 /// Emits the tests before a turn, whose jumps have no targets yet.
 pub(crate) fn emit_tests<'a>(iteration: &'a Iteration, code: &mut Emitter<'a>) -> Turn
     ensures code { Emits code.old code.new (tests_code (iteration_view iteration.now) 0) }
-    ensures turn { code.new.refused ≡ None →
+    ensures turn { code.new.tables.lacks_memory ≡ false →
         IsTurn (iteration_view iteration.now) (length code.old.code.items) result }
 {
     let place = code.place();
@@ -165,12 +167,9 @@ fn emit_count<'a>(iteration: &'a Iteration, step: u8, code: &mut Emitter<'a>)
 {
     emit_place(&iteration.control, code);
     emit_place(&iteration.control, code);
-    code.emit(NamingInstruction::Load);
-    code.emit(NamingInstruction::TakeTemporary {
-        first: iteration.temporary,
-        behind: step,
-    });
-    code.emit(NamingInstruction::Operate(Operation::Add));
+    code.emit(Instruction::Load);
+    code.take_temporary(iteration.temporary, step);
+    code.emit(Instruction::Operate(Operation::Add));
     emit_store(iteration.conversion.as_slice(), code);
 }
 
@@ -186,7 +185,7 @@ fn emit_advance<'a>(iteration: &'a Iteration, code: &mut Emitter<'a>)
         TypedRange::Repeated(next) => {
             emit_place(&iteration.control, code);
             emit_value(next, code);
-            code.emit(NamingInstruction::Store);
+            code.emit(Instruction::Store);
         }
     }
 }
@@ -211,18 +210,16 @@ pub(crate) fn emit_back<'a>(
     if !is_iterated(&iteration.range) {
         return;
     }
-    code.emit(NamingInstruction::Line { statement: number });
+    code.emit(Instruction::Line { statement: number });
     emit_advance(iteration, code);
-    code.emit(NamingInstruction::Jump { target: turn });
+    code.jump(turn);
 }
 
 /// The targets of the jumps behind the tests are the place behind the code so far.
 pub(crate) fn land_tests(code: &mut Emitter<'_>, turn: Turn)
-    ensures code { let behind = length code.old.code.items in
-        code.new.code.items ≡ landed (landed code.old.code.items turn.limit behind) turn.condition behind }
-    ensures memory { code.new.refused ≡ code.old.refused }
+    ensures { LandsTurn code.old code.new turn (length code.old.code.items) }
 {
-    let limit = turn.limit;
-    land_guard(code, limit);
-    land_guard(code, turn.condition);
+    let behind = code.place();
+    code.land_guard(turn.limit, behind);
+    code.land_guard(turn.condition, behind);
 }

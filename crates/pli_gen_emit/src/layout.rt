@@ -1,14 +1,16 @@
 //! The code of a unit's blocks, one behind the other.
-ghost use Rattle.std.specs.Prelude.{◌≡◌, ◌++◌, None, length};
+#![tactic(auto, using(crate::proofs::EmitLemmas::extended_both))]
+
+ghost use Rattle.std.specs.Prelude.{◌≡◌, ◌++◌, false, length};
 ghost use Rattle.pli_gen_emit.specs.TreeTranslation.{block_code, blocks_code};
 ghost use Rattle.pli_gen_emit.specs.answers.Emitting.{Emits};
-ghost use Rattle.pli_gen_emit.specs.answers.Pieces.{entries_of};
+ghost use Rattle.pli_gen_emit.specs.answers.Pieces.{entries_of, NotesEntry};
 ghost use Rattle.pli_gen_emit.specs.views.BlockView.{block_tree, block_trees};
 
 use crate::block::BlockSource;
 use crate::emitter::Emitter;
-use crate::naming::NamingInstruction;
 use crate::statement::emit_list;
+use pli_code::Instruction;
 use pli_run::RunError;
 
 /// Emits the code of a block: its statements, and what stands at its end.
@@ -17,11 +19,20 @@ fn emit_block<'a>(block: BlockSource<'a>, code: &mut Emitter<'a>)
 {
     emit_list(block.statements, code);
     match block.function_end {
-        None => code.emit(NamingInstruction::Return { outward: 0 }),
+        None => code.return_outward(0),
         Some(statement) => {
-            code.emit(NamingInstruction::Line { statement });
-            code.emit(NamingInstruction::Raise(RunError::NoReturnedValue));
+            code.emit(Instruction::Line { statement });
+            code.emit(Instruction::Raise(RunError::NoReturnedValue));
         }
+    }
+}
+
+/// Notes the place of the next instruction.
+fn note_entry(entries: &mut Vec<usize>, code: &mut Emitter<'_>)
+    ensures { NotesEntry code.old code.new entries.old.items entries.new.items }
+{
+    if entries.push(code.place()).is_err() {
+        code.tables.lacks_memory = true;
     }
 }
 
@@ -32,13 +43,11 @@ pub(crate) fn emit_blocks<'a>(
     entries: &mut Vec<usize>,
 )
     ensures code { Emits code.old code.new (blocks_code (block_trees blocks.now) (length code.old.code.items)) }
-    ensures entries { code.new.refused ≡ None →
+    ensures entries { code.new.tables.lacks_memory ≡ false →
         entries.new.items ≡ entries.old.items ++ entries_of (block_trees blocks.now) (length code.old.code.items) }
 {
     for block in blocks {
-        if let Err(error) = entries.push(code.place()) {
-            code.refused = Some(error.into());
-        }
+        note_entry(entries, code);
         emit_block(*block, code);
     }
 }

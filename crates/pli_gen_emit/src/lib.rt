@@ -1,17 +1,21 @@
-//! The emitter: the blocks of a typed unit, and their code with what its instructions name.
+//! The emitter: the blocks of a typed unit, and their code with its tables.
 #![tactic(auto)]
 
 mod block;
 mod emitter;
 mod emitting;
 mod expression;
+mod fields;
 mod iteration;
-mod jump;
 mod layout;
-mod naming;
+mod one;
 mod simple;
 mod statement;
+mod table;
 
 pub use block::BlockSource;
-pub use emitting::{Emitted, emit_procedures};
-pub use naming::NamingInstruction;
+pub use emitter::{Emitter, LabelJump};
+pub use emitting::{Emitted, emit_unit};
+pub use fields::short;
+pub use one::One;
+pub use table::{NumberedTables, template_key};

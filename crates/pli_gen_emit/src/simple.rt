@@ -1,4 +1,6 @@
 //! The code of statements in which no other stands.
+#![tactic(auto, using(crate::proofs::EmitLemmas::extended_both))]
+
 ghost use Rattle.std.specs.Prelude.{map};
 ghost use Rattle.pli_type_tree.specs.views.TypedView.{expression_view, form_view};
 ghost use Rattle.pli_gen_emit.specs.TreeTranslation.{items_code};
@@ -6,8 +8,8 @@ ghost use Rattle.pli_gen_emit.specs.answers.Emitting.{Emits};
 ghost use Rattle.pli_gen_emit.specs.answers.Pieces.{simple_code};
 
 use crate::emitter::Emitter;
-use crate::expression::{call_instruction, emit_arguments, emit_place, emit_value};
-use crate::naming::NamingInstruction;
+use crate::expression::{emit_arguments, emit_place, emit_value};
+use pli_code::Instruction;
 use pli_type_tree::{Form, TypedExpression};
 
 /// Emits the code of items that are printed.
@@ -16,7 +18,7 @@ fn emit_items<'a>(items: &'a [TypedExpression], code: &mut Emitter<'a>)
 {
     for item in items {
         emit_value(item, code);
-        code.emit(NamingInstruction::Put);
+        code.emit(Instruction::Put);
     }
 }
 
@@ -28,35 +30,32 @@ pub(crate) fn emit_simple<'a>(form: &'a Form, code: &mut Emitter<'a>)
         Form::Assign { target, value } => {
             emit_place(target, code);
             emit_value(value, code);
-            code.emit(NamingInstruction::Store);
+            code.emit(Instruction::Store);
         }
         Form::AssignAggregate { target, source } => {
             emit_place(target, code);
             emit_place(source, code);
-            code.emit(NamingInstruction::CopyParts);
+            code.emit(Instruction::Copy);
         }
         Form::Put { skip, items } => {
             if *skip {
-                code.emit(NamingInstruction::Skip);
+                code.emit(Instruction::Skip);
             }
             emit_items(items.as_slice(), code);
         }
-        Form::Begin { head, .. } => code.emit(NamingInstruction::Begin { block: head.number }),
+        Form::Begin { head, .. } => code.begin(head.number),
         Form::Call { callee, arguments } => {
             let arguments = arguments.as_slice();
             emit_arguments(arguments, code);
-            code.emit(call_instruction(*callee, arguments.len()));
+            code.call(*callee, arguments.len());
         }
-        Form::Goto { outward, label } => code.emit(NamingInstruction::Goto {
-            outward: *outward,
-            label: *label,
-        }),
-        Form::Return { outward } => code.emit(NamingInstruction::Return { outward: *outward }),
+        Form::Goto { outward, label } => code.goto(*outward, *label),
+        Form::Return { outward } => code.return_outward(*outward),
         Form::ReturnValue { outward, value } => {
             emit_value(value, code);
-            code.emit(NamingInstruction::ReturnValue { outward: *outward });
+            code.return_value(*outward);
         }
-        Form::Stop => code.emit(NamingInstruction::Stop),
+        Form::Stop => code.emit(Instruction::Stop),
         Form::Null | Form::If { .. } | Form::Group(_) | Form::While { .. } | Form::Iterate { .. } =>
             {}
     }

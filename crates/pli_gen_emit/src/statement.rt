@@ -1,4 +1,6 @@
 //! The code of statements.
+#![tactic(auto, using(crate::proofs::EmitLemmas::extended_both))]
+
 ghost use Rattle.std.specs.Prelude.{length};
 ghost use Rattle.pli_type_tree.specs.views.TypedView.{form_view, statement_view, statements_view};
 ghost use Rattle.pli_gen_emit.specs.TreeTranslation.{statement_code, form_code, list_code};
@@ -7,9 +9,8 @@ ghost use Rattle.pli_gen_emit.specs.answers.Emitting.{Emits};
 use crate::emitter::Emitter;
 use crate::expression::emit_value;
 use crate::iteration::{emit_back, emit_start, emit_tests, land_tests};
-use crate::jump::land_test;
-use crate::naming::NamingInstruction;
 use crate::simple::emit_simple;
+use pli_code::Instruction;
 use pli_type_tree::{Form, TypedStatement};
 
 /// Emits the code of statements.
@@ -28,7 +29,7 @@ fn emit_statement<'a>(statement: &'a TypedStatement, code: &mut Emitter<'a>)
     ensures { Emits code.old code.new (statement_code (statement_view statement.now) (length code.old.code.items)) }
 {
     let number = statement.number;
-    code.emit(NamingInstruction::Step { statement: number });
+    code.emit(Instruction::Step { statement: number });
     emit_form(number, &statement.form, code);
 }
 
@@ -45,17 +46,21 @@ fn emit_form<'a>(number: u32, form: &'a Form, code: &mut Emitter<'a>)
         } => {
             emit_value(condition, code);
             let test = code.place();
-            code.emit(NamingInstruction::JumpUnless { target: 0 });
+            code.jump_unless(0);
             emit_statement(consequence, code);
             match alternative {
-                None => land_test(code, test),
+                None => {
+                    let behind = code.place();
+                    code.land_test(test, behind);
+                }
                 Some(other) => {
                     let over = code.place();
-                    code.emit(NamingInstruction::Jump { target: 0 });
-                    land_test(code, test);
+                    code.jump(0);
+                    let part = code.place();
+                    code.land_test(test, part);
                     emit_statement(other, code);
-                    let target = code.place();
-                    code.replace(over, NamingInstruction::Jump { target });
+                    let behind = code.place();
+                    code.land_jump(over, behind);
                 }
             }
         }
@@ -65,14 +70,15 @@ fn emit_form<'a>(number: u32, form: &'a Form, code: &mut Emitter<'a>)
             statements,
         } => {
             let turn = code.place();
-            code.emit(NamingInstruction::Line { statement: number });
+            code.emit(Instruction::Line { statement: number });
             emit_value(condition, code);
             let test = code.place();
-            code.emit(NamingInstruction::JumpUnless { target: 0 });
-            code.emit(NamingInstruction::Step { statement: number });
+            code.jump_unless(0);
+            code.emit(Instruction::Step { statement: number });
             emit_list(statements.as_slice(), code);
-            code.emit(NamingInstruction::Jump { target: turn });
-            land_test(code, test);
+            code.jump(turn);
+            let behind = code.place();
+            code.land_test(test, behind);
         }
         Form::Iterate {
             iteration,
@@ -80,7 +86,7 @@ fn emit_form<'a>(number: u32, form: &'a Form, code: &mut Emitter<'a>)
         } => {
             emit_start(iteration, code);
             let turn = emit_tests(iteration, code);
-            code.emit(NamingInstruction::Step { statement: number });
+            code.emit(Instruction::Step { statement: number });
             emit_list(statements.as_slice(), code);
             emit_back(number, iteration, turn.place, code);
             land_tests(code, turn);

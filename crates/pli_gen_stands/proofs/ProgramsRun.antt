@@ -7,7 +7,7 @@ use Rattle.pli_code.specs.CodeTables as tables
 use Rattle.pli_base.specs.Name.{Name}
 use Rattle.pli_code.specs.Modules.{Member, unit_of, program_of}
 use Rattle.pli_gen_emit.specs.TreeTranslation.{blocks_of, places_of, statement_place, unit_code}
-use Rattle.pli_gen.specs.Encoding.{code_of}
+use Rattle.pli_gen_emit.specs.Encoding.{code_of}
 use Rattle.pli_gen.proofs.TablesLookUp.{looked_up_is_unit_code}
 use Rattle.pli_meaning_simulation.specs.CodeStands.{UnitStands, UnitsStand}
 use Rattle.pli_meaning_simulation.proofs.ProgramsSimulate.{simulation}

@@ -11,12 +11,12 @@ use Rattle.pli_type_tree.specs.Templates.{Template}
 use Rattle.pli_type_tree.specs.TypedTree.{Signature, Global, OwnVariable, ExternalVariable, EntryPoint, TypedUnit}
 use Rattle.pli_code.specs.CodeTables.{CodedGlobal, template_at, there, with_description, described}
 use Rattle.pli_gen_emit.specs.TreeTranslation.{blocks_of, instructions_of}
-use Rattle.pli_gen.specs.Encoding.{NumberedTables, tables_for, description_number, template_number, template_code, signature_code, global_code, code_of}
-use Rattle.pli_gen.specs.Encoding.{signature_descriptions, global_descriptions, global_templates, block_templates, descriptions_named, templates_named}
+use Rattle.pli_gen_emit.specs.Encoding.{NumberedTables, tables_for, description_number, template_number, template_code, signature_code, global_code, code_of}
+use Rattle.pli_gen_emit.specs.Encoding.{signature_descriptions, global_descriptions, global_templates, block_templates, descriptions_named, templates_named}
 use Rattle.pli_gen.specs.laws.ListLaws.{all_front, all_back}
 use Rattle.pli_type_keys.specs.Same.{same_template}
 use Rattle.pli_type_keys.specs.laws.KeyLaws.{template_decides}
-use Rattle.pli_gen.proofs.TableNumbers.{Has, number_stands, has_all}
+use Rattle.pli_gen_emit.proofs.TableNumbers.{Has, number_stands, has_all}
 use Rattle.pli_gen.proofs.UnitLemmas.{globals_described}
 use Rattle.pli_link.specs.Alike.{FoundSignature, description_at, signature_at}
 use Rattle.pli_link.specs.ModuleSize.{own_of}

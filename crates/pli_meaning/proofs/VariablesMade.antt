@@ -17,7 +17,7 @@ use Rattle.pli_map.specs.Variables.{byte_limit}
 use Rattle.pli_type_tree.specs.Templates.{Template}
 use Rattle.pli_type_tree.specs.TypedTree.{Global, OwnVariable, ExternalVariable, EntryPoint, TypedUnit}
 use Rattle.pli_code.specs.CodeTables.{there}
-use Rattle.pli_gen.specs.Encoding.{code_of}
+use Rattle.pli_gen_emit.specs.Encoding.{code_of}
 use Rattle.pli_gen.specs.Limits.{is_over, has_many_slots, has_many_members, initial_bytes, has_wide_number, is_too_long}
 use Rattle.pli_link.specs.ModuleSize.{are_too_large, is_oversized, all_own, variables_made}
 use Rattle.pli_link.specs.Names.{Declaration, meant, shared_from, all_shared, with_declaration, first_declared, externals}

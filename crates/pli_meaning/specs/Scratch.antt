@@ -28,7 +28,7 @@ use Rattle.pli_type_tree.specs.TypedTree.{TypedUnit}
 use Rattle.pli_machine_step.specs.Runs.{Outcome}
 use Rattle.pli_code.specs.CodeTables.{Deck}
 use Rattle.pli_code.specs.Modules.{Module}
-use Rattle.pli_gen.specs.Encoding.{code_of}
+use Rattle.pli_gen_emit.specs.Encoding.{code_of}
 use Rattle.pli_gen.specs.Limits.{is_too_long}
 use Rattle.pli_meaning_tree.specs.TreeMeaning.{whole_run}
 use Rattle.pli_meaning.specs.Programs.{of_member, program_of_units, main_numbers}

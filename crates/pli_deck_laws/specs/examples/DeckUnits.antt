@@ -1,6 +1,6 @@
 -- A worked example: a unit with a template, a group with a control variable, a call and an entry.
 use Rattle.std.specs.Prelude.{◌≡◌, ℕ, true, false, pos, None, Some, [], ◌∷◌, codes}
-use Rattle.pli_gen.specs.Encoding.{code_of}
+use Rattle.pli_gen_emit.specs.Encoding.{code_of}
 use Rattle.pli_gen.specs.Limits.{is_too_long}
 use Rattle.pli_gen.specs.WellNumbered.{IsWellNumbered}
 use Rattle.pli_map.specs.Description.{Description, FixedBinary, Character, Array}

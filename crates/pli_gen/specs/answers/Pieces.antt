@@ -1,48 +1,39 @@
 -- What the parts of the generator answer.
-use Rattle.std.specs.Prelude.{ℕ, suc, ◌≡◌, ◌+◌, ◌≤◌, nat_eq, nat_lt, Bool, true, ◌&&◌, None, List, [], ◌∷◌}
-use Rattle.std.specs.Prelude.{length, if◌then◌else◌}
+use Rattle.std.specs.Prelude.{ℕ, suc, ◌≡◌, ◌+◌, ◌≤◌, nat_eq, nat_lt, Bool, true, ◌&&◌, min, None, List, [], ◌∷◌}
+use Rattle.std.specs.Prelude.{length, slice_set, if◌then◌else◌}
 use Rattle.std.specs.List.{list_any, AllByRecursion}
 use Rattle.pli_map.specs.Same.{same}
 use Rattle.pli_map.specs.Sizes.{size_of}
-use Rattle.pli_program.specs.Program.{Instruction, Step}
+use Rattle.pli_program.specs.Program.{Instruction}
 use Rattle.pli_program.specs.Program as op
 use Rattle.pli_type_tree.specs.Templates.{Template}
 use Rattle.pli_code.specs.CodeFields.{is_byte, is_short, parent_fits}
 use Rattle.pli_code.specs.CodeTables.{CodedBlock, Code}
+use Rattle.pli_code.specs.declared.instruction.Instruction as coded
+use Rattle.pli_code.specs.declared.instruction.Instruction.TheVariants as codes
 use Rattle.pli_gen_emit.specs.TreeTranslation.{BlockTree}
-use Rattle.pli_gen.specs.Encoding.{NumberedTables, coded_block}
+use Rattle.pli_gen_emit.specs.Encoding.{NumberedTables, coded_block}
+use Rattle.pli_gen_emit.specs.declared.emitter.LabelJump.{LabelJump}
 use Rattle.pli_gen.specs.Limits.{entry_limit}
 
 -- where the first step of a statement stands in code; another place if there is none
-abbrev pub step_place : List Instruction → (at number other : ℕ) → ℕ
-step_place [] p n other = other
-step_place (Step s ∷ is) p n other = if nat_eq s n then p else step_place is (suc p) n other
-step_place (i ∷ is) p n other = step_place is (suc p) n other
+abbrev pub first_step : List coded.Instruction → (at number other : ℕ) → ℕ
+first_step [] p n other = other
+first_step (codes.Step s ∷ is) p n other = if nat_eq s n then p else first_step is (suc p) n other
+first_step (i ∷ is) p n other = first_step is (suc p) n other
 
--- an instruction whose GOTO leads to the place of its label
-abbrev pub retargeted : (place : ℕ → ℕ) → Instruction → Instruction
-retargeted place (op.Goto outward label) = op.Goto outward (place label)
-retargeted place i = i
+-- code whose GOTOs lead to the places of their labels
+abbrev pub gotos_landed : (place : ℕ → ℕ) → List coded.Instruction → List LabelJump → List coded.Instruction
+gotos_landed place code [] = code
+gotos_landed place code (j ∷ js) =
+    gotos_landed place (slice_set code j.place (codes.Goto j.outward (min (place j.label) 65535))) js
 
--- targets of jumps are within a limit
+-- the target of a jump is within a limit; nothing is no instruction of code
 abbrev pub Fits : (limit : ℕ) → Instruction → Type 0
 Fits n (op.Jump target) = target ≤ n
 Fits n (op.JumpUnless target) = target ≤ n
+Fits n op.Nothing = ⊥
 Fits n i = Unit {0}
-
--- the other numbers of an instruction are within their fields
-abbrev pub instruction_fits : Instruction → Bool
-instruction_fits (op.Goto outward label) = is_byte outward
-instruction_fits (op.Call block arguments) = is_short block && is_byte arguments
-instruction_fits (op.CallExternal global arguments) = is_short global && is_byte arguments
-instruction_fits (op.Begin block) = is_short block
-instruction_fits (op.Return outward) = is_byte outward
-instruction_fits (op.ReturnValue outward) = is_byte outward
-instruction_fits (op.Local outward slot) = is_byte outward && is_short slot
-instruction_fits (op.Global number) = is_short number
-instruction_fits (op.SetTemporary number) = is_short number
-instruction_fits (op.TakeTemporary number) = is_short number
-instruction_fits other = true
 
 -- the numbers of a block are within their fields
 abbrev pub block_fits : BlockTree → Bool
@@ -82,7 +73,3 @@ no_code = record {
   blocks = [];
   instructions = [];
 }
-
--- tables without entries
-abbrev pub no_tables : NumberedTables
-no_tables = record { descriptions = []; templates = []; values = [] }

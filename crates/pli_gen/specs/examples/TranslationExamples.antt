@@ -20,7 +20,7 @@ use Rattle.pli_type_tree.specs.TypedTree as tree
 use Rattle.pli_code.specs.CodeTables as tables
 use Rattle.pli_code.specs.declared.instruction.Instruction.TheVariants as coded
 use Rattle.pli_code.specs.declared.code.VariableKind.TheVariants.{Static}
-use Rattle.pli_gen.specs.Encoding.{code_of}
+use Rattle.pli_gen_emit.specs.Encoding.{code_of}
 use Rattle.pli_gen.specs.Limits.{is_too_long}
 use Rattle.pli_gen.specs.WellNumbered.{IsWellNumbered}
 use Rattle.pli_gen_emit.specs.TreeTranslation.{list_code, place_code, statement_code, unit_code}

@@ -3,7 +3,7 @@ use Rattle.std.specs.Prelude.{◌≡◌, ℕ, List}
 use Rattle.pli_type_tree.specs.TypedTree.{TypedUnit}
 use Rattle.pli_code.specs.CodeTables.{program_of}
 use Rattle.pli_gen_emit.specs.TreeTranslation.{unit_code}
-use Rattle.pli_gen.specs.Encoding.{code_of}
+use Rattle.pli_gen_emit.specs.Encoding.{code_of}
 
 -- the code with its tables is the unit's code, when all numbers are looked up and its external globals have
 -- their links

@@ -1,5 +1,5 @@
 -- What the parts of the emitter answer.
-use Rattle.std.specs.Prelude.{ℕ, ◌≡◌, List, [], ◌∷◌, ◌++◌, Option, Some, None, slice_set}
+use Rattle.std.specs.Prelude.{ℕ, ◌≡◌, List, [], ◌∷◌, ◌++◌, Option, Some, None, false, length}
 use Rattle.pli_program.specs.Program.{Instruction, Store, Copy}
 use Rattle.pli_program.specs.Program as op
 use Rattle.pli_type_tree.specs.TypedTree.{Form, Assign, AssignAggregate, Put, Begin, Call, Goto, Return}
@@ -7,9 +7,9 @@ use Rattle.pli_type_tree.specs.TypedTree.{ReturnValue, Stop, Iteration}
 use Rattle.pli_gen_emit.specs.TreeTranslation.{BlockTree, behind, block_code, place_code, value_code}
 use Rattle.pli_gen_emit.specs.TreeTranslation.{skip_code, items_code, call_code}
 use Rattle.pli_gen_emit.specs.TreeTranslation.{limit_test, while_test, guarded}
+use Rattle.pli_gen_emit.specs.answers.Emitting.{emission, guard_landed}
+use Rattle.pli_gen_emit.specs.declared.emitter.Emitter.{Emitter}
 use Rattle.pli_gen_emit.specs.declared.iteration.Turn.{Turn}
-use Rattle.pli_gen_emit.specs.declared.naming.NamingInstruction.{NamingInstruction}
-use Rattle.pli_gen_emit.specs.declared.naming.NamingInstruction.TheVariants as naming
 
 -- the code of a form without jumps, which is the same wherever it stands; that of another form apart
 abbrev pub simple_code : Form → List Instruction
@@ -36,10 +36,17 @@ pub record IsTurn (i : Iteration) (p : ℕ) (turn : Turn) : Type 0 where
   pub condition : turn.condition
       ≡ jump_place (while_test i.condition) (behind (guarded (limit_test i) 0) p)
 
--- code whose jump there, if there is one, leads to a target
-abbrev pub landed : List NamingInstruction → (jump : Option ℕ) → (target : ℕ) → List NamingInstruction
-landed code None target = code
-landed code (Some place) target = slice_set code place (naming.JumpUnless target)
+-- both jumps lead to a target
+abbrev pub LandsTurn : (old new : Emitter) → Turn → (target : ℕ) → Type 0
+LandsTurn old new turn target =
+    (new.tables.lacks_memory ≡ old.tables.lacks_memory)
+    × (emission new ≡ guard_landed turn.condition target (guard_landed turn.limit target (emission old)))
+
+-- the place of the next instruction was noted, unless memory was wanting for it or before
+abbrev pub NotesEntry : (old new : Emitter) → (before after : List ℕ) → Type 0
+NotesEntry old new before after =
+    (new.tables.lacks_memory ≡ false → old.tables.lacks_memory ≡ false) × (emission new ≡ emission old)
+    × (new.tables.lacks_memory ≡ false → after ≡ before ++ length old.code.items ∷ [])
 
 -- the first instructions of blocks whose code stands one behind the other
 abbrev pub entries_of : List BlockTree → (at : ℕ) → List ℕ

@@ -4,9 +4,9 @@ use Rattle.pli_type_tree.specs.views.TemplateView.{initial_view}
 use Rattle.pli_code.specs.CodeTables.{CodedTemplate}
 use Rattle.pli_code.specs.views.CodeView.{coded_template_view}
 use Rattle.pli_gen_emit.proofs.LoopLemmas.{more_mapped, put_as}
-use Rattle.pli_gen.specs.Encoding.{template_code}
+use Rattle.pli_gen_emit.specs.Encoding.{template_code}
 use Rattle.pli_type_keys.specs.views.KeyView.{templated}
-use Rattle.pli_gen.specs.views.TableView.{tables_view}
+use Rattle.pli_gen_emit.specs.views.TableView.{tables_view}
 use Rattle.pli_gen.proofs.entries.encode_templates.Goals as goal
 
 abbrev made : ℕ → List InitialScalar → CodedTemplate

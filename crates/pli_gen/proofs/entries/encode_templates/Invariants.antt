@@ -1,8 +1,8 @@
 use Rattle.std.proofs.Common.{◌≡◌, ◌++◌, map, drop}
 use Rattle.pli_code.specs.views.CodeView.{coded_template_view}
-use Rattle.pli_gen.specs.Encoding.{template_code}
+use Rattle.pli_gen_emit.specs.Encoding.{template_code}
 use Rattle.pli_type_keys.specs.views.KeyView.{templated}
-use Rattle.pli_gen.specs.views.TableView.{tables_view}
+use Rattle.pli_gen_emit.specs.views.TableView.{tables_view}
 use Rattle.pli_gen.proofs.entries.encode_templates.Given as goal
 
 abbrev pub invariant-loop-key : goal.invariant-loop-key

@@ -1,8 +1,8 @@
 use Rattle.std.proofs.Common.{◌++◌, ◌∙◌, ap, arith, map, replicate}
 use Rattle.pli_type_tree.specs.views.TemplateView.{group_view}
-use Rattle.pli_gen.specs.Encoding.{template_number}
-use Rattle.pli_gen.specs.views.TableView.{tables_view}
-use Rattle.pli_gen.proofs.NumberLemmas.{group_numbered, more_groups}
+use Rattle.pli_gen_emit.specs.Encoding.{template_number}
+use Rattle.pli_gen_emit.specs.views.TableView.{tables_view}
+use Rattle.pli_gen_emit.proofs.NumberLemmas.{group_numbered, more_groups}
 use Rattle.pli_gen.proofs.entries.encode_variables.Goals as goal
 
 pub loop-group-preserved : goal.loop-group-preserved

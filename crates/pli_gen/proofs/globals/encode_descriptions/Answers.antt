@@ -1,8 +1,8 @@
 use Rattle.std.proofs.Common.{◌++◌, ◌∷◌, [], map, ap, ◌∙◌, refl, arith}
 use Rattle.pli_map.specs.views.DescriptionView.{description_view}
 use Rattle.pli_gen_emit.proofs.LoopLemmas.{more_mapped}
-use Rattle.pli_gen.specs.Encoding.{description_number}
-use Rattle.pli_gen.specs.views.TableView.{tables_view}
+use Rattle.pli_gen_emit.specs.Encoding.{description_number}
+use Rattle.pli_gen_emit.specs.views.TableView.{tables_view}
 use Rattle.pli_gen.proofs.globals.encode_descriptions.Goals as goal
 
 pub loop-description-preserved : goal.loop-description-preserved

@@ -1,7 +1,7 @@
 use Rattle.std.proofs.Common.{◌≡◌, ◌++◌, map, drop}
 use Rattle.pli_map.specs.views.DescriptionView.{description_view}
-use Rattle.pli_gen.specs.Encoding.{description_number}
-use Rattle.pli_gen.specs.views.TableView.{tables_view}
+use Rattle.pli_gen_emit.specs.Encoding.{description_number}
+use Rattle.pli_gen_emit.specs.views.TableView.{tables_view}
 use Rattle.pli_gen.proofs.globals.encode_descriptions.Given as goal
 
 abbrev pub invariant-loop-description : goal.invariant-loop-description

@@ -3,8 +3,8 @@ use Rattle.std.proofs.lemmas.List.{map-append}
 use Rattle.pli_type_tree.specs.views.GlobalView.{global_group_view, globals_view}
 use Rattle.pli_code.specs.views.CodeView.{global_view}
 use Rattle.pli_gen_emit.proofs.LoopLemmas.{more_joined}
-use Rattle.pli_gen.specs.Encoding.{global_code}
-use Rattle.pli_gen.specs.views.TableView.{tables_view}
+use Rattle.pli_gen_emit.specs.Encoding.{global_code}
+use Rattle.pli_gen_emit.specs.views.TableView.{tables_view}
 use Rattle.pli_gen.proofs.globals.encode_globals.Goals as goal
 
 pub loop-group-preserved : goal.loop-group-preserved

@@ -1,8 +1,8 @@
 use Rattle.std.proofs.Common.{◌≡◌, ◌++◌, map, drop}
 use Rattle.pli_type_tree.specs.views.GlobalView.{globals_view}
 use Rattle.pli_code.specs.views.CodeView.{global_view}
-use Rattle.pli_gen.specs.Encoding.{global_code}
-use Rattle.pli_gen.specs.views.TableView.{tables_view}
+use Rattle.pli_gen_emit.specs.Encoding.{global_code}
+use Rattle.pli_gen_emit.specs.views.TableView.{tables_view}
 use Rattle.pli_gen.proofs.globals.encode_globals.Given as goal
 
 abbrev pub invariant-loop-group : goal.invariant-loop-group

@@ -5,9 +5,9 @@ use Rattle.pli_type_tree.specs.views.TemplateView.{template_view}
 use Rattle.pli_code.specs.CodeTables as plain
 use Rattle.pli_code.specs.views.CodeView.{global_view}
 use Rattle.pli_code.specs.declared.code.VariableKind.TheVariants.{Static}
-use Rattle.pli_gen.specs.Encoding.{template_number, signature_code, global_code}
-use Rattle.pli_gen.specs.views.TableView.{tables_view}
-use Rattle.pli_gen.proofs.GlobalLemmas.{own_coded, external_coded, entries_coded}
+use Rattle.pli_gen_emit.specs.Encoding.{template_number, signature_code, global_code}
+use Rattle.pli_gen_emit.specs.views.TableView.{tables_view}
+use Rattle.pli_gen_emit.proofs.GlobalLemmas.{own_coded, external_coded, entries_coded}
 use Rattle.pli_gen.proofs.globals.encode_group.Goals as goal
 
 pub returns-in-OwnVariables : goal.returns-in-OwnVariables

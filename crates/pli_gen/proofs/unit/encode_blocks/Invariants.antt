@@ -2,7 +2,7 @@ use Rattle.std.proofs.Common.{◌≡◌, ◌++◌, map, drop}
 use Rattle.pli_code.specs.views.CodeView.{block_view}
 use Rattle.pli_gen.specs.answers.Pieces.{blocks_with_entries}
 use Rattle.pli_gen_emit.specs.views.BlockView.{block_trees}
-use Rattle.pli_gen.specs.views.TableView.{tables_view}
+use Rattle.pli_gen_emit.specs.views.TableView.{tables_view}
 use Rattle.pli_gen.proofs.unit.encode_blocks.Given as goal
 
 abbrev pub invariant-loop-i : goal.invariant-loop-i

@@ -9,8 +9,9 @@ use Rattle.pli_gen_emit.proofs.simple.emit_simple.Goals as goal
 pub returns-in-Call : goal.returns-in-Call
 returns-in-Call c =
     let b = c.in-Call in
-    then_emits c.args.code.now c.emit_arguments.new.code c.emit-in-Call.new.self _ _ _ c.emit_arguments.ensures c.emit-in-Call.ensures
-    (ap (λ i. arguments_code (arguments_view c.as_slice-arguments.result.now) ++ i ∷ []) c.call_instruction.ensures
-    ∙ ap (λ xs. arguments_code (arguments_view xs) ++ call_instruction (callee_view b.callee) (length xs) ∷ []) c.as_slice-arguments.ensures.value
+    let given = c.as_slice-arguments.result.now in
+    then_emits c.args.code.now c.emit_arguments.new.code c.call.new.self (arguments_code (arguments_view given)) (call_instruction (callee_view b.callee) (length given) ∷ []) _
+    c.emit_arguments.ensures c.call.ensures
+    (ap (λ xs. arguments_code (arguments_view xs) ++ call_instruction (callee_view b.callee) (length xs) ∷ []) c.as_slice-arguments.ensures.value
     ∙ ap (λ n. arguments_code (arguments_view b.arguments.items) ++ call_instruction (callee_view b.callee) n ∷ []) (sym (arguments_counted b.arguments.items))
     ∙ sym (ap (λ f. simple_code (form_view f)) b.is))

@@ -1,7 +1,7 @@
 use Rattle.std.proofs.Common.{◌∙◌, ap, length, unwrap_or}
 use Rattle.pli_type_keys.specs.Same.{same_template}
 use Rattle.pli_type_keys.specs.views.KeyView.{templated}
-use Rattle.pli_gen.proofs.NumberLemmas.{found_number}
+use Rattle.pli_gen_emit.proofs.NumberLemmas.{found_number}
 use Rattle.pli_gen.proofs.numbers.Numbers.template.Goals as goal
 
 pub returns : goal.returns

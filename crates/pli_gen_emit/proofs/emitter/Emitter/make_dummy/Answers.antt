@@ -1,0 +1,20 @@
+use Rattle.std.proofs.Common.{ap, ◌∙◌, ◌∷◌, [], min, refl}
+use Rattle.pli_map.specs.views.DescriptionView.{description_view}
+use Rattle.pli_program.specs.Program as op
+use Rattle.pli_type_keys.specs.Same.{same_template}
+use Rattle.pli_code.specs.declared.instruction.Instruction.TheVariants as coded
+use Rattle.pli_gen_emit.specs.Encoding.{dummy, number_in}
+use Rattle.pli_gen_emit.proofs.NamedLemmas.{named_emitted}
+use Rattle.pli_gen_emit.proofs.NumberingLemmas.{numbers_both}
+use Rattle.pli_gen_emit.proofs.emitter.Emitter.make_dummy.Goals as goal
+
+pub returns : goal.returns
+returns c =
+    let old = c.args.self.now in
+    let d = description_view c.args.description.now in
+    let one = c.number_description in
+    let two = c.number_template-template in
+    named_emitted old (record old { tables = two.new.tables }) c.put.new.self (op.MakeDummy d) _
+    (numbers_both old.tables one.new.tables two.new.tables (d ∷ []) [] [] (dummy d ∷ []) [] [] one.ensures.numbers two.ensures.numbers)
+    (λ h. ap coded.MakeDummy (two.ensures.number h ∙ ap (λ ts. min (number_in same_template ts (dummy d)) 65535) (one.ensures.numbers.templates (two.ensures.numbers.memory h))))
+    refl refl refl refl c.put.ensures

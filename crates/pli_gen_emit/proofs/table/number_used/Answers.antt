@@ -1,0 +1,19 @@
+use Rattle.std.proofs.Common.{◌∙◌, ◌∷◌, [], ap}
+use Rattle.pli_gen_emit.specs.Encoding.{numbered}
+use Rattle.pli_type_keys.specs.Same.{same_template}
+use Rattle.pli_type_keys.specs.views.KeyView.{templated}
+use Rattle.pli_gen_emit.specs.views.TableView.{tables_view}
+use Rattle.pli_gen_emit.proofs.table.number_used.Goals as goal
+
+pub returns : goal.returns
+returns c =
+    let old = tables_view c.args.tables.now in
+    let first = c.number_description.ensures.numbers in
+    let second = c.number_template.ensures.numbers in
+    record {
+      memory = λ h. first.memory (second.memory h);
+      descriptions = λ h. second.descriptions h ∙ first.descriptions (second.memory h);
+      templates = λ h. second.templates h ∙ ap (λ ts. numbered same_template ts (templated c.template_key.result ∷ [])) (first.templates (second.memory h))
+          ∙ ap (λ t. numbered same_template old.templates (t ∷ [])) c.template_key.ensures;
+      values = λ h. second.values h ∙ first.values (second.memory h);
+    }
