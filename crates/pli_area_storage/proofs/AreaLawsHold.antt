@@ -16,11 +16,13 @@ use Rattle.pli_value.specs.Value.{Value}
 use Rattle.pli_value.specs.declared.locator.Locator.TheVariants.{Pointer}
 use Rattle.pli_world.specs.Storage.{Generation, Place, generation_in, values_from, with_values_at}
 use Rattle.pli_world.specs.World.{World, Answer, Yields, Raises, Wrong, further, known, single, living, unless_dead}
+use Rattle.pli_world.specs.Storage.{Block, block_at, with_block_values}
+use Rattle.pli_world.specs.World.{unless_gone, unless_replaced}
 use Rattle.pli_locators.specs.laws.Operations.{IfYields}
-use Rattle.pli_area_storage.specs.Blocks.{Block, Inhabited, room_in, place_in, end_of_blocks, block_at, with_block}
-use Rattle.pli_area_storage.specs.Blocks.{without_block, with_values, area_of, blocks_of, with_blocks}
-use Rattle.pli_area_storage.specs.InAreas.{BlockPlace, is_whole_area, area_used, area_found, begun, put_at, allocated_in, unless_gone}
-use Rattle.pli_area_storage.specs.InAreas.{unless_replaced, block_living, block_found, based_in, freed_in, block_held, block_stored, emptied, assigned}
+use Rattle.pli_area_storage.specs.Blocks.{Inhabited, room_in, place_in, end_of_blocks, with_block}
+use Rattle.pli_area_storage.specs.Blocks.{without_block, area_of, blocks_of, with_blocks}
+use Rattle.pli_area_storage.specs.InAreas.{is_whole_area, area_used, area_found, begun, put_at, allocated_in}
+use Rattle.pli_area_storage.specs.InAreas.{block_living, block_found, based_in, freed_in, block_held, block_stored, emptied, assigned}
 use Rattle.pli_area_storage.specs.laws.AreaLaws.{LeavesWorld, TakesLeast}
 use Rattle.pli_area_storage.specs.laws.AreaLaws as law
 use Rattle.pli_area_storage.proofs.AreaOperations.{allocated_there, block_of_dead, block_gone}
@@ -116,7 +118,7 @@ storing_leaves p v areas w =
     (known_leaves (first_scalar b.description p.offset p.description) w)
     (λ k. leaves_if w (holds p.description v)
     (Yields (with_blocks p.generation
-    (with_values (blocks_of areas p.generation) p.position (with_values_at k (v ∷ []) b.values)) areas) w) Wrong refl tt))
+    (with_block_values (blocks_of areas p.generation) p.position (with_values_at k (v ∷ []) b.values)) areas) w) Wrong refl tt))
 
 pub emptying_leaves : law.EmptyingLeaves
 unfolding emptied
@@ -165,8 +167,8 @@ other_blocks_stay (c ∷ cs) b vs other apart =
         (ne_eqb c.position other (λ same. apart (sym same ∙ eqb-true c.position b.position e))))
     without_by false e rest = ap (λ o. if nat_eq c.position other then Some c else o) rest
 
-    values_by : (e : Bool) → nat_eq c.position b.position ≡ e → block_at (with_values cs b.position vs) other ≡ block_at cs other
-        → block_at (if e then record c { values = vs } ∷ cs else c ∷ with_values cs b.position vs) other ≡ block_at (c ∷ cs) other
+    values_by : (e : Bool) → nat_eq c.position b.position ≡ e → block_at (with_block_values cs b.position vs) other ≡ block_at cs other
+        → block_at (if e then record c { values = vs } ∷ cs else c ∷ with_block_values cs b.position vs) other ≡ block_at (c ∷ cs) other
     values_by true e rest = rw (ne_eqb c.position other (λ same. apart (sym same ∙ eqb-true c.position b.position e))) refl
     values_by false e rest = ap (λ o. if nat_eq c.position other then Some c else o) rest
 

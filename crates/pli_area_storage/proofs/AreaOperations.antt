@@ -15,9 +15,10 @@ use Rattle.pli_value.specs.declared.locator.Locator.TheVariants.{Null, Pointer, 
 use Rattle.pli_locators.specs.Locating.{based, freed}
 use Rattle.pli_world.specs.Storage.{Generation, Place, generation_in, values_from, with_values_at}
 use Rattle.pli_world.specs.World.{World, Yields, Raises, Wrong}
-use Rattle.pli_area_storage.specs.Blocks.{Block, Inhabited, place_in, end_of_blocks, block_at}
-use Rattle.pli_area_storage.specs.Blocks.{without_block, with_values, area_of, blocks_of, with_blocks}
-use Rattle.pli_area_storage.specs.InAreas.{BlockPlace, is_whole_area, area_used, area_found, begun, put_at, allocated_in, block_living}
+use Rattle.pli_world.specs.Storage.{Block, block_at, with_block_values}
+use Rattle.pli_area_storage.specs.Blocks.{Inhabited, place_in, end_of_blocks}
+use Rattle.pli_area_storage.specs.Blocks.{without_block, area_of, blocks_of, with_blocks}
+use Rattle.pli_area_storage.specs.InAreas.{is_whole_area, area_used, area_found, begun, put_at, allocated_in, block_living}
 use Rattle.pli_area_storage.specs.InAreas.{block_found, block_addressed, block_held, block_stored, emptied, assigned, offset_in, pointer_in, is_within, based_in, freed_in, block_pointer, Outside, InBlock}
 use Rattle.pli_area_storage.specs.answers.Found.{Refused}
 use Rattle.pli_area_storage.proofs.RefusedOperations.{refused_further}
@@ -133,7 +134,7 @@ module _ (areas : List Inhabited) (generation position : ℕ) (d : Description) 
       unfolding block_found block_living
       block_there equal = rw lives (rw there (rw equal refl))
 
-module _ (areas : List Inhabited) (p : BlockPlace) (w : World) where
+module _ (areas : List Inhabited) (p : Place) (w : World) where
   pub addressed_refused : (f : StoreFault) → Refused f w (block_found areas p.generation p.position p.whole w)
       → Refused f w (block_addressed p areas w)
   unfolding block_addressed
@@ -187,7 +188,7 @@ module _ (areas : List Inhabited) (p : BlockPlace) (w : World) where
 
       pub stored_there : (v : Value) → holds p.description v ≡ true
           → block_stored p v areas w
-          ≡ Yields (with_blocks p.generation (with_values (blocks_of areas p.generation) p.position (with_values_at k (v ∷ []) b.values)) areas) w
+          ≡ Yields (with_blocks p.generation (with_block_values (blocks_of areas p.generation) p.position (with_values_at k (v ∷ []) b.values)) areas) w
       unfolding block_stored
       stored_there v fits = rw found (rw stands (rw fits refl))
 

@@ -5,9 +5,10 @@ use Rattle.std.proofs.lemmas.Option.{same_Some}
 use Rattle.pli_area.specs.Areas as area
 use Rattle.pli_area.specs.Areas.{rounded, IsApart, IsArea, IsFull, IsLeast, Stand}
 use Rattle.pli_area.proofs.FirstFits.{first_is_least}
-use Rattle.pli_area_storage.specs.Blocks.{Block, taken_by, room_in, block_at, with_block, without_block}
+use Rattle.pli_area_storage.specs.Blocks.{taken_by, room_in, with_block, without_block}
 use Rattle.pli_area_storage.specs.laws.AreaLaws as law
 use Rattle.pli_map.specs.Sizes.{size_of}
+use Rattle.pli_world.specs.Storage.{Block, block_at}
 
 -- ---- a block more
 

@@ -5,7 +5,7 @@ use Rattle.std.proofs.lemmas.List.{map-append, map-set}
 use Rattle.std.proofs.lemmas.Option.{none-some, same_Some, slice_get-map, slice_get-get_or, get_or_from_slice_get}
 use Rattle.pli_area.specs.Areas as area
 use Rattle.pli_area.specs.Areas.{Stand, IsArea, rounded}
-use Rattle.pli_area_storage.specs.Blocks.{Inhabited, block_at, area_of, blocks_of, with_blocks}
+use Rattle.pli_area_storage.specs.Blocks.{Inhabited, area_of, blocks_of, with_blocks}
 use Rattle.pli_area_storage.specs.InAreas.{area_found}
 use Rattle.pli_area_storage.specs.answers.Found.{is_area_of, AreaThere}
 use Rattle.pli_area_storage.specs.answers.Known.{AreKnown, AllKnown}
@@ -21,6 +21,7 @@ use Rattle.pli_store.specs.declared.storage.Storage.{Storage}
 use Rattle.pli_store.specs.views.StorageView.{with_storage}
 use Rattle.pli_world.specs.Storage.{Place}
 use Rattle.pli_world.specs.World.{World, Yields}
+use Rattle.pli_world.specs.Storage.{block_at}
 use Rattle.pli_area_storage.proofs.FoundAreas.{FirstArea, area_there}
 use Rattle.pli_area_storage.proofs.ViewedBlocks.{block_at_view}
 

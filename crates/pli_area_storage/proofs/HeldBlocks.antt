@@ -3,8 +3,8 @@ use Rattle.std.proofs.Common.{◌≡◌, ◌<◌, ◌≤◌, ◌^◌, ◌+◌, �
 use Rattle.std.specs.Option.{option_map_or}
 use Rattle.pli_area.specs.Areas as area
 use Rattle.pli_area.specs.Areas.{HasBytes, overwritten, bytes_at}
-use Rattle.pli_area_storage.specs.Blocks.{with_values, with_blocks}
-use Rattle.pli_area_storage.specs.InAreas.{BlockPlace, block_held, block_stored}
+use Rattle.pli_area_storage.specs.Blocks.{with_blocks}
+use Rattle.pli_area_storage.specs.InAreas.{block_held, block_stored}
 use Rattle.pli_area_storage.specs.answers.Changes.{BlockPut}
 use Rattle.pli_area_storage.specs.answers.Found.{BlockThere}
 use Rattle.pli_area_storage.specs.answers.Known.{AreKnown}
@@ -25,11 +25,12 @@ use Rattle.pli_store.specs.views.StorageView.{with_storage}
 use Rattle.pli_value.specs.Value.{Value}
 use Rattle.pli_world.specs.Storage.{values_from, with_values_at}
 use Rattle.pli_world.specs.World.{World, Yields}
+use Rattle.pli_world.specs.Storage.{with_block_values, Place}
 use Rattle.pli_area_storage.proofs.AreaOperations.{held_scalar, stored_there}
 use Rattle.pli_area_storage.proofs.ChangedAreas.{read_is, read_known, read_blocks}
 use Rattle.pli_area_storage.proofs.ViewedBlocks.{known_written, put_view}
 
-module _ (s : Areas) (storage : Storage) (p : BlockPlace) (at : ℕ) (t : BlockThere s storage p.generation p.position p.whole at) (k : ℕ)
+module _ (s : Areas) (storage : Storage) (p : Place) (at : ℕ) (t : BlockThere s storage p.generation p.position p.whole at) (k : ℕ)
     (stands : first_scalar p.whole p.offset p.description ≡ Some k) where
   abbrev ds : List Description
   ds = table_of s
@@ -92,7 +93,7 @@ module _ (s : Areas) (storage : Storage) (p : BlockPlace) (at : ℕ) (t : BlockT
       part_stored fits capacity w =
           stored_there (areas_view s) p (with_storage storage w) (block_view ds t.block) (t.answer w) k here v fits
           ∙ ap (λ bs. Yields (with_blocks p.generation bs (areas_view s)) (with_storage storage w))
-          (ap (λ bs. with_values bs p.position (with_values_at k (v ∷ []) (values_of whole t.block.bytes)))
+          (ap (λ bs. with_block_values bs p.position (with_values_at k (v ∷ []) (values_of whole t.block.bytes)))
           (read_blocks s p.generation at t.first read value)
           ∙ sym (ap (map (block_view ds)) put.put
           ∙ put_view ds read.area.blocks p.position p.offset put.bytes t.block (with_values_at k (v ∷ []) (values_of whole t.block.bytes)) found

@@ -3,7 +3,7 @@ use Rattle.std.proofs.Common.{◌≡◌, ◌<◌, ℕ, Result, Option, Ok, Err, 
 use Rattle.pli_area.specs.Areas as area
 use Rattle.pli_area.specs.Areas.{HasBytes, IsAdded, IsLeast, overwritten}
 use Rattle.pli_area.specs.declared.area.Full.{Full}
-use Rattle.pli_area_storage.specs.Blocks.{Block, with_block, taken_by}
+use Rattle.pli_area_storage.specs.Blocks.{with_block, taken_by}
 use Rattle.pli_area_storage.specs.answers.Known.{AreKnown}
 use Rattle.pli_area_storage.specs.views.InhabitedView.{described, block_view}
 use Rattle.pli_bytes.specs.Contents.{values_of}
@@ -11,6 +11,7 @@ use Rattle.pli_map.specs.Description.{Description}
 use Rattle.pli_map.specs.Sizes.{size_of}
 use Rattle.pli_value.specs.Value.{Value}
 use Rattle.pli_area_storage.proofs.ViewedBlocks.{placed_found, placed_written, whole_written, with_view, fit_view, known_with}
+use Rattle.pli_world.specs.Storage.{Block}
 
 -- a block was added and all its bytes are written
 module _ (a : area.Blocks) (new : List area.Block) (position description : ℕ) (bytes : List ℕ)

@@ -5,12 +5,13 @@ use Rattle.pli_area.specs.Areas as area
 use Rattle.pli_area.specs.Areas.{rounded, overwritten, IsApart, IsArea, IsFull, IsLeast}
 use Rattle.pli_area.proofs.BytesLemmas.{length-overwritten}
 use Rattle.pli_area.proofs.FirstFits.{first_is_least}
-use Rattle.pli_area_storage.specs.Blocks.{taken_by, block_at, with_block, without_block, with_values}
+use Rattle.pli_area_storage.specs.Blocks.{taken_by, with_block, without_block}
 use Rattle.pli_area_storage.specs.answers.Known.{IsKnown, AreKnown}
 use Rattle.pli_area_storage.specs.views.InhabitedView.{described, block_view}
 use Rattle.pli_bytes.specs.Contents.{values_of}
 use Rattle.pli_map.specs.Description.{Description}
 use Rattle.pli_value.specs.Value.{Value}
+use Rattle.pli_world.specs.Storage.{block_at, with_block_values}
 
 -- ---- a block that is placed
 
@@ -95,15 +96,15 @@ module _ (ds : List Description) where
 
   pub put_view : (bs : List area.Block) (p at : ℕ) (new : List ℕ) (b : area.Block) (vs : List Value) → area.block_at bs p ≡ Some b
       → values_of (described ds b.description) (overwritten b.bytes at new) ≡ vs
-      → map (block_view ds) (area.with_bytes bs p at new) ≡ with_values (map (block_view ds) bs) p vs
+      → map (block_view ds) (area.with_bytes bs p at new) ≡ with_block_values (map (block_view ds) bs) p vs
   put_view [] p at new b vs found hold = absurd (none-some b found)
   put_view (c ∷ cs) p at new b vs found hold = by (nat_eq c.position p) found (λ e. put_view cs p at new b vs e hold)
     where
       by : (e : Bool) → (if e then Some c else area.block_at cs p) ≡ Some b
-          → (area.block_at cs p ≡ Some b → map (block_view ds) (area.with_bytes cs p at new) ≡ with_values (map (block_view ds) cs) p vs)
+          → (area.block_at cs p ≡ Some b → map (block_view ds) (area.with_bytes cs p at new) ≡ with_block_values (map (block_view ds) cs) p vs)
           → map (block_view ds) (if e then record c { bytes = overwritten c.bytes at new } ∷ cs else c ∷ area.with_bytes cs p at new)
           ≡ (if e then record (block_view ds c) { values = vs } ∷ map (block_view ds) cs
-          else block_view ds c ∷ with_values (map (block_view ds) cs) p vs)
+          else block_view ds c ∷ with_block_values (map (block_view ds) cs) p vs)
       by true here rest =
           let is : b ≡ c = sym (same_Some c b here) in
           ap (λ ws. record (block_view ds c) { values = ws } ∷ map (block_view ds) cs)

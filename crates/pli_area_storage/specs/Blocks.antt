@@ -5,17 +5,8 @@ use Rattle.std.specs.Prelude.{ℕ, nat_eq, nat_lt, Option, Some, None, List, [],
 use Rattle.std.specs.Prelude.{if◌then◌else◌}
 use Rattle.std.specs.Option.{option_map_or}
 use Rattle.pli_area.specs.Areas as area
-use Rattle.pli_map.specs.Description.{Description}
 use Rattle.pli_map.specs.Sizes.{size_of}
-use Rattle.pli_value.specs.Value.{Value}
-
--- a block that lives: where its bytes begin in its area, its whole description, and a value for each scalar
--- of
--- that
-pub record Block : Type 0 where
-  pub position : ℕ
-  pub description : Description
-  pub values : List Value
+use Rattle.pli_world.specs.Storage.{Block}
 
 -- the area that is a generation: how many bytes it has, and its blocks in rising positions
 pub record Inhabited : Type 0 where
@@ -49,11 +40,6 @@ end_of_blocks bs = area.extent (map taken_by bs)
 
 -- ---- blocks by their positions
 
--- the block at a position, if one lives there
-abbrev pub block_at : List Block → (position : ℕ) → Option Block
-block_at [] position = None
-block_at (b ∷ bs) position = if nat_eq b.position position then Some b else block_at bs position
-
 -- with a block more, at its place in the order of positions
 abbrev pub with_block : List Block → Block → List Block
 with_block [] b = b ∷ []
@@ -63,12 +49,6 @@ with_block (c ∷ cs) b = if nat_lt b.position c.position then b ∷ c ∷ cs el
 abbrev pub without_block : List Block → (position : ℕ) → List Block
 without_block [] position = []
 without_block (b ∷ bs) position = if nat_eq b.position position then bs else b ∷ without_block bs position
-
--- with other values in the block at a position
-abbrev pub with_values : List Block → (position : ℕ) → List Value → List Block
-with_values [] position vs = []
-with_values (b ∷ bs) position vs =
-    if nat_eq b.position position then record b { values = vs } ∷ bs else b ∷ with_values bs position vs
 
 -- ---- areas by their generations
 

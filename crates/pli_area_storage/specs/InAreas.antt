@@ -1,10 +1,9 @@
 -- Storage in areas (X3.53): ALLOCATE in an area, references to blocks, their ends, and areas that are
 -- emptied and
 -- assigned; pointers as offsets and back. The areas go in beside the world, and those behind come out.
-use Rattle.std.specs.Prelude.{ℕ, ◌+◌, nat_eq, nat_le, nat_lt, ◌^◌, ◌%◌, Bool, ◌&&◌, Option, Some, None}
+use Rattle.std.specs.Prelude.{ℕ, nat_eq, nat_le, nat_lt, ◌^◌, ◌%◌, Bool, ◌&&◌, Option, Some, None}
 use Rattle.std.specs.Prelude.{List, [], ◌∷◌, ◌++◌}
 use Rattle.std.specs.Prelude.{if◌then◌else◌}
-use Rattle.pli_run.specs.declared.ending.RunError.TheVariants.{NullLocator, DeadLocator, DescriptionMismatch}
 use Rattle.pli_run.specs.declared.ending.RunError.TheVariants.{OutsideArea}
 use Rattle.pli_run.specs.declared.ending.RunError.TheVariants as error
 use Rattle.pli_map.specs.Description.{Description}
@@ -16,13 +15,13 @@ use Rattle.pli_map.specs.Variables.{Variable}
 use Rattle.pli_value.specs.Value.{Value}
 use Rattle.pli_value.specs.declared.locator.Locator.{Locator}
 use Rattle.pli_value.specs.declared.locator.Locator.TheVariants.{Null, Pointer, Offset}
-use Rattle.pli_world.specs.Storage.{Generation, Place, generation_in, values_from, with_values_at}
-use Rattle.pli_world.specs.Storage.{offset_limit}
+use Rattle.pli_world.specs.Storage.{Block, Generation, Place, generation_in, block_at, values_from}
+use Rattle.pli_world.specs.Storage.{with_values_at, with_block_values}
 use Rattle.pli_world.specs.World.{World, Answer, Yields, Raises, Wrong, further, known, living, unless_dead}
-use Rattle.pli_world.specs.World.{held, stored, single, led_on}
+use Rattle.pli_world.specs.World.{unless_gone, unless_replaced, held, stored, single, led_on}
 use Rattle.pli_locators.specs.Locating.{based, freed, addressed}
-use Rattle.pli_area_storage.specs.Blocks.{Block, Inhabited, place_in, end_of_blocks, block_at, with_block}
-use Rattle.pli_area_storage.specs.Blocks.{without_block, with_values, area_of, blocks_of, with_blocks}
+use Rattle.pli_area_storage.specs.Blocks.{Inhabited, place_in, end_of_blocks, with_block}
+use Rattle.pli_area_storage.specs.Blocks.{without_block, area_of, blocks_of, with_blocks}
 
 -- ---- the area of a place
 
@@ -73,37 +72,16 @@ allocated_in p v areas w =
 
 -- ---- what a pointer leads to
 
--- where a reference into a block leads: in the area of a generation to the block at a position, which had
--- this
--- whole description when the reference was evaluated; there so many bytes behind its beginning, to a part
--- of this
--- description
-pub record BlockPlace : Type 0 where
-  pub generation : ℕ
-  pub position : ℕ
-  pub whole : Description
-  pub offset : ℕ
-  pub description : Description
-
 -- where a reference leads that may lead into a block
 pub data Reference : Type 0 where
   Outside : (place : Place) → Reference
-  InBlock : (place : BlockPlace) → Reference
-
--- the block that lives there; where none does, the locator is dead
-abbrev pub unless_gone : Option Block → World → Answer Block
-unless_gone None w = Raises DeadLocator w
-unless_gone (Some b) w = Yields b w
+  InBlock : (place : Place) → Reference
 
 -- the block at a position of a generation's area: dead where the generation has ended, or no block is there
 unfoldable pub block_living : List Inhabited → (generation position : ℕ) → World → Answer Block
 block_living areas generation position w =
     further (unless_dead (generation_in w.storage generation) w)
     (λ g w. unless_gone (block_at (blocks_of areas generation) position) w)
-
--- a block that has this whole description; one that has another is another variable's
-abbrev pub unless_replaced : Description → Block → World → Answer Block
-unless_replaced d b w = if same b.description d then Yields b w else Raises DescriptionMismatch w
 
 -- the block at a position, where one of this whole description is asked for
 unfoldable pub block_found : List Inhabited → (generation position : ℕ) → Description → World → Answer Block
@@ -148,7 +126,7 @@ freed_in d l areas w = freed_by (block_pointer l) d l areas w
 -- ADDR of what lies in a block: the pointer to the block of which the place is the whole; it is wrong to
 -- ask for
 -- one to a part
-unfoldable pub block_addressed : BlockPlace → List Inhabited → World → Answer Locator
+unfoldable pub block_addressed : Place → List Inhabited → World → Answer Locator
 block_addressed p areas w =
     further (block_found areas p.generation p.position p.whole w)
     (λ b w. if nat_eq p.offset 0 && same b.description p.description
@@ -163,7 +141,7 @@ addressed_in (InBlock p) areas w = block_addressed p areas w
 -- ---- what a block holds
 
 -- what the place of a scalar in a block holds
-unfoldable pub block_held : BlockPlace → List Inhabited → World → Answer Value
+unfoldable pub block_held : Place → List Inhabited → World → Answer Value
 block_held p areas w =
     further (block_found areas p.generation p.position p.whole w)
     (λ b w. further (known (first_scalar b.description p.offset p.description) w)
@@ -171,13 +149,13 @@ block_held p areas w =
     else Wrong))
 
 -- a value put at the place of a scalar in a block, if it may hold that
-unfoldable pub block_stored : BlockPlace → Value → List Inhabited → World → Answer (List Inhabited)
+unfoldable pub block_stored : Place → Value → List Inhabited → World → Answer (List Inhabited)
 block_stored p v areas w =
     further (block_found areas p.generation p.position p.whole w)
     (λ b w. further (known (first_scalar b.description p.offset p.description) w)
     (λ k w. if holds p.description v
     then Yields (with_blocks p.generation
-    (with_values (blocks_of areas p.generation) p.position (with_values_at k (v ∷ []) b.values)) areas) w
+    (with_block_values (blocks_of areas p.generation) p.position (with_values_at k (v ∷ []) b.values)) areas) w
     else Wrong))
 
 -- what the place of a scalar holds, in a block or outside areas
@@ -233,15 +211,6 @@ pointer_in p other w = Wrong
 
 -- ---- parts
 
--- a place in a block led on by so many bytes, to a part of this description; it is wrong where that is too
--- far
--- behind the beginning
-abbrev pub block_led_on : (offset : ℕ) → Description → BlockPlace → World → Answer BlockPlace
-block_led_on offset d p w =
-    if nat_le (p.offset + offset) offset_limit
-    then Yields (record p { offset = p.offset + offset; description = d }) w
-    else Wrong
-
 -- the part to which a reference leads
 abbrev pub part_of : Reference → Description
 part_of (Outside p) = p.description
@@ -250,4 +219,4 @@ part_of (InBlock p) = p.description
 -- a reference led on
 abbrev pub reference_led_on : (offset : ℕ) → Description → Reference → World → Answer Reference
 reference_led_on offset d (Outside p) w = further (led_on offset d p w) (λ q w. Yields (Outside q) w)
-reference_led_on offset d (InBlock p) w = further (block_led_on offset d p w) (λ q w. Yields (InBlock q) w)
+reference_led_on offset d (InBlock p) w = further (led_on offset d p w) (λ q w. Yields (InBlock q) w)

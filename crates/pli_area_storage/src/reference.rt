@@ -1,7 +1,8 @@
 //! Where references lead that may lead into blocks of areas.
 ghost use Rattle.std.specs.Prelude.{◌*◌, ◌≤ℤ◌, ◌-ℤ◌, unsigned_abs};
-ghost use Rattle.pli_area_storage.specs.InAreas.{block_led_on, part_of, reference_led_on};
+ghost use Rattle.pli_area_storage.specs.InAreas.{part_of, reference_led_on};
 ghost use Rattle.pli_map.specs.views.DescriptionView.{description_view};
+ghost use Rattle.pli_world.specs.World.{led_on};
 
 use pli_map::Description;
 use pli_store::Place;
@@ -27,7 +28,7 @@ impl<'m> BlockPlace<'m> {
     /// The part of this description that stands so many bytes further. `None` where that is more than 1,000,000 bytes behind
     /// the beginning.
     fn advanced(self, offset: u64, description: &'m Description) -> Option<BlockPlace<'m>>
-        ensures { BlockLedOn (block_led_on offset (description_view description.now) (block_place_view self.entry)) result }
+        ensures { BlockLedOn (led_on offset (description_view description.now) (block_place_view self.entry)) result }
     {
         let sum = u64::from(self.offset).checked_add(offset)?;
         if sum > u64::from(OFFSET_LIMIT) {

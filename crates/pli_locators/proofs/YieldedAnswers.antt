@@ -35,7 +35,7 @@ yields_guarded false done refused says y n = n
 -- the world behind a new generation
 abbrev pub made_world : Description → Made → List Value → World → World
 made_world d how vs w = record w {
-  storage = w.storage ++ record { number = w.made; description = d; made = how; values = vs } ∷ [];
+  storage = w.storage ++ record { number = w.made; description = d; made = how; values = vs; blocks = [] } ∷ [];
   made = suc w.made;
 }
 

@@ -16,11 +16,12 @@ use Rattle.pli_map.proofs.ScalarLawsHold.{whole_found, scalars_lie_within}
 use Rattle.pli_map.specs.Sizes.{size_of}
 use Rattle.pli_world.specs.Activations.{Activation, Head, with_newest, without_newest}
 use Rattle.pli_world.specs.Ends.{error_told}
-use Rattle.pli_world.specs.Storage.{Generation, Made, Automatic, Dummy, Place, whole, generation_in, scalar_at, values_from, with_values_at}
-use Rattle.pli_world.specs.Storage.{with_values, without, live_bytes, generation_limit, offset_limit}
+use Rattle.pli_world.specs.Storage.{Generation, Made, Automatic, Dummy, Place, contents_of, whole, generation_in, scalar_at, values_from, with_values_at}
+use Rattle.pli_world.specs.Storage.{with_values, with_contents, without, live_bytes, generation_limit, offset_limit}
 use Rattle.pli_map.specs.Variables.{byte_limit}
 use Rattle.pli_map.specs.Values.{holds, are_held}
 use Rattle.pli_world.specs.World.{Standing, Lies, Stacked, World, Answer, Yields, Raises, Wrong, further, known, made_of, unless_dead, parts_held}
+use Rattle.pli_world.specs.laws.OperationLaws.{used_outside, contents_outside}
 use Rattle.pli_world.specs.World.{parts_stored, single, held, stored, copied, in_newest, with_slot, made_all}
 use Rattle.pli_map.specs.Variables.{Variable}
 use Rattle.pli_world.specs.World.{without_handed, begun_in, entered, ended_with, prepared_by, left_by, cleared, at_statement, stepped, dummy_of}
@@ -160,7 +161,7 @@ new_part : (d : Description) → IsPartAt d 0 d
 new_part d more e k h = let z : more ≡ 0 + more = omega arith in (k, subst (λ n. first_scalar d n e ≡ Some k) z h)
 
 abbrev pub new_generation : Description → Made → List Value → World → Generation
-new_generation d how vs w = record { number = w.made; description = d; made = how; values = vs }
+new_generation d how vs w = record { number = w.made; description = d; made = how; values = vs; blocks = [] }
 
 abbrev pub with_new : Description → Made → List Value → World → World
 with_new d how vs w = record w { storage = w.storage ++ new_generation d how vs w ∷ []; made = suc w.made }
@@ -225,14 +226,13 @@ module _ (units : List TypedUnit) (s : Shape) (ss : List Shape) where
 
   -- what a place holds
   first_there : (d : Description) (p : Place) (w : World) (g : Generation) → IsGood w d p → generation_in w.storage p.generation ≡ Some g
-      → (k : ℕ) × (scalar_at g p ≡ Some k) × (first_scalar g.description p.offset d ≡ Some k)
+      → (k : ℕ) × (scalar_at (contents_of g) p ≡ Some k) × (first_scalar g.description p.offset d ≡ Some k)
   first_there d p w g good e =
       let f = good.part g e 0 d 0 (whole_found d) in
       let z : p.offset + 0 ≡ p.offset = omega arith in
       let there : first_scalar g.description p.offset d ≡ Some f.0 = subst (λ n. first_scalar g.description n d ≡ Some f.0) z f.1 in (
         f.0,
-        ap (λ n. if nat_eq n 0 then first_scalar g.description p.offset p.description else None) good.outside
-            ∙ ap (λ e. first_scalar g.description p.offset e) good.described ∙ there,
+        ap (λ e. first_scalar g.description p.offset e) good.described ∙ there,
         there,
       )
 
@@ -242,11 +242,12 @@ module _ (units : List TypedUnit) (s : Shape) (ss : List Shape) where
   pub parts_held_answers : (d : Description) (p : Place) (w : World) → Sound w → IsGood w d p
       → Answers units (HeldAt w d) (parts_held p w)
   unfolding parts_held
-  parts_held_answers d p w sound good = by (generation_in w.storage p.generation) refl
+  parts_held_answers d p w sound good =
+      subst (λ a. Answers units (HeldAt w d) a) (sym (used_outside p w _ good.outside)) (by (generation_in w.storage p.generation) refl)
     where
       by : (o : Option Generation) → generation_in w.storage p.generation ≡ o
           → Answers units (HeldAt w d)
-          (further (unless_dead o w) (λ g w. further (known (scalar_at g p) w) (λ k w. Yields (values_from k (scalars_in p.description) g.values) w)))
+          (further (unless_dead o w) (λ g w. further (known (scalar_at (contents_of g) p) w) (λ k w. Yields (values_from k (scalars_in p.description) g.values) w)))
       by None e = error_named units s ss w DeadLocator sound
       by (Some g) e =
           let f = first_there d p w g good e in
@@ -264,13 +265,11 @@ module _ (units : List TypedUnit) (s : Shape) (ss : List Shape) where
   pub parts_stored_answers : (d : Description) (p : Place) (vs : List Value) (w : World) → Sound w → IsGood w d p
       → AreHeld (scalars_of d) vs → Answers units (Kept w) (parts_stored p vs w)
   unfolding parts_stored
-  parts_stored_answers d p vs w sound good h = by (generation_in w.storage p.generation) refl
+  parts_stored_answers d p vs w sound good h =
+      subst (λ a. Answers units (Kept w) a) (sym (used_outside p w _ good.outside)) (by (generation_in w.storage p.generation) refl)
     where
-      put : Generation → ℕ → World → Answer Unit
-      put g k w = Yields tt (record w { storage = with_values w.storage p.generation (with_values_at k vs g.values) })
-
       by : (o : Option Generation) → generation_in w.storage p.generation ≡ o
-          → Answers units (Kept w) (further (unless_dead o w) (λ g w. further (known (scalar_at g p) w) (λ k w. Yields tt (record w { storage = with_values w.storage p.generation (with_values_at k vs g.values) }))))
+          → Answers units (Kept w) (further (unless_dead o w) (λ g w. further (known (scalar_at (contents_of g) p) w) (λ k w. Yields tt (record w { storage = with_contents w.storage p (with_values_at k vs g.values) }))))
       by None e = error_named units s ss w DeadLocator sound
       by (Some g) e =
           let f = first_there d p w g good e in
@@ -280,8 +279,9 @@ module _ (units : List TypedUnit) (s : Shape) (ss : List Shape) where
             more = omega arith;
             lived = λ n x lt e. let r = replaced w.storage p.generation xs n x e in (r.old, r.there, r.described);
           } in
-          subst (λ o. Answers units (Kept w) (further (known o w) (λ k w. Yields tt (record w { storage = with_values w.storage p.generation (with_values_at k vs g.values) })))) (sym f.1)
-          (same_stack units (s ∷ ss) w new sound later (values g e f.0 f.2) refl refl refl, later)
+          subst (λ o. Answers units (Kept w) (further (known o w) (λ k w. Yields tt (record w { storage = with_contents w.storage p (with_values_at k vs g.values) })))) (sym f.1)
+          (subst (λ gs. Kept w tt (record w { storage = gs })) (sym (contents_outside w.storage p xs good.outside))
+          (same_stack units (s ∷ ss) w new sound later (values g e f.0 f.2) refl refl refl, later))
         where
           values : (g : Generation) → generation_in w.storage p.generation ≡ Some g → (k : ℕ) → first_scalar g.description p.offset d ≡ Some k
               → HoldsValues (record w { storage = with_values w.storage p.generation (with_values_at k vs g.values) })
@@ -323,7 +323,8 @@ module _ (units : List TypedUnit) (s : Shape) (ss : List Shape) where
   pub stored_answers : (d : Description) (p : Place) (x : Value) (w : World) → Sound w → IsGood w d p → IsTrue (holds d x)
       → scalars_of d ≡ d ∷ [] → Answers units (Kept w) (stored p x w)
   unfolding stored
-  stored_answers d p x w sound good h one = by (generation_in w.storage p.generation)
+  stored_answers d p x w sound good h one =
+      subst (λ a. Answers units (Kept w) a) (sym (used_outside p w _ good.outside)) (by (generation_in w.storage p.generation))
     where
       put : Answers units (Kept w) (parts_stored p (x ∷ []) w)
       put = parts_stored_answers d p (x ∷ []) w sound good (subst (λ ds. AreHeld ds (x ∷ [])) (sym one) (h, tt))

@@ -26,7 +26,7 @@ pub copied_from_none : {T : Type 0} (view : T → Unit {0}) (source target : Pla
     → same source.description target.description ≡ true → Leads w.storage source (Err fault) → Answered view (Err fault) w after (copied source target w)
 unfolding copied parts_held
 copied_from_none view source target w after (Raised e) n s l = rw (n, s) (rw (l.1, l.0) refl)
-copied_from_none view source target w after NoRule n s l = rw (n, s) (rw l.found (rw l.nowhere refl))
+copied_from_none view source target w after NoRule n s l = rw (n, s) (rw (l.found, l.outside, l.nowhere) refl)
 copied_from_none view source target w after OutOfMemory n s l = tt
 
 module _ (source target : Place) (w : World) (n : is_area source.description ≡ false) (s : same source.description target.description ≡ true) (from : GenerationPart)
@@ -38,7 +38,7 @@ module _ (source target : Place) (w : World) (n : is_area source.description ≡
   pub copied_to_none : {T : Type 0} (view : T → Unit {0}) (after : World) (fault : StoreFault) → Leads w.storage target (Err fault) → Answered view (Err fault) w after (copied source target w)
   unfolding parts_stored
   copied_to_none view after (Raised e) m = copied_on ∙ rw (m.1, m.0) refl
-  copied_to_none view after NoRule m = copied_on ∙ rw m.found (rw m.nowhere refl)
+  copied_to_none view after NoRule m = copied_on ∙ rw (m.found, m.outside, m.nowhere) refl
   copied_to_none view after OutOfMemory m = tt
 
   pub copied_done : (to : GenerationPart) → LeadsTo w.storage target to → (new : List Generation) (limit : ℕ) → rise 0 w.storage limit ≡ true

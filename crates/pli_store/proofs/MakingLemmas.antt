@@ -55,7 +55,7 @@ module _ (d : Description) (how : Made) (vs : List Value) (w : World) where
     room_left = le-leb (live_bytes w.storage + size_of d) 16777216 small
 
     pub made_there : are_held (scalars_of d) vs ≡ true
-        → made_of d how vs w ≡ Yields (whole w.made d) (record w { storage = w.storage ++ record { number = w.made; description = d; made = how; values = vs } ∷ []; made = suc w.made })
+        → made_of d how vs w ≡ Yields (whole w.made d) (record w { storage = w.storage ++ record { number = w.made; description = d; made = how; values = vs; blocks = [] } ∷ []; made = suc w.made })
     unfolding made_of
     made_there held = rw (number_free, room_left, held) refl
 

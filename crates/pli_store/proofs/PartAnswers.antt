@@ -7,8 +7,8 @@ use Rattle.pli_map.specs.Description.{Description, Varying}
 use Rattle.pli_map.specs.Scalars.{first_scalar, is_scalar, scalars_in}
 use Rattle.pli_map.specs.Values.{holds}
 use Rattle.pli_value.specs.Value.{Value, Characters}
-use Rattle.pli_world.specs.Storage.{Generation, Place, generation_in, values_from, with_values, with_values_at, live_bytes}
-use Rattle.pli_world.specs.World.{World, Answer, Yields, Raises, Wrong, held, stored, parts_held, parts_stored}
+use Rattle.pli_world.specs.Storage.{Generation, Place, contents_of, generation_in, values_from, with_values, with_values_at, live_bytes}
+use Rattle.pli_world.specs.World.{World, Answer, Yields, Raises, Wrong, used, held, stored, parts_held, parts_stored}
 use Rattle.pli_store.specs.answers.Answered.{Answered}
 use Rattle.pli_store.specs.answers.Found.{PartStands, LeadsTo, LeadsNowhere, Leads}
 use Rattle.pli_store.specs.answers.Kept.{rise}
@@ -33,15 +33,26 @@ stored_dead p v w e = rw e refl
 
 pub held_nowhere : (p : Place) (w : World) → LeadsNowhere w.storage p → held p w ≡ Wrong
 unfolding held parts_held
-held_nowhere p w l = rw l.found (rw l.nowhere refl)
+held_nowhere p w l = rw (l.found, l.outside, l.nowhere) refl
 
 wrong_both : {A : Type 0} (b : Bool) (a : Answer A) → a ≡ Wrong → (if b then a else Wrong) ≡ Wrong
 wrong_both true a e = e
 wrong_both false a e = refl
 
+-- a place outside areas is used
+used_at : (p : Place) (w : World) (g : Generation) → p.position ≡ 0 → generation_in w.storage p.generation ≡ Some g
+    → used p w ≡ Yields (contents_of g) w
+used_at p w g outside found = rw (found, outside) refl
+
+parts_stored_nowhere : (p : Place) (vs : List Value) (w : World) → LeadsNowhere w.storage p → parts_stored p vs w ≡ Wrong
+unfolding parts_stored
+parts_stored_nowhere p vs w l = rw (l.found, l.outside, l.nowhere) refl
+
 pub stored_nowhere : (p : Place) (v : Value) (w : World) → LeadsNowhere w.storage p → stored p v w ≡ Wrong
-unfolding stored parts_stored
-stored_nowhere p v w l = rw l.found (wrong_both (holds p.description v) _ (rw l.found (rw l.nowhere refl)))
+unfolding stored
+stored_nowhere p v w l =
+    rw (used_at p w l.generation l.outside l.found)
+    (wrong_both (holds p.description v) (parts_stored p (v ∷ []) w) (parts_stored_nowhere p (v ∷ []) w l))
 
 -- ---- where no part is found
 
@@ -60,11 +71,11 @@ stored_failed view p v w after OutOfMemory l = tt
 module _ (p : Place) (w : World) (part : GenerationPart) (l : LeadsTo w.storage p part) where
   pub parts_held_there : parts_held p w ≡ Yields (values_from l.there.scalar (scalars_in p.description) l.there.generation.values) w
   unfolding parts_held
-  parts_held_there = rw l.found (rw l.first refl)
+  parts_held_there = rw (l.found, l.outside, l.first) refl
 
   pub parts_stored_there : (vs : List Value) → parts_stored p vs w ≡ Yields tt (record w { storage = with_values w.storage p.generation (with_values_at l.there.scalar vs l.there.generation.values) })
   unfolding parts_stored
-  parts_stored_there vs = rw l.found (rw l.first refl)
+  parts_stored_there vs = rw (l.found, l.outside, l.first) refl
 
   pub held_aggregate : is_scalar p.description ≡ false → held p w ≡ Wrong
   unfolding held
@@ -76,11 +87,11 @@ module _ (p : Place) (w : World) (part : GenerationPart) (l : LeadsTo w.storage 
 
   pub stored_misfit : (v : Value) → holds p.description v ≡ false → stored p v w ≡ Wrong
   unfolding stored
-  stored_misfit v misfit = rw l.found (rw misfit refl)
+  stored_misfit v misfit = rw (used_at p w l.there.generation l.outside l.found, misfit) refl
 
   pub stored_there : (v : Value) → holds p.description v ≡ true → stored p v w ≡ Yields tt (record w { storage = with_values w.storage p.generation (with_values_at l.there.scalar (v ∷ []) l.there.generation.values) })
   unfolding stored
-  stored_there v fits = rw l.found (rw fits (parts_stored_there (v ∷ [])))
+  stored_there v fits = rw (used_at p w l.there.generation l.outside l.found, fits) (parts_stored_there (v ∷ []))
 
 -- ---- what is put there
 

@@ -40,12 +40,14 @@ module _ (items : List Generation) (p : Place) (at : ℕ) (s : StandsAt (map gen
           first = found.1;
         };
         found = stored_one items p.generation at g s here;
-        first = rw whole found.1;
+        first = found.1;
+        outside = whole;
       }
 
   pub leads_nowhere : is_some (first_scalar (generation_view g).description p.offset p.description) ≡ false → LeadsNowhere (map generation_view items) p
   leads_nowhere e = record {
     generation = generation_view g;
     found = stored_one items p.generation at g s here;
-    nowhere = rw whole (nothing_found (first_scalar (generation_view g).description p.offset p.description) e);
+    nowhere = nothing_found (first_scalar (generation_view g).description p.offset p.description) e;
+    outside = whole;
   }

@@ -8,13 +8,14 @@ use pli_map::Description;
 /// How many bytes behind the beginning a reference leads at most (own).
 const OFFSET_LIMIT: u32 = 1_000_000;
 
-/// Where a reference leads: so many bytes behind the beginning of a generation, to a part of this description. No place
-/// lies in an area.
+/// Where a reference leads: so many bytes behind the beginning of a generation, which had this whole description when the
+/// reference was evaluated, to a part of this description. No place lies in an area.
 #[derive(Clone, Copy)]
 pub struct Place<'m> {
     pub generation: u32,
     pub offset: u32,
     pub description: &'m Description,
+    pub whole: &'m Description,
     /// Where the generation stood among those that lived when it was made.
     pub(crate) hint: usize,
 }
@@ -38,6 +39,7 @@ impl<'m> Place<'m> {
             generation: self.generation,
             offset: sum as u32,
             description,
+            whole: self.whole,
             hint: self.hint,
         })
     }

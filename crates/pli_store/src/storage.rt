@@ -98,6 +98,7 @@ impl<'m> Storage<'m> {
             generation: number,
             offset: 0,
             description: generation.description,
+            whole: generation.description,
             hint: at,
         };
         Some(LivingGeneration {
@@ -481,6 +482,7 @@ impl<'m> Storage<'m> {
             generation: self.made,
             offset: 0,
             description,
+            whole: description,
             hint: self.generations.len(),
         };
         let generation = Generation {

@@ -10,7 +10,7 @@ use Rattle.std.specs.Map.{lookup}
 use Rattle.pli_run.specs.Print.{print}
 use Rattle.pli_run.specs.declared.ending.RunError.{RunError}
 use Rattle.pli_run.specs.declared.ending.RunError.TheVariants.{SubscriptRange, StringRange, DeadLocator}
-use Rattle.pli_run.specs.declared.ending.RunError.TheVariants.{NoGeneration}
+use Rattle.pli_run.specs.declared.ending.RunError.TheVariants.{DescriptionMismatch, NoGeneration}
 use Rattle.pli_run.specs.declared.ending.RunError.TheVariants.{FixedOverflow, ZeroDivide, StorageLimit}
 use Rattle.pli_map.specs.Description.{Description}
 use Rattle.pli_map.specs.Same.{same}
@@ -22,9 +22,10 @@ use Rattle.pli_operation.specs.Operations.{Calculation, Calculates, RaisesCondit
 use Rattle.pli_world.specs.Activations.{Activation, outward_from, with_newest, without_newest}
 use Rattle.pli_world.specs.Activations.{activation_at, Head}
 use Rattle.pli_world.specs.Ends.{RunEnd, Error, MachineFault}
-use Rattle.pli_world.specs.Storage.{Generation, Made, Automatic, Static as AsStatic, Dummy, Place, whole}
-use Rattle.pli_world.specs.Storage.{field_of, generation_in, scalar_at, values_from, with_values_at}
-use Rattle.pli_world.specs.Storage.{with_values, without, live_bytes, generation_limit, offset_limit}
+use Rattle.pli_world.specs.Storage.{Block, Generation, Made, Automatic, Static as AsStatic, Dummy, Place}
+use Rattle.pli_world.specs.Storage.{Contents, contents_of, whole, field_of, generation_in, block_at}
+use Rattle.pli_world.specs.Storage.{scalar_at, values_from, with_values_at, with_contents, without, live_bytes}
+use Rattle.pli_world.specs.Storage.{generation_limit, offset_limit}
 use Rattle.pli_map.specs.Variables.{byte_limit}
 use Rattle.pli_map.specs.Values.{holds, are_held}
 use Rattle.pli_map.specs.Variables.{Variable, GlobalVariable}
@@ -99,7 +100,7 @@ made_of d how vs w =
     then (if are_held (scalars_of d) vs
     then Yields (whole w.made d) (record w {
       storage = w.storage
-          ++ record { number = w.made; description = d; made = how; values = vs } ∷ [];
+          ++ record { number = w.made; description = d; made = how; values = vs; blocks = [] } ∷ [];
       made = suc w.made;
     })
     else Wrong)
@@ -114,21 +115,45 @@ unless_dead (Some g) w = Yields g w
 abbrev pub living : Place → World → Answer Generation
 living p w = unless_dead (generation_in w.storage p.generation) w
 
+-- the block that is found; where none is, the place is dead
+abbrev pub unless_gone : Option Block → World → Answer Block
+unless_gone None w = Raises DeadLocator w
+unless_gone (Some b) w = Yields b w
+
+-- a block that has this whole description; one that has another is another variable's
+abbrev pub unless_replaced : Description → Block → World → Answer Block
+unless_replaced d b w = if same b.description d then Yields b w else Raises DescriptionMismatch w
+
+-- the block at a position of a generation, where one of this whole description is asked for
+abbrev pub block_in : Generation → (position : ℕ) → Description → World → Answer Block
+block_in g position d w = further (unless_gone (block_at g.blocks position) w) (unless_replaced d)
+
+-- what a place leads into, where its generation lives: at position 0 this, else one of its blocks
+abbrev pub led_into : Place → Generation → World → Answer Contents
+led_into p g w =
+    if nat_eq p.position 0
+    then Yields (contents_of g) w
+    else further (block_in g p.position p.whole w)
+    (λ b w. Yields (record { description = b.description; values = b.values }) w)
+
+-- a place is used: it is dead where its generation has ended or its block, and another block of the same whole
+-- description serves in the place of the one that it met
+abbrev pub used : Place → World → Answer Contents
+used p w = further (living p w) (led_into p)
+
 -- what the place of an aggregate or of a scalar holds, scalar by scalar
 unfoldable pub parts_held : Place → World → Answer (List Value)
 parts_held p w =
-    further (living p w)
-    (λ g w. further (known (scalar_at g p) w)
-    (λ k w. Yields (values_from k (scalars_in p.description) g.values) w))
+    further (used p w)
+    (λ c w. further (known (scalar_at c p) w)
+    (λ k w. Yields (values_from k (scalars_in p.description) c.values) w))
 
 -- values put there
 unfoldable pub parts_stored : Place → List Value → World → Answer Unit
 parts_stored p vs w =
-    further (living p w)
-    (λ g w. further (known (scalar_at g p) w)
-    (λ k w. Yields tt (record w {
-      storage = with_values w.storage p.generation (with_values_at k vs g.values);
-    })))
+    further (used p w)
+    (λ c w. further (known (scalar_at c p) w)
+    (λ k w. Yields tt (record w { storage = with_contents w.storage p (with_values_at k vs c.values) })))
 
 -- one value alone
 abbrev pub single : List Value → World → Answer Value
@@ -142,7 +167,7 @@ held p w = further (parts_held p w) (λ vs w. if is_scalar p.description then si
 -- a value put at the place of a scalar that may hold it
 unfoldable pub stored : Place → Value → World → Answer Unit
 stored p v w =
-    further (living p w) (λ g w. if holds p.description v then parts_stored p (v ∷ []) w else Wrong)
+    further (used p w) (λ c w. if holds p.description v then parts_stored p (v ∷ []) w else Wrong)
 
 -- what one place holds put at another of an equal description, which is no area's: the source is looked at
 -- first

@@ -13,11 +13,12 @@ use Rattle.pli_value.specs.declared.locator.Locator.{Locator}
 use Rattle.pli_value.specs.declared.locator.Locator.TheVariants.{Pointer}
 use Rattle.pli_world.specs.Storage.{Place, generation_in}
 use Rattle.pli_world.specs.World.{World, Answer, Yields, Raises, Wrong}
+use Rattle.pli_world.specs.Storage.{Block, block_at, with_block_values}
 use Rattle.pli_locators.specs.laws.Operations.{IfYields}
-use Rattle.pli_area_storage.specs.Blocks.{Block, Inhabited, room_in, place_in, end_of_blocks, block_at}
-use Rattle.pli_area_storage.specs.Blocks.{with_block, without_block, with_values, area_of, blocks_of}
+use Rattle.pli_area_storage.specs.Blocks.{Inhabited, room_in, place_in, end_of_blocks}
+use Rattle.pli_area_storage.specs.Blocks.{with_block, without_block, area_of, blocks_of}
 use Rattle.pli_area_storage.specs.Blocks.{with_blocks}
-use Rattle.pli_area_storage.specs.InAreas.{BlockPlace, area_found, begun, allocated_in, based_in, freed_in}
+use Rattle.pli_area_storage.specs.InAreas.{area_found, begun, allocated_in, based_in, freed_in}
 use Rattle.pli_area_storage.specs.InAreas.{block_held, block_stored, emptied, assigned}
 
 -- ---- what stays
@@ -45,12 +46,12 @@ FreeingLeaves =
 
 -- behind a use of a block
 abbrev pub HoldingLeaves : Type 0
-HoldingLeaves = (p : BlockPlace) (areas : List Inhabited) (w : World) → LeavesWorld w (block_held p areas w)
+HoldingLeaves = (p : Place) (areas : List Inhabited) (w : World) → LeavesWorld w (block_held p areas w)
 
 -- behind a value put into one
 abbrev pub StoringLeaves : Type 0
 StoringLeaves =
-    (p : BlockPlace) (v : Value) (areas : List Inhabited) (w : World) → LeavesWorld w (block_stored p v areas w)
+    (p : Place) (v : Value) (areas : List Inhabited) (w : World) → LeavesWorld w (block_stored p v areas w)
 
 -- behind EMPTY
 abbrev pub EmptyingLeaves : Type 0
@@ -114,7 +115,7 @@ OtherBlocksStay =
     (bs : List Block) (b : Block) (vs : List Value) (other : ℕ) → other ≢ b.position
     → (block_at (with_block bs b) other ≡ block_at bs other)
     × (block_at (without_block bs b.position) other ≡ block_at bs other)
-    × (block_at (with_values bs b.position vs) other ≡ block_at bs other)
+    × (block_at (with_block_values bs b.position vs) other ≡ block_at bs other)
 
 -- other blocks of one area leave those of others
 abbrev pub OtherAreasStay : Type 0

@@ -1,10 +1,11 @@
 -- What an area of the program says.
 use Rattle.std.specs.Prelude.{ℕ, List, map, get_or}
 use Rattle.pli_area.specs.Areas as area
-use Rattle.pli_area_storage.specs.Blocks.{Block, Inhabited}
+use Rattle.pli_area_storage.specs.Blocks.{Inhabited}
 use Rattle.pli_area_storage.specs.declared.areas.InhabitedArea.{InhabitedArea}
 use Rattle.pli_bytes.specs.Contents.{values_of}
 use Rattle.pli_map.specs.Description.{Description, FixedBinary}
+use Rattle.pli_world.specs.Storage.{Block}
 
 -- the description of a number
 abbrev pub described : List Description → (number : ℕ) → Description

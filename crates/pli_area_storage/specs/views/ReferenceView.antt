@@ -5,9 +5,10 @@ use Rattle.pli_area_storage.specs.declared.reference.Reference.{Reference}
 use Rattle.pli_area_storage.specs.declared.reference.Reference.TheVariants as code
 use Rattle.pli_map.specs.views.DescriptionView.{description_view}
 use Rattle.pli_store.specs.views.StorageView.{place_view}
+use Rattle.pli_world.specs.Storage.{Place}
 
 -- a place in a block
-abbrev pub block_place_view : BlockPlace → plain.BlockPlace
+abbrev pub block_place_view : BlockPlace → Place
 block_place_view p =
     record {
       generation = p.generation;

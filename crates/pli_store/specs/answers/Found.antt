@@ -3,7 +3,7 @@ use Rattle.std.specs.Prelude.{◌≡◌, ℕ, Some, None, Result, Ok, Err, List,
 use Rattle.pli_run.specs.declared.ending.RunError.TheVariants.{DeadLocator}
 use Rattle.pli_map.specs.Description.{Description}
 use Rattle.pli_map.specs.Scalars.{first_scalar}
-use Rattle.pli_world.specs.Storage.{Generation, Place, generation_in, scalar_at}
+use Rattle.pli_world.specs.Storage.{Generation, Place, generation_in}
 use Rattle.pli_store.specs.declared.fault.StoreFault.{StoreFault}
 use Rattle.pli_store.specs.declared.fault.StoreFault.TheVariants.{Raised, NoRule, OutOfMemory}
 use Rattle.pli_store.specs.declared.part.GenerationPart.{GenerationPart}
@@ -21,17 +21,19 @@ pub record PartStands (gs : List Generation) (part : GenerationPart) (d : Descri
   pub stands : slice_get gs part.at ≡ Some generation
   pub first : first_scalar generation.description part.offset d ≡ Some scalar
 
--- a place leads to this part
+-- a place outside areas leads to this part
 pub record LeadsTo (gs : List Generation) (p : Place) (part : GenerationPart) : Type 0 where
+  pub outside : p.position ≡ 0
   pub there : PartStands gs part p.description
   pub found : generation_in gs p.generation ≡ Some there.generation
-  pub first : scalar_at there.generation p ≡ Some there.scalar
+  pub first : first_scalar there.generation.description p.offset p.description ≡ Some there.scalar
 
--- a place leads to no part of its generation
+-- a place outside areas leads to no part of its generation
 pub record LeadsNowhere (gs : List Generation) (p : Place) : Type 0 where
+  pub outside : p.position ≡ 0
   pub generation : Generation
   pub found : generation_in gs p.generation ≡ Some generation
-  pub nowhere : scalar_at generation p ≡ None
+  pub nowhere : first_scalar generation.description p.offset p.description ≡ None
 
 -- what is answered of a place: where it leads, that it is dead, or that it leads to no part
 abbrev pub Leads : List Generation → Place → Result GenerationPart StoreFault → Type 0

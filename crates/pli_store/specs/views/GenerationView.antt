@@ -1,4 +1,5 @@
 -- What generations of the program say.
+use Rattle.std.specs.Prelude.{[]}
 use Rattle.pli_bytes.specs.Contents.{values_of}
 use Rattle.pli_map.specs.views.DescriptionView.{description_view}
 use Rattle.pli_world.specs.Storage as plain
@@ -22,4 +23,5 @@ generation_view g =
       description = description_view g.description.now;
       made = made_view g.made;
       values = values_of (description_view g.description.now) g.bytes.items;
+      blocks = [];
     }

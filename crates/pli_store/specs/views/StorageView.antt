@@ -19,6 +19,7 @@ place_view p =
     record {
       generation = p.generation;
       position = 0;
+      whole = description_view p.whole.now;
       offset = p.offset;
       description = description_view p.description.now;
     }

@@ -1,12 +1,13 @@
 -- Each operation keeps what it should: a lemma for each.
-use Rattle.std.specs.Prelude.{ℕ, suc, ◌+◌, ◌-◌, nat_le, nat_lt, Bool, true, false, not, ◌&&◌, int_le}
-use Rattle.std.specs.Prelude.{Option, ◌*◌, ◌-ℤ◌, unsigned_abs}
+use Rattle.std.specs.Prelude.{ℕ, suc, ◌+◌, ◌-◌, nat_eq, nat_le, nat_lt, Bool, true, false, not, ◌&&◌}
+use Rattle.std.specs.Prelude.{Option, ◌*◌, ◌-ℤ◌, int_le, unsigned_abs}
 use Rattle.std.specs.Prelude.{Some, None, List, [], ◌∷◌, ◌++◌, length, slice_get, if◌then◌else◌, refl}
 use Rattle.std.proofs.Common.{◌≡◌, ◌<◌, ◌≤◌, sym, ap, ◌∙◌, subst, arith, append_assoc, append-nil, le-leb}
 use Rattle.std.proofs.lemmas.Bool.{lt-leb}
 use Rattle.pli_map.specs.Description.{Description}
 use Rattle.pli_run.specs.Print.{print}
 use Rattle.pli_run.specs.declared.ending.RunError.TheVariants.{StorageLimit, SubscriptRange}
+use Rattle.pli_run.specs.declared.ending.RunError.TheVariants.{DescriptionMismatch}
 use Rattle.pli_map.specs.Same.{same}
 use Rattle.pli_map.specs.Scalars.{is_area, is_scalar, scalars_of}
 use Rattle.pli_map.specs.Sizes.{size_of}
@@ -14,15 +15,17 @@ use Rattle.pli_value.specs.Value.{Value}
 use Rattle.pli_value.specs.declared.number.Raised.TheVariants as raised
 use Rattle.pli_operation.specs.Operations.{Calculates, RaisesCondition, OutOfString, Misfits}
 use Rattle.pli_world.specs.Activations.{Activation, activation_at, outward_from, with_newest, without_newest}
-use Rattle.pli_world.specs.Storage.{Generation, Automatic, Static as AsStatic, Dummy, Place, whole}
-use Rattle.pli_world.specs.Storage.{field_of, generation_in, scalar_at, live_bytes, generation_limit}
+use Rattle.pli_world.specs.Storage.{Block, Generation, Automatic, Static as AsStatic, Dummy, Place, Contents}
+use Rattle.pli_world.specs.Storage.{contents_of, whole, field_of, generation_in, block_at, scalar_at}
+use Rattle.pli_world.specs.Storage.{with_values, with_contents, live_bytes, generation_limit}
 use Rattle.pli_world.specs.Storage.{offset_limit}
 use Rattle.pli_map.specs.Variables.{byte_limit}
 use Rattle.pli_map.specs.Values.{holds, are_held}
 use Rattle.pli_world.specs.World.{Standing, Lies, Stacked, World, Answer, Yields, Raises, Wrong, further}
 use Rattle.pli_world.specs.World.{known, height}
 use Rattle.pli_map.specs.Variables.{Variable}
-use Rattle.pli_world.specs.World.{made_of, unless_dead, living, parts_held, parts_stored, single, held}
+use Rattle.pli_world.specs.World.{made_of, unless_dead, unless_gone, unless_replaced, living, led_into, used}
+use Rattle.pli_world.specs.World.{parts_held, parts_stored, single, held}
 use Rattle.pli_world.specs.World.{stored}
 use Rattle.pli_world.specs.World.{copied, led_on, made_all, in_newest, with_slot, begun_in}
 use Rattle.pli_world.specs.World.{without_handed, entered, left_by, cleared, at_statement, stepped, height_of}
@@ -112,22 +115,62 @@ living_keeps p w = found (generation_in w.storage p.generation)
     found None = follows_same w
     found (Some g) = follows_same w
 
+-- a place outside areas leads into its generation, where that lives
+pub used_outside : {B : Type 0} (p : Place) (w : World) (go : Contents → World → Answer B) → p.position ≡ 0
+    → further (used p w) go ≡ further (living p w) (λ g w. go (contents_of g) w)
+used_outside p w go outside = by (generation_in w.storage p.generation)
+  where
+    by : (o : Option Generation)
+        → further (further (unless_dead o w) (led_into p)) go
+        ≡ further (unless_dead o w) (λ g w. go (contents_of g) w)
+    by None = refl
+    by (Some g) = rw outside refl
+
+-- and what it leads into changes there
+pub contents_outside : (gs : List Generation) (p : Place) (vs : List Value) → p.position ≡ 0
+    → with_contents gs p vs ≡ with_values gs p.generation vs
+contents_outside gs p vs outside = rw outside refl
+
+leading_into_keeps : (p : Place) (g : Generation) (w : World) → AnswerFollows (height w) w (led_into p g w)
+leading_into_keeps p g w = by (nat_eq p.position 0) (block_at g.blocks p.position)
+  where
+    contents : Block → World → Answer Contents
+    contents b w = Yields (record { description = b.description; values = b.values }) w
+
+    replaced : (equal : Bool) (b : Block)
+        → AnswerFollows (height w) w
+        (further (if equal then Yields b w else Raises DescriptionMismatch w) contents)
+    replaced true b = follows_same w
+    replaced false b = follows_same w
+
+    by : (outside : Bool) (o : Option Block)
+        → AnswerFollows (height w) w (if outside then Yields (contents_of g) w
+        else further (further (unless_gone o w) (unless_replaced p.whole)) contents)
+    by true o = follows_same w
+    by false None = follows_same w
+    by false (Some b) = replaced (same b.description p.whole) b
+
+using_keeps : (p : Place) (w : World) → AnswerFollows (height w) w (used p w)
+using_keeps p w =
+    further_follows (height w) (height w) w (living p w) (led_into p) (living_keeps p w) refl
+    (λ g v f. behind (height w) w v (led_into p g v) f (leading_into_keeps p g v))
+
 pub parts_held_keep : PartsHeldKeep
 unfolding parts_held
 parts_held_keep p w =
-    further_follows (height w) (height w) w (living p w) _ (living_keeps p w) refl
-    (λ g v f. behind (height w) w v _ f
-    (further_follows (height v) (height v) v (known (scalar_at g p) v) _
-    (known_follows (scalar_at g p) v) refl
+    further_follows (height w) (height w) w (used p w) _ (using_keeps p w) refl
+    (λ c v f. behind (height w) w v _ f
+    (further_follows (height v) (height v) v (known (scalar_at c p) v) _
+    (known_follows (scalar_at c p) v) refl
     (λ k u h. h)))
 
 pub parts_stored_keep : PartsStoredKeep
 unfolding parts_stored
 parts_stored_keep p vs w =
-    further_follows (height w) (height w) w (living p w) _ (living_keeps p w) refl
-    (λ g v f. behind (height w) w v _ f
-    (further_follows (height v) (height v) v (known (scalar_at g p) v) _
-    (known_follows (scalar_at g p) v) refl
+    further_follows (height w) (height w) w (used p w) _ (using_keeps p w) refl
+    (λ c v f. behind (height w) w v _ f
+    (further_follows (height v) (height v) v (known (scalar_at c p) v) _
+    (known_follows (scalar_at c p) v) refl
     (λ k u h. record { steps = h.steps; heights = h.heights; output = h.output })))
 
 single_keeps : (vs : List Value) (w : World) → AnswerFollows (height w) w (single vs w)
@@ -145,8 +188,8 @@ loading_keeps p w =
 pub storing_keeps : StoringKeeps
 unfolding stored
 storing_keeps p x w =
-    further_follows (height w) (height w) w (living p w) _ (living_keeps p w) refl
-    (λ g v f. behind (height w) w v _ f
+    further_follows (height w) (height w) w (used p w) _ (using_keeps p w) refl
+    (λ c v f. behind (height w) w v _ f
     (guarded (height v) v (holds p.description x) (parts_stored p (x ∷ []) v)
     (parts_stored_keep p (x ∷ []) v)))
 

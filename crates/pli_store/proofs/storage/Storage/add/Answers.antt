@@ -19,6 +19,7 @@ added c =
       description = description_view c.args.description.now;
       made = made_view c.args.made;
       values = values_of (description_view c.args.description.now) c.args.bytes.items;
+      blocks = [];
     }
 
 says : (c : Else-is_err) → map generation_view c.push.new.self.items ≡ storage_view c.args.self.now ++ added c ∷ []
