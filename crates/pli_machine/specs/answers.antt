@@ -2,5 +2,6 @@ pub mod CurrentUnit
 pub mod DecodedCode
 pub mod OverCells
 pub mod Passes
+pub mod Putting
 pub mod Runs
 pub mod Slots

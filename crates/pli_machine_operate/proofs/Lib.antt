@@ -1,3 +1,4 @@
+pub mod IndexLemmas
 pub mod LocatorLemmas
 pub mod QuotientLemmas
 pub mod StackLemmas

@@ -1,5 +1,5 @@
 //! Operations on values: operators, built-in functions and conversions.
-ghost use Rattle.std.specs.Prelude.{◌≡◌, ◌∷◌, [], pos, Result, IfOk, None, Some};
+ghost use Rattle.std.specs.Prelude.{◌≡◌, ◌≤◌, ◌∷◌, [], pos, Result, IfOk, None, Some};
 ghost use Rattle.pli_map.specs.views.DescriptionView.{description_view};
 ghost use Rattle.pli_operation.specs.Operations as calculate;
 ghost use Rattle.pli_operation.specs.Operations.{calculated_from, calculated_with, calculated_by, are_comparable, as_number, compared, stands, fitted_to};
@@ -121,15 +121,14 @@ fn fitted(precision: u8, number: i64) -> Result<i64, Raised>
     }
 }
 
-/// A place in a string, or how many elements it has.
+/// A place in a string of so many elements, which is 0 or one of them.
 #[inline]
-fn as_place(place: usize) -> Result<Calculation, AllocError>
-    ensures { IfOk result (λ c. calculation_view c ≡ calculate.Calculates (plain.Number (pos place))) }
+fn as_place(place: usize, _elements: usize) -> Calculation
+    requires place { place ≤ _elements }
+    requires elements { _elements ≤ 9223372036854775807 }
+    ensures { calculation_view result ≡ calculate.Calculates (plain.Number (pos place)) }
 {
-    match i64::try_from(place) {
-        Ok(number) => Ok(Calculation::Gives(Value::Number(number))),
-        Err(_) => Err(AllocError),
-    }
+    Calculation::Gives(Value::Number(place as i64))
 }
 
 /// A quotient of at most so many binary digits. Want of memory is answered where it has more than 64 bits.
@@ -323,7 +322,7 @@ fn of_texts(
             Some(both) => Ok(Calculation::Gives(Value::Characters(both))),
             None => Ok(Calculation::OutOfString),
         },
-        Operation::Index => as_place(character::index(left, right)),
+        Operation::Index => Ok(as_place(character::index(left, right), left.len())),
         _ => Ok(Calculation::Misfits),
     }
 }
@@ -349,7 +348,7 @@ fn of_bit_strings(
         },
         Operation::And => Ok(Calculation::Gives(Value::Bits(bit::and(alloc, left, right)?))),
         Operation::Or => Ok(Calculation::Gives(Value::Bits(bit::or(alloc, left, right)?))),
-        Operation::Index => as_place(bit::index(left, right)),
+        Operation::Index => Ok(as_place(bit::index(left, right), left.length())),
         _ => Ok(Calculation::Misfits),
     }
 }

@@ -1,4 +1,1 @@
-pub mod Activated
-pub mod Begun
-pub mod LaidTemplates
-pub mod Making
+pub mod Jumps

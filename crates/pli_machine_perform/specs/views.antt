@@ -1,7 +1,1 @@
 pub mod ActView
-pub mod ActivationView
-pub mod DisplayView
-pub mod Image
-pub mod ImageView
-pub mod MachineView
-pub mod TableView

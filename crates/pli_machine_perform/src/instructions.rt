@@ -5,14 +5,13 @@ ghost use Rattle.pli_program.specs.Program.{Jump, JumpUnless, Load, Store, Copy,
 ghost use Rattle.pli_code.specs.CodeTables.{looked_up};
 ghost use Rattle.pli_code.specs.declared.instruction.Instruction.TheVariants as coded;
 ghost use Rattle.pli_code.specs.views.CodeView.{code_view};
-ghost use Rattle.pli_machine_perform.specs.views.MachineView.{Does};
+ghost use Rattle.pli_machine_activations.specs.views.MachineView.{Does};
 
 use crate::keeping::put_constant;
-use crate::machine::{Machine, Stop};
 use crate::operate::{operate, operate_fit};
-use crate::variables::template_of;
-use crate::{dummies, jumping, places, storing};
+use crate::{jumping, places, storing};
 use pli_code::Code;
+use pli_machine_activations::{Machine, Stop, template_of};
 use pli_map::Description;
 use pli_operation::Operation;
 use std::alloc::{AllocError, Global};
@@ -117,7 +116,7 @@ pub fn make_dummy<'m>(
     ensures { IfOk result (Does (looked_up (code_view code.now) (coded.MakeDummy template)) machine.old machine.new) }
 {
     match template_of(code, template) {
-        Some((description, _)) => dummies::make_dummy(alloc, machine, description),
+        Some((description, _)) => pli_machine_activations::make_dummy(alloc, machine, description),
         None => Ok(Some(Stop::Fault)),
     }
 }

@@ -1,8 +1,8 @@
 //! Jumps within a block.
 ghost use Rattle.pli_machine_step.specs.Machine.{counted_jump, jumped, jumped_unless};
-ghost use Rattle.pli_machine_perform.specs.answers.Activated.{Jumps};
+ghost use Rattle.pli_machine_perform.specs.answers.Jumps.{Jumps};
 
-use crate::machine::{Activation, Stop};
+use pli_machine_activations::{Activation, Stop};
 use pli_machine_operate::pop_truth;
 
 /// How many backward jumps an activation makes at most between two steps (own).

@@ -2,9 +2,9 @@
 ghost use Rattle.std.specs.Prelude.{◌≡◌, ◌<◌, length, slice_set, Some, IfOk};
 ghost use Rattle.pli_program.specs.Program.{Constant, SetTemporary, TakeTemporary};
 ghost use Rattle.pli_value.specs.Value.{value_view};
-ghost use Rattle.pli_machine_perform.specs.views.MachineView.{Does};
+ghost use Rattle.pli_machine_activations.specs.views.MachineView.{Does};
 
-use crate::machine::{Machine, Stop};
+use pli_machine_activations::{Machine, Stop};
 use pli_machine_operate::{Operand, pop_value, push};
 use pli_value::Value;
 use std::alloc::{AllocError, Global};

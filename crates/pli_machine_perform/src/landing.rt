@@ -1,15 +1,13 @@
 //! GOTO.
 ghost use Rattle.std.specs.Prelude.{[], ◌∷◌};
-ghost use Rattle.pli_machine_perform.specs.views.Image.{Image};
+ghost use Rattle.pli_machine_activations.specs.views.Image.{Image};
 ghost use Rattle.pli_world.specs.World.{cleared};
 ghost use Rattle.pli_machine_step.specs.Machine.{counted_jump, lands};
 ghost use Rattle.pli_program.specs.Program.{Goto};
-ghost use Rattle.pli_machine_perform.specs.views.MachineView.{Does, Moves};
+ghost use Rattle.pli_machine_activations.specs.views.MachineView.{Does, Moves};
 
 use crate::jumping::count_jump;
-use crate::leaving::leave;
-use crate::machine::{Machine, Stop};
-use crate::walk::outer_place;
+use pli_machine_activations::{Machine, Stop, leave, outer_place};
 
 /// Gives up the calls that the newest activation prepares, clears its operands and jumps there.
 fn arrive(machine: &mut Machine, target: usize) -> Option<Stop>

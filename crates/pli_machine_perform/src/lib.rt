@@ -1,54 +1,19 @@
-//! The machine between two instructions, what each instruction does to it, and what there is before the first.
+//! What each instruction does to the machine.
 #![tactic(auto)]
 
-mod arguments;
-mod calling;
-mod display;
-mod dummies;
-mod entering;
-mod external;
-mod globals;
-mod initial;
 mod instructions;
 mod jumping;
 mod keeping;
 mod landing;
-mod laying;
-mod leaving;
-mod linked;
-mod linking;
-mod loaded;
-mod loading;
-mod machine;
-mod numbered;
 mod operate;
 mod performing;
 mod places;
 mod printing;
-mod ready;
-mod shared;
 mod slots;
-mod spare;
-mod starting;
 mod stepping;
 mod storing;
-mod unit;
-mod variables;
-mod walk;
 
-pub use calling::call;
-pub use dummies::dummy_with;
-pub use globals::{static_place, unit_at};
-pub use leaving::give_back;
-pub use linked::LinkedGlobal;
-pub use loaded::Loaded;
-pub use loading::{Loading, load};
-pub use machine::{Activation, Machine, Stop};
-pub use numbered::linked_at;
 pub use performing::perform;
 pub use places::bounded;
 pub use printing::print_number;
 pub use slots::slot_place;
-pub use starting::{Beginning, begin};
-pub use unit::ActiveUnit;
-pub use variables::template_of;

@@ -3,10 +3,10 @@ ghost use Rattle.std.specs.Prelude.{IfOk};
 ghost use Rattle.pli_map.specs.views.DescriptionView.{description_view};
 ghost use Rattle.pli_machine_step.specs.Machine.{fits};
 ghost use Rattle.pli_machine_operate.specs.views.CalculationView.{calculation_view, immediate_view};
-ghost use Rattle.pli_machine_perform.specs.views.MachineView.{Acts};
+ghost use Rattle.pli_machine_activations.specs.views.MachineView.{Acts};
 ghost use Rattle.pli_machine_perform.specs.views.ActView.{calculated_as, operated_as, operated_by};
 
-use crate::machine::Stop;
+use pli_machine_activations::Stop;
 use pli_machine_operate::{
     Calculation, Immediate, Operand, calculate_by, calculate_from, calculate_numbers,
     calculate_with, fit, fit_number, is_within, pop_number, pop_three, pop_value, push,

@@ -1,23 +1,21 @@
 //! One instruction.
 ghost use Rattle.std.specs.Prelude.{◌≡◌, IfOk};
 ghost use Rattle.pli_code.specs.views.CodeView.{member_view};
-ghost use Rattle.pli_machine_perform.specs.views.ImageView.{image_of};
-ghost use Rattle.pli_machine_perform.specs.views.MachineView.{Performs};
+ghost use Rattle.pli_machine_activations.specs.views.ImageView.{image_of};
+ghost use Rattle.pli_machine_activations.specs.views.MachineView.{Performs};
 
-use crate::calling::{begin, call};
-use crate::external::call_entry;
 use crate::instructions::{
     calculate, constant, copy, field, fit, jump, jump_unless, load, make_dummy, store, subscript,
 };
 use crate::keeping::{set_temporary, take_temporary};
 use crate::landing::go_to;
-use crate::leaving::{return_from, return_value};
-use crate::machine::{Machine, Stop};
 use crate::printing::{put, skip};
 use crate::slots::{global, local};
 use crate::stepping::{line, step};
-use crate::unit::ActiveUnit;
 use pli_code::Instruction;
+use pli_machine_activations::{
+    ActiveUnit, Machine, Stop, call, call_entry, enter_begin, return_from, return_value,
+};
 use std::alloc::{AllocError, Global};
 
 /// Performs an instruction of the newest activation's unit, and answers why the run stops there, if it does. The next
@@ -43,7 +41,7 @@ pub fn perform<'m>(
         Instruction::CallExternal { global, arguments } => {
             call_entry(alloc, unit, machine, global as usize, arguments)
         }
-        Instruction::Begin { block } => begin(alloc, unit, machine, block),
+        Instruction::Begin { block } => enter_begin(alloc, unit, machine, block),
         Instruction::Return { outward } => Ok(return_from(machine, outward)),
         Instruction::ReturnValue { outward } => return_value(alloc, machine, outward),
         Instruction::Raise(error) => Ok(Some(Stop::Raised(error))),

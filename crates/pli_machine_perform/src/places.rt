@@ -2,9 +2,9 @@
 ghost use Rattle.std.specs.Prelude.{◌≡◌, ◌&&◌, ◌≤ℤ◌, int_le, true, false, IfOk, MatchOption};
 ghost use Rattle.pli_map.specs.views.DescriptionView.{description_view};
 ghost use Rattle.pli_machine_step.specs.Machine.{fielded, subscripts};
-ghost use Rattle.pli_machine_perform.specs.views.MachineView.{Acts};
+ghost use Rattle.pli_machine_activations.specs.views.MachineView.{Acts};
 
-use crate::machine::Stop;
+use pli_machine_activations::Stop;
 use pli_machine_operate::{Operand, pop_number, pop_place, push};
 use pli_map::Description;
 use pli_run::RunError;

@@ -1,8 +1,8 @@
 //! Steps, and the statement that is being executed.
 ghost use Rattle.pli_program.specs.Program.{Step, Line};
-ghost use Rattle.pli_machine_perform.specs.views.MachineView.{Does};
+ghost use Rattle.pli_machine_activations.specs.views.MachineView.{Does};
 
-use crate::machine::{Machine, Stop};
+use pli_machine_activations::{Machine, Stop};
 
 /// Begins a statement, if a step is left.
 #[tactic(auto, unfolding(pli_world::specs::World::stepped, pli_world::specs::World::at_statement))]

@@ -4,25 +4,13 @@ ghost use Rattle.pli_machine_step.specs.Machine.{loaded, kept, copies};
 ghost use Rattle.pli_store.specs.views.StorageView.{place_view};
 ghost use Rattle.pli_value.specs.Value.{value_view};
 ghost use Rattle.pli_machine_perform.specs.views.ActView.{held_as, kept_as};
-ghost use Rattle.pli_machine_perform.specs.views.MachineView.{Works, StopsAs};
+ghost use Rattle.pli_machine_activations.specs.views.MachineView.{Works};
 
-use crate::machine::Stop;
+use pli_machine_activations::{Stop, stop_at};
 use pli_machine_operate::{Operand, pop_number, pop_place, pop_value, push};
-use pli_store::{Place, Storage, StoreFault};
+use pli_store::{Place, Storage};
 use pli_value::Value;
 use std::alloc::{AllocError, Global};
-
-/// Why a run stops where storage gives nothing.
-#[inline]
-pub fn stop_at(fault: StoreFault) -> Result<Stop, AllocError>
-    ensures { IfOk result (λ stop. StopsAs fault stop) }
-{
-    match fault {
-        StoreFault::Raised(error) => Ok(Stop::Raised(error)),
-        StoreFault::NoRule => Ok(Stop::Fault),
-        StoreFault::OutOfMemory => Err(AllocError),
-    }
-}
 
 /// Takes a place and gives what it holds. A number takes the short way.
 #[inline]

@@ -2,7 +2,7 @@ use Rattle.std.specs.Prelude.{slice_get}
 use Rattle.pli_map.specs.views.DescriptionView.{description_view}
 use Rattle.pli_program.specs.Program as op
 use Rattle.pli_code.specs.views.CodeView.{code_view}
-use Rattle.pli_machine_perform.proofs.FoundInTables.{does_found, does_none, found, none_found}
+use Rattle.pli_machine_activations.proofs.FoundInTables.{does_found, does_none, found, none_found}
 use Rattle.pli_machine_perform.proofs.instructions.field.Goals as goal
 
 pub returns-in-Some : goal.returns-in-Some

@@ -1,5 +1,5 @@
 use Rattle.std.proofs.Common.{refl, arith}
-use Rattle.pli_machine_perform.specs.views.MachineView.{world_of, frame_view, frames_of, left_of}
+use Rattle.pli_machine_activations.specs.views.MachineView.{world_of, frame_view, frames_of, left_of}
 use Rattle.pli_machine_operate.specs.views.OperandView.{stack}
 use Rattle.pli_machine_perform.proofs.WorldLemmas.{temporary_set}
 use Rattle.pli_machine_perform.proofs.keeping.set_temporary.Goals as goal

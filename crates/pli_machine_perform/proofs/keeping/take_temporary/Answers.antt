@@ -2,8 +2,8 @@ use Rattle.std.proofs.Common.{Some, sym, ap, ◌∙◌}
 use Rattle.std.specs.Prelude.{option_map}
 use Rattle.pli_machine_step.specs.Machine.{Goes, taken, with_operands}
 use Rattle.pli_value.specs.Value.{value_view}
-use Rattle.pli_machine_perform.specs.views.MachineView.{leads, frame_view, frames_of, world_of, left_of}
-use Rattle.pli_machine_perform.proofs.FoundInTables.{found}
+use Rattle.pli_machine_activations.specs.views.MachineView.{leads, frame_view, frames_of, world_of, left_of}
+use Rattle.pli_machine_activations.proofs.FoundInTables.{found}
 use Rattle.pli_machine_perform.proofs.keeping.take_temporary.Goals as goal
 
 pub returns : goal.returns

@@ -3,9 +3,9 @@ use Rattle.pli_world.specs.Storage.{without}
 use Rattle.pli_world.specs.World.{cleared}
 use Rattle.pli_store.specs.views.StorageView.{storage_view}
 use Rattle.pli_machine_step.specs.Machine.{counted_jump}
-use Rattle.pli_machine_perform.specs.views.MachineView.{leads, after, activation_view, activations_of, frame_view, frames_of, world_of, left_of}
+use Rattle.pli_machine_activations.specs.views.MachineView.{leads, after, activation_view, activations_of, frame_view, frames_of, world_of, left_of}
 use Rattle.pli_machine_operate.specs.views.OperandView.{stack}
-use Rattle.pli_machine_perform.proofs.EndLemmas.{same_world}
+use Rattle.pli_machine_activations.proofs.EndLemmas.{same_world}
 use Rattle.pli_machine_perform.proofs.landing.arrive.Goals as goal
 
 pub returns : goal.returns

@@ -1,7 +1,7 @@
 use Rattle.std.proofs.Common.{◌+◌, ◌-◌, ◌∷◌, ◌∙◌, ap, arith}
 use Rattle.pli_machine_step.specs.Machine.{given, lands}
-use Rattle.pli_machine_perform.specs.views.MachineView.{leads, frame_view, frames_of, world_of, left_of}
-use Rattle.pli_machine_perform.proofs.SlotPlaces.{height_here, height_outward, height_nowhere}
+use Rattle.pli_machine_activations.specs.views.MachineView.{leads, frame_view, frames_of, world_of, left_of}
+use Rattle.pli_machine_activations.proofs.SlotPlaces.{height_here, height_outward, height_nowhere}
 use Rattle.pli_machine_perform.proofs.landing.go_to.Goals as goal
 
 pub returns-then-outward-eq0 : goal.returns-then-outward-eq0

@@ -1,8 +1,8 @@
 use Rattle.std.proofs.Common.{suc, length, ◌∙◌, arith}
 use Rattle.std.proofs.lemmas.Bool.{ne_eqb}
-use Rattle.pli_machine_perform.specs.views.MachineView.{activations_of, frame_view, frames_of, world_of, left_of}
-use Rattle.pli_machine_perform.proofs.EndLemmas.{lands_fails}
-use Rattle.pli_machine_perform.proofs.SlotPlaces.{how_many}
+use Rattle.pli_machine_activations.specs.views.MachineView.{activations_of, frame_view, frames_of, world_of, left_of}
+use Rattle.pli_machine_activations.proofs.EndLemmas.{lands_fails}
+use Rattle.pli_machine_activations.proofs.SlotPlaces.{how_many}
 use Rattle.pli_machine_perform.proofs.landing.land.Goals as goal
 
 pub returns-then-not-leave : goal.returns-then-not-leave

@@ -1,7 +1,7 @@
 use Rattle.std.proofs.Common.{◌≡◌, ℕ, List, ◌∷◌, length}
-use Rattle.pli_machine_perform.specs.views.Image.{Image}
+use Rattle.pli_machine_activations.specs.views.Image.{Image}
 use Rattle.pli_machine_step.specs.Machine.{lands}
-use Rattle.pli_machine_perform.specs.views.MachineView.{leads, frame_view, frames_of, world_of, left_of}
+use Rattle.pli_machine_activations.specs.views.MachineView.{leads, frame_view, frames_of, world_of, left_of}
 use Rattle.pli_machine_perform.proofs.landing.land.Given as goal
 
 -- the jump leads from here where it leads from the beginning

@@ -4,8 +4,8 @@ use Rattle.std.proofs.lemmas.Result.{IfOk-weaker}
 use Rattle.pli_code.specs.Modules.{unit_of}
 use Rattle.pli_code.specs.declared.instruction.Instruction.TheVariants as coded
 use Rattle.pli_code.specs.views.CodeView.{member_view}
-use Rattle.pli_machine_perform.specs.views.ImageView.{image_of}
-use Rattle.pli_machine_perform.specs.declared.machine.Stop.TheVariants as stop
+use Rattle.pli_machine_activations.specs.views.ImageView.{image_of}
+use Rattle.pli_machine_activations.specs.declared.machine.Stop.TheVariants as stop
 use Rattle.pli_machine_perform.proofs.InstructionsDo.{one_performs, does_performs, moves_performs, same_performs}
 use Rattle.pli_machine_perform.proofs.performing.perform.Goals as goal
 
@@ -35,7 +35,7 @@ returns-in-Call c =
 
 pub returns-in-Begin : goal.returns-in-Begin
 returns-in-Begin c =
-    moves_performs (image_of c.args.unit.now.loaded.now) (member_view c.args.unit.now.linked.now) c.args.instruction (coded.Begin c.in-Begin.block) c.args.machine.now c.begin.new.machine c.begin.result c.in-Begin.is c.begin.ensures
+    moves_performs (image_of c.args.unit.now.loaded.now) (member_view c.args.unit.now.linked.now) c.args.instruction (coded.Begin c.in-Begin.block) c.args.machine.now c.enter_begin.new.machine c.enter_begin.result c.in-Begin.is c.enter_begin.ensures
 
 pub returns-in-Return : goal.returns-in-Return
 returns-in-Return c =

@@ -8,7 +8,7 @@ use Rattle.pli_world.specs.World.{World, Answer, Yields, Raises, Wrong, led_on}
 use Rattle.pli_machine_step.specs.Machine.{Operand, OfValue, AtPlace, Frame, At, given, pushes, subscripts, with_operands}
 use Rattle.pli_store.specs.views.StorageView.{place_view}
 use Rattle.pli_machine_operate.specs.views.OperandView.{stack}
-use Rattle.pli_machine_perform.specs.views.MachineView.{leads, Running}
+use Rattle.pli_machine_activations.specs.views.MachineView.{leads, Running}
 use Rattle.pli_machine_perform.proofs.places.subscript.Goals as goal
 
 -- within its bounds a subscript gives what the place is led on to

@@ -3,9 +3,9 @@ use Rattle.pli_machine_step.specs.Machine.{Operand, Frame, Goes, At, put, with_o
 use Rattle.pli_world.specs.World.{World, printed}
 use Rattle.pli_value.specs.Conversions.{bit_constant}
 use Rattle.pli_machine_operate.specs.views.OperandView.{stack}
-use Rattle.pli_machine_perform.specs.declared.machine.Machine.{Machine}
-use Rattle.pli_machine_perform.specs.views.Image.{Image}
-use Rattle.pli_machine_perform.specs.views.MachineView.{Running, leads, world_of, frame_view, frames_of, left_of}
+use Rattle.pli_machine_activations.specs.declared.machine.Machine.{Machine}
+use Rattle.pli_machine_activations.specs.views.Image.{Image}
+use Rattle.pli_machine_activations.specs.views.MachineView.{Running, leads, world_of, frame_view, frames_of, left_of}
 use Rattle.pli_machine_perform.proofs.WorldLemmas.{item_printed}
 use Rattle.pli_machine_perform.proofs.printing.put.Goals as goal
 

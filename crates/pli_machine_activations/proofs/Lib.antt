@@ -1,0 +1,16 @@
+pub mod BeginningLemmas
+pub mod DisplayLemmas
+pub mod DummyArguments
+pub mod EndLemmas
+pub mod EnteredBlocks
+pub mod FoundInTables
+pub mod GivenPlaces
+pub mod InitialValues
+pub mod LinkedUnits
+pub mod LinkLemmas
+pub mod LinkWalkLemmas
+pub mod MadeVariables
+pub mod SlotPlaces
+pub mod StateLemmas
+pub mod StaticPlaces
+pub mod StorageAnswers

@@ -1,0 +1,39 @@
+use Rattle.std.proofs.Common.{map, sym, ◌∙◌}
+use Rattle.std.proofs.lemmas.Result.{IfOk-weaker}
+use Rattle.pli_store.specs.views.StorageView.{place_view}
+use Rattle.pli_code.specs.CodeTables.{block_looked_up}
+use Rattle.pli_code.specs.views.CodeView.{code_view, block_view}
+use Rattle.pli_machine_activations.specs.views.MachineView.{frame_view, frames_of, world_of, left_of}
+use Rattle.pli_machine_operate.specs.views.OperandView.{stack}
+use Rattle.pli_machine_activations.proofs.EnteredBlocks.{called_calls, called_unlinked, called_other}
+use Rattle.pli_machine_activations.proofs.calling.call_with.Goals as goal
+
+pub returns-then-not-is_callable : goal.returns-then-not-is_callable
+returns-then-not-is_callable c = λ image put.
+    let m = c.args.machine.now in
+    let b = block_looked_up (code_view c.args.ready.now.code.now) (block_view c.args.block.now) in
+    let off = rw c.in-Some.is at c.in_ok-places.ensures in
+    called_other m.here.unit c.args.number b c.args.arguments (frame_view m.here) (frames_of m.waiting.items) (world_of image m put) (left_of m)
+    _ (map place_view c.in-Some.places.items) (stack c.pop_places.new.operands.items) off (sym c.is_callable.ensures ∙ c.if-not-is_callable.true)
+
+pub returns-in_default-link_of : goal.returns-in_default-link_of
+returns-in_default-link_of c = λ image put.
+    let m = c.args.machine.now in
+    let b = block_looked_up (code_view c.args.ready.now.code.now) (block_view c.args.block.now) in
+    let off = rw c.in-Some.is at c.in_ok-places.ensures in
+    called_unlinked m.here.unit c.args.number b c.args.arguments (frame_view m.here) (frames_of m.waiting.items) (world_of image m put) (left_of m)
+    _ (map place_view c.in-Some.places.items) (stack c.pop_places.new.operands.items) off (sym c.is_callable.ensures ∙ c.if-not-is_callable.false)
+    (c.link_of.ensures image put ∙ c.in_default-link_of.is)
+
+pub returns : goal.returns
+returns c =
+    let m = c.args.machine.now in
+    let b = block_looked_up (code_view c.args.ready.now.code.now) (block_view c.args.block.now) in
+    let off = rw c.in-Some.is at c.in_ok-places.ensures in
+    IfOk-weaker c.call_block.result _ _
+    (λ stop moves image put.
+    called_calls m.here.unit c.args.number b c.args.arguments (frame_view m.here) (frames_of m.waiting.items) (world_of image m put) (left_of m)
+    _ (map place_view c.in-Some.places.items) (stack c.pop_places.new.operands.items) off c.in-Some-link_of.link (sym c.is_callable.ensures ∙ c.if-not-is_callable.false)
+    (c.link_of.ensures image put ∙ c.in-Some-link_of.is)
+    ∙ moves image put)
+    c.call_block.ensures

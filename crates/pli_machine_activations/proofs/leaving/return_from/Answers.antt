@@ -1,0 +1,21 @@
+use Rattle.std.proofs.Common.{◌-◌, ◌+◌, ◌∙◌, arith}
+use Rattle.pli_machine_activations.proofs.EndLemmas.{returned_more, returned_fails, returned_ends}
+use Rattle.pli_machine_activations.proofs.leaving.return_from.Goals as goal
+
+pub returns-then-not-leave : goal.returns-then-not-leave
+returns-then-not-leave c = λ u image put.
+    let none = c.if-not-leave.ensures.leaves image put in
+    c.loop-ended.invariant image put
+    ∙ returned_fails (c.args.outward - c.loop-ended._ended) (c.args.outward - (c.loop-ended._ended + 1)) _ _ _ _ (omega arith) none.frames none.world
+
+pub loop-ended-preserved : goal.loop-ended-preserved
+loop-ended-preserved c = λ image put.
+    let left = c.if-not-leave.ensures.leaves image put in
+    c.loop-ended.invariant image put
+    ∙ returned_more (c.args.outward - c.loop-ended._ended) (c.args.outward - (c.loop-ended._ended + 1)) _ _ _ _ _ _ _ (omega arith) left.frames left.world left.left
+
+pub returns-else-leave : goal.returns-else-leave
+returns-else-leave c = λ u image put.
+    let none = c.if-leave.ensures.leaves image put in
+    c.loop-ended.invariant image put
+    ∙ returned_ends (c.args.outward - c.loop-ended._ended) _ _ _ _ (omega arith) none.frames none.world

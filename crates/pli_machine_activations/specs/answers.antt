@@ -1,0 +1,4 @@
+pub mod Activated
+pub mod Begun
+pub mod LaidTemplates
+pub mod Making

@@ -1,0 +1,6 @@
+pub mod ActivationView
+pub mod DisplayView
+pub mod Image
+pub mod ImageView
+pub mod MachineView
+pub mod TableView

@@ -1,0 +1,65 @@
+//! Dummy arguments.
+ghost use Rattle.std.specs.Prelude.{◌∷◌, IfOk};
+ghost use Rattle.pli_map.specs.views.DescriptionView.{description_view};
+ghost use Rattle.pli_value.specs.Value.{value_view};
+ghost use Rattle.pli_machine_step.specs.Machine.{OfValue, dummied};
+ghost use Rattle.pli_program.specs.Program.{MakeDummy};
+ghost use Rattle.pli_machine_activations.specs.views.Image.{Image};
+ghost use Rattle.pli_machine_activations.specs.views.MachineView.{Does, Moves};
+
+use crate::machine::{Machine, Stop};
+use crate::stops::stop_at;
+use pli_machine_operate::{Operand, pop_number, pop_value, push};
+use pli_map::Description;
+use pli_value::Value;
+use std::alloc::{AllocError, Global};
+
+/// Takes a value and puts the place of a dummy argument of it upon the operands. A number takes the short way.
+pub fn make_dummy<'m>(
+    alloc: Global,
+    machine: &mut Machine<'m>,
+    description: &'m Description,
+) -> Result<Option<Stop>, AllocError>
+    ensures { IfOk result (Does (MakeDummy (description_view description.now)) machine.old machine.new) }
+{
+    match pop_number(&mut machine.here.operands) {
+        Some(number) => dummy_with(alloc, machine, description, Value::Number(number)),
+        None => dummy_of_newest(alloc, machine, description),
+    }
+}
+
+/// The same of any value.
+fn dummy_of_newest<'m>(
+    alloc: Global,
+    machine: &mut Machine<'m>,
+    description: &'m Description,
+) -> Result<Option<Stop>, AllocError>
+    ensures { IfOk result (Does (MakeDummy (description_view description.now)) machine.old machine.new) }
+{
+    match pop_value(alloc, &mut machine.here.operands)? {
+        Some(value) => dummy_with(alloc, machine, description, value),
+        None => Ok(Some(Stop::Fault)),
+    }
+}
+
+/// Puts the place of a dummy argument of a value upon the operands, as MAKE_DUMMY does where the value is the newest of
+/// them.
+#[inline(always)]
+pub fn dummy_with<'m>(
+    alloc: Global,
+    machine: &mut Machine<'m>,
+    description: &'m Description,
+    value: Value,
+) -> Result<Option<Stop>, AllocError>
+    ensures { IfOk result (λ stop. (image : Image) → Moves image
+        (λ here frames w. dummied (description_view description.now) (OfValue (value_view value) ∷ here.operands) here frames w) machine.old machine.new stop) }
+{
+    match machine.storage.make_dummy(alloc, description, value) {
+        Ok(place) => {
+            machine.here.pending.push(place.generation)?;
+            push(&mut machine.here.operands, Operand::AtPlace(place))?;
+            Ok(None)
+        }
+        Err(fault) => Ok(Some(stop_at(fault)?)),
+    }
+}

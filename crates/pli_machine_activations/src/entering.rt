@@ -1,0 +1,133 @@
+//! Beginnings of activations.
+ghost use Rattle.std.specs.Prelude.{◌≡◌, ◌<◌, ℕ, List, [], ◌∷◌, map, length, replicate, None, IfOk, OnOk};
+ghost use Rattle.pli_machine_activations.specs.views.Image.{Image};
+ghost use Rattle.pli_store.specs.views.StorageView.{place_view};
+ghost use Rattle.pli_machine_step.specs.Machine.{enters, fresh};
+ghost use Rattle.pli_code.specs.CodeTables.{block_looked_up};
+ghost use Rattle.pli_code.specs.views.CodeView.{code_view, block_view};
+ghost use Rattle.pli_machine_activations.specs.answers.Activated.{HasBegun};
+ghost use Rattle.pli_machine_activations.specs.views.MachineView.{Moves, activation_view, frame_view};
+
+use crate::arguments::hand_over;
+use crate::machine::{Activation, Machine, Stop};
+use crate::ready::ReadyCode;
+use crate::spare::Room;
+use crate::stops::stop_at;
+use crate::variables::make_variables;
+use pli_code::Block;
+use pli_store::Place;
+use pli_value::Value;
+use std::alloc::{AllocError, Global};
+use std::mem;
+
+/// So many temporaries, of which none is set.
+#[inline(always)]
+fn unset(mut temporaries: Vec<Option<Value>>, count: u16) -> Result<Vec<Option<Value>>, AllocError>
+    requires { temporaries.items ≡ [] }
+    ensures { IfOk result (λ temporaries. temporaries.items ≡ replicate count None) }
+{
+    for _unset in 0..count {
+        temporaries.push(None)?;
+    }
+    Ok(temporaries)
+}
+
+/// The activation of a block before its first instruction and before its variables are made: its first slots are its
+/// arguments, it owns these generations, and has this room, in which nothing is yet.
+#[inline(always)]
+pub fn activation<'m>(
+    unit: usize,
+    number: u16,
+    block: &Block,
+    link: u32,
+    slots: Vec<Place<'m>>,
+    owned: Vec<u32>,
+    room: Room<'m>,
+) -> Result<Activation<'m>, AllocError>
+    requires operands { room.operands.items ≡ [] }
+    requires pending { room.pending.items ≡ [] }
+    requires temporaries { room.temporaries.items ≡ [] }
+    ensures { IfOk result (λ a. (frame_view a ≡ record { unit = unit; next = block.now.entry; operands = []; locals = fresh block.now.temporaries })
+        × (activation_view a ≡ record {
+          unit = unit;
+          block = number;
+          statement = block.now.statement;
+          link = link;
+          slots = map place_view slots.entry.items;
+          pending = [];
+          owned = owned.items;
+        })) }
+{
+    let Room {
+        operands,
+        pending,
+        temporaries,
+    } = room;
+    let temporaries = unset(temporaries, block.temporaries)?;
+    Ok(Activation {
+        unit,
+        block: number,
+        statement: block.statement,
+        link,
+        slots,
+        pending,
+        owned,
+        next: block.entry as usize,
+        operands,
+        temporaries,
+        jumps: 0,
+        stamp: 0,
+    })
+}
+
+/// Lets the newest activation wait, with what it hands over, and begins one of a block of a unit, whose variables are
+/// not made yet.
+#[inline(always)]
+fn begin_block<'m>(
+    alloc: Global,
+    machine: &mut Machine<'m>,
+    unit: usize,
+    number: u16,
+    block: &Block,
+    link: u32,
+    places: Vec<Place<'m>>,
+) -> Result<(), AllocError>
+    requires { length machine.old.waiting.items < 1000 }
+    ensures { OnOk result ((image : Image) (put : List ℕ) →
+        HasBegun image put unit number block.now.statement block.now.entry block.now.temporaries link (map place_view places.entry.items) machine.old machine.new) }
+{
+    let pending = mem::replace(&mut machine.here.pending, Vec::new(alloc));
+    let (handed, others) = hand_over(alloc, pending, &places)?;
+    machine.here.pending = others;
+    let room = machine.spare.take_room(alloc);
+    let new = activation(unit, number, block, link, places, handed, room)?;
+    let before = mem::replace(&mut machine.here, new);
+    machine.waiting.push(before)?;
+    machine.display.turn(&machine.waiting, link);
+    Ok(())
+}
+
+/// Enters a block of a unit, of which this is the code, while the newest activation waits. There is room for one
+/// activation more.
+#[inline(always)]
+pub fn enter<'m>(
+    alloc: Global,
+    ready: &ReadyCode<'_, 'm>,
+    machine: &mut Machine<'m>,
+    unit: usize,
+    number: u16,
+    block: &Block,
+    link: u32,
+    places: Vec<Place<'m>>,
+) -> Result<Option<Stop>, AllocError>
+    requires { length machine.old.waiting.items < 1000 }
+    ensures { IfOk result (λ stop. (image : Image) → Moves image
+        (λ here frames w. enters unit number (block_looked_up (code_view ready.now.code.now) (block_view block.now)) link (map place_view places.entry.items) (here ∷ frames) w)
+        machine.old machine.new stop) }
+{
+    begin_block(alloc, machine, unit, number, block, link, places)?;
+    match make_variables(alloc, ready, machine, &block.variables) {
+        Ok(()) => Ok(None),
+        Err(fault) => Ok(Some(stop_at(fault)?)),
+    }
+}

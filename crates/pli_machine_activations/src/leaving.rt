@@ -1,0 +1,111 @@
+//! Ends of activations.
+ghost use Rattle.std.specs.Prelude.{◌≡◌, ◌<◌, true, length, IfOk};
+ghost use Rattle.pli_machine_activations.specs.views.Image.{Image};
+ghost use Rattle.pli_value.specs.Value.{value_view};
+ghost use Rattle.pli_machine_step.specs.Machine.{returned_with};
+ghost use Rattle.pli_program.specs.Program.{Return, ReturnValue};
+ghost use Rattle.pli_machine_activations.specs.answers.Activated.{Leaves};
+ghost use Rattle.pli_machine_activations.specs.views.MachineView.{Does, Moves};
+
+use crate::machine::{Machine, Stop};
+use pli_machine_operate::{Operand, pop_number, pop_value, push};
+use pli_value::Value;
+use std::alloc::{AllocError, Global};
+use std::mem;
+
+/// Gives numbers, where there are none yet, the memory of those that have ended.
+#[inline]
+fn lend(pending: &mut Vec<u32>, ended: &mut Vec<u32>)
+    ensures { pending.new.items ≡ pending.old.items }
+{
+    if pending.is_empty() {
+        ended.clear();
+        mem::swap(pending, ended);
+    }
+}
+
+/// Ends the newest activation, where one waits for it; else the machine stays as it is.
+pub fn leave(machine: &mut Machine) -> bool
+    ensures leaves { Leaves result machine.old machine.new }
+    ensures fewer { result ≡ true → length machine.new.waiting.items < length machine.old.waiting.items }
+{
+    match machine.waiting.pop() {
+        Some(mut next) => {
+            machine.storage.end(&machine.here.pending);
+            machine.storage.end(&machine.here.owned);
+            lend(&mut next.pending, &mut machine.here.owned);
+            let ended = mem::replace(&mut machine.here, next);
+            machine.display.turn(&machine.waiting, machine.here.link);
+            machine.spare.keep(ended);
+            true
+        }
+        None => false,
+    }
+}
+
+/// Ends the newest activation and so many more.
+pub fn return_from(machine: &mut Machine, outward: u8) -> Option<Stop>
+    ensures { Does (Return outward) machine.old machine.new result }
+{
+    for _ended in 0..outward {
+        if !leave(machine) {
+            return Some(Stop::Fault);
+        }
+    }
+    if leave(machine) {
+        None
+    } else {
+        Some(Stop::Ended)
+    }
+}
+
+/// Ends the newest activation and so many more, and gives a value to the one that goes on.
+#[inline(always)]
+pub fn give_back(
+    machine: &mut Machine,
+    outward: u8,
+    value: Value,
+) -> Result<Option<Stop>, AllocError>
+    ensures { IfOk result (λ stop. (image : Image) →
+        Moves image (λ here frames w. returned_with outward (value_view value) frames w) machine.old machine.new stop) }
+{
+    for _ended in 0..outward {
+        if !leave(machine) {
+            return Ok(Some(Stop::Fault));
+        }
+    }
+    if !leave(machine) {
+        return Ok(Some(Stop::Fault));
+    }
+    push(&mut machine.here.operands, Operand::OfValue(value))?;
+    Ok(None)
+}
+
+/// Takes a value, ends the newest activation and so many more, and gives the value to the one that goes on. A number takes
+/// the short way.
+pub fn return_value(
+    alloc: Global,
+    machine: &mut Machine,
+    outward: u8,
+) -> Result<Option<Stop>, AllocError>
+    ensures { IfOk result (Does (ReturnValue outward) machine.old machine.new) }
+{
+    match pop_number(&mut machine.here.operands) {
+        Some(number) => give_back(machine, outward, Value::Number(number)),
+        None => return_newest(alloc, machine, outward),
+    }
+}
+
+/// The same of any value.
+fn return_newest(
+    alloc: Global,
+    machine: &mut Machine,
+    outward: u8,
+) -> Result<Option<Stop>, AllocError>
+    ensures { IfOk result (Does (ReturnValue outward) machine.old machine.new) }
+{
+    match pop_value(alloc, &mut machine.here.operands)? {
+        Some(value) => give_back(machine, outward, value),
+        None => Ok(Some(Stop::Fault)),
+    }
+}

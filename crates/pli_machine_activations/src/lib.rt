@@ -1,0 +1,40 @@
+//! The machine between two instructions: its activations and storage, how blocks are entered and left, and what there is
+//! before the first instruction.
+#![tactic(auto)]
+
+mod arguments;
+mod calling;
+mod display;
+mod dummies;
+mod entering;
+mod external;
+mod globals;
+mod initial;
+mod leaving;
+mod linked;
+mod loaded;
+mod machine;
+mod numbered;
+mod ready;
+mod spare;
+mod starting;
+mod stops;
+mod unit;
+mod variables;
+mod walk;
+
+pub use calling::{call, enter_begin};
+pub use dummies::{dummy_with, make_dummy};
+pub use external::call_entry;
+pub use globals::{static_place, unit_at};
+pub use initial::{initial_bytes, make_initial};
+pub use leaving::{give_back, leave, return_from, return_value};
+pub use linked::LinkedGlobal;
+pub use loaded::Loaded;
+pub use machine::{Activation, Machine, Stop};
+pub use numbered::linked_at;
+pub use starting::{Beginning, begin};
+pub use stops::stop_at;
+pub use unit::ActiveUnit;
+pub use variables::template_of;
+pub use walk::outer_place;

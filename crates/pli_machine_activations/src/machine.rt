@@ -1,0 +1,71 @@
+//! The machine: its activations, storage and output.
+ghost use Rattle.std.specs.Prelude.{◌≤◌, length};
+ghost use Rattle.pli_machine_activations.specs.views.DisplayView.{IsDisplay};
+
+use crate::display::Display;
+use crate::spare::Spare;
+use pli_machine_operate::Operand;
+use pli_run::RunError;
+use pli_store::{Place, Storage};
+use pli_value::Value;
+
+/// Why a run stops: the main procedure ended, no step is left, an error, or no rule fits.
+#[derive(Clone, Copy)]
+pub enum Stop {
+    Ended,
+    OutOfSteps,
+    Raised(RunError),
+    Fault,
+}
+
+/// An activation of a block, with what its code works on.
+#[derive(Drop)]
+pub struct Activation<'m> {
+    /// The unit's number.
+    pub unit: usize,
+    /// The block's number.
+    pub block: u16,
+    /// The statement that is being executed.
+    pub statement: u32,
+    /// The height of the activation that outer names mean, from 1 on; 0 for none.
+    pub link: u32,
+    /// Where parameters and AUTOMATIC variables are.
+    pub slots: Vec<Place<'m>>,
+    /// The generations of dummy arguments of calls that are being prepared.
+    pub pending: Vec<u32>,
+    /// The generations that end with the activation.
+    pub owned: Vec<u32>,
+    /// The next instruction.
+    pub next: usize,
+    /// The newest operand is the last.
+    pub operands: Vec<Operand<'m>>,
+    pub temporaries: Vec<Option<Value>>,
+    /// How many backward jumps were made since the step of the number `stamp`.
+    pub jumps: u32,
+    pub stamp: u64,
+}
+
+/// A run between two instructions.
+#[derive(Drop)]
+pub struct Machine<'m> {
+    /// The newest activation.
+    pub here: Activation<'m>,
+    /// The activations that wait, the newest last.
+    pub waiting: Vec<Activation<'m>>,
+    pub storage: Storage<'m>,
+    /// What is printed and not yet put.
+    pub output: Vec<u8>,
+    /// The next column, from 1 to 121.
+    pub column: u32,
+    /// How many steps were taken.
+    pub steps: u64,
+    /// How many steps may be taken.
+    pub limit: u64,
+    /// What activations have left that have ended.
+    pub(crate) spare: Spare<'m>,
+    /// Where those stand that wait and are outward from the newest one.
+    pub(crate) display: Display,
+    ghost on_line: { column ≤ 121 },
+    ghost few: { length waiting.items ≤ 1000 },
+    ghost displayed: { IsDisplay waiting.items display.link display.places.items },
+}

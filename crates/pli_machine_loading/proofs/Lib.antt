@@ -1,0 +1,4 @@
+pub mod ExternalPlaces
+pub mod LaidTables
+pub mod LinkedGlobals
+pub mod LoadingLemmas

@@ -1,0 +1,2 @@
+pub mod LoadedModules
+pub mod MadeGlobals

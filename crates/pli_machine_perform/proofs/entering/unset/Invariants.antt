@@ -1,5 +1,0 @@
-use Rattle.std.proofs.Common.{◌≡◌, None, replicate}
-use Rattle.pli_machine_perform.proofs.entering.unset.Given as goal
-
-abbrev pub invariant-loop-unset : goal.invariant-loop-unset
-invariant-loop-unset l = l.temporaries.items ≡ replicate l._unset None
