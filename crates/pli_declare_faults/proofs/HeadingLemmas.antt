@@ -9,6 +9,9 @@ use Rattle.pli_base.specs.declared.statement.Procedure.{Procedure, out-Procedure
 pub parameters_out : (p : Procedure) → (unit_view p).heading.parameters ≡ (out-Procedure p).parameters.items
 parameters_out p = ap (λ u. u.heading.parameters) (unit_out p)
 
+pub name_out : (p : Procedure) → (unit_view p).heading.name ≡ (out-Procedure p).name
+name_out p = ap (λ u. u.heading.name) (unit_out p)
+
 pub lesser_none : (code : Option Code) → lesser code None ≡ code
 lesser_none None = refl
 lesser_none (Some c) = refl

@@ -1,3 +1,4 @@
+mod AttributesMet
 mod BlocksOutwards
 mod Goodness
 mod HeadingLemmas
@@ -5,6 +6,7 @@ mod NumberLists
 mod ParametersGathered
 mod TablesOfBlocks
 mod ParameterNames
+mod MarksInBlocks
 mod MarksPassed
 mod GoodnessOfBlocks
 mod NamedUses

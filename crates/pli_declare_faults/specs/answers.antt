@@ -1,4 +1,5 @@
 pub mod Answers
 pub mod Looking
+pub mod Meeting
 pub mod Walks
 pub mod Targets

@@ -4,12 +4,10 @@ ghost use Rattle.std.specs.List.{list_any, list_all};
 ghost use Rattle.pli_declare_attributes.specs.Faults as faults;
 ghost use Rattle.pli_base.specs.views.DeclarationView.{described_view};
 ghost use Rattle.pli_base.specs.views.StatementView.{option_view, unit_view};
-ghost use Rattle.pli_declare_outline.specs.views.OutlineView.{outline_view};
-ghost use Rattle.pli_declare.specs.Resolution.{described_is_good, returned_are, names_nothing};
+ghost use Rattle.pli_declare.specs.Resolution.{returned_are, names_nothing};
 ghost use Rattle.pli_declare_variables.specs.Declarations.{returned_by};
 ghost use Rattle.pli_declare.specs.Resolution as spec;
 
-use crate::known::Known;
 use crate::least::{code_if, least};
 use pli_base::Code;
 use pli_base::declaration::{DescribedAttribute, SimpleAttribute};
@@ -110,20 +108,4 @@ pub(crate) fn returned_name_nothing(procedure: &Procedure) -> bool
         }
     }
     true
-}
-
-impl Known<'_> {
-    /// Whether the names of areas in the RETURNS of a procedure are good, where a block declares it.
-    pub(crate) fn returned_are_good(&self, block: usize, procedure: &Procedure) -> bool
-        ensures { result ≡ returned_are (list_all (described_is_good (outline_view self.now.scopes.outline.now) block)) (unit_view procedure.now).heading }
-    {
-        for option in options_of(procedure) {
-            if let ProcedureOption::Returns(attributes) = option {
-                if !self.described_are_good(block, attributes.as_slice()) {
-                    return false;
-                }
-            }
-        }
-        true
-    }
 }

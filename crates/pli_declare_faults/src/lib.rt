@@ -1,8 +1,6 @@
 //! The pass from a unit to what its names are and mean, or to the faults of its declarations.
 #![tactic(auto)]
 
-mod attributes;
-mod good;
 mod heading;
 mod item_codes;
 mod jumps;
@@ -12,6 +10,7 @@ mod lists;
 mod look_up;
 mod marks;
 mod meanings;
+mod met;
 mod names_in_attributes;
 mod parameters;
 mod resolving;

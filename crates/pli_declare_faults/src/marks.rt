@@ -145,6 +145,16 @@ fn tell_used(
     }
 }
 
+/// The marks of an outline but the first.
+pub(crate) fn marks_behind<'a, 'b>(outline: &'a Outline<'b>) -> &'a [PlacedMark<'b>]
+    ensures { marks_view result.now ≡ inner_marks (outline_view outline.now).marks }
+{
+    let Some((_first, marks)) = outline.marks.split_first() else {
+        return &outline.marks;
+    };
+    marks
+}
+
 /// The block of a region.
 pub(crate) fn block_of(outline: &Outline, nesting: &Nesting, region: usize) -> usize
     requires { nesting.now ≡ regions_view outline.now.regions.items }

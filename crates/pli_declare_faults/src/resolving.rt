@@ -2,7 +2,7 @@
 ghost use Rattle.std.specs.Prelude.{◌≡◌, ◌<◌, [], length, map, IfOk};
 ghost use Rattle.pli_base.specs.views.StatementView.{unit_view};
 ghost use Rattle.pli_declare_outline.specs.Outlines.{outline_of};
-ghost use Rattle.pli_declare_outline.specs.views.OutlineView.{outline_view, regions_view, marks_view};
+ghost use Rattle.pli_declare_outline.specs.views.OutlineView.{outline_view, regions_view};
 ghost use Rattle.pli_declare_tables.specs.Tables.{numbers_from, inner_marks, unit_entries};
 ghost use Rattle.pli_declare_tables.specs.answers.Answers.{AreOf};
 ghost use Rattle.pli_declare_variables.specs.Declarations.{declared_in};
@@ -13,17 +13,16 @@ ghost use Rattle.pli_declare.specs.views.BlockView.{block_view, AreMeanings};
 ghost use Rattle.pli_declare.specs.views.ResolvedView.{IsResolved};
 ghost use Rattle.pli_declare_faults.specs.answers.Walks.{AreParameters};
 
-use crate::attributes::named_meanings;
 use crate::meanings::meanings;
 use crate::parameters::parameters;
 use crate::scopes::Scopes;
-use crate::unit::outline_told;
+use crate::unit::{Told, outline_told};
 use pli_base::statement::Procedure;
 use pli_base::{Failure, Fault, Name};
-use pli_declare::{BlockDeclarations, Resolved, UnitMeanings, Use};
+use pli_declare::{BlockDeclarations, NamedMeanings, Resolved, UnitMeanings};
 use pli_declare_constructs::Nesting;
 use pli_declare_found::searched_tables;
-use pli_declare_outline::{Outline, PlacedMark};
+use pli_declare_outline::Outline;
 use pli_declare_tables::{Tables, owners_stand_before};
 use pli_declare_variables::{Declaration, declare};
 use std::alloc::{AllocError, Global};
@@ -73,16 +72,6 @@ fn blocks<'a>(
     Ok(blocks)
 }
 
-/// The marks of an outline but the first.
-fn marks_behind<'a, 'b>(outline: &'a Outline<'b>) -> &'a [PlacedMark<'b>]
-    ensures { marks_view result.now ≡ inner_marks (outline_view outline.now).marks }
-{
-    let Some((_first, marks)) = outline.marks.split_first() else {
-        return &outline.marks;
-    };
-    marks
-}
-
 /// What the outermost block declares: the unit's own name, where its heading has no fault.
 fn outermost<'a>(
     alloc: Global,
@@ -96,41 +85,40 @@ fn outermost<'a>(
     declare(alloc, &tables.unit.entries, &[])
 }
 
-/// What the names mean that marks declare, beside what those mean that they use.
-fn unit_meanings(
-    alloc: Global,
-    scopes: &Scopes,
-    marks: &[PlacedMark],
-    uses: &[Use],
-) -> Result<UnitMeanings, AllocError>
-    ensures uses { IfOk result (λ meanings. AreMeanings meanings.uses uses.now) }
-    ensures areas { IfOk result (λ meanings. AreMeanings meanings.named.areas (of_marks (areas_at (outline_view scopes.now.outline.now)) (marks_view marks.now))) }
-    ensures locators { IfOk result (λ meanings. AreMeanings meanings.named.locators (of_marks (locators_at (outline_view scopes.now.outline.now)) (marks_view marks.now))) }
+/// What names mean, by their tokens.
+fn unit_meanings(alloc: Global, told: &Told) -> Result<UnitMeanings, AllocError>
+    ensures uses { IfOk result (λ meanings. AreMeanings meanings.uses told.now.uses.items) }
+    ensures areas { IfOk result (λ meanings. AreMeanings meanings.named.areas told.now.areas.items) }
+    ensures locators { IfOk result (λ meanings. AreMeanings meanings.named.locators told.now.locators.items) }
 {
     Ok(UnitMeanings {
-        uses: meanings(alloc, uses)?,
-        named: named_meanings(alloc, scopes, marks)?,
+        uses: meanings(alloc, &told.uses)?,
+        named: NamedMeanings {
+            areas: meanings(alloc, &told.areas)?,
+            locators: meanings(alloc, &told.locators)?,
+        },
     })
 }
 
-/// The resolved unit of a tree without faults, by its outline and what the names mean that it uses.
+/// The resolved unit of a tree without faults, by its outline and what is told of its names.
 #[tactic(auto, unfolding(pli_declare::specs::Resolved::resolved_of))]
 fn resolved<'a>(
     alloc: Global,
     unit: &'a Procedure,
     scopes: &Scopes<'_, 'a>,
-    uses: &[Use],
+    told: &Told,
 ) -> Result<Resolved<'a>, AllocError>
     requires outlined { outline_view scopes.now.outline.now ≡ outline_of (unit_view unit.now) }
     requires faultless { outline_faults (outline_view scopes.now.outline.now) (outline_view scopes.now.outline.now).marks ≡ [] }
-    requires used { uses.now ≡ of_marks (uses_at (outline_view scopes.now.outline.now)) (inner_marks (outline_view scopes.now.outline.now).marks) }
+    requires uses { told.now.uses.items ≡ of_marks (uses_at (outline_view scopes.now.outline.now)) (inner_marks (outline_view scopes.now.outline.now).marks) }
+    requires areas { told.now.areas.items ≡ of_marks (areas_at (outline_view scopes.now.outline.now)) (inner_marks (outline_view scopes.now.outline.now).marks) }
+    requires locators { told.now.locators.items ≡ of_marks (locators_at (outline_view scopes.now.outline.now)) (inner_marks (outline_view scopes.now.outline.now).marks) }
     ensures { IfOk result (λ r. r ≡ unit.now) }
 {
-    let marks = marks_behind(scopes.outline);
     let regions = Vec::from_slice(alloc, &scopes.outline.regions)?;
     let outermost = outermost(alloc, scopes.outline, scopes.tables)?;
     let blocks = blocks(alloc, scopes.outline, scopes.tables)?;
-    let meanings = unit_meanings(alloc, scopes, marks, uses)?;
+    let meanings = unit_meanings(alloc, told)?;
     Ok(Resolved::new(unit, regions, outermost, blocks, meanings))
 }
 
@@ -157,7 +145,7 @@ fn resolve_told<'a>(
     if !told.faults.is_empty() {
         return Err(ResolveError::Fault(told.faults));
     }
-    Ok(resolved(alloc, unit, &scopes, &told.uses)?)
+    Ok(resolved(alloc, unit, &scopes, &told)?)
 }
 
 /// The resolved unit of a tree whose outline is given, or all faults of its declarations and uses: for each declared name and

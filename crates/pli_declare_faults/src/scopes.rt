@@ -2,6 +2,7 @@
 ghost use Rattle.std.specs.Prelude.{◌≡◌};
 ghost use Rattle.pli_declare_outline.specs.views.OutlineView.{outline_view, regions_view};
 ghost use Rattle.pli_declare_tables.specs.answers.Answers.{AreOf};
+ghost use Rattle.pli_declare_faults.specs.answers.Answers.{AreInBlocks};
 
 use pli_declare_constructs::Nesting;
 use pli_declare_outline::Outline;
@@ -15,4 +16,5 @@ pub(crate) struct Scopes<'s, 'a> {
     pub tables: &'s Tables<'a>,
     ghost nested: { nesting.now ≡ regions_view outline.now.regions.items },
     ghost tabled: { AreOf tables.now (outline_view outline.now) },
+    ghost placed: { AreInBlocks (outline_view outline.now) },
 }

@@ -4,8 +4,8 @@ ghost use Rattle.pli_declare_outline.specs.views.OutlineView.{outline_view, plac
 ghost use Rattle.pli_declare_tables.specs.answers.Answers.{AreOf};
 ghost use Rattle.pli_declare_tables.specs.Tables.{inner_marks};
 ghost use Rattle.pli_declare.specs.Resolution.{unit_faults, outline_faults};
-ghost use Rattle.pli_declare.specs.Resolved.{of_marks, uses_at};
-ghost use Rattle.pli_declare_faults.specs.answers.Walks.{AreCodes};
+ghost use Rattle.pli_declare.specs.Resolved.{of_marks, uses_at, areas_at, locators_at};
+ghost use Rattle.pli_declare_faults.specs.answers.Walks.{AreCodes, AreGoodness};
 
 use crate::heading::{heading_code, returned_name_nothing};
 use crate::known::Known;
@@ -19,11 +19,15 @@ use pli_declare_outline::{Mark, Outline, PlacedMark};
 use pli_declare_tables::Tables;
 use std::alloc::{AllocError, Global};
 
-/// The least code of each name of each block, of which what is known is given.
-fn codes_of_blocks(alloc: Global, known: &Known) -> Result<Vec<Vec<Option<Code>>>, AllocError>
+/// The least code of each name of each block, of which it is known whether the names in its attributes are good.
+fn codes_of_blocks(
+    alloc: Global,
+    known: &Known,
+    good: &Vec<Vec<bool>>,
+) -> Result<Vec<Vec<Option<Code>>>, AllocError>
+    requires { AreGoodness (map (λ list. list.items) good.now.items) (outline_view known.now.scopes.outline.now) }
     ensures { IfOk result (λ codes. AreCodes (map (λ list. list.items) codes.items) (outline_view known.now.scopes.outline.now)) }
 {
-    let good = known.goodness(alloc)?;
     let mut codes = Vec::new(alloc);
     for block in 0..known.scopes.outline.regions.len() + 1 {
         codes.push(known.codes_of_block(alloc, block, &good[block])?)?;
@@ -31,9 +35,18 @@ fn codes_of_blocks(alloc: Global, known: &Known) -> Result<Vec<Vec<Option<Code>>
     Ok(codes)
 }
 
-/// The least code of each name of each block.
-fn codes_of(alloc: Global, scopes: &Scopes) -> Result<Vec<Vec<Option<Code>>>, AllocError>
-    ensures { IfOk result (λ codes. AreCodes (map (λ list. list.items) codes.items) (outline_view scopes.now.outline.now)) }
+/// The least code of each name of each block; and what the areas and the locators in attributes mean, behind others.
+fn codes_of(
+    alloc: Global,
+    scopes: &Scopes,
+    areas: &mut Vec<Use>,
+    locators: &mut Vec<Use>,
+) -> Result<Vec<Vec<Option<Code>>>, AllocError>
+    ensures codes { IfOk result (λ codes. AreCodes (map (λ list. list.items) codes.items) (outline_view scopes.now.outline.now)) }
+    ensures areas { let o = outline_view scopes.now.outline.now in
+        OnOk result (areas.new.items ≡ areas.old.items ++ of_marks (areas_at o) (inner_marks o.marks)) }
+    ensures locators { let o = outline_view scopes.now.outline.now in
+        OnOk result (locators.new.items ≡ locators.old.items ++ of_marks (locators_at o) (inner_marks o.marks)) }
 {
     let parameters = parameters(alloc, scopes.outline)?;
     let judged = judged_blocks(alloc, scopes.outline, scopes.tables, &parameters)?;
@@ -41,7 +54,8 @@ fn codes_of(alloc: Global, scopes: &Scopes) -> Result<Vec<Vec<Option<Code>>>, Al
         scopes: *scopes,
         judged: &judged,
     };
-    codes_of_blocks(alloc, &known)
+    let good = known.names_in_attributes(alloc, areas, locators)?;
+    codes_of_blocks(alloc, &known, &good)
 }
 
 /// The faults of the unit's own heading, which is the first mark.
@@ -70,38 +84,66 @@ fn tell_unit(
     )
 }
 
-/// The faults of the marks of an outline, and what the names mean that they use.
+/// The faults of the marks of an outline, what the names mean that they use, and what the areas and the locators in the attributes of
+/// declared names mean, each behind others.
 fn tell_outline(
     alloc: Global,
     scopes: &Scopes,
     faults: &mut Vec<Fault>,
     uses: &mut Vec<Use>,
+    areas: &mut Vec<Use>,
+    locators: &mut Vec<Use>,
 ) -> Result<(), AllocError>
-    ensures faults { OnOk result (faults.new.items ≡ faults.old.items ++ outline_faults (outline_view scopes.now.outline.now) (outline_view scopes.now.outline.now).marks) }
-    ensures uses { OnOk result (uses.new.items ≡ uses.old.items ++ of_marks (uses_at (outline_view scopes.now.outline.now)) (inner_marks (outline_view scopes.now.outline.now).marks)) }
+    ensures faults { let o = outline_view scopes.now.outline.now in
+        OnOk result (faults.new.items ≡ faults.old.items ++ outline_faults o o.marks) }
+    ensures uses { let o = outline_view scopes.now.outline.now in
+        OnOk result (uses.new.items ≡ uses.old.items ++ of_marks (uses_at o) (inner_marks o.marks)) }
+    ensures areas { let o = outline_view scopes.now.outline.now in
+        OnOk result (areas.new.items ≡ areas.old.items ++ of_marks (areas_at o) (inner_marks o.marks)) }
+    ensures locators { let o = outline_view scopes.now.outline.now in
+        OnOk result (locators.new.items ≡ locators.old.items ++ of_marks (locators_at o) (inner_marks o.marks)) }
 {
     let Some((first, marks)) = scopes.outline.marks.split_first() else {
         return Ok(());
     };
     tell_unit(alloc, scopes.outline, scopes.tables, first, faults)?;
-    let codes = codes_of(alloc, scopes)?;
+    let codes = codes_of(alloc, scopes, areas, locators)?;
     tell_marks(alloc, scopes, &codes, marks, faults, uses)
 }
 
-/// All faults of an outline, and what each reference and the label of each GOTO means.
+/// All faults of an outline; what each reference and the label of each GOTO means; and what the areas and the locators in the
+/// attributes of declared names mean.
 #[derive(Drop)]
 pub(crate) struct Told {
     pub faults: Vec<Fault>,
     pub uses: Vec<Use>,
+    pub areas: Vec<Use>,
+    pub locators: Vec<Use>,
 }
 
 /// What is told of the marks of an outline.
 pub(crate) fn outline_told(alloc: Global, scopes: &Scopes) -> Result<Told, AllocError>
-    ensures faults { IfOk result (λ told. told.faults.items ≡ outline_faults (outline_view scopes.now.outline.now) (outline_view scopes.now.outline.now).marks) }
-    ensures uses { IfOk result (λ told. told.uses.items ≡ of_marks (uses_at (outline_view scopes.now.outline.now)) (inner_marks (outline_view scopes.now.outline.now).marks)) }
+    ensures faults { let o = outline_view scopes.now.outline.now in IfOk result (λ told. told.faults.items ≡ outline_faults o o.marks) }
+    ensures uses { let o = outline_view scopes.now.outline.now in IfOk result (λ told. told.uses.items ≡ of_marks (uses_at o) (inner_marks o.marks)) }
+    ensures areas { let o = outline_view scopes.now.outline.now in IfOk result (λ told. told.areas.items ≡ of_marks (areas_at o) (inner_marks o.marks)) }
+    ensures locators { let o = outline_view scopes.now.outline.now in IfOk result (λ told. told.locators.items ≡ of_marks (locators_at o) (inner_marks o.marks)) }
 {
     let mut faults = Vec::new(alloc);
     let mut uses = Vec::new(alloc);
-    tell_outline(alloc, scopes, &mut faults, &mut uses)?;
-    Ok(Told { faults, uses })
+    let mut areas = Vec::new(alloc);
+    let mut locators = Vec::new(alloc);
+    tell_outline(
+        alloc,
+        scopes,
+        &mut faults,
+        &mut uses,
+        &mut areas,
+        &mut locators,
+    )?;
+    Ok(Told {
+        faults,
+        uses,
+        areas,
+        locators,
+    })
 }

@@ -1,15 +1,15 @@
 -- What the functions that resolve answer.
-use Rattle.std.specs.Prelude.{◌≡◌, ℕ, ◌+◌, ◌<◌, Option, Some, None, List, [], map, length, get_or}
+use Rattle.std.specs.Prelude.{◌≡◌, ℕ, ◌+◌, ◌<◌, Option, Some, None, List, [], map, length, get_or, Contains}
 use Rattle.std.specs.List.{slice_get}
 use Rattle.pli_base.specs.Name.{Name}
-use Rattle.pli_declare_outline.specs.Outlines.{Outline}
-use Rattle.pli_declare_constructs.specs.Regions.{blocks_round}
+use Rattle.pli_declare_outline.specs.Outlines.{Outline, PlacedMark}
+use Rattle.pli_declare_constructs.specs.Regions.{blocks_round, block_of}
 use Rattle.pli_declare_scopes.specs.Scopes.{meant}
 use Rattle.pli_declare_scopes.specs.declared.found.ReferenceMeaning.TheVariants.{Item as Means}
 use Rattle.pli_declare_scopes.specs.declared.found.ReferenceMeaning.TheVariants.{Ambiguous as Several}
 use Rattle.pli_declare_scopes.specs.declared.found.ReferenceMeaning.TheVariants.{NotDeclared as Nothing}
 use Rattle.pli_declare_tables.specs.Tables.{Entry, entries_in, unit_entries, scope_of, tables_of}
-use Rattle.pli_declare_tables.specs.Tables.{numbers_from}
+use Rattle.pli_declare_tables.specs.Tables.{numbers_from, inner_marks}
 use Rattle.pli_declare_variables.specs.Judging.{all_judged}
 use Rattle.pli_declare_variables.specs.declared.judged.Judged.{Judged}
 use Rattle.pli_declare.specs.Resolution.{parameters_of}
@@ -46,3 +46,8 @@ IsLookedUp NotDeclared o region names = meant (scope_of o region) names ≡ Noth
 abbrev pub AreKnown : List (List Judged) → Outline → Type 0
 AreKnown known o =
     known ≡ map (λ b. all_judged (entries_in o b) (parameters_of o b)) (numbers_from 0 (length o.regions + 1))
+
+-- each mark behind the first stands in a block: the blocks round its region are those round that
+abbrev pub AreInBlocks : Outline → Type 0
+AreInBlocks o = (p : PlacedMark) → Contains (inner_marks o.marks) p
+    → blocks_round o.regions (block_of o.regions p.region) ≡ blocks_round o.regions p.region

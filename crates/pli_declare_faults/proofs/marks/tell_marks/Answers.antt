@@ -13,7 +13,7 @@ use Rattle.pli_declare_faults.proofs.NumberLists.{replicate_numbers, length_of_n
 use Rattle.pli_declare_faults.proofs.ParametersGathered.{marks_more}
 use Rattle.pli_declare_faults.proofs.MarksPassed.{room, marks_told, next_told, block_in, at_block, codes_within, codes_at, left_marks, all_marks}
 use Rattle.pli_declare.specs.Resolved.{uses_at}
-use Rattle.pli_declare_faults.proofs.NamedUses.{mark_passed}
+use Rattle.pli_declare_faults.proofs.NamedUses.{passed}
 use Rattle.pli_declare_faults.proofs.marks.tell_marks.Goals as goal
 
 pub loop-placed-init : goal.loop-placed-init
@@ -95,5 +95,5 @@ loop-placed-preserved c =
       told = ap (λ bs. c.tell_used.new.faults.items ++ faults_after o bs rest) front
           ∙ marks_told o before p rest all faults c.tell_declared.new.faults.items c.tell_used.new.faults.items _ e c.in_ok-tell_used.ensures.faults
           (ap (λ qs. faults ++ faults_after o before qs) (sym (left_marks ms n x lt c.placed-item.is)) ∙ c.loop-placed.invariant.told);
-      used = mark_passed (uses_at o) ms n x c.loop-placed.uses.items c.tell_used.new.uses.items _ lt c.placed-item.is c.in_ok-tell_used.ensures.uses c.loop-placed.invariant.used;
+      used = passed placed_view (λ p. uses_at o p.region p.mark) ms n x c.loop-placed.uses.items c.tell_used.new.uses.items _ lt c.placed-item.is c.in_ok-tell_used.ensures.uses c.loop-placed.invariant.used;
     }

@@ -10,7 +10,7 @@ pub index-requires : goal.index-requires
 index-requires c =
     let o = outline_view c.args.known.now.scopes.outline.now in
     let count : length c.args.known.now.scopes.outline.now.regions.items ≡ length o.regions = sym (length-map c.args.known.now.scopes.outline.now.regions.items region_view) in
-    omega (arith, count, c.loop-block-test.true, c.len-block-end.ensures, seen_length (λ v. v.items) (block_goodness o) c.in_ok-good.good.items (length o.regions + 1) c.in_ok-good.ensures)
+    omega (arith, count, c.loop-block-test.true, c.len-block-end.ensures, seen_length (λ v. v.items) (block_goodness o) c.args.good.now.items (length o.regions + 1) c.requires)
 
 pub codes_of_block-requires-clause-good : goal.codes_of_block-requires-clause-good
 codes_of_block-requires-clause-good c =
@@ -18,7 +18,7 @@ codes_of_block-requires-clause-good c =
     let count : length c.args.known.now.scopes.outline.now.regions.items ≡ length o.regions = sym (length-map c.args.known.now.scopes.outline.now.regions.items region_view) in
     let found = c.index.result.now in
     c.deref.ensures.value ∙ ap (λ v. v.items) c.index.ensures
-    ∙ seen_at (λ v. v.items) (block_goodness o) c.in_ok-good.good.items (length o.regions + 1) c.loop-block.block found c.in_ok-good.ensures (omega (arith, count, c.loop-block-test.true, c.len-block-end.ensures))
+    ∙ seen_at (λ v. v.items) (block_goodness o) c.args.good.now.items (length o.regions + 1) c.loop-block.block found c.requires (omega (arith, count, c.loop-block-test.true, c.len-block-end.ensures))
 
 pub loop-block-preserved : goal.loop-block-preserved
 loop-block-preserved c =

@@ -1,30 +1,39 @@
-use Rattle.std.proofs.Common.{◌≡◌, ◌++◌, ◌∷◌, ◌+◌, Bool, map, drop, sym, ap, ◌∙◌, append_assoc}
-use Rattle.std.specs.List.{flat_map, list_all}
-use Rattle.std.proofs.lemmas.List.{drop_more}
-use Rattle.pli_base.specs.declared.declaration.Item.{Item}
-use Rattle.pli_base.specs.views.DeclarationView.{attribute_view, item_view}
+use Rattle.std.proofs.Common.{◌++◌, map, ap, ◌∙◌}
+use Rattle.std.specs.List.{flat_map}
+use Rattle.pli_base.specs.views.DeclarationView.{item_view}
 use Rattle.pli_declare_outline.specs.views.OutlineView.{outline_view}
-use Rattle.pli_declare.specs.Resolution.{attribute_is_good}
+use Rattle.pli_declare_variables.specs.AttributeNames.{area_in, locator_in}
+use Rattle.pli_declare.specs.Resolved.{item_names, named_at}
 use Rattle.pli_declare_faults.specs.answers.Walks.{item_goodness}
+use Rattle.pli_declare_faults.proofs.AttributesMet.{first_area, first_locator, item_good, item_simple}
+use Rattle.pli_declare_faults.proofs.NamedUses.{passed}
 use Rattle.pli_declare_faults.proofs.known.Known.append_items.Goals as goal
 
 pub loop-item-preserved : goal.loop-item-preserved
 loop-item-preserved c =
     let l = c.loop-item in
-    let items = c.args.items.now in
+    let o = outline_view c.args.self.now.scopes.outline.now in
+    let b = c.args.block in
+    let all = c.args.items.now in
     let n = l.item-index in
     let x = c.item-item.result in
-    let good = attribute_is_good (outline_view c.args.self.now.scopes.outline.now) c.args.block in
-    let each = item_goodness (outline_view c.args.self.now.scopes.outline.now) c.args.block in
-    let names = c.as_slice-in-loop-item.result.now in
-    let rest = flat_map each (map item_view (drop (n + 1) items)) in
-    let answer = c.attributes_are_good-is_good.ensures ∙ ap (λ as'. list_all good (map attribute_view as')) c.as_slice.ensures.value in
-    let one : map (λ i. c.attributes_are_good-is_good.result) names ≡ each (item_view x) =
-    ap (λ (b : Bool). map (λ i. b) names) answer
-    ∙ ap (map (λ i. list_all good (map attribute_view x.attributes.items))) c.as_slice-in-loop-item.ensures.value in
-    let left : flat_map each (map item_view (drop n items)) ≡ each (item_view x) ++ rest =
-    ap (λ is. flat_map each (map item_view is)) (drop_more items n x c.loop-item-test.true ∙ ap (λ (y : Item). y ∷ drop (n + 1) items) (sym c.item-item.is)) in
-    ap (λ gs. gs ++ rest) c.in_ok-append_answer.ensures
-    ∙ append_assoc l.answers.items (map (λ i. c.attributes_are_good-is_good.result) names) rest
-    ∙ ap (λ gs. l.answers.items ++ gs) (ap (λ gs. gs ++ rest) one ∙ sym left)
-    ∙ l.invariant
+    let lt = c.loop-item-test.true in
+    let written = x.attributes.items in
+    let m = c.meet_attributes-met in
+    record {
+      answers = passed item_view (item_goodness o b) all n x l.answers.items c.append_answer.new.answers.items _ lt c.item-item.is
+          (c.in_ok-append_answer.ensures
+          ∙ ap (λ names. l.answers.items ++ map (λ i. m.result.are_good) names) c.deref.ensures.value
+          ∙ ap (λ g. l.answers.items ++ map (λ i. g) x.names.items) (m.ensures.goods ∙ ap (item_good o b) c.as_slice.ensures.value))
+          l.invariant.answers;
+      areas = passed item_view (item_names o b area_in) all n x l.areas.items c.append_first.new.uses.items _ lt c.item-item.is
+          (c.in_ok-append_first.ensures o b (area_in (item_simple o b c.as_slice.result.now)) (first_area o b m.result _ _ m.ensures)
+          ∙ ap (λ as'. l.areas.items ++ flat_map (named_at o b (area_in (item_simple o b as'))) c.deref-in-loop-item.result.now) c.as_slice.ensures.value
+          ∙ ap (λ names. l.areas.items ++ flat_map (named_at o b (area_in (item_simple o b written))) names) c.deref-in-loop-item.ensures.value)
+          l.invariant.areas;
+      locators = passed item_view (item_names o b locator_in) all n x l.locators.items c.append_first-in-loop-item.new.uses.items _ lt c.item-item.is
+          (c.in_ok-append_first-2.ensures o b (locator_in (item_simple o b c.as_slice.result.now)) (first_locator o b m.result _ _ m.ensures)
+          ∙ ap (λ as'. l.locators.items ++ flat_map (named_at o b (locator_in (item_simple o b as'))) c.deref-in-loop-item-2.result.now) c.as_slice.ensures.value
+          ∙ ap (λ names. l.locators.items ++ flat_map (named_at o b (locator_in (item_simple o b written))) names) c.deref-in-loop-item-2.ensures.value)
+          l.invariant.locators;
+    }
