@@ -1,25 +1,20 @@
-//! Tables of calls, with what they give.
+//! Calls, with what they give.
 
+mod bytes;
 mod calls;
-mod compiling;
+mod decks;
 mod devices;
-mod linking;
-mod long_sessions;
+mod exact;
 mod machine;
+mod outcome;
 mod serving;
 mod statuses;
 
-use pli_base::Name;
 use std::process::Abort;
 
 /// Fails with the number of a row of a table, unless it is as it should be.
 fn at_row(rt: &impl Abort, row: usize, is: bool) {
     assert!(rt; is, "row {row}");
-}
-
-/// The name that is spelled so.
-fn named(rt: &impl Abort, name: &str) -> Name {
-    Name::read(name.as_bytes()).expect(rt, "a name")
 }
 
 /// Calls of laws, and of worked examples of definitions.

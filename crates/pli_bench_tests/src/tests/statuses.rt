@@ -66,22 +66,30 @@ static WRONG: [(&[&str], &str); 6] = [
     ),
 ];
 
+/// Whether `go` answers so for words behind the program's name.
+fn runs_so(
+    rt: &impl Abort,
+    alloc: Global,
+    words: &[&str],
+    status: u8,
+    answers: &[u8],
+    told: &[u8],
+) -> bool {
+    let (found, text, errors) = ran(rt, alloc, words, PROGRAM);
+    found == status && text.as_slice() == answers && errors.as_slice() == told
+}
+
 #[test]
 fn statuses(rt: HostRuntime) {
     let alloc = rt.alloc();
-    let (status, text, told) = ran(&rt, alloc, &[], PROGRAM);
-    assert_eq!(rt; status, 0);
-    assert!(rt; text.as_slice() == ANSWERS);
-    assert!(rt; told.is_empty());
-    let (status, text, told) = ran(&rt, alloc, &["--steps", "1"], PROGRAM);
-    assert_eq!(rt; status, 0);
-    assert!(rt; text.as_slice() == b"OK\nOK\nBUILT\nOUT OF STEPS\n".as_slice());
-    assert!(rt; told.is_empty());
+    assert!(rt; runs_so(&rt, alloc, &[], 0, ANSWERS, b""));
+    let cut = b"OK\nOK\nBUILT\nOUT OF STEPS\n";
+    assert!(rt; runs_so(&rt, alloc, &["--steps", "1"], 0, cut, b""));
     for &(words, wanted) in &WRONG {
-        let (status, text, told) = ran(&rt, alloc, words, PROGRAM);
-        assert_eq!(rt; status, 2, "{wanted}");
-        assert!(rt; text.is_empty(), "{wanted}");
-        assert!(rt; told.as_slice() == wanted.as_bytes(), "{wanted}");
+        assert!(rt;
+            runs_so(&rt, alloc, words, 2, b"", wanted.as_bytes()),
+            "{wanted}"
+        );
     }
 }
 
@@ -95,56 +103,53 @@ fn reader_of(calls: u32) -> Pieces<'static> {
     }
 }
 
-/// The status where the devices fail after so many calls, and what was written.
-fn served_by(rt: &HostRuntime, takes: u32, puts: u32) -> (u8, Vec<u8>, bool) {
-    let alloc = rt.alloc();
+/// Whether the program ends with a status where the devices fail after so many calls, gives a front of its answers, and
+/// tells nothing.
+fn ends_so(alloc: Global, takes: u32, puts: u32, status: u8) -> bool {
     let mut reader = reader_of(takes);
     let mut writer = Kept::new(alloc, puts);
     let mut errors = Kept::new(alloc, 99);
     let words: Vec<String> = Vec::new(alloc);
-    let status = go(alloc, &words, &mut reader, &mut writer, &mut errors);
-    let Kept { bytes, .. } = writer;
-    (status, bytes, errors.bytes.is_empty())
+    let found = go(alloc, &words, &mut reader, &mut writer, &mut errors);
+    let is_whole = writer.bytes.len() == ANSWERS.len();
+    found == status
+        && errors.bytes.is_empty()
+        && ANSWERS.starts_with(writer.bytes.as_slice())
+        && (status != 0 || is_whole)
 }
 
 #[test]
 fn failing_devices(rt: HostRuntime) {
     for calls in 0..4u32 {
-        let (status, text, is_silent) = served_by(&rt, calls, 99);
-        assert_eq!(rt; status, 1, "take {calls}");
-        assert!(rt; ANSWERS.starts_with(text.as_slice()), "take {calls}");
-        assert!(rt; is_silent, "take {calls}");
-        let (status, text, is_silent) = served_by(&rt, 99, calls);
-        assert_eq!(rt; status, 1, "put {calls}");
-        assert!(rt; ANSWERS.starts_with(text.as_slice()), "put {calls}");
-        assert!(rt; is_silent, "put {calls}");
+        assert!(rt; ends_so(rt.alloc(), calls, 99, 1), "take {calls}");
+        assert!(rt; ends_so(rt.alloc(), 99, calls, 1), "put {calls}");
     }
-    let (status, text, is_silent) = served_by(&rt, 4, 9);
-    assert_eq!(rt; status, 0);
-    assert!(rt; text.as_slice() == ANSWERS);
-    assert!(rt; is_silent);
+    assert!(rt; ends_so(rt.alloc(), 4, 9, 0));
+}
+
+/// The status where at most so many reads are made.
+fn served_within(alloc: Global, reads: u64) -> u8 {
+    let mut writer = Kept::new(alloc, 99);
+    serve(alloc, 9, &mut reader_of(99), &mut writer, reads)
 }
 
 #[test]
 fn too_many_reads(rt: HostRuntime) {
-    let alloc = rt.alloc();
     for (reads, wanted) in [(0, 1), (1, 1), (3, 1), (4, 0)] {
-        let mut reader = reader_of(99);
-        let mut writer = Kept::new(alloc, 99);
-        assert_eq!(rt;
-            serve(alloc, 9, &mut reader, &mut writer, reads),
-            wanted,
-            "{reads} reads"
-        );
+        assert!(rt; served_within(rt.alloc(), reads) == wanted, "{reads} reads");
     }
+}
+
+/// Whether want of memory and wrong words have their statuses, and nothing is told where that fails.
+fn are_refused(alloc: Global) -> bool {
+    let mut errors = Kept::new(alloc, 9);
+    let usage = ArgumentsError::Usage(String::new(alloc));
+    refuse(ArgumentsError::OutOfMemory, &mut errors) == 3
+        && errors.bytes.is_empty()
+        && refuse(usage, &mut Kept::new(alloc, 0)) == 2
 }
 
 #[test]
 fn want_of_memory(rt: HostRuntime) {
-    let mut errors = Kept::new(rt.alloc(), 9);
-    assert_eq!(rt; refuse(ArgumentsError::OutOfMemory, &mut errors), 3);
-    assert!(rt; errors.bytes.is_empty());
-    let usage = ArgumentsError::Usage(String::new(rt.alloc()));
-    let mut broken = Kept::new(rt.alloc(), 0);
-    assert_eq!(rt; refuse(usage, &mut broken), 2);
+    assert!(rt; are_refused(rt.alloc()));
 }
