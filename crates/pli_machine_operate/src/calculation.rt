@@ -1,8 +1,8 @@
 //! Operations on values: operators, built-in functions and conversions.
-ghost use Rattle.std.specs.Prelude.{◌≡◌, ◌≤◌, ◌∷◌, [], pos, Result, IfOk, None, Some};
+ghost use Rattle.std.specs.Prelude.{◌≡◌, ◌≤◌, ◌∷◌, [], min, pos, Result, IfOk, None, Some};
 ghost use Rattle.pli_map.specs.views.DescriptionView.{description_view};
 ghost use Rattle.pli_operation.specs.Operations as calculate;
-ghost use Rattle.pli_operation.specs.Operations.{calculated_from, calculated_with, calculated_by, are_comparable, as_number, compared, stands, fitted_to};
+ghost use Rattle.pli_operation.specs.Operations.{calculated_from, calculated_with, calculated_by, are_comparable, as_number, compared, stands, fitted_to, widest};
 ghost use Rattle.std.specs.Option.{option_copied};
 ghost use Rattle.pli_value.specs.Numbers.{within, quotient};
 ghost use Rattle.pli_value.specs.Value as plain;
@@ -131,18 +131,17 @@ fn as_place(place: usize, _elements: usize) -> Calculation
     Calculation::Gives(Value::Number(place as i64))
 }
 
-/// A quotient of at most so many binary digits. Want of memory is answered where it has more than 64 bits.
-fn divide(left: i64, right: i64, precision: u8) -> Result<Immediate, AllocError>
-    ensures { IfOk result (λ i. immediate_view i ≡ as_number (quotient precision left right)) }
+/// A quotient of at most so many binary digits, and at most 63.
+#[inline]
+fn divide(left: i64, right: i64, precision: u8) -> Immediate
+    ensures { immediate_view result ≡ as_number (quotient (min precision widest) left right) }
 {
-    if precision <= WIDEST_PRECISION {
-        return Ok(as_number(number::divide(left, right, precision)));
-    }
-    match number::divide(left, right, WIDEST_PRECISION) {
-        Ok(number) => Ok(Immediate::Number(number)),
-        Err(Raised::ZeroDivide) => Ok(Immediate::Raises(Raised::ZeroDivide)),
-        Err(Raised::Overflow) => Err(AllocError),
-    }
+    let precision = if precision > WIDEST_PRECISION {
+        WIDEST_PRECISION
+    } else {
+        precision
+    };
+    as_number(number::divide(left, right, precision))
 }
 
 /// A number at the right of so many columns, where they hold it.
@@ -157,15 +156,18 @@ fn in_columns(alloc: Global, width: u8, number: i64) -> Result<Calculation, Allo
     }
 }
 
-/// An operation on a number. Want of memory is answered where the result has more than 64 bits, as it may only where
-/// the number has more than 31 digits.
+/// An operation on a number.
 fn of_number(alloc: Global, operation: Operation, number: i64) -> Result<Calculation, AllocError>
     ensures { IfOk result (λ c. calculation_view c ≡ calculated_from operation (plain.Number number)) }
 {
     match operation {
-        Operation::Negate if number == i64::MIN => Err(AllocError),
+        Operation::Negate if number == i64::MIN => {
+            Ok(Calculation::RaisesCondition(Raised::Overflow))
+        }
         Operation::Negate => Ok(Calculation::Gives(Value::Number(number::negate(number)))),
-        Operation::Absolute if number == i64::MIN => Err(AllocError),
+        Operation::Absolute if number == i64::MIN => {
+            Ok(Calculation::RaisesCondition(Raised::Overflow))
+        }
         Operation::Absolute => Ok(Calculation::Gives(Value::Number(number::absolute(number)))),
         Operation::Sign => Ok(Calculation::Gives(Value::Number(number::sign(number)))),
         Operation::ToCharacters { width } => in_columns(alloc, width, number),
@@ -197,7 +199,7 @@ fn of_characters(operation: Operation, text: &Vec<u8>) -> Calculation
     }
 }
 
-/// An operation on one value. Want of memory is answered also where a number has more than 64 bits.
+/// An operation on one value.
 #[tactic(auto, using(crate::proofs::LocatorLemmas::none_of_one))]
 pub fn calculate_from(
     alloc: Global,
@@ -244,7 +246,7 @@ fn fit_text(description: &Description, mut text: Vec<u8>) -> Result<Calculation,
     }
 }
 
-/// Bits fitted to a description. Want of memory is answered also where it has more than 32,767 bits.
+/// Bits fitted to a description, of at most 32,767 bits.
 fn fit_bits(
     alloc: Global,
     description: &Description,
@@ -253,7 +255,7 @@ fn fit_bits(
     ensures { IfOk result (λ c. calculation_view c ≡ fitted_to (description_view description.now) (plain.Bits bits.now)) }
 {
     match description {
-        Description::Bit(size) if *size > BIT_LIMIT => Err(AllocError),
+        Description::Bit(size) if *size > BIT_LIMIT => Ok(Calculation::OutOfString),
         Description::Bit(size) => {
             Ok(Calculation::Gives(Value::Bits(bit::fit(alloc, bits, *size as usize)?)))
         }
@@ -261,7 +263,7 @@ fn fit_bits(
     }
 }
 
-/// A value fitted to a description. Want of memory is answered also where it has more than 32,767 bits.
+/// A value fitted to a description.
 #[tactic(auto, using(crate::proofs::LocatorLemmas::none_fitted))]
 pub fn fit(
     alloc: Global,
@@ -278,7 +280,7 @@ pub fn fit(
     }
 }
 
-/// An operation on two numbers. Want of memory is answered where the result has more than 64 bits.
+/// An operation on two numbers. It takes no memory.
 #[inline]
 pub fn calculate_numbers(
     operation: Operation,
@@ -295,7 +297,7 @@ pub fn calculate_numbers(
         Operation::Modulo => Ok(as_number(number::modulo(left, right))),
         Operation::Greatest => Ok(Immediate::Number(number::greatest(left, right))),
         Operation::Least => Ok(Immediate::Number(number::least(left, right))),
-        Operation::Divide { precision } => divide(left, right, precision),
+        Operation::Divide { precision } => Ok(divide(left, right, precision)),
         Operation::Compare(relation) => Ok(Immediate::Bit(stands(
             relation,
             number::compare(left, right),
@@ -453,8 +455,7 @@ fn with_locator(operation: Operation, left: Locator, right: &Value) -> Calculati
     }
 }
 
-/// An operation on two values; the left one is extended where it may be. Want of memory is answered also where a number
-/// has more than 64 bits.
+/// An operation on two values; the left one is extended where it may be.
 pub fn calculate_with(
     alloc: Global,
     operation: Operation,

@@ -3,7 +3,7 @@
 -- as characters of so many columns. With two: `+`, `-`, `*`, DIVIDE to so many binary digits, MOD, MAX, MIN,
 -- a comparison, `||`, `&`, `|`, INDEX, and SUBSTR without a length. With three: SUBSTR; and whether a control
 -- variable has not passed its limit, with the step.
-use Rattle.std.specs.Prelude.{ℕ, nat_le, Bool, true, false, not, ℤ, pos, neg_ℤ}
+use Rattle.std.specs.Prelude.{ℕ, min, nat_le, Bool, true, false, not, ℤ, pos, neg_ℤ}
 use Rattle.std.specs.Prelude.{◌+ℤ◌, ◌-ℤ◌, ◌*ℤ◌, int_le, unsigned_abs, Result, Ok, Err, Option, Some}
 use Rattle.std.specs.Prelude.{None}
 use Rattle.std.specs.Prelude.{List, [], ◌∷◌, length, take, if◌then◌else◌}
@@ -66,6 +66,10 @@ pub data Calculation : Type 0 where
   OutOfString : Calculation
   Misfits : Calculation
 
+-- how many binary digits the number of a value has at most, whatever precision is asked for (own)
+abbrev pub widest : ℕ
+widest = 63
+
 -- a number, or the condition that is raised
 abbrev pub as_number : Result ℤ Raised → Calculation
 as_number (Ok x) = Calculates (Number x)
@@ -122,18 +126,20 @@ in_columns width x =
     if nat_le (length (signed_decimal x)) width then Calculates (Characters (number_characters width x))
     else Misfits
 
--- a value fitted to a description: a number held against its precision, a string cut or extended on the right
+-- a value fitted to a description: a number held against its precision, a string cut or extended on the right;
+-- bits have the limit of a string
 abbrev pub fitted_to : Description → Value → Calculation
 fitted_to (FixedBinary precision) (Number x) = as_number (within precision x)
 fitted_to (Character n) (Characters text) = Calculates (Characters (fitted 32 n text))
 fitted_to (Varying n) (Characters text) = Calculates (Characters (take n text))
-fitted_to (Bit n) (Bits bits) = Calculates (Bits (fitted false n bits))
+fitted_to (Bit n) (Bits bits) =
+    if nat_le n 32767 then Calculates (Bits (fitted false n bits)) else OutOfString
 fitted_to description v = Misfits
 
 -- operations on one value
 abbrev pub calculated_from : Operation → Value → Calculation
-calculated_from Negate (Number x) = Calculates (Number (neg_ℤ x))
-calculated_from Absolute (Number x) = Calculates (Number (pos (unsigned_abs x)))
+calculated_from Negate (Number x) = as_number (within widest (neg_ℤ x))
+calculated_from Absolute (Number x) = as_number (within widest (pos (unsigned_abs x)))
 calculated_from Sign (Number x) = Calculates (Number (sign_of x))
 calculated_from Not (Bits s) = Calculates (Bits (negation s))
 calculated_from LengthOf (Characters s) = Calculates (Number (pos (length s)))
@@ -147,7 +153,7 @@ abbrev pub calculated_with : (greatest : ℕ) → Operation → (left right : Va
 calculated_with n Add (Number x) (Number y) = as_number (within n (x +ℤ y))
 calculated_with n Subtract (Number x) (Number y) = as_number (within n (x -ℤ y))
 calculated_with n Multiply (Number x) (Number y) = as_number (within n (x *ℤ y))
-calculated_with n (Divide precision) (Number x) (Number y) = as_number (quotient precision x y)
+calculated_with n (Divide precision) (Number x) (Number y) = as_number (quotient (min precision widest) x y)
 calculated_with n Modulo (Number x) (Number y) = as_number (remainder x y)
 calculated_with n Greatest (Number x) (Number y) = Calculates (Number (greatest_of x y))
 calculated_with n Least (Number x) (Number y) = Calculates (Number (least_of x y))
