@@ -18,7 +18,7 @@ use Rattle.pli_world.specs.Storage.{Generation, Place, generation_in, values_fro
 use Rattle.pli_world.specs.World.{World, Answer, Yields, Raises, Wrong, further, known, single, living, unless_dead}
 use Rattle.pli_world.specs.Storage.{Block, block_at, with_block_values}
 use Rattle.pli_world.specs.World.{unless_gone, unless_replaced}
-use Rattle.pli_locators.specs.laws.Operations.{IfYields}
+use Rattle.pli_stacks.specs.laws.Operations.{IfYields}
 use Rattle.pli_area_storage.specs.Blocks.{Inhabited, room_in, place_in, end_of_blocks, with_block}
 use Rattle.pli_area_storage.specs.Blocks.{without_block, area_of, blocks_of, with_blocks}
 use Rattle.pli_area_storage.specs.InAreas.{is_whole_area, area_used, area_found, begun, put_at, allocated_in}
@@ -27,7 +27,7 @@ use Rattle.pli_area_storage.specs.laws.AreaLaws.{LeavesWorld, TakesLeast}
 use Rattle.pli_area_storage.specs.laws.AreaLaws as law
 use Rattle.pli_area_storage.proofs.AreaOperations.{allocated_there, block_of_dead, block_gone}
 use Rattle.pli_area_storage.proofs.BlocksApart.{none_left}
-use Rattle.pli_locators.proofs.YieldedAnswers.{yields_further}
+use Rattle.pli_stacks.proofs.YieldedAnswers.{yields_further}
 
 -- ---- the world stays
 

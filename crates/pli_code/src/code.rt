@@ -2,6 +2,7 @@
 use crate::instruction::Instruction;
 use pli_base::Name;
 use pli_map::Description;
+use pli_program::VariableKind;
 use pli_type_tree::InitialScalar;
 use pli_value::Value;
 
@@ -43,15 +44,6 @@ pub struct Block {
 pub struct CodedSignature {
     pub parameters: Vec<u16>,
     pub result: Option<u16>,
-}
-
-/// How generations come of a variable that is there for the whole program (X3.74).
-#[derive(Clone, Copy, Debug, PartialEq, Eq)]
-pub enum VariableKind {
-    /// One is made before the program begins.
-    Static,
-    /// ALLOCATE stacks them, and FREE removes the newest.
-    Controlled,
 }
 
 /// What a unit names that is there for the whole program.

@@ -6,7 +6,7 @@ use pli_run::RunError;
 /// An instruction of the stack machine, with numbers as wide as its bytes have them (own). Operands on its list are
 /// values and places, of which the newest is taken first. A target is the place of an instruction in its unit, counted
 /// from 0; blocks, globals, descriptions, templates and values are numbers of entries in the unit's tables. Those of
-/// based, controlled and area storage and of conditions are read and written; no code of today's language has them.
+/// based and area storage and of conditions are read and written; no code of today's language has them.
 #[derive(Clone, Copy)]
 pub enum Instruction {
     /// A step; the activation's statement is this one.
@@ -60,7 +60,7 @@ pub enum Instruction {
         outward: u8,
         slot: u16,
     },
-    /// The place of a variable that was made before the program began.
+    /// The place of a STATIC variable, or of the newest generation of a CONTROLLED one.
     Global {
         number: u16,
     },
@@ -105,7 +105,7 @@ pub enum Instruction {
     ToPointer,
     /// Takes an area's place and a pointer, and gives the offset.
     ToOffset,
-    /// Stacks a generation of a controlled variable.
+    /// Makes a generation of a CONTROLLED variable, which is its newest from then on.
     AllocateControlled {
         global: u16,
     },

@@ -12,9 +12,7 @@ mod module;
 mod numbered;
 mod operands;
 
-pub use code::{
-    Block, BlockKind, Code, CodedGlobal, CodedSignature, CodedTemplate, Deck, VariableKind,
-};
+pub use code::{Block, BlockKind, Code, CodedGlobal, CodedSignature, CodedTemplate, Deck};
 pub use decoding::decode;
 pub use encoding::encode;
 pub use fault::DeckFault;

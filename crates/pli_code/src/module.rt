@@ -2,8 +2,9 @@
 ghost use Rattle.std.specs.Prelude.{◌≡◌, map, IfOk};
 ghost use Rattle.pli_code.specs.views.CodeView.{lent_member_view, lent_module_view, member_view, module_view};
 
-use crate::code::{Deck, VariableKind};
+use crate::code::Deck;
 use pli_base::Name;
+use pli_program::VariableKind;
 use std::alloc::{AllocError, Global};
 
 /// A variable that units share, with the unit and the global of its first declaration.

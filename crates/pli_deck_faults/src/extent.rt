@@ -6,8 +6,9 @@ ghost use Rattle.pli_deck_write.specs.ModuleSpelling as spelling;
 ghost use Rattle.pli_deck_faults.specs.CutSizes.{cut_sizes, unit_sizes};
 ghost use Rattle.pli_deck_faults.specs.Remains.{Remains};
 
-use pli_code::{Code, CodedGlobal, External, Member, Module, VariableKind};
+use pli_code::{Code, CodedGlobal, External, Member, Module};
 use pli_map::{Description, far_size};
+use pli_program::VariableKind;
 use std::alloc::{AllocError, Global};
 
 /// The greatest number of instructions of a module (own).

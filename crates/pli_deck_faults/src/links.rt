@@ -5,7 +5,8 @@ ghost use Rattle.pli_code.specs.views.CodeView.{external_view, global_view, kind
 ghost use Rattle.pli_deck_write.specs.ModuleFields as module_fields;
 ghost use Rattle.pli_deck_write.specs.ModuleSpelling as spelling;
 
-use pli_code::{CodedGlobal, External, Member, Module, VariableKind};
+use pli_code::{CodedGlobal, External, Member, Module};
+use pli_program::VariableKind;
 
 /// Whether a global is of a kind of externals.
 fn has_kind(kind: VariableKind, global: &CodedGlobal) -> bool

@@ -10,12 +10,12 @@ use Rattle.pli_gen.specs.WellNumbered.{next_temporary, KeepsApart, KeepsApartFor
 use Rattle.pli_program.specs.Program as op
 use Rattle.pli_type_tree.specs.Iterations.{is_iterated}
 use Rattle.pli_type_tree.specs.TypedTree.{TypedExpression, TypedStatement, Statement, TypedStatements, NoStatement, StatementThen, NoElse, Else, TypedUnit}
-use Rattle.pli_type_tree.specs.TypedTree.{Form, Null, Assign, AssignAggregate, Put, If, Begin, Group, While, Iterate, Call, Goto, Return, ReturnValue, Stop}
+use Rattle.pli_type_tree.specs.TypedTree.{Form, Null, Assign, AssignAggregate, Put, If, Begin, Group, While, Iterate, Call, Goto, Return, ReturnValue, Stop, Allocate, Free}
 use Rattle.pli_deck_laws.specs.Limits.{parameter_limit, word_limit, IfThere}
 use Rattle.pli_deck_laws.specs.WellFormed.{IsHead, HasBlock, HasSlot, IsExpression, IsStatement, IsForm, AreStatements}
 use Rattle.pli_deck_laws.proofs.CodeGrows.{end_is_some}
 use Rattle.pli_deck_laws.proofs.KeptTemporaries.{few_temporaries}
-use Rattle.pli_deck_laws.proofs.AllowedLemmas.{AllAllowed, joined, value_allowed, place_allowed, called_allowed, skip_allowed, items_allowed, start_allowed, tests_allowed, back_allowed}
+use Rattle.pli_deck_laws.proofs.AllowedLemmas.{AllAllowed, joined, value_allowed, place_allowed, called_allowed, skip_allowed, items_allowed, allocations_allowed, freeings_allowed, start_allowed, tests_allowed, back_allowed}
 
 -- blocks of a list with numbers below a limit
 abbrev pub AreBelow : (blocks : ℕ) → List BlockTree → Type 0
@@ -89,6 +89,8 @@ module _ (globals blocks last : ℕ) (t : TypedUnit) (counted : length t.globals
     form_allowed number (ReturnValue outward value) parent used room p most n h apart inner end =
         joined globals blocks last (value_code value) (op.ReturnValue outward ∷ []) (value_allowed globals blocks last t counted named slotted value h.1) (h.0, tt)
     form_allowed number Stop parent used room p most n h apart inner end = (tt, tt)
+    form_allowed number (Allocate items) parent used room p most n h apart inner end = allocations_allowed globals blocks last t counted named slotted items h
+    form_allowed number (Free items) parent used room p most n h apart inner end = freeings_allowed globals blocks last t counted named slotted items h
 
     list_allowed : (ss : TypedStatements) (parent used room p : ℕ) → room ≤ 65535 → AreStatements t ss → KeepApart used room ss → AreBelow blocks (blocks_among parent ss)
         → behind (list_code ss p) p ≤ last → All (list_code ss p)

@@ -1,18 +1,18 @@
 -- Instructions whose numbers are within limits, and the code of expressions and of groups with a control variable.
 use Rattle.std.proofs.Common.{◌≡◌, ℕ, suc, ◌+◌, ◌<◌, ◌≤◌, Bool, true, false, Option, Some, None, List, [], ◌∷◌, ◌++◌, length, arith}
 use Rattle.std.specs.List.{AllByRecursion}
-use Rattle.pli_gen_emit.specs.TreeTranslation.{argument_count, operation_code, root_code, call_instruction, value_code, place_code, operands_code, subscripts_code, arguments_code, call_code, skip_code, items_code}
+use Rattle.pli_gen_emit.specs.TreeTranslation.{argument_count, operation_code, root_code, call_instruction, value_code, place_code, operands_code, subscripts_code, arguments_code, call_code, skip_code, items_code, allocations_code, freeings_code}
 use Rattle.pli_gen_emit.specs.TreeTranslation.{keeps_code, conversion_code, sets_code, start_code, test_against, limit_test, while_test, guarded, tests_code, counted_code, advances_code, back_code}
 use Rattle.pli_gen.proofs.SimpleCode.{all_both}
 use Rattle.pli_gen.specs.WellNumbered.{next_temporary}
 use Rattle.pli_program.specs.Program as op
 use Rattle.pli_operation.specs.declared.operation.Operation.TheVariants as calculate
 use Rattle.pli_type_tree.specs.Iterations.{kept_by, limit_number, step_number, temporaries_of}
-use Rattle.pli_type_tree.specs.TypedTree.{Root, InSlot, OfProgram, Callee, OfBlock, OfEntry, TypedExpression, Literal, TypedOperation, Fit, Operate, Held, Calculated, Called, TypedReference, Whole, Part}
+use Rattle.pli_type_tree.specs.TypedTree.{Root, InSlot, OfProgram, NewestOf, Callee, OfBlock, OfEntry, TypedExpression, Literal, TypedOperation, Fit, Operate, Held, Calculated, Called, Generations, TypedReference, Whole, Part}
 use Rattle.pli_type_tree.specs.TypedTree.{Operands, NoOperand, OperandThen, Subscripts, NoSubscript, SubscriptThen, TypedArguments, NoArgument, ByPlace, ByDummy}
-use Rattle.pli_type_tree.specs.TypedTree.{TypedRange, Once, ToBy, ByTo, Repeated, Iteration, TypedUnit}
+use Rattle.pli_type_tree.specs.TypedTree.{TypedRange, Once, ToBy, ByTo, Repeated, Iteration, TypedUnit, AllocatedItem, AllocatesControlled, FreedItem, FreesControlled}
 use Rattle.pli_deck_laws.specs.Limits.{link_limit, parameter_limit, word_limit, IfThere, IsBound, IsDescription, IsConstant, IsMade, IsOperation}
-use Rattle.pli_deck_laws.specs.WellFormed.{HasBlock, HasSlot, IsRoot, IsCallee, IsExpression, IsReference, AreOperands, AreSubscripts, AreArguments, IsRange, IsIteration}
+use Rattle.pli_deck_laws.specs.WellFormed.{HasBlock, HasSlot, IsRoot, IsCallee, IsExpression, IsReference, AreOperands, AreSubscripts, AreArguments, IsRange, IsIteration, IsAllocated, IsFreed}
 
 -- in a unit of so many globals and blocks, whose code has a last instruction
 module _ (globals blocks last : ℕ) where
@@ -40,6 +40,9 @@ module _ (globals blocks last : ℕ) where
   Allowed (op.MakeDummy d) = IsMade d
   Allowed (op.Fit d) = IsDescription d
   Allowed (op.Operate operation) = IsOperation (Operate operation)
+  Allowed (op.AllocateControlled global) = global < globals
+  Allowed (op.FreeControlled global) = global < globals
+  Allowed (op.CountGenerations global) = global < globals
   Allowed op.Put = Unit {0}
   Allowed op.Skip = Unit {0}
   Allowed (op.SetTemporary number) = number ≤ 65535
@@ -59,6 +62,7 @@ module _ (globals blocks last : ℕ) where
     root_allowed : (r : Root) → IsRoot t r → AllAllowed (root_code r)
     root_allowed (InSlot outward slot) h = ((h.0, slotted slot h.1), tt)
     root_allowed (OfProgram number) h = (there number h, tt)
+    root_allowed (NewestOf number) h = (there number h, tt)
 
     call_allowed : (callee : Callee) (n : ℕ) → IsCallee t callee → n ≤ parameter_limit → Allowed (call_instruction callee n)
     call_allowed (OfBlock block) n h k = (named block h, k)
@@ -76,6 +80,7 @@ module _ (globals blocks last : ℕ) where
       value_allowed (Called callee arguments) h =
           joined (arguments_code arguments) (call_instruction callee (argument_count arguments) ∷ []) (arguments_allowed arguments h.2)
           (call_allowed callee (argument_count arguments) h.0 h.1, tt)
+      value_allowed (Generations number) h = (there number h, tt)
 
       pub place_allowed : (r : TypedReference) → IsReference t r → AllAllowed (place_code r)
       place_allowed (Whole root) h = root_allowed root h
@@ -108,6 +113,14 @@ module _ (globals blocks last : ℕ) where
     pub items_allowed : (es : List TypedExpression) → AllByRecursion (IsExpression t) es → AllAllowed (items_code es)
     items_allowed [] h = tt
     items_allowed (e ∷ es) h = joined (value_code e) (op.Put ∷ items_code es) (value_allowed e h.0) (tt, items_allowed es h.1)
+
+    pub allocations_allowed : (items : List AllocatedItem) → AllByRecursion (IsAllocated t) items → AllAllowed (allocations_code items)
+    allocations_allowed [] h = tt
+    allocations_allowed (AllocatesControlled number ∷ items) h = (there number h.0, allocations_allowed items h.1)
+
+    pub freeings_allowed : (items : List FreedItem) → AllByRecursion (IsFreed t) items → AllAllowed (freeings_code items)
+    freeings_allowed [] h = tt
+    freeings_allowed (FreesControlled number ∷ items) h = (there number h.0, freeings_allowed items h.1)
 
     -- groups with a control variable
     keeps_allowed : (temporary : ℕ) (es : List TypedExpression) → temporary + length es ≤ 65535 → AllByRecursion (IsExpression t) es → AllAllowed (keeps_code temporary es)

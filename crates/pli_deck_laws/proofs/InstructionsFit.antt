@@ -129,6 +129,9 @@ module _ (tables : NumberedTables) (globals blocks last : ℕ) where
         record { fits = fits_short (template_number tables (dummy d)) (omega (arith, has, few_templates)); jumps = tt; names = (has, tt) }
     instruction_good (op.Fit d) h to ds ts vs = record { fits = description_fits (description_number tables d) ds.0; jumps = tt; names = (ds.0, tt) }
     instruction_good (op.Operate operation) h to ds ts vs = operation_good operation h
+    instruction_good (op.AllocateControlled number) h to ds ts vs = record { fits = global_fits number h; jumps = tt; names = (h, tt) }
+    instruction_good (op.FreeControlled number) h to ds ts vs = record { fits = global_fits number h; jumps = tt; names = (h, tt) }
+    instruction_good (op.CountGenerations number) h to ds ts vs = record { fits = global_fits number h; jumps = tt; names = (h, tt) }
     instruction_good op.Put h to ds ts vs = record { fits = refl; jumps = tt; names = tt }
     instruction_good op.Skip h to ds ts vs = record { fits = refl; jumps = tt; names = tt }
     instruction_good (op.SetTemporary number) h to ds ts vs = record { fits = fits_short number h; jumps = tt; names = tt }

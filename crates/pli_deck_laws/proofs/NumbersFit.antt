@@ -52,6 +52,9 @@ module _ (tables : NumberedTables) (globals blocks last : ℕ) (few_globals : gl
   instruction_narrow (op.ReturnValue outward) h = link outward h
   instruction_narrow (op.Local outward slot) h = both_hold (is_byte outward) (is_short slot) (link outward h.0) (short slot h.1)
   instruction_narrow (op.Global n) h = global_number n h
+  instruction_narrow (op.AllocateControlled n) h = global_number n h
+  instruction_narrow (op.FreeControlled n) h = global_number n h
+  instruction_narrow (op.CountGenerations n) h = global_number n h
   instruction_narrow (op.SetTemporary n) h = short n h
   instruction_narrow (op.TakeTemporary n) h = short n h
   instruction_narrow i h = refl

@@ -6,6 +6,7 @@ use Rattle.std.proofs.lemmas.List.{length-map}
 use Rattle.pli_map.specs.Description.{Description}
 use Rattle.pli_map.specs.Sizes.{size_of}
 use Rattle.pli_program.specs.Program as op
+use Rattle.pli_program.specs.declared.kind.VariableKind.TheVariants.{Static, Controlled}
 use Rattle.pli_type_tree.specs.Templates.{InitialScalar, Template}
 use Rattle.pli_type_tree.specs.TypedTree.{Signature, Global, OwnVariable, ExternalVariable, EntryPoint}
 use Rattle.pli_code.specs.CodeTables as code
@@ -121,8 +122,11 @@ module _ (tables : NumberedTables) (globals blocks last : ℕ) (few_descriptions
 
   global_good : (g : Global) → IsGlobal g → HasName (global_code tables g) → AllByRecursion (StandsDescription tables) (global_descriptions g) → AllByRecursion (StandsTemplate tables) (global_templates g) → GoodGlobal g
   unfolding global
-  global_good (OwnVariable t) h named ds ts = record { fits = number_fits t ts.0; names = (template_within tables t ts.0, tt) }
-  global_good (ExternalVariable n t) h named ds ts =
+  global_good (OwnVariable Static t) h named ds ts = record { fits = number_fits t ts.0; names = (template_within tables t ts.0, tt) }
+  global_good (OwnVariable Controlled t) h named ds ts = record { fits = number_fits t ts.0; names = (template_within tables t ts.0, tt) }
+  global_good (ExternalVariable n Static t) h named ds ts =
+      record { fits = fits_pair name u2 n (template_number tables t) (fits_name n named) (number_fits t ts.0); names = (template_within tables t ts.0, tt) }
+  global_good (ExternalVariable n Controlled t) h named ds ts =
       record { fits = fits_pair name u2 n (template_number tables t) (fits_name n named) (number_fits t ts.0); names = (template_within tables t ts.0, tt) }
   global_good (EntryPoint n s) h named ds ts =
       let g = signature_good s h ds in

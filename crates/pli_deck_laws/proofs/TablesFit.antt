@@ -43,13 +43,13 @@ signature_described : (s : Signature) → IsSignature s → AllByRecursion IsDes
 signature_described s h = all_both IsDescription s.parameters (there s.result) h.1 (result_described s.result h.2)
 
 global_described : (g : Global) → IsGlobal g → AllByRecursion IsDescription (global_descriptions g)
-global_described (OwnVariable t) h = (h.0.0, tt)
-global_described (ExternalVariable name t) h = (h.0.0, tt)
+global_described (OwnVariable kind t) h = (h.0.0, tt)
+global_described (ExternalVariable name kind t) h = (h.0.0, tt)
 global_described (EntryPoint name s) h = signature_described s h
 
 global_made : (g : Global) → IsGlobal g → AllByRecursion IsTemplate (global_templates g)
-global_made (OwnVariable t) h = (h, tt)
-global_made (ExternalVariable name t) h = (h, tt)
+global_made (OwnVariable kind t) h = (h, tt)
+global_made (ExternalVariable name kind t) h = (h, tt)
 global_made (EntryPoint name s) h = tt
 
 templates_described : (ts : List Template) → AllByRecursion IsTemplate ts → AllByRecursion IsDescription (map (λ t. t.description) ts)

@@ -130,6 +130,6 @@ IsSignature s =
 
 -- what a unit names that is there for the whole program
 abbrev pub IsGlobal : Global → Type 0
-IsGlobal (OwnVariable v) = IsTemplate v
-IsGlobal (ExternalVariable name v) = IsTemplate v
+IsGlobal (OwnVariable kind v) = IsTemplate v
+IsGlobal (ExternalVariable name kind v) = IsTemplate v
 IsGlobal (EntryPoint name s) = IsSignature s

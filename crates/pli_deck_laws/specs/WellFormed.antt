@@ -4,8 +4,8 @@ use Rattle.std.specs.Prelude.{ℕ, ◌+◌, ◌≤◌, ◌<◌, nat_lt, IsTrue, 
 use Rattle.std.specs.List.{flat_map, list_any, AllByRecursion}
 use Rattle.pli_gen_emit.specs.TreeTranslation.{argument_count, BlockTree, has_number, blocks_of_procedure}
 use Rattle.pli_type_tree.specs.Iterations.{temporaries_of}
-use Rattle.pli_type_tree.specs.TypedTree.{Root, InSlot, OfProgram, Callee, OfBlock, OfEntry}
-use Rattle.pli_type_tree.specs.TypedTree.{TypedExpression, Literal, Held, Calculated, Called}
+use Rattle.pli_type_tree.specs.TypedTree.{Root, InSlot, OfProgram, NewestOf, Callee, OfBlock, OfEntry}
+use Rattle.pli_type_tree.specs.TypedTree.{TypedExpression, Literal, Held, Calculated, Called, Generations}
 use Rattle.pli_type_tree.specs.TypedTree.{TypedReference, Whole, Part, Operands, NoOperand, OperandThen}
 use Rattle.pli_type_tree.specs.TypedTree.{Subscripts, NoSubscript, SubscriptThen}
 use Rattle.pli_type_tree.specs.TypedTree.{TypedArguments, NoArgument, ByPlace, ByDummy}
@@ -13,7 +13,8 @@ use Rattle.pli_type_tree.specs.TypedTree.{TypedRange, Once, ToBy, ByTo, Repeated
 use Rattle.pli_type_tree.specs.TypedTree.{TypedStatement, Statement, TypedStatements, NoStatement}
 use Rattle.pli_type_tree.specs.TypedTree.{StatementThen, OtherWise, NoElse, Else}
 use Rattle.pli_type_tree.specs.TypedTree.{Form, Null, Assign, AssignAggregate, Put, If, Begin, Group, While}
-use Rattle.pli_type_tree.specs.TypedTree.{Iterate, Call, Goto, Return, ReturnValue, Stop}
+use Rattle.pli_type_tree.specs.TypedTree.{Iterate, Call, Goto, Return, ReturnValue, Stop, Allocate, Free}
+use Rattle.pli_type_tree.specs.TypedTree.{AllocatedItem, AllocatesControlled, FreedItem, FreesControlled}
 use Rattle.pli_type_tree.specs.TypedTree.{TypedProcedure, TypedUnit}
 use Rattle.pli_deck_laws.specs.Limits.{link_limit, parameter_limit, word_limit, IfThere}
 use Rattle.pli_deck_laws.specs.Limits.{IsDescription, IsConstant, IsMade, IsTemplate, IsOperation}
@@ -74,6 +75,7 @@ module _ (t : TypedUnit) where
   abbrev pub IsRoot : Root → Type 0
   IsRoot (InSlot outward slot) = (outward ≤ link_limit) × HasSlot slot
   IsRoot (OfProgram number) = HasGlobal number
+  IsRoot (NewestOf number) = HasGlobal number
 
   -- what is called is the unit's
   abbrev pub IsCallee : Callee → Type 0
@@ -88,6 +90,7 @@ module _ (t : TypedUnit) where
     IsExpression (Calculated operation operands) = IsOperation operation × AreOperands operands
     IsExpression (Called callee arguments) =
         IsCallee callee × (argument_count arguments ≤ parameter_limit) × AreArguments arguments
+    IsExpression (Generations number) = HasGlobal number
 
     -- a reference
     pub IsReference : TypedReference → Type 0
@@ -124,6 +127,14 @@ module _ (t : TypedUnit) where
       IsReference i.control × AllByRecursion IsOperation i.conversion × IsExpression i.start
       × IsRange i.range × IfThere IsExpression i.condition
 
+  -- an item of ALLOCATE is of a global of the unit
+  abbrev pub IsAllocated : AllocatedItem → Type 0
+  IsAllocated (AllocatesControlled number) = HasGlobal number
+
+  -- an item of FREE is
+  abbrev pub IsFreed : FreedItem → Type 0
+  IsFreed (FreesControlled number) = HasGlobal number
+
   -- statements
   abbrev mutual
     pub IsStatement : TypedStatement → Type 0
@@ -147,6 +158,8 @@ module _ (t : TypedUnit) where
     IsForm (Return outward) = outward ≤ link_limit
     IsForm (ReturnValue outward e) = (outward ≤ link_limit) × IsExpression e
     IsForm Stop = Unit {0}
+    IsForm (Allocate items) = AllByRecursion IsAllocated items
+    IsForm (Free items) = AllByRecursion IsFreed items
 
     -- an ELSE
     pub IsElse : OtherWise → Type 0

@@ -16,8 +16,9 @@ use crate::tables::numbers_of;
 use crate::whole::behind;
 use pli_base::Name;
 use pli_code::fields::{byte_of, byte_within, short_of, word_of};
-use pli_code::{CodedGlobal, Deck, DeckFault, External, Member, Module, VariableKind};
+use pli_code::{CodedGlobal, Deck, DeckFault, External, Member, Module};
 use pli_deck_faults::is_external;
+use pli_program::VariableKind;
 use std::alloc::Global;
 use std::cmp::Ordering;
 

@@ -13,9 +13,8 @@ use crate::reading::{
     ReadsOne, count_within, list_at, many_of, name_text_of, optional_of, upper_name,
 };
 use pli_code::fields::{byte_of, byte_within, short_of, word_of};
-use pli_code::{
-    Block, BlockKind, CodedGlobal, CodedSignature, DeckFault, Instruction, VariableKind, decode,
-};
+use pli_code::{Block, BlockKind, CodedGlobal, CodedSignature, DeckFault, Instruction, decode};
+use pli_program::VariableKind;
 use std::alloc::Global;
 
 /// Reads a number of two bytes.

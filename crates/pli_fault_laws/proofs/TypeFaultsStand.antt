@@ -1,16 +1,18 @@
 -- The faults of types of a unit stand at tokens of its text.
-use Rattle.std.proofs.Common.{◌≡◌, ℕ, ◌<◌, Bool, true, false, Option, Some, None, List, [], ◌∷◌, ◌++◌, Result, Ok, Err, length, subst, arith}
+use Rattle.std.proofs.Common.{◌≡◌, ℕ, ◌<◌, nat_lt, if◌then◌else◌, Bool, true, false, Option, Some, None, List, [], ◌∷◌, ◌++◌, Result, Ok, Err, length, subst, arith}
 use Rattle.pli_base.specs.Statements as tree
-use Rattle.pli_base.specs.Statements.{Statement, Numbered, Body, Statements, Ended, Before, Alternative}
+use Rattle.pli_base.specs.Statements.{Allocation, Statement, Numbered, Body, Statements, Ended, Before, Alternative}
+use Rattle.pli_base.specs.Syntax as syntax
 use Rattle.pli_base.specs.Syntax.{Expression, Referred, Reference, Named, Arguments, Absent, Given}
-use Rattle.pli_base.specs.TreeTokens.{tokens_of_each, tokens_of_some, name_tokens, expression_tokens, reference_tokens, argument_tokens, range_tokens, control_tokens, statement_tokens, begun_tokens, statements_tokens, alternative_tokens, unit_tokens}
+use Rattle.pli_base.specs.TreeTokens.{tokens_of_each, tokens_of_some, name_tokens, expression_tokens, reference_tokens, argument_tokens, range_tokens, control_tokens, placed_tokens, allocation_tokens, statement_tokens, begun_tokens, statements_tokens, alternative_tokens, unit_tokens}
 use Rattle.pli_base.specs.Words.{Tokens}
 use Rattle.pli_base.specs.FaultPlaces.{StandsAtToken}
-use Rattle.pli_base.specs.declared.code.Code.TheVariants.{WrongOperandType, CannotAssign, CannotPrint, NotYetBuilt}
+use Rattle.pli_base.specs.declared.code.Code.TheVariants.{WrongOperandType, CannotAssign, CannotPrint, CannotAllocateOrFree, NotYetBuilt}
 use Rattle.pli_base.specs.declared.syntax.Identifier.{Identifier}
 use Rattle.pli_base.specs.declared.token.Fault.{Fault}
 use Rattle.pli_map.specs.Description.{Description}
 use Rattle.pli_parse.proofs.StatementTokens.{unit_read_rises}
+use Rattle.pli_type.specs.AllocationTyping.{in_turn, only_variable, place_given, allocated, freed}
 use Rattle.pli_type.specs.Checked.{checked, unless_unbuilt, typed_as}
 use Rattle.pli_type.specs.ExpressionTypes.{TypedValue}
 use Rattle.pli_type.specs.FunctionCalls.{Denoted, DenotesVariable, DenotesResult, Meant, OneValue, WholeAggregate, Argument}
@@ -147,6 +149,65 @@ only_repeat high n d kept (Some (tree.Repeat next)) h =
     only_then high _ _ (only_value_of high n next h)
     (λ v. only_then high _ _ (only_or high CannotAssign (first_token next) _ (first_below high next h)) (λ x. fine high _))
 
+in_turn_stands : (high : ℕ) {A B : Type 0} (tokens : A → List ℕ) (each : A → Result B Fault)
+    → ((x : A) → Below high (tokens x) → Only high (each x)) → (xs : List A) → Below high (tokens_of_each tokens xs)
+    → Only high (in_turn each xs)
+in_turn_stands high tokens each stands [] h = fine high _
+in_turn_stands high tokens each stands (x ∷ xs) h =
+    only_then high _ _ (stands x (below_left high (tokens x) (tokens_of_each tokens xs) h))
+    (λ y. only_then high _ _ (in_turn_stands high tokens each stands xs (below_right high (tokens x) (tokens_of_each tokens xs) h))
+    (λ ys. fine high _))
+
+started_below : (high : ℕ) (r : Reference) → Below high (reference_tokens r) → syntax.first_token r < high
+started_below high (Named name arguments more) h = h.0
+
+only_a_variable : (high at : ℕ) (d : Denoted) → at < high → Only high (only_variable at d)
+only_a_variable high at (DenotesVariable r) h = fine high _
+only_a_variable high at (DenotesResult value) h = told high _ _ h
+
+only_place : (high : ℕ) (n : Naming) (o : Option Reference) → Below high (tokens_of_some reference_tokens o)
+    → Only high (place_given n o)
+only_place high n None h = fine high _
+only_place high n (Some reference) h =
+    only_then high _ _ (only_referred high n AsLocator reference h)
+    (λ d. only_then high _ _ (only_a_variable high _ d (started_below high reference h)) (λ r. fine high _))
+
+-- IN and SET stand in either order
+both_below : (high : ℕ) (area target : Option Reference) → Below high (placed_tokens area target)
+    → Below high (tokens_of_some reference_tokens area) × Below high (tokens_of_some reference_tokens target)
+both_below high None None h = (tt, tt)
+both_below high None (Some target) h = (tt, h)
+both_below high (Some area) None h = (below_left high (reference_tokens area) [] h, tt)
+both_below high (Some area) (Some target) h = by (nat_lt (syntax.first_token area) (syntax.first_token target)) h
+  where
+    by : (b : Bool) → Below high (if b then reference_tokens area ++ reference_tokens target else reference_tokens target ++ reference_tokens area)
+        → Below high (reference_tokens area) × Below high (reference_tokens target)
+    by true k = (below_left high (reference_tokens area) (reference_tokens target) k, below_right high (reference_tokens area) (reference_tokens target) k)
+    by false k = (below_right high (reference_tokens target) (reference_tokens area) k, below_left high (reference_tokens target) (reference_tokens area) k)
+
+only_allocated : (high : ℕ) (n : Naming) (a : Allocation) → Below high (allocation_tokens a) → Only high (allocated n a)
+only_allocated high n a h =
+    let both = both_below high a.area a.target h.1 in
+    only_then high _ _ (only_place high n a.area both.0)
+    (λ area. only_then high _ _ (only_place high n a.target both.1) (λ target. only_or high CannotAllocateOrFree a.name.at _ h.0))
+
+only_freed : (high : ℕ) (n : Naming) (reference : Reference) → Below high (reference_tokens reference)
+    → Only high (freed n reference)
+only_freed high n reference h =
+    let first = started_below high reference h in
+    only_then high _ _ (only_referred high n AsTarget reference h)
+    (λ d. only_then high _ _ (only_a_variable high _ d first) (λ r. only_or high CannotAllocateOrFree _ _ first))
+
+only_allocate : (high : ℕ) (n : Naming) (list : List Allocation) → Below high (tokens_of_each allocation_tokens list)
+    → Only high (statements.allocate_typed n list)
+only_allocate high n list h =
+    only_then high _ _ (in_turn_stands high allocation_tokens (allocated n) (only_allocated high n) list h) (λ xs. fine high _)
+
+only_free : (high : ℕ) (n : Naming) (list : List Reference) → Below high (tokens_of_each reference_tokens list)
+    → Only high (statements.free_typed n list)
+only_free high n list h =
+    only_then high _ _ (in_turn_stands high reference_tokens (freed n) (only_freed high n) list h) (λ xs. fine high _)
+
 reference_below : (high : ℕ) (r : Reference) → Below high (reference_tokens r) → first_token (Referred r) < high
 reference_below high (Named name arguments more) h = h.0
 
@@ -269,6 +330,10 @@ mutual
       told_own high _ (only_return high (statements.naming_at u s) s at value a h.1)
   told_body high u s x number label at (tree.Put skip printed_items) b a h =
       told_made high _ _ (told_own high _ (only_items high (statements.naming_at u s) printed_items h.1))
+  told_body high u s x number label at (tree.Allocate list) b a h =
+      told_own high _ (only_allocate high (statements.naming_at u s) list h.1)
+  told_body high u s x number label at (tree.Free list) b a h =
+      told_own high _ (only_free high (statements.naming_at u s) list h.1)
   told_body high u s x number label at other b a h = told_own high _ (told high _ _ a)
 
   told_alternative : (high : ℕ) (u : NamedUnit) (s : statements.Surroundings) (x : Next) (o : Alternative) → ElseBegins o

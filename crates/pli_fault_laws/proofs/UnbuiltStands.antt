@@ -101,8 +101,8 @@ mutual
   body_below n high label at first (tree.On condition unit) b f l h = some_below high first f
   body_below n high label at first (tree.Revert condition) b f l h = some_below high first f
   body_below n high label at first (tree.Signal condition) b f l h = some_below high first f
-  body_below n high label at first (tree.Allocate allocations) b f l h = some_below high first f
-  body_below n high label at first (tree.Free references) b f l h = some_below high first f
+  body_below n high label at first (tree.Allocate allocations) b f l h = if_below high _ first f
+  body_below n high label at first (tree.Free references) b f l h = if_below high _ first f
 
   list_below : (n : Compiled) (high : ℕ) (ss : Statements) → AllBegin ss → Below high (statements_tokens ss) → AtBelow high (later_statements n ss)
   list_below n high Ended b h = none_below high

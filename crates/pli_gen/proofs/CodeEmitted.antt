@@ -180,6 +180,9 @@ module _ (t : NumberedTables) (place : ℕ → ℕ) where
     whole (op.MakeDummy d) h f =
         let k = number_within same_template t.templates (dummy d) in ap coded.MakeDummy (cut _ (omega (arith, k, few_templates)))
     whole (op.Constant v) h f = let k = number_within same_value t.values v in ap coded.Constant (cut _ (omega (arith, k, few_values)))
+    whole (op.AllocateControlled global) h f = ap coded.AllocateControlled (cut_short global f)
+    whole (op.FreeControlled global) h f = ap coded.FreeControlled (cut_short global f)
+    whole (op.CountGenerations global) h f = ap coded.CountGenerations (cut_short global f)
     whole (op.SetTemporary number) h f = ap coded.SetTemporary (cut_short number f)
     whole (op.TakeTemporary number) h f = ap coded.TakeTemporary (cut_short number f)
     whole op.Nothing h f = absurd h

@@ -3,10 +3,11 @@ use Rattle.std.proofs.Common.{◌≡◌, ℕ, suc, nat_eq, if◌then◌else◌, 
 use Rattle.std.specs.List.{AllByRecursion}
 use Rattle.pli_program.specs.Program as op
 use Rattle.pli_type_tree.specs.TypedTree.{Callee, OfBlock, OfEntry}
-use Rattle.pli_type_tree.specs.TypedTree.{Root, InSlot, OfProgram, TypedOperation, Fit, Operate, TypedExpression, Literal, Held, Calculated, Called, TypedReference, Whole, Part}
+use Rattle.pli_type_tree.specs.TypedTree.{Root, InSlot, OfProgram, NewestOf, TypedOperation, Fit, Operate, TypedExpression, Literal, Held, Calculated, Called, Generations, TypedReference, Whole, Part}
 use Rattle.pli_type_tree.specs.TypedTree.{Operands, NoOperand, OperandThen, Subscripts, NoSubscript, SubscriptThen, TypedArguments, NoArgument, ByPlace, ByDummy}
-use Rattle.pli_type_tree.specs.TypedTree.{Form, Null, Assign, AssignAggregate, Put, If, Begin, Group, While, Iterate, Call, Goto, Return, ReturnValue, Stop}
-use Rattle.pli_gen_emit.specs.TreeTranslation.{argument_count, root_code, call_instruction, operation_code, value_code, place_code, operands_code, subscripts_code, arguments_code, skip_code, items_code, behind}
+use Rattle.pli_type_tree.specs.TypedTree.{Form, Null, Assign, AssignAggregate, Put, If, Begin, Group, While, Iterate, Call, Goto, Return, ReturnValue, Stop, Allocate, Free}
+use Rattle.pli_type_tree.specs.TypedTree.{AllocatedItem, AllocatesControlled, FreedItem, FreesControlled}
+use Rattle.pli_gen_emit.specs.TreeTranslation.{argument_count, root_code, call_instruction, operation_code, value_code, place_code, operands_code, subscripts_code, arguments_code, skip_code, items_code, allocations_code, freeings_code, behind}
 use Rattle.pli_gen_emit.specs.answers.Pieces.{simple_code}
 use Rattle.pli_gen_emit.specs.answers.Instructions.{step_place}
 use Rattle.pli_gen.specs.answers.Pieces.{Fits}
@@ -33,6 +34,7 @@ simple_both xs ys h k = all_both IsSimple xs ys h k
 root_simple : (r : Root) → AllSimple (root_code r)
 root_simple (InSlot outward slot) = (tt, tt)
 root_simple (OfProgram number) = (tt, tt)
+root_simple (NewestOf number) = (tt, tt)
 
 call_simple : (callee : Callee) (arguments : ℕ) → IsSimple (call_instruction callee arguments)
 call_simple (OfBlock block) arguments = tt
@@ -50,6 +52,7 @@ mutual
   value_simple (Called callee arguments) =
       let count = argument_count arguments in
       simple_both (arguments_code arguments) (call_instruction callee count ∷ []) (arguments_simple arguments) (call_simple callee count, tt)
+  value_simple (Generations number) = (tt, tt)
 
   pub place_simple : (r : TypedReference) → AllSimple (place_code r)
   place_simple (Whole root) = root_simple root
@@ -75,6 +78,14 @@ items_simple : (es : List TypedExpression) → AllSimple (items_code es)
 items_simple [] = tt
 items_simple (e ∷ es) = simple_both (value_code e) (op.Put ∷ items_code es) (value_simple e) (tt, items_simple es)
 
+allocations_simple : (items : List AllocatedItem) → AllSimple (allocations_code items)
+allocations_simple [] = tt
+allocations_simple (AllocatesControlled number ∷ items) = (tt, allocations_simple items)
+
+freeings_simple : (items : List FreedItem) → AllSimple (freeings_code items)
+freeings_simple [] = tt
+freeings_simple (FreesControlled number ∷ items) = (tt, freeings_simple items)
+
 skip_simple : (b : Bool) → AllSimple (skip_code b)
 skip_simple true = (tt, tt)
 skip_simple false = tt
@@ -93,6 +104,8 @@ form_simple (Begin head statements) = (tt, tt)
 form_simple (Goto outward label) = (tt, tt)
 form_simple (Return outward) = (tt, tt)
 form_simple Stop = (tt, tt)
+form_simple (Allocate items) = allocations_simple items
+form_simple (Free items) = freeings_simple items
 form_simple Null = tt
 form_simple (If condition consequence alternative) = tt
 form_simple (Group statements) = tt

@@ -60,13 +60,13 @@ module _ (tables : NumberedTables) (u : TypedUnit) (bs : List BlockTree) (code :
   globals_there : (gs : List Global) (links : List ℕ) → AllByRecursion InTables (flat_map global_templates gs)
       → globals_linked c (map (global_code tables) gs) links ≡ globals_code gs links
   globals_there [] links h = refl
-  globals_there (OwnVariable t ∷ gs) links h =
-      ap (λ o. global_before c (option_map op.OwnVariable (option_map variable_of o)) (globals_linked c (map (global_code tables) gs) links)) (template_there t h.0.0 h.0.1)
-      ∙ ap (λ gs. op.OwnVariable (variable_of t) ∷ gs) (globals_there gs links h.1)
-  globals_there (ExternalVariable name t ∷ gs) [] h = globals_there gs [] h.1
-  globals_there (ExternalVariable name t ∷ gs) (link ∷ links) h =
-      ap (λ o. global_before c (option_map (op.ExternalVariable link) (option_map variable_of o)) (globals_linked c (map (global_code tables) gs) links)) (template_there t h.0.0 h.0.1)
-      ∙ ap (λ gs. op.ExternalVariable link (variable_of t) ∷ gs) (globals_there gs links h.1)
+  globals_there (OwnVariable kind t ∷ gs) links h =
+      ap (λ o. global_before c (option_map (op.OwnVariable kind) (option_map variable_of o)) (globals_linked c (map (global_code tables) gs) links)) (template_there t h.0.0 h.0.1)
+      ∙ ap (λ gs. op.OwnVariable kind (variable_of t) ∷ gs) (globals_there gs links h.1)
+  globals_there (ExternalVariable name kind t ∷ gs) [] h = globals_there gs [] h.1
+  globals_there (ExternalVariable name kind t ∷ gs) (link ∷ links) h =
+      ap (λ o. global_before c (option_map (op.ExternalVariable link kind) (option_map variable_of o)) (globals_linked c (map (global_code tables) gs) links)) (template_there t h.0.0 h.0.1)
+      ∙ ap (λ gs. op.ExternalVariable link kind (variable_of t) ∷ gs) (globals_there gs links h.1)
   globals_there (EntryPoint name s ∷ gs) [] h = globals_there gs [] h
   globals_there (EntryPoint name s ∷ gs) (link ∷ links) h = ap (λ gs. op.EntryPoint link ∷ gs) (globals_there gs links h)
 

@@ -50,8 +50,8 @@ module _ (ds : List Description) where
   pub globals_described : (gs : List Global) → AllByRecursion (Has same same_decides ds) (flat_map global_descriptions gs)
       → AllByRecursion (Has same same_decides ds) (map (λ t. t.description) (flat_map global_templates gs))
   globals_described [] h = tt
-  globals_described (OwnVariable t ∷ gs) h = (h.0, globals_described gs h.1)
-  globals_described (ExternalVariable name t ∷ gs) h = (h.0, globals_described gs h.1)
+  globals_described (OwnVariable kind t ∷ gs) h = (h.0, globals_described gs h.1)
+  globals_described (ExternalVariable name kind t ∷ gs) h = (h.0, globals_described gs h.1)
   globals_described (EntryPoint name s ∷ gs) h =
       globals_described gs (all_back (Has same same_decides ds) (signature_descriptions s) (flat_map global_descriptions gs) h)
 

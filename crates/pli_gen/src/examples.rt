@@ -4,9 +4,10 @@ ghost use Rattle.pli_gen.specs.examples.TranslationExamples.{ArgumentsHanded, Ag
 ghost use Rattle.pli_gen.specs.examples.TranslationExamples.{JumpsAndBlocks, WholeUnit, NumberedWell};
 ghost use Rattle.pli_gen.specs.examples.TranslationExamples.{TablesNumbered, InstructionsNumbered, LimitsKept};
 ghost use Rattle.pli_gen.specs.examples.TranslationExamples.{GlobalsNumbered, EntriesCalled, EntriesLinked};
+ghost use Rattle.pli_gen.specs.examples.TranslationExamples.{GenerationsStacked, ControlledLinked};
 
 /// Worked examples: an assignment and PUT; a reference with subscripts; a call; an aggregate; a group with a control
-/// variable; jumps between blocks; tables; globals and calls of entries.
+/// variable; jumps between blocks; tables; globals and calls of entries; ALLOCATE, FREE and ALLOCATION.
 pub fn worked_examples()
     ensures assigned_and_printed { AssignedAndPrinted }
     ensures part_of_structure { PartOfStructure }
@@ -22,4 +23,6 @@ pub fn worked_examples()
     ensures globals_numbered { GlobalsNumbered }
     ensures entries_called { EntriesCalled }
     ensures entries_linked { EntriesLinked }
+    ensures generations_stacked { GenerationsStacked }
+    ensures controlled_linked { ControlledLinked }
 {}

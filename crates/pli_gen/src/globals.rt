@@ -4,15 +4,15 @@ ghost use Rattle.pli_map.specs.views.DescriptionView.{description_view};
 ghost use Rattle.pli_type_tree.specs.views.GlobalView.{signature_view, global_group_view, globals_view};
 ghost use Rattle.pli_code.specs.CodeTables as plain;
 ghost use Rattle.pli_code.specs.views.CodeView.{global_view};
-ghost use Rattle.pli_code.specs.declared.code.VariableKind.TheVariants.{Static};
 ghost use Rattle.pli_gen_emit.specs.Encoding.{description_number, signature_code, global_code};
 ghost use Rattle.pli_gen_emit.specs.views.TableView.{tables_view};
 
 use crate::numbers::Numbers;
 use pli_base::Name;
-use pli_code::{CodedGlobal, CodedSignature, VariableKind};
+use pli_code::{CodedGlobal, CodedSignature};
 use pli_gen_emit::template_key;
 use pli_map::Description;
+use pli_program::VariableKind;
 use pli_type_tree::{GlobalGroup, Signature};
 use std::alloc::{AllocError, Global};
 
@@ -46,16 +46,18 @@ pub(crate) fn result_number<'a>(
 }
 
 /// Appends so many variables of the unit's own.
-fn put_own(globals: &mut Vec<CodedGlobal>, template: u16, count: usize) -> Result<(), AllocError>
+fn put_own(
+    globals: &mut Vec<CodedGlobal>,
+    kind: VariableKind,
+    template: u16,
+    count: usize,
+) -> Result<(), AllocError>
     ensures { OnOk result
         (map global_view globals.new.items
-        ≡ map global_view globals.old.items ++ replicate count (plain.OwnVariable Static template)) }
+        ≡ map global_view globals.old.items ++ replicate count (plain.OwnVariable kind template)) }
 {
     for _ in 0..count {
-        globals.push(CodedGlobal::OwnVariable {
-            kind: VariableKind::Static,
-            template,
-        })?;
+        globals.push(CodedGlobal::OwnVariable { kind, template })?;
     }
     Ok(())
 }
@@ -64,16 +66,17 @@ fn put_own(globals: &mut Vec<CodedGlobal>, template: u16, count: usize) -> Resul
 fn put_external(
     globals: &mut Vec<CodedGlobal>,
     names: &[Name],
+    kind: VariableKind,
     template: u16,
 ) -> Result<(), AllocError>
     ensures { OnOk result
         (map global_view globals.new.items
-        ≡ map global_view globals.old.items ++ map (λ name. plain.ExternalVariable name Static template) names.now) }
+        ≡ map global_view globals.old.items ++ map (λ name. plain.ExternalVariable name kind template) names.now) }
 {
     for name in names {
         globals.push(CodedGlobal::ExternalVariable {
             name: *name,
-            kind: VariableKind::Static,
+            kind,
             template,
         })?;
     }
@@ -152,13 +155,17 @@ fn encode_group<'a>(
         ≡ map global_view globals.old.items ++ map code (global_group_view group.now)) }
 {
     match group {
-        GlobalGroup::OwnVariables(variables) => {
+        GlobalGroup::OwnVariables { kind, variables } => {
             let number = numbers.template(template_key(&variables.template));
-            put_own(globals, number, variables.count)
+            put_own(globals, *kind, number, variables.count)
         }
-        GlobalGroup::ExternalVariables { names, template } => {
+        GlobalGroup::ExternalVariables {
+            names,
+            kind,
+            template,
+        } => {
             let number = numbers.template(template_key(template));
-            put_external(globals, names.as_slice(), number)
+            put_external(globals, names.as_slice(), *kind, number)
         }
         GlobalGroup::EntryPoints { names, signature } => {
             encode_entries(alloc, numbers, names.as_slice(), signature, globals)

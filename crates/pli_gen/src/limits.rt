@@ -156,7 +156,7 @@ fn global_count(group: &GlobalGroup) -> usize
     ensures { result ≡ length (global_group_view group.now) }
 {
     match group {
-        GlobalGroup::OwnVariables(variables) => variables.count,
+        GlobalGroup::OwnVariables { variables, .. } => variables.count,
         GlobalGroup::ExternalVariables { names, .. } => names.len(),
         GlobalGroup::EntryPoints { names, .. } => names.len(),
     }

@@ -5,15 +5,14 @@ use Rattle.pli_base.specs.Name.{Name}
 use Rattle.pli_map.specs.Description.{Description}
 use Rattle.pli_map.specs.Same.{same}
 use Rattle.pli_map.specs.laws.SameLaws.{same_decides}
+use Rattle.pli_program.specs.declared.kind.VariableKind.{VariableKind}
 use Rattle.pli_type_tree.specs.Templates.{Template}
 use Rattle.pli_type_tree.specs.TypedTree.{Signature, Global, OwnVariable, ExternalVariable, EntryPoint}
 use Rattle.pli_code.specs.CodeTables as plain
-use Rattle.pli_code.specs.declared.code.VariableKind.TheVariants.{Static}
 use Rattle.pli_gen_emit.specs.Encoding.{NumberedTables, numbered, signature_descriptions, global_descriptions, global_templates, template_number, signature_code, global_code}
 use Rattle.pli_type_keys.specs.Same.{same_template}
-use Rattle.pli_gen_emit.proofs.KeyLemmas.{numbered_after, all_there, repeated}
+use Rattle.pli_gen_emit.proofs.KeyLemmas.{numbered_after, all_there}
 use Rattle.pli_gen_emit.proofs.TableNumbers.{Has, has_all}
-use Rattle.pli_type_keys.specs.laws.KeyLaws.{template_decides}
 
 -- where a list is not empty
 pub not_none : {X : Type 0} (xs : List X) (b : Bool) → b ≡ (length xs == 0) → b ≡ false → length xs ≡ 0 → ⊥
@@ -21,33 +20,26 @@ not_none [] b is some e = true≢false (sym is ∙ some)
 not_none (x ∷ xs) b is some e = omega (arith, e)
 
 -- variables of a unit's own
-pub own_described : (ts : List Template) → map (λ t. t.description) ts ≡ flat_map global_descriptions (map OwnVariable ts)
-own_described [] = refl
-own_described (t ∷ ts) = ap (λ ds. t.description ∷ ds) (own_described ts)
+pub own_described : (kind : VariableKind) (ts : List Template) → map (λ t. t.description) ts ≡ flat_map global_descriptions (map (OwnVariable kind) ts)
+own_described kind [] = refl
+own_described kind (t ∷ ts) = ap (λ ds. t.description ∷ ds) (own_described kind ts)
 
-pub own_templated : (ts : List Template) → ts ≡ flat_map global_templates (map OwnVariable ts)
-own_templated [] = refl
-own_templated (t ∷ ts) = ap (λ ts. t ∷ ts) (own_templated ts)
+pub own_templated : (kind : VariableKind) (ts : List Template) → ts ≡ flat_map global_templates (map (OwnVariable kind) ts)
+own_templated kind [] = refl
+own_templated kind (t ∷ ts) = ap (λ ts. t ∷ ts) (own_templated kind ts)
 
 -- external variables of one template
-abbrev external : Template → List Name → List Global
-external t names = map (λ name. ExternalVariable name t) names
+abbrev pub external : VariableKind → Template → List Name → List Global
+external kind t names = map (λ name. ExternalVariable name kind t) names
 
-external_descriptions : (t : Template) (names : List Name) → replicate (length names) t.description ≡ flat_map global_descriptions (external t names)
-external_descriptions t [] = refl
-external_descriptions t (n ∷ ns) = ap (λ ds. t.description ∷ ds) (external_descriptions t ns)
+pub external_described : (kind : VariableKind) (t : Template) (names : List Name)
+    → map (λ t. t.description) (replicate (length names) t) ≡ flat_map global_descriptions (external kind t names)
+external_described kind t [] = refl
+external_described kind t (n ∷ ns) = ap (λ ds. t.description ∷ ds) (external_described kind t ns)
 
-external_templates : (t : Template) (names : List Name) → replicate (length names) t ≡ flat_map global_templates (external t names)
-external_templates t [] = refl
-external_templates t (n ∷ ns) = ap (λ ts. t ∷ ts) (external_templates t ns)
-
-pub external_described : (t : Template) (names : List Name) → (length names ≡ 0 → ⊥) → (table : List Description)
-    → numbered same table (t.description ∷ []) ≡ numbered same table (flat_map global_descriptions (external t names))
-external_described t names some table = repeated same same_decides (length names) table t.description some ∙ ap (numbered same table) (external_descriptions t names)
-
-pub external_templated : (t : Template) (names : List Name) → (length names ≡ 0 → ⊥) → (table : List Template)
-    → numbered same_template table (t ∷ []) ≡ numbered same_template table (flat_map global_templates (external t names))
-external_templated t names some table = repeated same_template template_decides (length names) table t some ∙ ap (numbered same_template table) (external_templates t names)
+pub external_templated : (kind : VariableKind) (t : Template) (names : List Name) → replicate (length names) t ≡ flat_map global_templates (external kind t names)
+external_templated kind t [] = refl
+external_templated kind t (n ∷ ns) = ap (λ ts. t ∷ ts) (external_templated kind t ns)
 
 -- entries of one signature
 abbrev entries : Signature → List Name → List Global
@@ -75,13 +67,14 @@ entries_templated s (n ∷ ns) table = entries_templated s ns table
 
 -- the code of each
 module _ (t : NumberedTables) where
-  pub own_coded : (n : ℕ) (x : Template) → replicate n (plain.OwnVariable Static (template_number t x)) ≡ map (global_code t) (map OwnVariable (replicate n x))
-  own_coded zero x = refl
-  own_coded (suc n) x = ap (λ gs. plain.OwnVariable Static (template_number t x) ∷ gs) (own_coded n x)
+  pub own_coded : (kind : VariableKind) (n : ℕ) (x : Template) → replicate n (plain.OwnVariable kind (template_number t x)) ≡ map (global_code t) (map (OwnVariable kind) (replicate n x))
+  own_coded kind zero x = refl
+  own_coded kind (suc n) x = ap (λ gs. plain.OwnVariable kind (template_number t x) ∷ gs) (own_coded kind n x)
 
-  pub external_coded : (x : Template) (names : List Name) → map (λ name. plain.ExternalVariable name Static (template_number t x)) names ≡ map (global_code t) (external x names)
-  external_coded x [] = refl
-  external_coded x (n ∷ ns) = ap (λ gs. plain.ExternalVariable n Static (template_number t x) ∷ gs) (external_coded x ns)
+  pub external_coded : (kind : VariableKind) (x : Template) (names : List Name)
+      → map (λ name. plain.ExternalVariable name kind (template_number t x)) names ≡ map (global_code t) (external kind x names)
+  external_coded kind x [] = refl
+  external_coded kind x (n ∷ ns) = ap (λ gs. plain.ExternalVariable n kind (template_number t x) ∷ gs) (external_coded kind x ns)
 
   pub entries_coded : (s : Signature) (names : List Name) → map (λ name. plain.EntryPoint name (signature_code t s)) names ≡ map (global_code t) (entries s names)
   entries_coded s [] = refl

@@ -17,7 +17,6 @@ use Rattle.pli_code.specs.CodeTables.{CodedTemplate, CodedBlock, CodedSignature,
 use Rattle.pli_code.specs.CodeTables.{there}
 use Rattle.pli_code.specs.declared.instruction.Instruction.{Instruction}
 use Rattle.pli_code.specs.declared.instruction.Instruction.TheVariants as coded
-use Rattle.pli_code.specs.declared.code.VariableKind.TheVariants.{Static}
 use Rattle.pli_gen_emit.specs.TreeTranslation.{BlockTree, blocks_of, block_code, behind, instructions_of}
 
 -- a table, with each further one that it has not got put at its end
@@ -58,14 +57,14 @@ signature_descriptions s = s.parameters ++ there s.result
 
 -- the descriptions that a global names
 abbrev pub global_descriptions : Global → List Description
-global_descriptions (OwnVariable t) = t.description ∷ []
-global_descriptions (ExternalVariable name t) = t.description ∷ []
+global_descriptions (OwnVariable kind t) = t.description ∷ []
+global_descriptions (ExternalVariable name kind t) = t.description ∷ []
 global_descriptions (EntryPoint name signature) = signature_descriptions signature
 
 -- the templates that it names
 abbrev pub global_templates : Global → List Template
-global_templates (OwnVariable t) = t ∷ []
-global_templates (ExternalVariable name t) = t ∷ []
+global_templates (OwnVariable kind t) = t ∷ []
+global_templates (ExternalVariable name kind t) = t ∷ []
 global_templates (EntryPoint name signature) = []
 
 -- the templates of the variables of blocks
@@ -127,6 +126,9 @@ module _ (tables : NumberedTables) where
   instruction_code (op.MakeDummy d) = coded.MakeDummy (template_number (dummy d))
   instruction_code (op.Fit d) = coded.Fit (description_number d)
   instruction_code (op.Operate operation) = coded.Operate operation
+  instruction_code (op.AllocateControlled global) = coded.AllocateControlled global
+  instruction_code (op.FreeControlled global) = coded.FreeControlled global
+  instruction_code (op.CountGenerations global) = coded.CountGenerations global
   instruction_code op.Put = coded.Put
   instruction_code op.Skip = coded.Skip
   instruction_code (op.SetTemporary number) = coded.SetTemporary number
@@ -146,8 +148,8 @@ module _ (tables : NumberedTables) where
 
   -- a global with the numbers of what it names
   abbrev pub global_code : Global → CodedGlobal
-  global_code (OwnVariable t) = plain.OwnVariable Static (template_number t)
-  global_code (ExternalVariable name t) = plain.ExternalVariable name Static (template_number t)
+  global_code (OwnVariable kind t) = plain.OwnVariable kind (template_number t)
+  global_code (ExternalVariable name kind t) = plain.ExternalVariable name kind (template_number t)
   global_code (EntryPoint name signature) = plain.EntryPoint name (signature_code signature)
 
   -- a block with its first instruction

@@ -13,13 +13,16 @@ use Rattle.pli_program.specs.Program as op
 use Rattle.pli_operation.specs.declared.operation.Operation.TheVariants.{Add, Within}
 use Rattle.pli_type_tree.specs.Iterations.{kept_by, limit_number, step_number, is_iterated}
 use Rattle.pli_type_tree.specs.Templates.{variable_of}
-use Rattle.pli_type_tree.specs.TypedTree.{Root, InSlot, OfProgram, TypedExpression, Literal, Held, Calculated}
-use Rattle.pli_type_tree.specs.TypedTree.{Called, TypedReference, Whole, Part, Operands, NoOperand}
+use Rattle.pli_type_tree.specs.TypedTree.{Root, InSlot, OfProgram, NewestOf, TypedExpression, Literal, Held}
+use Rattle.pli_type_tree.specs.TypedTree.{Calculated, Called, Generations, TypedReference, Whole, Part}
+use Rattle.pli_type_tree.specs.TypedTree.{Operands, NoOperand}
 use Rattle.pli_type_tree.specs.TypedTree.{OperandThen, Subscripts, NoSubscript, SubscriptThen, TypedArguments}
 use Rattle.pli_type_tree.specs.TypedTree.{NoArgument, ByPlace, ByDummy, BlockHead, TypedStatement, Statement}
 use Rattle.pli_type_tree.specs.TypedTree.{Form, Null, Assign, AssignAggregate, Put, If, Begin, Group, While}
 use Rattle.pli_type_tree.specs.TypedTree.{Iterate, TypedRange, Once, ToBy, ByTo, Repeated, Iteration}
-use Rattle.pli_type_tree.specs.TypedTree.{Call, Goto, Return, ReturnValue, Stop, OtherWise, NoElse, Else}
+use Rattle.pli_type_tree.specs.TypedTree.{Call, Goto, Return, ReturnValue, Stop, Allocate, Free, OtherWise}
+use Rattle.pli_type_tree.specs.TypedTree.{NoElse, Else}
+use Rattle.pli_type_tree.specs.TypedTree.{AllocatedItem, AllocatesControlled, FreedItem, FreesControlled}
 use Rattle.pli_type_tree.specs.TypedTree.{TypedStatements, NoStatement, StatementThen, TypedProcedure}
 use Rattle.pli_type_tree.specs.TypedTree.{Callee, OfBlock, OfEntry, Global, OwnVariable, ExternalVariable}
 use Rattle.pli_type_tree.specs.TypedTree.{EntryPoint, TypedUnit, TypedOperation}
@@ -33,10 +36,12 @@ argument_count (ByDummy description value more) = suc (argument_count more)
 
 -- references and expressions
 
--- the place at which a reference begins
+-- the place at which a reference begins; the global of a CONTROLLED variable is the place of its newest
+-- generation
 abbrev pub root_code : Root → List Instruction
 root_code (InSlot outward slot) = Local outward slot ∷ []
 root_code (OfProgram number) = op.Global number ∷ []
+root_code (NewestOf number) = op.Global number ∷ []
 
 -- the instruction of a call
 abbrev pub call_instruction : Callee → (arguments : ℕ) → Instruction
@@ -50,13 +55,14 @@ operation_code (tree.Operate operation) = Operate operation
 
 abbrev mutual
   -- the value of an expression: a constant; a variable's place and what it holds; the operands and the
-  -- operation; the arguments and the call
+  -- operation; the arguments and the call; the count of generations
   pub value_code : TypedExpression → List Instruction
   value_code (Literal value) = Constant value ∷ []
   value_code (Held variable) = place_code variable ++ Load ∷ []
   value_code (Calculated operation operands) = operands_code operands ++ operation_code operation ∷ []
   value_code (Called callee arguments) =
       arguments_code arguments ++ call_instruction callee (argument_count arguments) ∷ []
+  value_code (Generations number) = op.CountGenerations number ∷ []
 
   -- a place: the variable's; for a part of one its field, and then its subscripts
   pub place_code : TypedReference → List Instruction
@@ -96,6 +102,24 @@ skip_code false = []
 abbrev pub items_code : List TypedExpression → List Instruction
 items_code [] = []
 items_code (e ∷ es) = value_code e ++ op.Put ∷ items_code es
+
+-- an item of ALLOCATE
+abbrev pub allocation_code : AllocatedItem → List Instruction
+allocation_code (AllocatesControlled number) = op.AllocateControlled number ∷ []
+
+-- its items, one after the other
+abbrev pub allocations_code : List AllocatedItem → List Instruction
+allocations_code [] = []
+allocations_code (item ∷ items) = allocation_code item ++ allocations_code items
+
+-- an item of FREE
+abbrev pub freeing_code : FreedItem → List Instruction
+freeing_code (FreesControlled number) = op.FreeControlled number ∷ []
+
+-- its items, one after the other
+abbrev pub freeings_code : List FreedItem → List Instruction
+freeings_code [] = []
+freeings_code (item ∷ items) = freeing_code item ++ freeings_code items
 
 -- statements
 
@@ -234,6 +258,8 @@ abbrev mutual
   form_code number (Return outward) p = op.Return outward ∷ []
   form_code number (ReturnValue outward value) p = value_code value ++ op.ReturnValue outward ∷ []
   form_code number Stop p = op.Stop ∷ []
+  form_code number (Allocate items) p = allocations_code items
+  form_code number (Free items) p = freeings_code items
 
   -- the test of an IF and its parts
   pub if_code : (test : List Instruction) (part : ℕ → List Instruction) → OtherWise → (at : ℕ)
@@ -408,10 +434,10 @@ instructions_of bs = map (with_target (places_of bs 0)) (blocks_code bs 0)
 -- program, or that of an entry's unit
 abbrev pub globals_code : List Global → (links : List ℕ) → List GlobalCode
 globals_code [] links = []
-globals_code (OwnVariable t ∷ gs) links = op.OwnVariable (variable_of t) ∷ globals_code gs links
-globals_code (ExternalVariable name t ∷ gs) [] = globals_code gs []
-globals_code (ExternalVariable name t ∷ gs) (link ∷ links) =
-    op.ExternalVariable link (variable_of t) ∷ globals_code gs links
+globals_code (OwnVariable kind t ∷ gs) links = op.OwnVariable kind (variable_of t) ∷ globals_code gs links
+globals_code (ExternalVariable name kind t ∷ gs) [] = globals_code gs []
+globals_code (ExternalVariable name kind t ∷ gs) (link ∷ links) =
+    op.ExternalVariable link kind (variable_of t) ∷ globals_code gs links
 globals_code (EntryPoint name signature ∷ gs) [] = globals_code gs []
 globals_code (EntryPoint name signature ∷ gs) (link ∷ links) = op.EntryPoint link ∷ globals_code gs links
 

@@ -87,7 +87,9 @@ fn collect_in<'a>(parent: usize, statement: &'a TypedStatement, blocks: &mut Col
         | Form::Goto { .. }
         | Form::Return { .. }
         | Form::ReturnValue { .. }
-        | Form::Stop => {}
+        | Form::Stop
+        | Form::Allocate(_)
+        | Form::Free(_) => {}
     }
 }
 

@@ -4,11 +4,11 @@
 ghost use Rattle.std.specs.Prelude.{◌≡◌, ◌+◌, ◌∷◌, [], length, min, pos, true};
 ghost use Rattle.pli_map.specs.views.DescriptionView.{description_view};
 ghost use Rattle.pli_program.specs.Program as op;
-ghost use Rattle.pli_type_tree.specs.views.TypedView.{root_view, callee_view, operation_view};
+ghost use Rattle.pli_type_tree.specs.views.TypedView.{root_view, callee_view, operation_view, allocated_view, freed_view};
 ghost use Rattle.pli_value.specs.Value.{Number, value_view};
 ghost use Rattle.pli_code.specs.CodeTables.{there};
 ghost use Rattle.pli_code.specs.declared.instruction.Instruction.TheVariants as coded;
-ghost use Rattle.pli_gen_emit.specs.TreeTranslation.{root_code, call_instruction, operation_code};
+ghost use Rattle.pli_gen_emit.specs.TreeTranslation.{root_code, call_instruction, operation_code, allocation_code, freeing_code};
 ghost use Rattle.pli_gen_emit.specs.answers.Emitting.{Puts, Emits, Lands, LandsGuard, shared, is_shared};
 
 use crate::fields::{BYTE_LIMIT, SHORT_LIMIT, byte, short, temporary, temporary_fits};
@@ -18,7 +18,7 @@ use pli_code::Instruction;
 use pli_map::Description;
 use pli_operation::Operation;
 use pli_type_keys::TemplateKey;
-use pli_type_tree::{Callee, Root, Stride, TypedOperation};
+use pli_type_tree::{AllocatedItem, Callee, FreedItem, Root, Stride, TypedOperation};
 use pli_value::Value;
 
 /// A GOTO whose target is not known yet: its place, how many static links outward it leads, and its label's statement.
@@ -160,6 +160,7 @@ impl<'a> Emitter<'a> {
         match root {
             Root::InSlot { outward, slot } => self.local(outward, slot),
             Root::OfProgram { number } => self.global(number),
+            Root::NewestOf { number } => self.global(number),
         }
     }
 
@@ -180,6 +181,51 @@ impl<'a> Emitter<'a> {
         let fits = number <= SHORT_LIMIT;
         let number = short(number);
         self.put(fits, Instruction::Global { number });
+    }
+
+    /// Appends the count of a CONTROLLED variable's generations.
+    pub(crate) fn count_generations(&mut self, global: usize)
+        ensures { Emits self.old self.new (op.CountGenerations global ∷ []) }
+    {
+        let fits = global <= SHORT_LIMIT;
+        let global = short(global);
+        self.put(fits, Instruction::CountGenerations { global });
+    }
+
+    /// Appends what makes a generation.
+    pub(crate) fn allocate(&mut self, item: AllocatedItem)
+        ensures { Emits self.old self.new (allocation_code (allocated_view item)) }
+    {
+        match item {
+            AllocatedItem::Controlled { number } => self.allocate_controlled(number),
+        }
+    }
+
+    /// Appends what makes a generation of a CONTROLLED variable.
+    fn allocate_controlled(&mut self, global: usize)
+        ensures { Emits self.old self.new (op.AllocateControlled global ∷ []) }
+    {
+        let fits = global <= SHORT_LIMIT;
+        let global = short(global);
+        self.put(fits, Instruction::AllocateControlled { global });
+    }
+
+    /// Appends what ends a generation.
+    pub(crate) fn free(&mut self, item: FreedItem)
+        ensures { Emits self.old self.new (freeing_code (freed_view item)) }
+    {
+        match item {
+            FreedItem::Controlled { number } => self.free_controlled(number),
+        }
+    }
+
+    /// Appends what ends the newest generation of a CONTROLLED variable.
+    fn free_controlled(&mut self, global: usize)
+        ensures { Emits self.old self.new (op.FreeControlled global ∷ []) }
+    {
+        let fits = global <= SHORT_LIMIT;
+        let global = short(global);
+        self.put(fits, Instruction::FreeControlled { global });
     }
 
     /// Appends what leads a place on to a part of it.

@@ -35,6 +35,7 @@ pub(crate) fn emit_value<'a>(expression: &'a TypedExpression, code: &mut Emitter
             emit_arguments(arguments, code);
             code.call(*callee, arguments.len())
         }
+        TypedExpression::Generations { number } => code.count_generations(*number),
     }
 }
 

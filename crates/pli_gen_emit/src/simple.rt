@@ -2,15 +2,15 @@
 #![tactic(auto, using(crate::proofs::EmitLemmas::extended_both))]
 
 ghost use Rattle.std.specs.Prelude.{map};
-ghost use Rattle.pli_type_tree.specs.views.TypedView.{expression_view, form_view};
-ghost use Rattle.pli_gen_emit.specs.TreeTranslation.{items_code};
+ghost use Rattle.pli_type_tree.specs.views.TypedView.{expression_view, form_view, allocated_view, freed_view};
+ghost use Rattle.pli_gen_emit.specs.TreeTranslation.{items_code, allocations_code, freeings_code};
 ghost use Rattle.pli_gen_emit.specs.answers.Emitting.{Emits};
 ghost use Rattle.pli_gen_emit.specs.answers.Pieces.{simple_code};
 
 use crate::emitter::Emitter;
 use crate::expression::{emit_arguments, emit_place, emit_value};
 use pli_code::Instruction;
-use pli_type_tree::{Form, TypedExpression};
+use pli_type_tree::{AllocatedItem, Form, FreedItem, TypedExpression};
 
 /// Emits the code of items that are printed.
 fn emit_items<'a>(items: &'a [TypedExpression], code: &mut Emitter<'a>)
@@ -19,6 +19,24 @@ fn emit_items<'a>(items: &'a [TypedExpression], code: &mut Emitter<'a>)
     for item in items {
         emit_value(item, code);
         code.emit(Instruction::Put);
+    }
+}
+
+/// Emits the code of the items of ALLOCATE.
+fn emit_allocations(items: &[AllocatedItem], code: &mut Emitter<'_>)
+    ensures { Emits code.old code.new (allocations_code (map allocated_view items.now)) }
+{
+    for item in items {
+        code.allocate(*item);
+    }
+}
+
+/// Emits the code of the items of FREE.
+fn emit_freeings(items: &[FreedItem], code: &mut Emitter<'_>)
+    ensures { Emits code.old code.new (freeings_code (map freed_view items.now)) }
+{
+    for item in items {
+        code.free(*item);
     }
 }
 
@@ -56,6 +74,8 @@ pub(crate) fn emit_simple<'a>(form: &'a Form, code: &mut Emitter<'a>)
             code.return_value(*outward);
         }
         Form::Stop => code.emit(Instruction::Stop),
+        Form::Allocate(items) => emit_allocations(items.as_slice(), code),
+        Form::Free(items) => emit_freeings(items.as_slice(), code),
         Form::Null | Form::If { .. } | Form::Group(_) | Form::While { .. } | Form::Iterate { .. } =>
             {}
     }

@@ -100,6 +100,8 @@ fn emit_form<'a>(number: u32, form: &'a Form, code: &mut Emitter<'a>)
         | Form::Goto { .. }
         | Form::Return { .. }
         | Form::ReturnValue { .. }
-        | Form::Stop => emit_simple(form, code),
+        | Form::Stop
+        | Form::Allocate(_)
+        | Form::Free(_) => emit_simple(form, code),
     }
 }

@@ -1,5 +1,5 @@
 //! The tables of a unit's code: entries numbered by first use.
-ghost use Rattle.std.specs.Prelude.{◌≡◌, ◌∷◌, ◌++◌, [], false, map, min};
+ghost use Rattle.std.specs.Prelude.{◌≡◌, ◌∷◌, ◌++◌, [], false, map, min, replicate};
 ghost use Rattle.std.specs.List.{flat_map};
 ghost use Rattle.pli_map.specs.views.DescriptionView.{description_view};
 ghost use Rattle.pli_value.specs.Value.{value_view};
@@ -98,15 +98,23 @@ fn number_used<'a>(tables: &mut NumberedTables<'a>, template: &'a Template)
     number_template(tables, template_key(template));
 }
 
-/// Numbers the description and the template of variables, if there is a variable.
+/// Numbers the description and the template of so many variables, if there is one.
+fn number_repeated<'a>(tables: &mut NumberedTables<'a>, count: usize, template: &'a Template)
+    ensures { let templates = replicate count (template_view template.now) in
+        Numbers tables.old tables.new (map (λ t. t.description) templates) templates [] }
+{
+    if count == 0 {
+        return;
+    }
+    number_used(tables, template);
+}
+
+/// Numbers the description and the template of the variables of a group.
 fn number_group<'a>(tables: &mut NumberedTables<'a>, group: &'a VariableGroup)
     ensures { let templates = group_view group.now in
         Numbers tables.old tables.new (map (λ t. t.description) templates) templates [] }
 {
-    if group.count == 0 {
-        return;
-    }
-    number_used(tables, &group.template);
+    number_repeated(tables, group.count, &group.template);
 }
 
 /// Numbers the descriptions and the templates of variables.
@@ -148,17 +156,6 @@ fn number_signature<'a>(tables: &mut NumberedTables<'a>, signature: &'a Signatur
     }
 }
 
-/// Numbers what external variables of these names are made from, if there is one.
-fn number_external<'a>(tables: &mut NumberedTables<'a>, names: &[Name], template: &'a Template)
-    ensures { let globals = map (λ name. plain.ExternalVariable name (template_view template.now)) names.now in
-        Numbers tables.old tables.new (flat_map global_descriptions globals) (flat_map global_templates globals) [] }
-{
-    if names.is_empty() {
-        return;
-    }
-    number_used(tables, template);
-}
-
 /// Numbers what entries of these names take and give, if there is one.
 fn number_entries<'a>(tables: &mut NumberedTables<'a>, names: &[Name], signature: &'a Signature)
     ensures { let globals = map (λ name. plain.EntryPoint name (signature_view signature.now)) names.now in
@@ -176,10 +173,12 @@ fn number_global_group<'a>(tables: &mut NumberedTables<'a>, group: &'a GlobalGro
         Numbers tables.old tables.new (flat_map global_descriptions globals) (flat_map global_templates globals) [] }
 {
     match group {
-        GlobalGroup::OwnVariables(variables) => number_group(tables, variables),
-        GlobalGroup::ExternalVariables { names, template } => {
-            number_external(tables, names.as_slice(), template);
-        }
+        GlobalGroup::OwnVariables { variables, .. } => number_group(tables, variables),
+        GlobalGroup::ExternalVariables {
+            names,
+            template,
+            ..
+        } => number_repeated(tables, names.len(), template),
         GlobalGroup::EntryPoints { names, signature } => {
             number_entries(tables, names.as_slice(), signature);
         }

@@ -9,14 +9,14 @@ use Rattle.pli_program.specs.Program as op
 use Rattle.pli_base.specs.Name.{Name}
 use Rattle.pli_operation.specs.declared.operation.Operation.TheVariants.{Add, Within}
 use Rattle.pli_program.specs.Program.{Instruction, Block, UnitCode}
-use Rattle.pli_type_tree.specs.TypedTree.{TypedOperation, Fit, Operate, Root, InSlot, OfProgram, TypedExpression, Literal, Held, Calculated, Called, TypedReference, Whole, Part, Operands, NoOperand, OperandThen}
+use Rattle.pli_type_tree.specs.TypedTree.{TypedOperation, Fit, Operate, Root, InSlot, OfProgram, NewestOf, TypedExpression, Literal, Held, Calculated, Called, Generations, TypedReference, Whole, Part, Operands, NoOperand, OperandThen}
 use Rattle.pli_type_tree.specs.TypedTree.{Subscripts, NoSubscript, SubscriptThen, TypedArguments, NoArgument, ByPlace, ByDummy, TypedStatement, Statement}
-use Rattle.pli_type_tree.specs.TypedTree.{Form, Null, Assign, AssignAggregate, Put, If, Begin, Group, While, Iterate, Call, Goto, Return, ReturnValue, Stop}
+use Rattle.pli_type_tree.specs.TypedTree.{AllocatedItem, AllocatesControlled, FreedItem, FreesControlled, Form, Null, Assign, AssignAggregate, Put, Allocate, Free, If, Begin, Group, While, Iterate, Call, Goto, Return, ReturnValue, Stop}
 use Rattle.pli_type_tree.specs.Iterations.{kept_by, limit_number, step_number, is_iterated}
 use Rattle.pli_type_tree.specs.TypedTree.{Iteration, TypedRange, Once, ToBy, ByTo, Repeated}
 use Rattle.pli_type_tree.specs.TypedTree.{Callee, OfBlock, OfEntry, Global, OwnVariable, ExternalVariable, EntryPoint}
 use Rattle.pli_type_tree.specs.TypedTree.{OtherWise, NoElse, Else, TypedStatements, NoStatement, StatementThen, TypedProcedure, TypedUnit}
-use Rattle.pli_gen_emit.specs.TreeTranslation.{argument_count, root_code, call_instruction, operation_code, value_code, place_code, operands_code, subscripts_code, arguments_code, call_code, skip_code, items_code, behind}
+use Rattle.pli_gen_emit.specs.TreeTranslation.{argument_count, root_code, call_instruction, operation_code, value_code, place_code, operands_code, subscripts_code, arguments_code, call_code, skip_code, items_code, allocation_code, allocations_code, freeing_code, freeings_code, behind}
 use Rattle.pli_gen_emit.specs.TreeTranslation.{statement_code, form_code, list_code, places_in, places_in_form, places_in_else, places_among, statement_place, with_target, BlockTree, begin_block}
 use Rattle.pli_gen_emit.specs.TreeTranslation.{blocks_in, blocks_of_form, blocks_among, blocks_of_procedure, blocks_of, end_code, block_code, blocks_code, places_of, block_at, blocks_at, globals_code, unit_code}
 use Rattle.pli_gen_emit.specs.TreeTranslation.{keeps_code, conversion_code, sets_code, start_code, test_against, limit_test, while_test, guarded, tests_code, advances_code, back_code}
@@ -103,6 +103,7 @@ module _ (u : UnitCode) (places : List (ℕ × ℕ)) (unit : ℕ) (at : Label �
   root_stands : (r : Root) → Made (root_code r) (stand.RootStands u r)
   root_stands (InSlot outward slot) = one (op.Local outward slot)
   root_stands (OfProgram number) = one (op.Global number)
+  root_stands (NewestOf number) = one (op.Global number)
 
   -- a call behind its arguments
   called : (callee : Callee) (args : TypedArguments) → Made (call_instruction callee (argument_count args) ∷ []) (stand.Is u (stand.call_of callee (arguments_in args)))
@@ -127,6 +128,7 @@ module _ (u : UnitCode) (places : List (ℕ × ℕ)) (unit : ℕ) (at : Label �
         joined (operands_code operands) (operation_code operation ∷ []) (stand.OperandsStand u operands) (stand.Is u (stand.operation_code operation))
         (λ p h. operands_stand operands p h) (operation_stands operation) p h
     value_stands (Called callee args) p h = call_stands callee args (λ p h. arguments_stand args p h) p h
+    value_stands (Generations number) p h = one (op.CountGenerations number) p h
 
     operands_stand : (es : Operands) → Made (operands_code es) (stand.OperandsStand u es)
     operands_stand NoOperand p h = refl
@@ -175,6 +177,22 @@ module _ (u : UnitCode) (places : List (ℕ × ℕ)) (unit : ℕ) (at : Label �
         snd = subst (λ q. stand.ItemsStand u es (suc (behind (value_code e) p)) q) (sym (behind_both (value_code e) (op.Put ∷ items_code es) p))
             (items_stand es (suc (behind (value_code e) p)) r.1.1);
       }
+
+  allocation_stands : (item : AllocatedItem) → Made (allocation_code item) (stand.AllocationStands u item)
+  allocation_stands (AllocatesControlled number) = one (op.AllocateControlled number)
+
+  allocations_stand : (items : List AllocatedItem) → Made (allocations_code items) (stand.AllocationsStand u items)
+  allocations_stand [] = nothing
+  allocations_stand (item ∷ items) =
+      joined (allocation_code item) (allocations_code items) (stand.AllocationStands u item) (stand.AllocationsStand u items) (allocation_stands item) (allocations_stand items)
+
+  freeing_stands : (item : FreedItem) → Made (freeing_code item) (stand.FreeingStands u item)
+  freeing_stands (FreesControlled number) = one (op.FreeControlled number)
+
+  freeings_stand : (items : List FreedItem) → Made (freeings_code items) (stand.FreeingsStand u items)
+  freeings_stand [] = nothing
+  freeings_stand (item ∷ items) =
+      joined (freeing_code item) (freeings_code items) (stand.FreeingStands u item) (stand.FreeingsStand u items) (freeing_stands item) (freeings_stand items)
 
   -- a block's code stands from its entry, and its statements where they are told to
   record Found (there : Option Block) (b : BlockTree) : Type 0 where
@@ -377,6 +395,8 @@ module _ (u : UnitCode) (places : List (ℕ × ℕ)) (unit : ℕ) (at : Label �
         two_parts (place_code target) (place_code source) op.Copy (stand.PlaceStands u target) (stand.PlaceStands u source) (place_stands target) (place_stands source) p h
     form_stands (Put skip items) number block c fits room apart inner p known h =
         joined (skip_code skip) (items_code items) (stand.SkipStands u skip) (stand.ItemsStand u items) (skip_stands skip) (items_stand items) p h
+    form_stands (Allocate items) number block c fits room apart inner p known h = allocations_stand items p h
+    form_stands (Free items) number block c fits room apart inner p known h = freeings_stand items p h
     form_stands (If e consequence NoElse) number block c fits room apart inner p known h =
         let q = suc (behind (value_code e) p) in
         let part = statement_code consequence q in
@@ -609,6 +629,8 @@ mutual
   numbered_in_form (Assign target e) p = refl
   numbered_in_form (AssignAggregate target source) p = refl
   numbered_in_form (Put skip items) p = refl
+  numbered_in_form (Allocate items) p = refl
+  numbered_in_form (Free items) p = refl
   numbered_in_form (Begin head statements) p = refl
   numbered_in_form (Call callee args) p = refl
   numbered_in_form (Goto outward label) p = refl
@@ -637,9 +659,9 @@ globals_stand : (program : List TypedUnit) (names : List Name) (gs : List Global
     → stand.GlobalsStand program names gs (globals_code gs links)
 globals_stand program names [] [] h = tt
 globals_stand program names [] (n ∷ ns) h = absurd h
-globals_stand program names (OwnVariable t ∷ gs) links h = (refl, globals_stand program names gs links h)
-globals_stand program names (ExternalVariable name t ∷ gs) [] h = absurd h
-globals_stand program names (ExternalVariable name t ∷ gs) (n ∷ ns) h =
+globals_stand program names (OwnVariable kind t ∷ gs) links h = (refl, globals_stand program names gs links h)
+globals_stand program names (ExternalVariable name kind t ∷ gs) [] h = absurd h
+globals_stand program names (ExternalVariable name kind t ∷ gs) (n ∷ ns) h =
     (record { external = n; is = refl; named = h.0 }, globals_stand program names gs ns h.1)
 globals_stand program names (EntryPoint name s ∷ gs) [] h = absurd h
 globals_stand program names (EntryPoint name s ∷ gs) (n ∷ ns) h =

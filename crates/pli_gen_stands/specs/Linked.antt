@@ -19,9 +19,9 @@ module _ (program : List TypedUnit) (names : List Name) where
   abbrev pub AreLinks : List Global → (links : List ℕ) → Type 0
   AreLinks [] [] = Unit {0}
   AreLinks [] (n ∷ ns) = ⊥
-  AreLinks (OwnVariable t ∷ gs) links = AreLinks gs links
-  AreLinks (ExternalVariable name t ∷ gs) [] = ⊥
-  AreLinks (ExternalVariable name t ∷ gs) (n ∷ ns) =
+  AreLinks (OwnVariable kind t ∷ gs) links = AreLinks gs links
+  AreLinks (ExternalVariable name kind t ∷ gs) [] = ⊥
+  AreLinks (ExternalVariable name kind t ∷ gs) (n ∷ ns) =
       (position (same_name name) names ≡ Some n) × AreLinks gs ns
   AreLinks (EntryPoint name signature ∷ gs) [] = ⊥
   AreLinks (EntryPoint name signature ∷ gs) (n ∷ ns) = (unit_named program name ≡ Some n) × AreLinks gs ns

@@ -9,20 +9,18 @@ use Rattle.pli_map.specs.Description.{Description}
 use Rattle.pli_map.specs.Sizes.{size_of}
 use Rattle.pli_map.specs.Variables.{byte_limit}
 use Rattle.pli_type_tree.specs.Templates.{Template}
-use Rattle.pli_link.specs.ModuleSize.{is_oversized, are_too_large}
-use Rattle.pli_code.specs.CodeTables.{there}
-use Rattle.pli_link.specs.views.NameView.{externals_view}
-use Rattle.pli_type_keys.specs.views.KeyView.{templated}
+use Rattle.pli_link.specs.ModuleSize.{is_oversized, are_too_large, shared_in}
+use Rattle.pli_link.specs.views.NameView.{declaration_view, externals_view}
 use Rattle.pli_link.specs.declared.names.KnownExternal.{KnownExternal}
 use Rattle.pli_link.specs.answers.Counting.{counted, counted_one, if_counted}
 
--- what templates say that tables may lack
+-- those of external variables that are STATIC
 abbrev pub shown : List KnownExternal → List Template
-shown es = flat_map there (map (λ e. option_map templated e.template) es)
+shown es = flat_map (λ e. shared_in (declaration_view e)) es
 
-pub shown_values : (es : List (Name × KnownExternal)) → shown (values_of es) ≡ flat_map (λ d. there d.template) (values_of (externals_view es))
+pub shown_values : (es : List (Name × KnownExternal)) → shown (values_of es) ≡ flat_map shared_in (values_of (externals_view es))
 shown_values [] = refl
-shown_values (e ∷ es) = ap (λ ts. there (option_map templated e.1.template) ++ ts) (shown_values es)
+shown_values (e ∷ es) = ap (λ ts. shared_in (declaration_view e.1) ++ ts) (shown_values es)
 
 -- some behind others
 pub counted_behind : (bytes : ℕ) (xs ys : List Template) → counted bytes (xs ++ ys) ≡ if_counted (counted bytes xs) (λ more. counted more ys)

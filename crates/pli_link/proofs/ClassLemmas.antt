@@ -16,7 +16,6 @@ use Rattle.pli_code.specs.CodeTables.{Code, template_at, with_description}
 use Rattle.pli_code.specs.declared.code.CodedTemplate.{CodedTemplate}
 use Rattle.pli_code.specs.views.CodeView.{coded_template_view}
 use Rattle.pli_type_keys.specs.Same.{same_template}
-use Rattle.pli_link.specs.Mismatches.{is_like_first}
 use Rattle.pli_link.specs.answers.Classes.{place_of, IsClass, known_in, Grows, class_in, class_at, AreClasses, AreClassed, IsFirstClassed}
 use Rattle.pli_link.specs.laws.AlikeLaws.{option_decides}
 use Rattle.pli_type_keys.specs.laws.KeyLaws.{template_decides}
@@ -236,12 +235,6 @@ classed_found known test (y ∷ es) (Some x) all e = by (test y.0) e (classed_fo
         → IsClass known (option_map templated x.now.template) x.now.class
     by true h rest = subst (λ (z : KnownExternal). IsClass known (option_map templated z.template) z.class) (sym (some_is x.now y.1 h)) all.0
     by false h rest = rest h
-
--- an external variable is unlike the first one where it is of another class
-
-pub unlike_by_class : (known : List Template) (t : Option Template) (class : Option ℕ) (e : Bor KnownExternal) → IsClass known t class → IsFirstClassed known (Some e)
-    → not (option_eq nat_eq e.now.class class) ≡ not (is_like_first t (Some (option_map templated e.now.template)))
-unlike_by_class known t class e h i = ap not (same_class known (option_map templated e.now.template) t e.now.class class i h)
 
 -- steps of loops
 

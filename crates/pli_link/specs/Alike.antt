@@ -1,10 +1,12 @@
 -- When signatures of two units are alike (own): the numbers of their descriptions are looked up in the tables
--- of each.
-use Rattle.std.specs.Prelude.{ℕ, Bool, ◌&&◌, Option, option_map, List, map, slice_get}
+-- of each; and when variables are of one kind.
+use Rattle.std.specs.Prelude.{ℕ, Bool, true, false, ◌&&◌, Option, option_map, List, map, slice_get}
 use Rattle.std.specs.Cmp.Lexicographic.{pointwise}
 use Rattle.std.specs.Option.{option_eq}
 use Rattle.pli_map.specs.Description.{Description}
 use Rattle.pli_map.specs.Same.{same}
+use Rattle.pli_program.specs.declared.kind.VariableKind.{VariableKind}
+use Rattle.pli_program.specs.declared.kind.VariableKind.TheVariants.{Static, Controlled}
 use Rattle.pli_code.specs.CodeTables.{Code, CodedSignature}
 
 -- what a procedure takes and gives, with the descriptions as the tables have them
@@ -30,3 +32,10 @@ same_found = option_eq same
 -- signatures: the same parameters, and the same result or none
 abbrev pub same_signature : FoundSignature → FoundSignature → Bool
 same_signature s t = pointwise same_found s.parameters t.parameters && option_eq same_found s.result t.result
+
+-- both STATIC, or both CONTROLLED
+abbrev pub same_kind : VariableKind → VariableKind → Bool
+same_kind Static Static = true
+same_kind Static Controlled = false
+same_kind Controlled Static = false
+same_kind Controlled Controlled = true

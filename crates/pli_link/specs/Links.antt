@@ -8,6 +8,7 @@ use Rattle.pli_base.specs.Name.{Name}
 use Rattle.pli_base.specs.Words.{same_name}
 use Rattle.pli_code.specs.CodeTables.{CodedGlobal, OwnVariable, ExternalVariable, EntryPoint}
 use Rattle.pli_code.specs.Modules.{External, Member, Module}
+use Rattle.pli_code.specs.views.CodeView.{kind_number}
 use Rattle.pli_link.specs.Names.{Declaration, externals, meant, procedures}
 use Rattle.pli_link.specs.Units.{Compiled}
 
@@ -16,9 +17,14 @@ use Rattle.pli_link.specs.Units.{Compiled}
 abbrev pub short : ℕ → ℕ
 short n = min n 65535
 
--- a STATIC variable with its first declaration; none is CONTROLLED in what is linked yet
+-- an external variable with its first declaration
 abbrev pub external_of : Name × Declaration → External
-external_of d = record { name = d.0; kind = 2; unit = short d.1.unit; global = short d.1.global }
+external_of d = record {
+  name = d.0;
+  kind = kind_number d.1.kind;
+  unit = short d.1.unit;
+  global = short d.1.global;
+}
 
 -- the number of a name among these, which have numbers from this one on
 abbrev pub number_of : (number : ℕ) → List Name → Name → Option ℕ

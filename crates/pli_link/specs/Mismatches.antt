@@ -1,16 +1,17 @@
 -- Globals that fit no procedure, or not the procedure or the variable of their name (own).
-use Rattle.std.specs.Prelude.{Bool, true, false, not, Option, Some, None, is_none, List, [], ◌∷◌, map}
+use Rattle.std.specs.Prelude.{Bool, true, false, not, ◌&&◌, Option, Some, None, is_none, List, [], ◌∷◌, map}
 use Rattle.std.specs.Prelude.{if◌then◌else◌}
 use Rattle.std.specs.List.{flat_map}
 use Rattle.std.specs.Option.{option_eq}
 use Rattle.pli_base.specs.Name.{Name}
+use Rattle.pli_program.specs.declared.kind.VariableKind.{VariableKind}
 use Rattle.pli_type_tree.specs.Templates.{Template}
 use Rattle.pli_code.specs.CodeTables.{Code, CodedGlobal, OwnVariable, ExternalVariable, EntryPoint}
 use Rattle.pli_code.specs.CodeTables.{template_at}
-use Rattle.pli_code.specs.declared.code.VariableKind.TheVariants.{Static, Controlled}
-use Rattle.pli_link.specs.Alike.{FoundSignature, same_signature, signature_at}
+use Rattle.pli_link.specs.Alike.{FoundSignature, same_kind, same_signature, signature_at}
 use Rattle.pli_type_keys.specs.Same.{same_template}
-use Rattle.pli_link.specs.Names.{with_name, meant, procedures, first_template, unit_named}
+use Rattle.pli_link.specs.Names.{Declaration, with_name, meant, procedures, unit_named}
+use Rattle.pli_link.specs.Names.{first_declaration}
 use Rattle.pli_link.specs.Units.{Compiled}
 use Rattle.pli_link.specs.declared.global_fault.GlobalFault.{GlobalFault}
 use Rattle.pli_link.specs.declared.global_fault.GlobalFault.TheVariants.{Unresolved, Mismatch}
@@ -21,30 +22,27 @@ abbrev pub is_unlike_procedure : FoundSignature → Option Compiled → Bool
 is_unlike_procedure s None = false
 is_unlike_procedure s (Some c) = not (same_signature (signature_at c.deck.code c.deck.code.signature) s)
 
--- an external variable of this template is like the first one of its name
-abbrev pub is_like_first : Option Template → (first : Option (Option Template)) → Bool
-is_like_first t None = false
-is_like_first t (Some first) = option_eq same_template first t
+-- an external variable of this kind and template is like the first one of its name
+abbrev pub is_like_first : VariableKind → Option Template → (first : Option Declaration) → Bool
+is_like_first kind t None = false
+is_like_first kind t (Some first) = same_kind first.kind kind && option_eq same_template first.template t
 
 -- it is not, or has the name of a procedure
-abbrev pub is_unlike : Option Template → (procedure : Option Compiled) → (first : Option (Option Template))
-    → Bool
-is_unlike t (Some c) first = true
-is_unlike t None first = not (is_like_first t first)
+abbrev pub is_unlike : VariableKind → Option Template → (procedure : Option Compiled)
+    → (first : Option Declaration) → Bool
+is_unlike kind t (Some c) first = true
+is_unlike kind t None first = not (is_like_first kind t first)
 
 -- a global of a unit has this fault: an entry, that no unit has a procedure of its name, or that the first
 -- one which has takes or gives something else; a variable, that it has a procedure's name, or that the first
--- variable of its name has another description or other initial values; a CONTROLLED external variable, that
--- it is not resolved, since none is yet
+-- variable of its name is of another kind, or has another description or other initial values
 abbrev pub has_fault : List Compiled → GlobalFault → Code → CodedGlobal → Bool
 has_fault cs Unresolved code (OwnVariable kind t) = false
-has_fault cs Unresolved code (ExternalVariable name Static t) = false
-has_fault cs Unresolved code (ExternalVariable name Controlled t) = true
+has_fault cs Unresolved code (ExternalVariable name kind t) = false
 has_fault cs Unresolved code (EntryPoint name s) = is_none (meant (procedures cs) name)
 has_fault cs Mismatch code (OwnVariable kind t) = false
-has_fault cs Mismatch code (ExternalVariable name Static t) =
-    is_unlike (template_at code t) (unit_named cs name) (first_template cs name)
-has_fault cs Mismatch code (ExternalVariable name Controlled t) = false
+has_fault cs Mismatch code (ExternalVariable name kind t) =
+    is_unlike kind (template_at code t) (unit_named cs name) (first_declaration cs name)
 has_fault cs Mismatch code (EntryPoint name s) =
     is_unlike_procedure (signature_at code s) (unit_named cs name)
 

@@ -1,5 +1,5 @@
 -- What names mean to all units of a module (own): external procedures, and variables that units share.
-use Rattle.std.specs.Prelude.{ℕ, ◌+◌, Option, Some, None, is_some, option_map, List, [], ◌∷◌, ◌++◌, slice_get}
+use Rattle.std.specs.Prelude.{ℕ, ◌+◌, Option, Some, None, is_some, List, [], ◌∷◌, ◌++◌, slice_get}
 use Rattle.std.specs.Prelude.{if◌then◌else◌}
 use Rattle.std.specs.BTreeMap.{insert_entry}
 use Rattle.std.specs.Cmp.Lexicographic.{slice_cmp}
@@ -7,10 +7,10 @@ use Rattle.std.specs.Map.{keys_of, lookup}
 use Rattle.std.specs.Ordering.{nat_cmp}
 use Rattle.pli_base.specs.Name.{Name}
 use Rattle.pli_base.specs.Words.{same_name, is_among}
+use Rattle.pli_program.specs.declared.kind.VariableKind.{VariableKind}
 use Rattle.pli_type_tree.specs.Templates.{Template}
 use Rattle.pli_code.specs.CodeTables.{Code, CodedGlobal, ExternalVariable}
 use Rattle.pli_code.specs.CodeTables.{template_at}
-use Rattle.pli_code.specs.declared.code.VariableKind.TheVariants.{Static}
 use Rattle.pli_link.specs.Units.{Compiled}
 
 -- one name more, unless it is there
@@ -39,17 +39,19 @@ procedures_from number (c ∷ cs) = (c.deck.name, number) ∷ procedures_from (n
 abbrev pub procedures : List Compiled → List (Name × ℕ)
 procedures cs = firsts [] (procedures_from 0 cs)
 
--- where a variable that units share is declared, and its template as the tables of that unit have it
+-- where a variable that units share is declared, its kind, and its template as the tables of that unit have
+-- it
 pub record Declaration : Type 0 where
+  pub kind : VariableKind
   pub template : Option Template
   pub unit : ℕ
   pub global : ℕ
 
--- the STATIC variables that units share, among the globals of a unit, from this global on
+-- the variables that units share, among the globals of a unit, from this global on
 abbrev pub shared_from : Code → (unit global : ℕ) → List CodedGlobal → List (Name × Declaration)
 shared_from code unit global [] = []
-shared_from code unit global (ExternalVariable name Static t ∷ gs) =
-    (name, record { template = template_at code t; unit = unit; global = global })
+shared_from code unit global (ExternalVariable name kind t ∷ gs) =
+    (name, record { kind = kind; template = template_at code t; unit = unit; global = global })
     ∷ shared_from code unit (global + 1) gs
 shared_from code unit global (other ∷ gs) = shared_from code unit (global + 1) gs
 
@@ -74,9 +76,9 @@ first_declared before (d ∷ ds) = first_declared (with_declaration before d) ds
 abbrev pub externals : List Compiled → List (Name × Declaration)
 externals cs = first_declared [] (all_shared 0 cs)
 
--- the template of the first declaration of a name, if there is one
-abbrev pub first_template : List Compiled → Name → Option (Option Template)
-first_template cs name = option_map (λ d. d.template) (meant (externals cs) name)
+-- the first declaration of a name, if there is one
+abbrev pub first_declaration : List Compiled → Name → Option Declaration
+first_declaration cs name = meant (externals cs) name
 
 -- the unit of a number
 abbrev pub unit_at : List Compiled → Option ℕ → Option Compiled

@@ -1,4 +1,4 @@
-//! Templates of units, and whether signatures of two units are alike.
+//! Templates of units, and whether kinds of variables and signatures of two units are alike.
 ghost use Rattle.std.specs.Prelude.{◌≡◌, Some, map, option_map};
 ghost use Rattle.std.specs.Cmp.Lexicographic.{pointwise};
 ghost use Rattle.std.specs.Option.{option_eq};
@@ -10,7 +10,20 @@ ghost use Rattle.pli_type_keys.specs.views.KeyView.{templated};
 
 use pli_code::{Code, CodedSignature, CodedTemplate};
 use pli_map::Description;
+use pli_program::VariableKind;
 use pli_type_keys::TemplateKey;
+
+/// Whether variables are both STATIC, or both CONTROLLED.
+pub(crate) fn is_same_kind(left: VariableKind, right: VariableKind) -> bool
+    ensures { result ≡ spec.same_kind left right }
+{
+    match (left, right) {
+        (VariableKind::Static, VariableKind::Static)
+        | (VariableKind::Controlled, VariableKind::Controlled) => true,
+        (VariableKind::Static, VariableKind::Controlled)
+        | (VariableKind::Controlled, VariableKind::Static) => false,
+    }
+}
 
 /// The description of this number, if the table has it.
 pub(crate) fn description_at(code: &Code, number: u16) -> Option<&Description>

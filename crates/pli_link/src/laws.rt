@@ -1,7 +1,7 @@
 //! Laws of linking.
 ghost use Rattle.pli_link.specs.laws.Sorting.{NamesAreSorted};
 ghost use Rattle.pli_link.specs.examples.Examples.{TwoUnits, OneOfThree, NoneOfTwo, NoneCalled, OtherShared};
-ghost use Rattle.pli_link.specs.examples.Examples.{SameShared, ByName, ControlledShared, OtherTaken};
+ghost use Rattle.pli_link.specs.examples.Examples.{SameShared, ByName, ControlledShared, OtherKind, OtherTaken};
 ghost use Rattle.pli_link.specs.examples.Examples.{EntryAndVariables};
 ghost use Rattle.pli_link.specs.examples.Examples.{ToldOnce, TooLarge, NotTooLarge, SharedOnce};
 
@@ -22,6 +22,7 @@ pub fn worked_examples()
     ensures same_shared { SameShared }
     ensures by_name { ByName }
     ensures controlled_shared { ControlledShared }
+    ensures other_kind { OtherKind }
     ensures other_taken { OtherTaken }
     ensures entry_and_variables { EntryAndVariables }
     ensures told_once { ToldOnce }

@@ -10,7 +10,7 @@ ghost use Rattle.pli_link.specs.views.NameView.{declaration_view, externals_view
 use crate::names::KnownExternal;
 use indexmap::IndexMap;
 use pli_base::Name;
-use pli_code::{CodedGlobal, External, VariableKind};
+use pli_code::{CodedGlobal, External};
 use std::alloc::{AllocError, Global};
 use std::collections::BTreeMap;
 
@@ -28,7 +28,7 @@ fn external_of(name: Name, external: &KnownExternal<'_>) -> External
 {
     External {
         name,
-        kind: VariableKind::Static,
+        kind: external.kind,
         unit: short(external.unit as u64),
         global: short(external.global as u64),
     }

@@ -1,5 +1,5 @@
 //! Globals that fit no procedure, or not the procedure or the variable of their name.
-ghost use Rattle.std.specs.Prelude.{◌≡◌, ◌++◌, List, [], Option, map, option_map, IfOk, OnOk};
+ghost use Rattle.std.specs.Prelude.{◌≡◌, ◌++◌, List, [], Option, Some, map, option_map, IfOk, OnOk};
 ghost use Rattle.pli_type_tree.specs.Templates.{Template};
 ghost use Rattle.pli_link.specs.Mismatches as spec;
 ghost use Rattle.pli_link.specs.Alike.{signature_at};
@@ -7,6 +7,7 @@ ghost use Rattle.pli_link.specs.Names as meaning;
 ghost use Rattle.pli_link.specs.answers.Classes.{AreClasses, Grows, IsClass, IsFirstClassed, known_in};
 ghost use Rattle.pli_link.specs.answers.Tables.{AreNames, HaveClasses, units_in};
 ghost use Rattle.pli_type_keys.specs.declared.key.TemplateKey.{TemplateKey};
+ghost use Rattle.pli_link.specs.views.NameView.{declaration_view};
 ghost use Rattle.pli_link.specs.views.UnitView.{compiled_view};
 ghost use Rattle.pli_type_keys.specs.views.KeyView.{templated};
 ghost use Rattle.pli_code.specs.CodeTables.{there};
@@ -14,14 +15,15 @@ ghost use Rattle.pli_code.specs.CodeTables as plain;
 ghost use Rattle.pli_link.specs.declared.global_fault.GlobalFault.TheVariants as faults;
 ghost use Rattle.pli_code.specs.views.CodeView.{code_view, global_view, signature_view};
 
-use crate::alike::is_same_signature;
+use crate::alike::{is_same_kind, is_same_signature};
 use crate::classes::{class_at, classes_of};
 use crate::global_fault::GlobalFault;
 use crate::names::{KnownExternal, Names};
 use crate::units::{LinkedName, NamedUnit};
 use indexmap::IndexSet;
 use pli_base::Name;
-use pli_code::{Code, CodedGlobal, CodedSignature, VariableKind};
+use pli_code::{Code, CodedGlobal, CodedSignature};
+use pli_program::VariableKind;
 use pli_type_keys::TemplateKey;
 use std::alloc::{AllocError, Global};
 
@@ -53,22 +55,33 @@ fn is_unlike_procedure(
     }
 }
 
-/// Whether an external variable of this class is unlike the first one of its name, or has a procedure's name.
+/// Whether an external variable of this kind and class is like the first one of its name.
+fn is_like_first(kind: VariableKind, class: Option<usize>, first: &KnownExternal<'_>) -> bool
+    ensures { (known : List Template) (t : Option Template) → IsClass known t class
+        → IsClass known (option_map templated first.now.template) first.now.class
+        → result ≡ spec.is_like_first kind t (Some (declaration_view first.now)) }
+{
+    is_same_kind(first.kind, kind) && first.class == class
+}
+
+/// Whether an external variable of this kind and class is unlike the first one of its name, or has a procedure's name.
 fn is_unlike(
+    kind: VariableKind,
     class: Option<usize>,
     procedure: Option<&NamedUnit<'_>>,
     first: Option<&KnownExternal<'_>>,
 ) -> bool
     ensures { (known : List Template) (t : Option Template) → IsClass known t class → IsFirstClassed known first.entry
-        → result ≡ spec.is_unlike t (option_map (λ u. compiled_view u.now) procedure.entry) (option_map (λ e. option_map templated e.now.template) first.entry) }
+        → result ≡ spec.is_unlike kind t (option_map (λ u. compiled_view u.now) procedure.entry) (option_map (λ e. declaration_view e.now) first.entry) }
 {
     match (procedure, first) {
         (Some(_), _) | (None, None) => true,
-        (None, Some(first)) => first.class != class,
+        (None, Some(first)) => !is_like_first(kind, class, first),
     }
 }
 
-/// Is an external variable unlike the first one of its name? A CONTROLLED one is never told to be.
+/// Whether an external variable of a unit, whose templates have these classes, is unlike the first one of its name, or
+/// has a procedure's name.
 fn is_unlike_variable(
     names: &Names<'_, '_>,
     classes: &[Option<usize>],
@@ -80,14 +93,12 @@ fn is_unlike_variable(
     ensures { (code : plain.Code) (known : List TemplateKey) → HaveClasses known names.now → AreClasses (known_in known) code classes.now
         → result ≡ spec.has_fault (units_in names.now) faults.Mismatch code (plain.ExternalVariable name.now kind template) }
 {
-    match kind {
-        VariableKind::Controlled => false,
-        VariableKind::Static => is_unlike(
-            class_at(classes, template),
-            unit_named(names, name),
-            names.externals.get(name),
-        ),
-    }
+    is_unlike(
+        kind,
+        class_at(classes, template),
+        unit_named(names, name),
+        names.externals.get(name),
+    )
 }
 
 /// Whether a global of a unit, whose templates have these classes, has a fault.
@@ -106,13 +117,6 @@ fn has_fault(
         (GlobalFault::Unresolved, CodedGlobal::EntryPoint { name, .. }) => {
             !names.procedures.contains_key(name)
         }
-        (
-            GlobalFault::Unresolved,
-            CodedGlobal::ExternalVariable {
-                kind: VariableKind::Controlled,
-                ..
-            },
-        ) => true,
         (GlobalFault::Mismatch, CodedGlobal::EntryPoint { name, signature }) => {
             is_unlike_procedure(code, signature, unit_named(names, name))
         }

@@ -13,15 +13,17 @@ use crate::classes::{class_at, classes_of};
 use crate::units::NamedUnit;
 use indexmap::{IndexMap, IndexSet};
 use pli_base::Name;
-use pli_code::{Code, CodedGlobal, VariableKind};
+use pli_code::{Code, CodedGlobal};
+use pli_program::VariableKind;
 use pli_type_keys::TemplateKey;
 use std::alloc::{AllocError, Global};
 use std::collections::BTreeMap;
 
-/// An external variable: the template of its first declaration, if the unit's tables have it, its class among the
-/// templates that are known, and the unit and the global of that declaration.
+/// An external variable: the kind and the template of its first declaration, if the unit's tables have it, its class
+/// among the templates that are known, and the unit and the global of that declaration.
 #[derive(Clone, Copy)]
 pub(crate) struct KnownExternal<'a> {
+    pub kind: VariableKind,
     pub template: Option<TemplateKey<'a>>,
     pub class: Option<usize>,
     pub unit: usize,
@@ -84,7 +86,7 @@ fn note_external<'a>(
     Ok(())
 }
 
-/// Notes the external STATIC variables of the unit of this number, whose templates have these classes.
+/// Notes the external variables of the unit of this number, whose templates have these classes.
 fn note_shared<'a>(
     externals: &mut BTreeMap<Name, KnownExternal<'a>>,
     code: &'a Code,
@@ -98,11 +100,12 @@ fn note_shared<'a>(
     for (number, global) in globals.iter().enumerate() {
         if let CodedGlobal::ExternalVariable {
             name,
-            kind: VariableKind::Static,
+            kind,
             template,
         } = global
         {
             let external = KnownExternal {
+                kind: *kind,
                 template: template_at(code, *template),
                 class: class_at(classes, *template),
                 unit,

@@ -8,7 +8,7 @@ ghost use Rattle.pli_link.specs.Names.{externals};
 ghost use Rattle.pli_link.specs.answers.Counting.{counted, counted_one};
 ghost use Rattle.pli_link.specs.answers.Tables.{AreNames, units_in};
 ghost use Rattle.pli_link.specs.views.UnitView.{compiled_view};
-ghost use Rattle.pli_link.specs.views.NameView.{externals_view};
+ghost use Rattle.pli_link.specs.views.NameView.{declaration_view, externals_view};
 ghost use Rattle.pli_code.specs.views.CodeView.{code_view, global_view};
 ghost use Rattle.pli_code.specs.CodeTables.{there};
 ghost use Rattle.pli_type_keys.specs.views.KeyView.{templated};
@@ -17,8 +17,9 @@ use crate::alike::template_at;
 use crate::names::{KnownExternal, Names};
 use crate::units::NamedUnit;
 use pli_base::Name;
-use pli_code::{Code, CodedGlobal, VariableKind};
+use pli_code::{Code, CodedGlobal};
 use pli_map::{Description, size};
+use pli_program::VariableKind;
 use pli_type_keys::TemplateKey;
 use std::collections::BTreeMap;
 
@@ -59,6 +60,18 @@ fn with_template(bytes: u32, template: &Option<TemplateKey<'_>>) -> Option<u32>
     }
 }
 
+/// The same of an external variable, if it is STATIC.
+fn with_shared(bytes: u32, external: &KnownExternal<'_>) -> Option<u32>
+    requires { bytes ≤ 16777216 }
+    ensures counts { result ≡ counted bytes (spec.shared_in (declaration_view external.now)) }
+    ensures within { IfSome result (λ more. more ≤ 16777216) }
+{
+    match external.kind {
+        VariableKind::Static => with_template(bytes, &external.template),
+        VariableKind::Controlled => Some(bytes),
+    }
+}
+
 /// Bytes with those of the STATIC variables that a unit has for itself, unless they are too many.
 fn with_own(bytes: u32, code: &Code, globals: &[CodedGlobal]) -> Option<u32>
     requires { bytes ≤ 16777216 }
@@ -78,7 +91,7 @@ fn with_own(bytes: u32, code: &Code, globals: &[CodedGlobal]) -> Option<u32>
     Some(bytes)
 }
 
-/// Bytes with those of the variables that units have for themselves, unless they are too many.
+/// Bytes with those of the STATIC variables that units have for themselves, unless they are too many.
 fn with_all_own(units: &[NamedUnit<'_>]) -> Option<u32>
     ensures counts { result ≡ counted 0 (spec.all_own (map compiled_view units.now)) }
     ensures within { IfSome result (λ more. more ≤ 16777216) }
@@ -90,15 +103,15 @@ fn with_all_own(units: &[NamedUnit<'_>]) -> Option<u32>
     Some(bytes)
 }
 
-/// Bytes with those of the external variables, unless they are too many.
+/// Bytes with those of the external variables that are STATIC, unless they are too many.
 fn with_externals(bytes: u32, externals: &BTreeMap<Name, KnownExternal<'_>>) -> Option<u32>
     requires { bytes ≤ 16777216 }
-    ensures counts { result ≡ counted bytes (flat_map (λ d. there d.template) (values_of (externals_view externals.now.entries))) }
+    ensures counts { result ≡ counted bytes (flat_map spec.shared_in (values_of (externals_view externals.now.entries))) }
     ensures within { IfSome result (λ more. more ≤ 16777216) }
 {
     let mut bytes = bytes;
     for external in externals.values() {
-        bytes = with_template(bytes, &external.template)?;
+        bytes = with_shared(bytes, external)?;
     }
     Some(bytes)
 }

@@ -6,8 +6,9 @@ use Rattle.pli_map.specs.Description.{Description}
 use Rattle.pli_map.specs.Sizes.{size_of}
 use Rattle.pli_type_tree.specs.Templates.{InitialScalar, Template}
 use Rattle.pli_code.specs.CodeTables.{CodedTemplate, CodedGlobal, OwnVariable, ExternalVariable, EntryPoint, Code, Deck, there, described, with_description, template_at}
-use Rattle.pli_code.specs.declared.code.VariableKind.TheVariants.{Static, Controlled}
-use Rattle.pli_link.specs.ModuleSize.{own_of}
+use Rattle.pli_program.specs.declared.kind.VariableKind.{VariableKind}
+use Rattle.pli_program.specs.declared.kind.VariableKind.TheVariants.{Static, Controlled}
+use Rattle.pli_link.specs.ModuleSize.{made_of, own_of}
 use Rattle.pli_code.specs.Fields.{u2, list}
 use Rattle.pli_deck_write.specs.Descriptions.{description}
 use Rattle.pli_code.specs.Instructions.{instruction}
@@ -43,9 +44,10 @@ globals_fit d h =
     let parts = both_of (u2.fits (length d.code.globals)) (list_all global.fits d.code.globals) (both_of gs rest behind_values).0 in
     record { few = short_of (length d.code.globals) parts.0; each = parts.1 }
 
-pub name_fits : (n : Name) (t : ℕ) → global.fits (ExternalVariable n Static t) ≡ true → name.fits n ≡ true
+pub name_fits : (n : Name) (kind : VariableKind) (t : ℕ) → global.fits (ExternalVariable n kind t) ≡ true → name.fits n ≡ true
 unfolding global
-name_fits n t h = (both_of (name.fits n) (u2.fits t) h).0
+name_fits n Static t h = (both_of (name.fits n) (u2.fits t) h).0
+name_fits n Controlled t h = (both_of (name.fits n) (u2.fits t) h).0
 
 -- ---- bytes of templates
 
@@ -70,6 +72,15 @@ template_same c t = by (slice_get c.templates t)
 pub there_bytes : (o : Option Template) → total size_in (there o) ≡ bytes_of o
 there_bytes None = refl
 there_bytes (Some t) = omega arith
+
+-- what is made of a template before the program begins takes its bytes, if it is made of a STATIC variable's
+abbrev pub bytes_made : VariableKind → Option Template → ℕ
+bytes_made Static t = bytes_of t
+bytes_made Controlled t = 0
+
+pub made_bytes : (kind : VariableKind) (t : Option Template) → total size_in (made_of kind t) ≡ bytes_made kind t
+made_bytes Static t = there_bytes t
+made_bytes Controlled t = refl
 
 -- the variables that a unit has for itself take the same bytes in its deck
 pub own_bytes : (c : Code) (gs : List CodedGlobal) → total (static_bytes c) gs ≡ total size_in (own_of c gs)

@@ -3,10 +3,13 @@ use Rattle.std.proofs.Common.{◌≡◌, ℕ, suc, ◌<◌, ◌≤◌, nat_eq, n
 use Rattle.std.specs.List.{list_all, AllByRecursion}
 use Rattle.std.specs.Int.{is_in_range}
 use Rattle.pli_base.specs.Name.{Name}
+use Rattle.pli_program.specs.declared.kind.VariableKind.{VariableKind}
+use Rattle.pli_program.specs.declared.kind.VariableKind.TheVariants.{Static, Controlled}
 use Rattle.pli_deck_write.specs.DeckFields.{name, deck}
 use Rattle.pli_deck_write.specs.DeckFaults.{fault_of}
 use Rattle.pli_code.specs.Fields.{u1, u2, u4, from_to}
 use Rattle.pli_code.specs.Modules.{External, Member, Module}
+use Rattle.pli_code.specs.views.CodeView.{kind_number}
 use Rattle.pli_deck_write.specs.ModuleFields.{is_less, comes_after, external_behind, fit_behind, is_none, is_external, member, module_field}
 use Rattle.pli_deck_write.specs.ModuleSpelling.{has_kind, global_at, are_good_links, links_stand, module_within_limits, module_bytes, SpellsModule}
 use Rattle.pli_deck_write.specs.Spelling.{deck_bytes}
@@ -31,25 +34,29 @@ after : (before : Option External) (n : Name) → Above (option_map (λ (e : Ext
 after None n h = refl
 after (Some e) n h = ap is_less h
 
+kind_fits : (kind : VariableKind) → (from_to 2 3 u1).fits (kind_number kind) ≡ true
+kind_fits Static = refl
+kind_fits Controlled = refl
+
 externals_fit : (members : List Member) (before : Option External) (ds : List (Name × Declaration)) → Rises (option_map (λ (e : External). e.name) before) ds → AllByRecursion (IsDeclared members) ds
     → fit_behind external_behind before (map external_of ds) ≡ true
 unfolding external_behind
 externals_fit members before [] up all = refl
 externals_fit members before (d ∷ ds) up all =
     let place = u2.fits (short d.1.unit) && u2.fits (short d.1.global) in
-    let kind = (from_to 2 3 u1).fits 2 in
+    let kind = (from_to 2 3 u1).fits (kind_number d.1.kind) in
     let rest = fit_behind external_behind (Some (external_of d)) (map external_of ds) in
     both_hold ((name.fits d.0 && comes_after before d.0) && (kind && place)) rest
     (both_hold (name.fits d.0 && comes_after before d.0) (kind && place)
     (both_hold (name.fits d.0) (comes_after before d.0) all.0.named (after before d.0 up.0))
-    (both_hold kind place refl (both_hold (u2.fits (short d.1.unit)) (u2.fits (short d.1.global)) (fits_short (short d.1.unit) (omega arith)) (fits_short (short d.1.global) (omega arith)))))
+    (both_hold kind place (kind_fits d.1.kind) (both_hold (u2.fits (short d.1.unit)) (u2.fits (short d.1.global)) (fits_short (short d.1.unit) (omega arith)) (fits_short (short d.1.global) (omega arith)))))
     (externals_fit members (Some (external_of d)) ds up.1 all.1)
 
 externals_stand : (members : List Member) (ds : List (Name × Declaration)) → AllByRecursion (IsDeclared members) ds
     → list_all (λ (e : External). has_kind e.kind (global_at members e.unit e.global)) (map external_of ds) ≡ true
 externals_stand members [] all = refl
 externals_stand members (d ∷ ds) all =
-    both_hold (has_kind 2 (global_at members (short d.1.unit) (short d.1.global))) (list_all (λ (e : External). has_kind e.kind (global_at members e.unit e.global)) (map external_of ds)) all.0.kind
+    both_hold (has_kind (kind_number d.1.kind) (global_at members (short d.1.unit) (short d.1.global))) (list_all (λ (e : External). has_kind e.kind (global_at members e.unit e.global)) (map external_of ds)) all.0.kind
     (externals_stand members ds all.1)
 
 -- ---- units

@@ -7,15 +7,14 @@ use Rattle.pli_map.specs.Description.{Description}
 use Rattle.pli_map.specs.Sizes.{size_of}
 use Rattle.pli_map.specs.Variables.{byte_limit}
 use Rattle.pli_type_tree.specs.Templates.{Template}
-use Rattle.pli_code.specs.CodeTables.{there}
-use Rattle.pli_link.specs.ModuleSize.{own_of, all_own, variables_made, is_oversized, are_too_large, is_too_large}
+use Rattle.pli_link.specs.ModuleSize.{shared_in, own_of, all_own, variables_made, is_oversized, are_too_large, is_too_large}
 use Rattle.pli_link.specs.Names.{Declaration, externals}
 use Rattle.pli_link.specs.Units.{Compiled}
 use Rattle.pli_code.specs.Modules.{Member, Module}
 use Rattle.pli_deck_write.specs.ModuleSpelling.{static_bytes, external_bytes, module_within_limits}
 use Rattle.pli_link.specs.Links.{external_of, linked_unit}
 use Rattle.pli_link_laws.proofs.Sums.{total, sum_is_total, total_joined, total_mapped, both_hold}
-use Rattle.pli_link_laws.proofs.DeckParts.{size_in, there_bytes, own_bytes}
+use Rattle.pli_link_laws.proofs.DeckParts.{size_in, made_bytes, own_bytes}
 use Rattle.pli_link_laws.proofs.UnitDeclarations.{IsDeclared}
 
 -- what linking has counted
@@ -66,13 +65,13 @@ module _ (names : List Name) (numbers : List (Name × ℕ)) where
       )
 
 shared_same : (members : List Member) (ds : List (Name × Declaration)) → AllByRecursion (IsDeclared members) ds
-    → total size_in (flat_map (λ (d : Declaration). there d.template) (values_of ds)) ≡ total (λ d. external_bytes members (external_of d)) ds
+    → total size_in (flat_map shared_in (values_of ds)) ≡ total (λ d. external_bytes members (external_of d)) ds
 shared_same members [] all = refl
 shared_same members (d ∷ ds) all =
     omega (
       arith,
-      total_joined size_in (there d.1.template) (flat_map (λ (d : Declaration). there d.template) (values_of ds)),
-      there_bytes d.1.template,
+      total_joined size_in (shared_in d.1) (flat_map shared_in (values_of ds)),
+      made_bytes d.1.kind d.1.template,
       all.0.bytes,
       shared_same members ds all.1,
     )
@@ -85,10 +84,10 @@ within_limits names numbers cs m units_are externals_are h declared =
     omega (arith, sum_is_total (λ (u : Member). length u.deck.code.instructions) m.units, ap (total (λ (u : Member). length u.deck.code.instructions)) units_are, instructions_same names numbers cs, h.instructions) in
     let own : sum_by (λ (u : Member). sum_by (static_bytes u.deck.code) u.deck.code.globals) m.units ≡ total size_in (all_own cs) =
     sum_is_total (λ (u : Member). sum_by (static_bytes u.deck.code) u.deck.code.globals) m.units ∙ ap (total (λ (u : Member). sum_by (static_bytes u.deck.code) u.deck.code.globals)) units_are ∙ own_same names numbers cs in
-    let shared : sum_by (external_bytes m.units) m.externals ≡ total size_in (flat_map (λ (d : Declaration). there d.template) (values_of ds)) =
+    let shared : sum_by (external_bytes m.units) m.externals ≡ total size_in (flat_map shared_in (values_of ds)) =
     sum_is_total (external_bytes m.units) m.externals ∙ ap (total (external_bytes m.units)) externals_are ∙ total_mapped (external_bytes m.units) external_of ds ∙ sym (shared_same m.units ds declared) in
     let bytes : sum_by (λ (u : Member). sum_by (static_bytes u.deck.code) u.deck.code.globals) m.units + sum_by (external_bytes m.units) m.externals ≤ 16777216 =
-    omega (arith, own, shared, total_joined size_in (all_own cs) (flat_map (λ (d : Declaration). there d.template) (values_of ds)), h.bytes) in
+    omega (arith, own, shared, total_joined size_in (all_own cs) (flat_map shared_in (values_of ds)), h.bytes) in
     both_hold (nat_le (sum_by (λ (u : Member). length u.deck.code.instructions) m.units) 1000000)
     (nat_le (sum_by (λ (u : Member). sum_by (static_bytes u.deck.code) u.deck.code.globals) m.units + sum_by (external_bytes m.units) m.externals) 16777216)
     (le-leb (sum_by (λ (u : Member). length u.deck.code.instructions) m.units) 1000000 long)

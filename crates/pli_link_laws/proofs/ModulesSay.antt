@@ -85,7 +85,7 @@ module _ (cs : List Compiled) (main : ℕ) (few : length cs ≤ 999) (here : pos
       main = omega (arith, units, main_within cs main here);
       units = few_units;
       said = said;
-      leads = leads_each m.units (units_lead m ds cs refl few_externals few_units numbers cs 0 (all_found [] (all_shared 0 cs)) (units_resolved cs cs good.resolved));
+      leads = leads_each m.units (units_lead m ds cs refl few_externals few_units numbers cs 0 (all_found [] (all_shared 0 cs)) (units_resolved cs cs good.resolved good.alike));
       limits = within_limits (keys_of ds) (procedures cs) cs m refl refl (counted cs good.small) declared;
     }
 

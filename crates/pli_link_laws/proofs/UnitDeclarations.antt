@@ -1,9 +1,11 @@
 -- The external variables of units are declared where the module says.
-use Rattle.std.proofs.Common.{◌≡◌, ℕ, suc, ◌+◌, ◌≤◌, true, Some, List, [], ◌∷◌, length, map, slice_get, ap, sym, ◌∙◌, arith}
+use Rattle.std.proofs.Common.{◌≡◌, ℕ, suc, ◌+◌, ◌≤◌, true, Some, List, [], ◌∷◌, length, map, slice_get, refl, ap, sym, ◌∙◌, arith}
 use Rattle.std.specs.List.{list_all, AllByRecursion}
 use Rattle.pli_base.specs.Name.{Name}
-use Rattle.pli_code.specs.CodeTables.{CodedGlobal, OwnVariable, ExternalVariable, EntryPoint, template_at}
-use Rattle.pli_code.specs.declared.code.VariableKind.TheVariants.{Static, Controlled}
+use Rattle.pli_code.specs.CodeTables.{Code, CodedGlobal, OwnVariable, ExternalVariable, EntryPoint, template_at}
+use Rattle.pli_program.specs.declared.kind.VariableKind.{VariableKind}
+use Rattle.pli_program.specs.declared.kind.VariableKind.TheVariants.{Static, Controlled}
+use Rattle.pli_code.specs.views.CodeView.{kind_number}
 use Rattle.pli_code.specs.Modules.{Member}
 use Rattle.pli_link.specs.Links.{short, external_of, linked_unit}
 use Rattle.pli_link.specs.Names.{Declaration, shared_from, all_shared}
@@ -12,27 +14,35 @@ use Rattle.pli_deck_write.specs.DeckFields.{name, global}
 use Rattle.pli_deck_write.specs.ModuleSpelling.{global_in, global_at, has_kind, declared_bytes, bytes_in_unit, external_bytes}
 use Rattle.pli_link_laws.specs.LinkedModules.{IsSaidAlone}
 use Rattle.pli_link_laws.proofs.Sums.{all_both, both_of}
-use Rattle.pli_link_laws.proofs.DeckParts.{globals_fit, name_fits, bytes_of, template_same}
+use Rattle.pli_link_laws.proofs.DeckParts.{globals_fit, name_fits, bytes_made, template_same}
 
--- a variable where it is declared: a static one that units share, with the bytes of its template
+-- a variable where it is declared: one of its kind that units share, with the bytes that are made of its template
 pub record IsDeclared (members : List Member) (d : Name × Declaration) : Type 0 where
   pub named : name.fits d.0 ≡ true
-  pub kind : has_kind 2 (global_at members (short d.1.unit) (short d.1.global)) ≡ true
-  pub bytes : external_bytes members (external_of d) ≡ bytes_of d.1.template
+  pub kind : has_kind (kind_number d.1.kind) (global_at members (short d.1.unit) (short d.1.global)) ≡ true
+  pub bytes : external_bytes members (external_of d) ≡ bytes_made d.1.kind d.1.template
 
 short_is : (n : ℕ) → n ≤ 65535 → short n ≡ n
 short_is n h = omega (arith, h)
 
+kind_shown : (n : Name) (kind : VariableKind) (t : ℕ) → has_kind (kind_number kind) (Some (ExternalVariable n kind t)) ≡ true
+kind_shown n Static t = refl
+kind_shown n Controlled t = refl
+
+bytes_shown : (c : Code) (n : Name) (kind : VariableKind) (t : ℕ) → declared_bytes c (Some (ExternalVariable n kind t)) ≡ bytes_made kind (template_at c t)
+bytes_shown c n Static t = template_same c t
+bytes_shown c n Controlled t = refl
+
 module _ (members : List Member) (i : ℕ) (u : Member) (few : i ≤ 65535) (stands : slice_get members i ≡ Some u) where
-  one_declared : (j : ℕ) (n : Name) (t : ℕ) → j ≤ 65535 → slice_get u.deck.code.globals j ≡ Some (ExternalVariable n Static t) → name.fits n ≡ true
-      → IsDeclared members (n, record { template = template_at u.deck.code t; unit = i; global = j })
-  one_declared j n t within is fits =
+  one_declared : (j : ℕ) (n : Name) (kind : VariableKind) (t : ℕ) → j ≤ 65535 → slice_get u.deck.code.globals j ≡ Some (ExternalVariable n kind t) → name.fits n ≡ true
+      → IsDeclared members (n, record { kind = kind; template = template_at u.deck.code t; unit = i; global = j })
+  one_declared j n kind t within is fits =
       let unit_at : slice_get members (short i) ≡ Some u = ap (slice_get members) (short_is i few) ∙ stands in
-      let variable_at : slice_get u.deck.code.globals (short j) ≡ Some (ExternalVariable n Static t) = ap (slice_get u.deck.code.globals) (short_is j within) ∙ is in
+      let variable_at : slice_get u.deck.code.globals (short j) ≡ Some (ExternalVariable n kind t) = ap (slice_get u.deck.code.globals) (short_is j within) ∙ is in
       record {
         named = fits;
-        kind = ap (λ o. has_kind 2 (global_in o (short j))) unit_at ∙ ap (has_kind 2) variable_at;
-        bytes = ap (λ o. bytes_in_unit o (short j)) unit_at ∙ ap (declared_bytes u.deck.code) variable_at ∙ template_same u.deck.code t;
+        kind = ap (λ o. has_kind (kind_number kind) (global_in o (short j))) unit_at ∙ ap (has_kind (kind_number kind)) variable_at ∙ kind_shown n kind t;
+        bytes = ap (λ o. bytes_in_unit o (short j)) unit_at ∙ ap (declared_bytes u.deck.code) variable_at ∙ bytes_shown u.deck.code n kind t;
       }
 
   abbrev Stand : List CodedGlobal → (number : ℕ) → Type 0
@@ -51,13 +61,11 @@ module _ (members : List Member) (i : ℕ) (u : Member) (few : i ≤ 65535) (sta
   unit_declared [] j at within fit = tt
   unit_declared (OwnVariable kind t ∷ gs) j at within fit =
       unit_declared gs (j + 1) (rest_at (OwnVariable kind t) gs j at) (omega (arith, within)) (skipped (OwnVariable kind t) gs fit)
-  unit_declared (ExternalVariable n Static t ∷ gs) j at within fit =
-      let fits = both_of (global.fits (ExternalVariable n Static t)) (list_all global.fits gs) fit in (
-        one_declared j n t (omega (arith, within)) (first_at (ExternalVariable n Static t) gs j at) (name_fits n t fits.0),
-        unit_declared gs (j + 1) (rest_at (ExternalVariable n Static t) gs j at) (omega (arith, within)) fits.1,
+  unit_declared (ExternalVariable n kind t ∷ gs) j at within fit =
+      let fits = both_of (global.fits (ExternalVariable n kind t)) (list_all global.fits gs) fit in (
+        one_declared j n kind t (omega (arith, within)) (first_at (ExternalVariable n kind t) gs j at) (name_fits n kind t fits.0),
+        unit_declared gs (j + 1) (rest_at (ExternalVariable n kind t) gs j at) (omega (arith, within)) fits.1,
       )
-  unit_declared (ExternalVariable n Controlled t ∷ gs) j at within fit =
-      unit_declared gs (j + 1) (rest_at (ExternalVariable n Controlled t) gs j at) (omega (arith, within)) (skipped (ExternalVariable n Controlled t) gs fit)
   unit_declared (EntryPoint n s ∷ gs) j at within fit =
       unit_declared gs (j + 1) (rest_at (EntryPoint n s) gs j at) (omega (arith, within)) (skipped (EntryPoint n s) gs fit)
 

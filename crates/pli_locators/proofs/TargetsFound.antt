@@ -17,10 +17,10 @@ use Rattle.pli_store.specs.views.StorageView.{place_view}
 use Rattle.pli_value.specs.declared.locator.Locator.{Locator}
 use Rattle.pli_value.specs.declared.locator.Locator.TheVariants.{Pointer}
 use Rattle.pli_world.specs.Storage.{Generation, Based, Place, whole}
-use Rattle.pli_world.specs.World.{World, Answer, Yields, Raises, Wrong, further, made_of}
-use Rattle.pli_locators.specs.Locating.{Target, target_at, unless_ended, unless_other, located, based, pointer_to, allocated, is_allocated, ended, freed, is_whole_of, addressed}
+use Rattle.pli_world.specs.World.{World, Answer, Yields, Raises, Wrong, further, generation_ended, made_of}
+use Rattle.pli_locators.specs.Locating.{Target, target_at, unless_ended, unless_other, located, based, pointer_to, allocated, is_allocated, freed, is_whole_of, addressed}
 use Rattle.pli_locators.specs.views.TargetView.{target_view}
-use Rattle.pli_locators.proofs.AnsweredCalls.{first_refused, second_decides}
+use Rattle.pli_stacks.proofs.AnsweredCalls.{first_refused, second_decides}
 
 -- a generation that is found by its number
 pub target_found : (gs : List Generation) (number position : ℕ) (living : LivingGeneration) → position ≡ 0 → IsLiving gs number living
@@ -58,7 +58,7 @@ module _ (d : Description) (number position : ℕ) (w : World) where
 
 -- what is done with what is freed
 abbrev free : Target → World → Answer Unit
-free t w = if is_allocated t.made then Yields tt (ended t.place w) else Raises DescriptionMismatch w
+free t w = if is_allocated t.made then Yields tt (generation_ended t.place.generation w) else Raises DescriptionMismatch w
 
 pub not_allocated : (m : CodeMade) → (m ≡ made.Based → ⊥) → is_allocated (made_view m) ≡ false
 not_allocated made.Automatic other = refl
@@ -82,7 +82,7 @@ module _ (d : Description) (l : Locator) (w : World) where
   freed_refused f after answer = first_refused {U = Unit {0}} target_view (λ _. tt) f w w after (located d l w) free answer
 
   pub freed_there : (t : LivingGeneration) → Answered target_view (Ok t) w w (located d l w) → is_allocated (made_view t.made) ≡ true
-      → freed d l w ≡ Yields tt (ended (place_view t.place) w)
+      → freed d l w ≡ Yields tt (generation_ended t.place.generation w)
   unfolding freed
   freed_there t answer made = ap (λ a. further a free) answer ∙ rw made refl
 

@@ -1,5 +1,4 @@
 pub mod Locating
-pub mod Stacks
 pub mod examples
 pub mod laws
 pub mod views

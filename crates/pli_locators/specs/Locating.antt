@@ -1,5 +1,5 @@
 -- Storage by locators (X3.53): what a locator leads to, BASED variables outside areas, and ADDR.
-use Rattle.std.specs.Prelude.{ℕ, nat_eq, Bool, true, false, ◌&&◌, Option, Some, None, List, [], ◌∷◌}
+use Rattle.std.specs.Prelude.{ℕ, nat_eq, Bool, true, false, ◌&&◌, Option, Some, None, List}
 use Rattle.std.specs.Prelude.{option_map, if◌then◌else◌}
 use Rattle.pli_run.specs.declared.ending.RunError.TheVariants.{NullLocator, DeadLocator, DescriptionMismatch}
 use Rattle.pli_map.specs.Description.{Description}
@@ -7,8 +7,8 @@ use Rattle.pli_map.specs.Same.{same}
 use Rattle.pli_map.specs.Variables.{Variable}
 use Rattle.pli_value.specs.declared.locator.Locator.{Locator}
 use Rattle.pli_value.specs.declared.locator.Locator.TheVariants.{Null, Pointer, Offset}
-use Rattle.pli_world.specs.Storage.{Generation, Made, Based, Place, whole, generation_in, without}
-use Rattle.pli_world.specs.World.{World, Answer, Yields, Raises, Wrong, further, made_of}
+use Rattle.pli_world.specs.Storage.{Generation, Made, Based, Place, whole, generation_in}
+use Rattle.pli_world.specs.World.{World, Answer, Yields, Raises, Wrong, further, made_of, generation_ended}
 
 -- ---- what a pointer leads to
 
@@ -58,10 +58,6 @@ pointer_to p = Pointer p.generation p.position
 unfoldable pub allocated : Variable → World → Answer Locator
 allocated v w = further (made_of v.description Based v.initial w) (λ p w. Yields (pointer_to p) w)
 
--- what a place is the whole of ends
-abbrev pub ended : Place → World → World
-ended p w = record w { storage = without (p.generation ∷ []) w.storage }
-
 -- something was made by ALLOCATE of a BASED variable
 abbrev pub is_allocated : Made → Bool
 is_allocated Based = true
@@ -71,7 +67,9 @@ is_allocated other = false
 unfoldable pub freed : Description → Locator → World → Answer Unit
 freed d l w =
     further (located d l w)
-    (λ t w. if is_allocated t.made then Yields tt (ended t.place w) else Raises DescriptionMismatch w)
+    (λ t w. if is_allocated t.made
+    then Yields tt (generation_ended t.place.generation w)
+    else Raises DescriptionMismatch w)
 
 -- ---- ADDR
 

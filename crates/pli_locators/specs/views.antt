@@ -1,3 +1,1 @@
-pub mod PlacesView
-pub mod StacksView
 pub mod TargetView

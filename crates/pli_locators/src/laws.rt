@@ -1,29 +1,21 @@
 //! Laws and worked examples of storage by locators.
 ghost use Rattle.pli_locators.specs.laws.Operations.{LocatingStays, BasedStays, AllocatingStays, FreeingStays, AddressStays};
-ghost use Rattle.pli_locators.specs.laws.Operations.{NewestStays, StackingStays, UnstackingStays, CountingStays, SameBesideFollows};
-ghost use Rattle.pli_locators.specs.laws.Operations.{NumberIsNew, EndedIsDead, FreedIsDead, EndedBehindMaking};
+ghost use Rattle.pli_locators.specs.laws.Operations.{NumberIsNew, EndedIsDead, FreedIsDead};
 ghost use Rattle.pli_locators.specs.laws.Operations.{EndedBehindAllocating, EndedBehindFreeing};
-ghost use Rattle.pli_locators.specs.laws.Operations.{EndedBehindStacking, EndedBehindUnstacking};
-ghost use Rattle.pli_locators.specs.laws.Operations.{BesideAllocated, BesideStacked, BesideFreed, StacksBeside, NewestGoes, OtherStacks};
+ghost use Rattle.pli_locators.specs.laws.Operations.{BesideAllocated, BesideFreed, StacksBeside};
 ghost use Rattle.pli_locators.specs.examples.LocatorExamples.{AllocatedBegins, AllocatedAgain, FreedTwice, NullIsRefused};
 ghost use Rattle.pli_locators.specs.examples.LocatorExamples.{OtherIsRefused, DeadBeforeOther, InsideIsDead, OffsetAlone};
 ghost use Rattle.pli_locators.specs.examples.LocatorExamples.{AddressLeads, AddressIsNotFreed, AddressOfBased, AddressOfPart};
-ghost use Rattle.pli_locators.specs.examples.LocatorExamples.{NewestIsMeant, OlderIsLeft, PlaceStays, NoneIsLeft};
-ghost use Rattle.pli_locators.specs.examples.LocatorExamples.{ControlledIsNotFreed, NoStack};
+ghost use Rattle.pli_locators.specs.examples.LocatorExamples.{ControlledIsNotFreed};
 
-/// A law: an operation by locators or on stacks changes these and storage alone: not what is printed, the column, steps or
-/// activations. Where it is refused it changes nothing.
+/// A law: an operation by locators changes storage alone: not what is printed, the column, steps or activations. Where it is
+/// refused it changes nothing.
 pub fn storage_alone_changes()
     ensures locating { LocatingStays }
     ensures based { BasedStays }
     ensures allocating { AllocatingStays }
     ensures freeing { FreeingStays }
     ensures address { AddressStays }
-    ensures newest { NewestStays }
-    ensures stacking { StackingStays }
-    ensures unstacking { UnstackingStays }
-    ensures counting { CountingStays }
-    ensures follows { SameBesideFollows }
 {}
 
 /// A law: no number of a generation is used again. A new generation has a new one, what has ended is dead for every
@@ -32,26 +24,20 @@ pub fn numbers_stay_given()
     ensures new { NumberIsNew }
     ensures dead { EndedIsDead }
     ensures freed { FreedIsDead }
-    ensures making { EndedBehindMaking }
     ensures allocating { EndedBehindAllocating }
     ensures freeing { EndedBehindFreeing }
-    ensures stacking { EndedBehindStacking }
-    ensures unstacking { EndedBehindUnstacking }
 {}
 
-/// A law: what lives beside stays as it is. ALLOCATE changes no generation that lives, FREE ends one alone, of a CONTROLLED
-/// variable the newest, and other stacks stay as they are.
+/// A law: what lives beside stays as it is. ALLOCATE changes no generation that lives, FREE ends one alone, and the stacks of
+/// CONTROLLED variables stay as they are.
 pub fn others_stay()
     ensures allocated { BesideAllocated }
-    ensures stacked { BesideStacked }
     ensures freed { BesideFreed }
     ensures stacks { StacksBeside }
-    ensures newest { NewestGoes }
-    ensures others { OtherStacks }
 {}
 
-/// Worked examples: BASED variables that are allocated, freed and allocated again, null, dead and other locators, pointers
-/// of ADDR, and CONTROLLED variables.
+/// Worked examples: BASED variables that are allocated, freed and allocated again, null, dead and other locators, and pointers
+/// of ADDR.
 pub fn worked_examples()
     ensures allocated_begins { AllocatedBegins }
     ensures allocated_again { AllocatedAgain }
@@ -65,10 +51,5 @@ pub fn worked_examples()
     ensures address_is_not_freed { AddressIsNotFreed }
     ensures address_of_based { AddressOfBased }
     ensures address_of_part { AddressOfPart }
-    ensures newest_is_meant { NewestIsMeant }
-    ensures older_is_left { OlderIsLeft }
-    ensures place_stays { PlaceStays }
-    ensures none_is_left { NoneIsLeft }
     ensures controlled_is_not_freed { ControlledIsNotFreed }
-    ensures no_stack { NoStack }
 {}

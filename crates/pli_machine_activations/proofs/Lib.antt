@@ -5,7 +5,6 @@ pub mod EndLemmas
 pub mod EnteredBlocks
 pub mod FoundInTables
 pub mod GivenPlaces
-pub mod InitialValues
 pub mod LinkedUnits
 pub mod LinkLemmas
 pub mod LinkWalkLemmas

@@ -1,10 +1,11 @@
 //! What the globals of a unit lead to.
 ghost use Rattle.std.specs.Prelude.{◌≡◌, None, option_map, slice_get, MatchOption};
+ghost use Rattle.pli_store.specs.views.StorageView.{place_view};
 ghost use Rattle.pli_world.specs.World.{static_in};
 ghost use Rattle.pli_code.specs.Modules.{unit_of};
 ghost use Rattle.pli_code.specs.views.CodeView.{member_view};
 ghost use Rattle.pli_machine_activations.specs.views.ImageView.{image_of};
-ghost use Rattle.pli_machine_activations.specs.views.TableView.{standing_view, standing_of, entry_at, entry_found};
+ghost use Rattle.pli_machine_activations.specs.views.TableView.{lying_at, stack_at, standing_of, entry_at, entry_found};
 
 use crate::linked::LinkedGlobal;
 use crate::loaded::Loaded;
@@ -30,25 +31,44 @@ pub fn unit_at<'l, 'm>(loaded: &'l Loaded<'m>, number: usize) -> Option<ActiveUn
     })
 }
 
-/// The place of the variable of a number.
+/// The place of the STATIC variable of a number.
 #[inline]
 fn place_at<'m>(globals: &[LinkedGlobal<'m>], number: usize) -> Option<Place<'m>>
-    ensures { option_map standing_view result ≡ standing_of (slice_get globals.now number) }
+    ensures { option_map place_view result ≡ lying_at (standing_of (slice_get globals.now number)) }
 {
     match globals.get(number) {
         Some(LinkedGlobal::Variable(place)) => Some(*place),
-        Some(LinkedGlobal::ControlledVariable) => None,
+        Some(LinkedGlobal::ControlledVariable(_)) => None,
         Some(LinkedGlobal::EntryPoint(_)) => None,
         None => None,
     }
 }
 
-/// The place of the variable of a number among the globals of a unit.
+/// The place of the STATIC variable of a number among the globals of a unit.
 #[inline]
 pub fn static_place<'m>(unit: &ActiveUnit<'_, 'm>, number: usize) -> Option<Place<'m>>
-    ensures { static_in (image_of unit.now.loaded.now).statics unit.now.number number ≡ option_map standing_view result }
+    ensures { lying_at (static_in (image_of unit.now.loaded.now).statics unit.now.number number) ≡ option_map place_view result }
 {
     place_at(unit.globals, number)
+}
+
+/// The stack of the CONTROLLED variable of a number.
+fn stack_in(globals: &[LinkedGlobal<'_>], number: usize) -> Option<usize>
+    ensures { result ≡ stack_at (standing_of (slice_get globals.now number)) }
+{
+    match globals.get(number) {
+        Some(LinkedGlobal::ControlledVariable(stack)) => Some(*stack),
+        Some(LinkedGlobal::Variable(_)) => None,
+        Some(LinkedGlobal::EntryPoint(_)) => None,
+        None => None,
+    }
+}
+
+/// The number of the stack of the CONTROLLED variable of a number among the globals of a unit.
+pub fn static_stack(unit: &ActiveUnit<'_, '_>, number: usize) -> Option<usize>
+    ensures { stack_at (static_in (image_of unit.now.loaded.now).statics unit.now.number number) ≡ result }
+{
+    stack_in(unit.globals, number)
 }
 
 /// The unit of the entry of a number.
@@ -58,7 +78,7 @@ fn entry_in(globals: &[LinkedGlobal<'_>], number: usize) -> Option<u16>
     match globals.get(number) {
         Some(LinkedGlobal::EntryPoint(other)) => Some(*other),
         Some(LinkedGlobal::Variable(_)) => None,
-        Some(LinkedGlobal::ControlledVariable) => None,
+        Some(LinkedGlobal::ControlledVariable(_)) => None,
         None => None,
     }
 }

@@ -8,7 +8,7 @@ ghost use Rattle.pli_machine_activations.specs.views.TableView.{AreLinked};
 use crate::linked::LinkedGlobal;
 use pli_code::Module;
 
-/// A module whose variables are made that are made before its program begins.
+/// A module whose variables are made that are there before its program begins.
 #[derive(Drop)]
 pub struct Loaded<'m> {
     pub module: &'m Module,

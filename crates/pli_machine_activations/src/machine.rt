@@ -6,6 +6,7 @@ use crate::display::Display;
 use crate::spare::Spare;
 use pli_machine_operate::Operand;
 use pli_run::RunError;
+use pli_stacks::Stacks;
 use pli_store::{Place, Storage};
 use pli_value::Value;
 
@@ -53,6 +54,8 @@ pub struct Machine<'m> {
     /// The activations that wait, the newest last.
     pub waiting: Vec<Activation<'m>>,
     pub storage: Storage<'m>,
+    /// The generations of CONTROLLED variables.
+    pub stacks: Stacks<'m>,
     /// What is printed and not yet put.
     pub output: Vec<u8>,
     /// The next column, from 1 to 121.

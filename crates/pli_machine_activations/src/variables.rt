@@ -10,15 +10,15 @@ ghost use Rattle.pli_type_tree.specs.views.TemplateView.{initial_view};
 ghost use Rattle.pli_code.specs.CodeTables.{template_at, variables_at};
 ghost use Rattle.pli_code.specs.views.CodeView.{code_view};
 ghost use Rattle.pli_machine_activations.specs.answers.Activated.{SameFrames};
-ghost use Rattle.pli_machine_activations.specs.answers.LaidTemplates.{IsLaid};
+ghost use Rattle.pli_stacks.specs.answers.LaidBytes.{IsLaid};
 ghost use Rattle.pli_machine_activations.specs.answers.Making.{GoesOn};
 ghost use Rattle.pli_machine_activations.specs.views.MachineView.{activation_view, frame_view, world_of};
 
-use crate::initial::make_initial;
 use crate::machine::{Activation, Machine};
 use crate::ready::ReadyCode;
 use pli_code::Code;
 use pli_map::Description;
+use pli_stacks::make_initial;
 use pli_store::{Made, Place, StoreFault};
 use pli_type_tree::InitialScalar;
 use std::alloc::{AllocError, Global};

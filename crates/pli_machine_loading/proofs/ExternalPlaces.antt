@@ -1,17 +1,19 @@
--- Where external variables are that were made already.
+-- Where external variables stand that were made already.
 use Rattle.std.proofs.Common.{◌≡◌, ℕ, zero, suc, ◌<◌, nat_eq, Bool, true, false, Option, Some, None, Result, Ok, Err, List, [], ◌∷◌, ◌++◌, length, refl, sym, ap, subst, ◌∙◌, if◌then◌else◌}
 use Rattle.std.specs.Prelude.{option_map, get_or, cond, slice_set}
+use Rattle.std.specs.Global.{Vec}
 use Rattle.std.specs.Map.{lookup}
 use Rattle.std.proofs.lemmas.Bool.{eqb-true, eqb-false}
 use Rattle.std.proofs.lemmas.List.{get_or-set_same, get_or-set_other}
 use Rattle.pli_world.specs.World.{Standing, Static, made_once}
 use Rattle.pli_map.specs.Variables.{Variable}
+use Rattle.pli_program.specs.declared.kind.VariableKind.{VariableKind}
 use Rattle.pli_store.specs.declared.fault.StoreFault.{StoreFault}
-use Rattle.pli_store.specs.declared.place.Place.{Place}
+use Rattle.pli_store.specs.declared.fault.StoreFault.TheVariants.{OutOfMemory}
 use Rattle.pli_machine_loading.specs.declared.shared.Shared.{Shared}
-use Rattle.pli_machine_activations.specs.answers.Making.{first_world}
-use Rattle.pli_machine_loading.specs.answers.MadeGlobals.{Placed, AreKnown, KnownAt, PlacedKnown, IsNoted}
-use Rattle.pli_machine_activations.specs.views.TableView.{standing_view}
+use Rattle.pli_machine_loading.specs.declared.standing.Standing.{Standing as CodeStanding}
+use Rattle.pli_machine_loading.specs.views.StandingView.{standing_view}
+use Rattle.pli_machine_loading.specs.answers.MadeGlobals.{world_at, Placed, AreKnown, KnownAt, PlacedKnown, IsNoted}
 use Rattle.pli_machine_activations.proofs.StaticPlaces.{or_else, or_none}
 
 -- a place more of which nothing is noted
@@ -51,18 +53,35 @@ external_more (x ∷ xs) key p number = by (nat_eq number x.0) (external_more xs
 pub known_same : (old new : Shared) (externals : List (ℕ × Standing)) → AreKnown old externals → new.externals ≡ old.externals → AreKnown new externals
 known_same old new externals known same = λ number. known number ∙ ap (λ v. option_map standing_view (get_or v.items number None)) (sym same)
 
+-- one that is placed, whatever is noted
+pub placed_noted : (kind : VariableKind) (v : Option Variable) (before : Option Standing) (old mid : Shared) (externals : Vec (Option CodeStanding)) (statics : List Static)
+    (r : Result (Option CodeStanding) StoreFault) → Placed kind v before old mid statics r
+    → Placed kind v before old (record { storage = mid.storage; stacks = mid.stacks; externals = externals }) statics r
+placed_noted kind (Some v) before old mid externals statics (Ok (Some s)) placed = placed
+placed_noted kind (Some v) before old mid externals statics (Ok None) placed = absurd placed
+placed_noted kind (Some v) before old mid externals statics (Err f) placed = placed
+placed_noted kind None before old mid externals statics (Ok (Some s)) placed = absurd placed
+placed_noted kind None before old mid externals statics (Ok None) placed = placed
+placed_noted kind None before old mid externals statics (Err f) placed = absurd placed
+
+-- where memory is wanting there is no answer
+pub placed_out : (kind : VariableKind) (v : Option Variable) (before after : Option Standing) (old mid new : Shared) (statics : List Static) (s : CodeStanding)
+    → Placed kind v before old mid statics (Ok (Some s)) → Placed kind v after old new statics (Err OutOfMemory)
+placed_out kind (Some v) before after old mid new statics s placed = tt
+placed_out kind None before after old mid new statics s placed = absurd placed
+
 -- one of a unit's own
-pub own_placed : (v : Option Variable) (old new : Shared) (statics : List Static) (externals : List (ℕ × Standing)) (r : Result (Option Place) StoreFault) → AreKnown old externals
-    → new.externals ≡ old.externals → Placed v None old.storage new.storage statics r → PlacedKnown v None old new statics externals r
-own_placed v old new statics externals r known same placed = record { placed = placed; known = by r }
+pub own_placed : (kind : VariableKind) (v : Option Variable) (old new : Shared) (statics : List Static) (externals : List (ℕ × Standing)) (r : Result (Option CodeStanding) StoreFault) → AreKnown old externals
+    → new.externals ≡ old.externals → Placed kind v None old new statics r → PlacedKnown kind v None old new statics externals r
+own_placed kind v old new statics externals r known same placed = record { placed = placed; known = by r }
   where
-    by : (r : Result (Option Place) StoreFault) → KnownAt None new externals r
+    by : (r : Result (Option CodeStanding) StoreFault) → KnownAt None new externals r
     by (Ok (Some p)) = known_same old new externals known same
     by (Ok None) = known_same old new externals known same
     by (Err f) = tt
 
 -- an external one that is known already
-known_again : (old : Shared) (externals : List (ℕ × Standing)) (number : ℕ) (p : Place) → AreKnown old externals → get_or old.externals.items number None ≡ Some p
+known_again : (old : Shared) (externals : List (ℕ × Standing)) (number : ℕ) (p : CodeStanding) → AreKnown old externals → get_or old.externals.items number None ≡ Some p
     → AreKnown old (externals ++ (number, standing_view p) ∷ [])
 known_again old externals number p known found = λ other.
     external_more externals number (standing_view p) other ∙ by other (nat_eq other number) refl
@@ -76,7 +95,7 @@ known_again old externals number p known found = λ other.
         ap (λ o. or_else o (Some (standing_view p))) one ∙ sym one ∙ known other
 
 -- one that is new
-pub known_new : (old new : Shared) (externals : List (ℕ × Standing)) (number : ℕ) (p : Place) → AreKnown old externals → get_or old.externals.items number None ≡ None
+pub known_new : (old new : Shared) (externals : List (ℕ × Standing)) (number : ℕ) (p : CodeStanding) → AreKnown old externals → get_or old.externals.items number None ≡ None
     → IsNoted number p old.externals.items new.externals.items → AreKnown new (externals ++ (number, standing_view p) ∷ [])
 known_new old new externals number p known none noted = λ other.
     external_more externals number (standing_view p) other ∙ by other (nat_eq other number) refl ∙ ap (option_map standing_view) (sym (noted other))
@@ -93,13 +112,13 @@ known_new old new externals number p known none noted = λ other.
         ∙ ap (λ b. option_map standing_view (if b then Some p else get_or old.externals.items other None)) (sym is)
 
 -- one that is known
-pub again_placed : (v : Option Variable) (number : ℕ) (p : Place) (r : Option Place) (s : Shared) (statics : List Static) (externals : List (ℕ × Standing)) → AreKnown s externals
-    → get_or s.externals.items number None ≡ Some p → r ≡ option_map (λ _. p) v → PlacedKnown v (Some number) s s statics externals (Ok r)
-again_placed v number p r s statics externals known found is = subst (λ r. PlacedKnown v (Some number) s s statics externals (Ok r)) (sym is) (by v)
+pub again_placed : (kind : VariableKind) (v : Option Variable) (number : ℕ) (p : CodeStanding) (r : Option CodeStanding) (s : Shared) (statics : List Static) (externals : List (ℕ × Standing)) → AreKnown s externals
+    → get_or s.externals.items number None ≡ Some p → r ≡ option_map (λ _. p) v → PlacedKnown kind v (Some number) s s statics externals (Ok r)
+again_placed kind v number p r s statics externals known found is = subst (λ r. PlacedKnown kind v (Some number) s s statics externals (Ok r)) (sym is) (by v)
   where
-    by : (v : Option Variable) → PlacedKnown v (Some number) s s statics externals (Ok (option_map (λ _. p) v))
+    by : (v : Option Variable) → PlacedKnown kind v (Some number) s s statics externals (Ok (option_map (λ _. p) v))
     by None = record { placed = refl; known = known }
     by (Some v) = record {
-      placed = ap (λ b. made_once v b (first_world s.storage statics)) (known number ∙ ap (option_map standing_view) found);
+      placed = ap (λ b. made_once kind v b (world_at s statics)) (known number ∙ ap (option_map standing_view) found);
       known = known_again s externals number p known found;
     }

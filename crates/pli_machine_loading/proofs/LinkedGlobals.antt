@@ -5,10 +5,11 @@ use Rattle.std.proofs.lemmas.List.{length-append, length-map, map-append, get_or
 use Rattle.std.proofs.lemmas.Option.{slice_get-map, slice_get-get_or, slice_get_within, get_or_from_slice_get}
 use Rattle.pli_map.specs.Variables.{Variable}
 use Rattle.pli_program.specs.Program.{GlobalCode, global_variable}
-use Rattle.pli_world.specs.World.{Standing, World, Answer, Yields, Raises, Wrong, Static, further, made_before, made_once, statics_made, with_shared, with_static}
+use Rattle.pli_program.specs.declared.kind.VariableKind.{VariableKind}
+use Rattle.pli_world.specs.World.{Standing, Lies, Stacked, World, Answer, Yields, Raises, Wrong, Static, further, made_before, made_once, statics_made, with_shared, with_static}
 use Rattle.pli_store.specs.declared.fault.StoreFault.{StoreFault}
 use Rattle.pli_store.specs.declared.fault.StoreFault.TheVariants as fault
-use Rattle.pli_store.specs.declared.place.Place.{Place}
+use Rattle.pli_store.specs.views.StorageView.{place_view}
 use Rattle.pli_code.specs.CodeTables.{Code, CodedGlobal, globals_linked, global_before, there}
 use Rattle.pli_machine_step.specs.Runs.{all_statics_made}
 use Rattle.pli_code.specs.Modules.{Member, unit_of}
@@ -17,9 +18,12 @@ use Rattle.pli_code.specs.views.CodeView.{code_view, member_view}
 use Rattle.pli_machine_activations.specs.declared.linked.LinkedGlobal.{LinkedGlobal}
 use Rattle.pli_machine_activations.specs.declared.linked.LinkedGlobal.TheVariants as linked
 use Rattle.pli_machine_loading.specs.declared.shared.Shared.{Shared}
-use Rattle.pli_machine_activations.specs.answers.Making.{EndsAs, first_world}
-use Rattle.pli_machine_loading.specs.answers.MadeGlobals.{AreKnown, PlacedKnown, as_global, number_behind, NextLinked, Links, UnitLinked, LinksUnit, AllLinked, EndsEarlier}
-use Rattle.pli_machine_activations.specs.views.TableView.{standing_view, statics_from, all_statics, entry_in, entry_of}
+use Rattle.pli_machine_loading.specs.declared.standing.Standing.{Standing as CodeStanding}
+use Rattle.pli_machine_loading.specs.declared.standing.Standing.TheVariants as code
+use Rattle.pli_machine_loading.specs.views.StandingView.{standing_view}
+use Rattle.pli_machine_activations.specs.answers.Making.{EndsAs}
+use Rattle.pli_machine_loading.specs.answers.MadeGlobals.{world_at, AreKnown, PlacedKnown, global_of, as_global, number_behind, NextLinked, Links, UnitLinked, LinksUnit, AllLinked, EndsEarlier}
+use Rattle.pli_machine_activations.specs.views.TableView.{statics_from, all_statics, entry_in, entry_of}
 use Rattle.pli_machine_activations.proofs.MadeVariables.{further_ends}
 
 -- one table behind another
@@ -27,12 +31,22 @@ pub statics_more : (unit first : ℕ) (xs ys : List LinkedGlobal)
     → statics_from unit first (xs ++ ys) ≡ statics_from unit first xs ++ statics_from unit (first + length xs) ys
 statics_more unit first [] ys = ap (λ n. statics_from unit n ys) (omega arith)
 statics_more unit first (linked.Variable p ∷ xs) ys =
-    ap (λ ss. record { unit = unit; number = first; standing = standing_view p } ∷ ss)
+    ap (λ ss. record { unit = unit; number = first; standing = Lies (place_view p) } ∷ ss)
     (statics_more unit (suc first) xs ys ∙ ap (λ n. statics_from unit (suc first) xs ++ statics_from unit n ys) (omega arith))
-statics_more unit first (linked.ControlledVariable ∷ xs) ys =
-    statics_more unit (suc first) xs ys ∙ ap (λ n. statics_from unit (suc first) xs ++ statics_from unit n ys) (omega arith)
+statics_more unit first (linked.ControlledVariable stack ∷ xs) ys =
+    ap (λ ss. record { unit = unit; number = first; standing = Stacked stack } ∷ ss)
+    (statics_more unit (suc first) xs ys ∙ ap (λ n. statics_from unit (suc first) xs ++ statics_from unit n ys) (omega arith))
 statics_more unit first (linked.EntryPoint other ∷ xs) ys =
     statics_more unit (suc first) xs ys ∙ ap (λ n. statics_from unit (suc first) xs ++ statics_from unit n ys) (omega arith)
+
+-- a variable as a global stands where it stands, and is no entry
+statics_of : (unit number : ℕ) (s : CodeStanding) → statics_from unit number (global_of s ∷ []) ≡ record { unit = unit; number = number; standing = standing_view s } ∷ []
+statics_of unit number (code.Lies p) = refl
+statics_of unit number (code.Stacked stack) = refl
+
+no_entry_of : (s : CodeStanding) → entry_of (global_of s) ≡ None
+no_entry_of (code.Lies p) = refl
+no_entry_of (code.Stacked stack) = refl
 
 -- what is equal ends as the other does
 pub ends_for : {A : Type 0} (f : StoreFault) (a b : Answer A) (w : World) → a ≡ b → EndsAs f b w → EndsAs f a w
@@ -47,8 +61,8 @@ module _ (unit number : ℕ) (statics : List Static) (externals : List (ℕ × S
   none_links s known is = record {
     after = externals;
     made =
-        ap (λ gs. made_of_all gs (first_world s.storage statics)) is
-        ∙ ap (λ ss. made_of_all left (first_world s.storage ss)) (sym (append-nil statics));
+        ap (λ gs. made_of_all gs (world_at s statics)) is
+        ∙ ap (λ ss. made_of_all left (world_at s ss)) (sym (append-nil statics));
     same = ap (map entry_in) is;
     known = known;
   }
@@ -58,53 +72,57 @@ module _ (unit number : ℕ) (statics : List Static) (externals : List (ℕ × S
       → global_variable code ≡ None → statics_from unit number (g ∷ []) ≡ [] → entry_in code ≡ entry_of g
       → NextLinked unit number statics externals globals left s s (Some g)
   other_links s code g known is none no_statics entry =
-      let w = first_world s.storage statics in record {
+      let w = world_at s statics in record {
         after = externals;
         made =
             ap (λ gs. made_of_all gs w) is
             ∙ ap (λ v. statics_made nat_eq unit number (v ∷ map global_variable left) externals w) none
-            ∙ ap (λ ss. statics_made nat_eq unit (suc number) (map global_variable left) externals (first_world s.storage ss))
+            ∙ ap (λ ss. statics_made nat_eq unit (suc number) (map global_variable left) externals (world_at s ss))
             (sym (ap (λ ss. statics ++ ss) no_statics ∙ append-nil statics));
         same = ap (map entry_in) is ∙ ap (λ e. e ∷ map entry_in left) entry;
         known = known;
       }
 
 -- a variable that units know by this, if they share it
-module _ (c : Code) (unit number : ℕ) (statics : List Static) (externals : List (ℕ × Standing)) (left : List GlobalCode) (kind : Variable → GlobalCode) (external : Option ℕ)
-    (variable : (v : Variable) → global_variable (kind v) ≡ Some (record { external = external; variable = v })) (no_entry : (v : Variable) → entry_in (kind v) ≡ None)
+module _ (c : Code) (unit number : ℕ) (statics : List Static) (externals : List (ℕ × Standing)) (left : List GlobalCode) (global : Variable → GlobalCode) (kind : VariableKind) (external : Option ℕ)
+    (variable : (v : Variable) → global_variable (global v) ≡ Some (record { kind = kind; global = record { external = external; variable = v } }))
+    (no_entry : (v : Variable) → entry_in (global v) ≡ None)
     (old new : Shared) where
   abbrev all : Option Variable → List GlobalCode
-  all v = global_before c (option_map kind v) left
+  all v = global_before c (option_map global v) left
 
   abbrev going : Standing → World → Answer (List (ℕ × Standing))
   going p w = statics_made nat_eq unit (suc number) (map global_variable left) (with_shared external p externals) (with_static unit number p w)
 
   abbrev first : World
-  first = first_world old.storage statics
+  first = world_at old statics
 
   one_first : (v : Variable) → statics_made nat_eq unit number (map global_variable (all (Some v))) externals first
-      ≡ further (made_once v (made_before nat_eq external externals) first) going
+      ≡ further (made_once kind v (made_before nat_eq external externals) first) going
   one_first v = ap (λ g. statics_made nat_eq unit number (g ∷ map global_variable left) externals first) (variable v)
 
-  pub variable_links : (v : Option Variable) (r : Result (Option Place) StoreFault) → PlacedKnown v external old new statics externals r
+  pub variable_links : (v : Option Variable) (r : Result (Option CodeStanding) StoreFault) → PlacedKnown kind v external old new statics externals r
       → Links unit number statics externals (all v) left old new (as_global r)
-  variable_links (Some v) (Ok (Some p)) placed = record {
-    after = with_shared external (standing_view p) externals;
-    made = one_first v ∙ ap (λ a. further a going) placed.placed;
-    same = ap (λ e. e ∷ map entry_in left) (no_entry v);
+  variable_links (Some v) (Ok (Some s)) placed = record {
+    after = with_shared external (standing_view s) externals;
+    made =
+        one_first v ∙ ap (λ a. further a going) placed.placed
+        ∙ ap (λ ss. statics_made nat_eq unit (suc number) (map global_variable left) (with_shared external (standing_view s) externals) (world_at new (statics ++ ss)))
+        (sym (statics_of unit number s));
+    same = ap (λ e. e ∷ map entry_in left) (no_entry v ∙ sym (no_entry_of s));
     known = placed.known;
   }
   variable_links (Some v) (Ok None) placed = absurd placed.placed
   variable_links (Some v) (Err f) placed =
       ends_for f (statics_made nat_eq unit number (map global_variable (all (Some v))) externals first)
-      (further (made_once v (made_before nat_eq external externals) first) going) (first_world new.storage statics) (one_first v)
-      (further_ends f (made_once v (made_before nat_eq external externals) first) going (first_world new.storage statics) placed.placed)
-  variable_links None (Ok (Some p)) placed = absurd placed.placed
+      (further (made_once kind v (made_before nat_eq external externals) first) going) (world_at new statics) (one_first v)
+      (further_ends f (made_once kind v (made_before nat_eq external externals) first) going (world_at new statics) placed.placed)
+  variable_links None (Ok (Some s)) placed = absurd placed.placed
   variable_links None (Ok None) placed = record {
     after = externals;
     made =
         ap (statics_made nat_eq unit number (map global_variable left) externals) (sym placed.placed)
-        ∙ ap (λ ss. statics_made nat_eq unit number (map global_variable left) externals (first_world new.storage ss)) (sym (append-nil statics));
+        ∙ ap (λ ss. statics_made nat_eq unit number (map global_variable left) externals (world_at new ss)) (sym (append-nil statics));
     same = refl;
     known = placed.known;
   }
@@ -114,8 +132,8 @@ module _ (c : Code) (unit number : ℕ) (statics : List Static) (externals : Lis
 pub record SoFar (unit : ℕ) (all left : List GlobalCode) (statics : List Static) (externals : List (ℕ × Standing)) (old now : Shared) (table : List LinkedGlobal) : Type 0 where
   pub after : List (ℕ × Standing)
   pub made :
-      statics_made nat_eq unit 0 (map global_variable all) externals (first_world old.storage statics)
-      ≡ statics_made nat_eq unit (length table) (map global_variable left) after (first_world now.storage (statics ++ statics_from unit 0 table))
+      statics_made nat_eq unit 0 (map global_variable all) externals (world_at old statics)
+      ≡ statics_made nat_eq unit (length table) (map global_variable left) after (world_at now (statics ++ statics_from unit 0 table))
   pub same : map entry_in all ≡ map entry_of table ++ map entry_in left
   pub known : AreKnown now after
 
@@ -123,7 +141,7 @@ pub none_so_far : (unit : ℕ) (all : List GlobalCode) (statics : List Static) (
     → table ≡ [] → AreKnown old externals → SoFar unit all all statics externals old old table
 none_so_far unit all statics externals old table none known = subst (SoFar unit all all statics externals old old) (sym none) (record {
   after = externals;
-  made = ap (λ ss. statics_made nat_eq unit 0 (map global_variable all) externals (first_world old.storage ss)) (sym (append-nil statics));
+  made = ap (λ ss. statics_made nat_eq unit 0 (map global_variable all) externals (world_at old ss)) (sym (append-nil statics));
   same = refl;
   known = known;
 })
@@ -147,9 +165,9 @@ module _ (unit : ℕ) (all left : List GlobalCode) (statics : List Static) (exte
         made =
             so.made ∙ next.made
             ∙ ap (λ n. statics_made nat_eq unit n (map global_variable more) next.after
-            (first_world new.storage ((statics ++ statics_from unit 0 table) ++ statics_from unit (length table) (there g))))
+            (world_at new ((statics ++ statics_from unit 0 table) ++ statics_from unit (length table) (there g))))
             (length_there table g ∙ ap length (sym is))
-            ∙ ap (λ ss. statics_made nat_eq unit (length last) (map global_variable more) next.after (first_world new.storage ss)) joined;
+            ∙ ap (λ ss. statics_made nat_eq unit (length last) (map global_variable more) next.after (world_at new ss)) joined;
         same =
             so.same ∙ ap (λ es. map entry_of table ++ es) next.same
             ∙ sym (append_assoc (map entry_of table) (map entry_of (there g)) (map entry_in more))
@@ -161,13 +179,13 @@ module _ (unit : ℕ) (all left : List GlobalCode) (statics : List Static) (exte
   pub so_far_ends : (more : List GlobalCode) (new : Shared) (f : StoreFault)
       → Links unit (length table) (statics ++ statics_from unit 0 table) so.after left more now new (Err f)
       → LinksUnit unit all statics externals old new table (Err f)
-  so_far_ends more new f ends = ends_for f _ _ (first_world new.storage (statics ++ statics_from unit 0 table)) so.made ends
+  so_far_ends more new f ends = ends_for f _ _ (world_at new (statics ++ statics_from unit 0 table)) so.made ends
 
   -- none is left
   pub so_far_all : left ≡ [] → UnitLinked unit all statics externals old now table
   so_far_all none = record {
     after = so.after;
-    made = so.made ∙ ap (λ gs. statics_made nat_eq unit (length table) (map global_variable gs) so.after (first_world now.storage (statics ++ statics_from unit 0 table))) none;
+    made = so.made ∙ ap (λ gs. statics_made nat_eq unit (length table) (map global_variable gs) so.after (world_at now (statics ++ statics_from unit 0 table))) none;
     same = so.same ∙ ap (λ gs. map entry_of table ++ map entry_in gs) none ∙ append-nil (map entry_of table);
     known = so.known;
   }
@@ -212,8 +230,8 @@ entries_in u = map entry_in (unit_of u).globals
 pub record UnitsSoFar (us : List Member) (i : ℕ) (old now : Shared) (tables : List (List LinkedGlobal)) : Type 0 where
   pub externals : List (ℕ × Standing)
   pub made :
-      all_statics_made 0 (map unit_of us) [] (first_world old.storage [])
-      ≡ all_statics_made i (map unit_of (drop i us)) externals (first_world now.storage (all_statics 0 tables))
+      all_statics_made 0 (map unit_of us) [] (world_at old [])
+      ≡ all_statics_made i (map unit_of (drop i us)) externals (world_at now (all_statics 0 tables))
   pub known : AreKnown now externals
   pub same : map entries_in (take i us) ≡ map (map entry_of) tables
   pub count : length tables ≡ i
@@ -223,7 +241,7 @@ units_none us old tables none known =
     let empty : all_statics 0 tables ≡ [] = ap (all_statics 0) none in
     record {
       externals = [];
-      made = ap (λ ss. all_statics_made 0 (map unit_of us) [] (first_world old.storage ss)) (sym empty);
+      made = ap (λ ss. all_statics_made 0 (map unit_of us) [] (world_at old ss)) (sym empty);
       known = known;
       same = ap (map (map entry_of)) (sym none);
       count = ap length none;
@@ -239,12 +257,12 @@ module _ (us : List Member) (u : Member) (i : ℕ) (old now new : Shared) (table
 
   -- what the globals of this unit come to
   units_as : (a : Answer (List (ℕ × Standing))) → slice_get us i ≡ Some u → (so : UnitsSoFar us i old now tables)
-      → statics_made nat_eq i 0 (map global_variable (unit_of u).globals) so.externals (first_world now.storage before) ≡ a
-      → all_statics_made 0 (map unit_of us) [] (first_world old.storage [])
+      → statics_made nat_eq i 0 (map global_variable (unit_of u).globals) so.externals (world_at now before) ≡ a
+      → all_statics_made 0 (map unit_of us) [] (world_at old [])
       ≡ further a (λ more w. all_statics_made (suc i) (map unit_of (drop (i + 1) us)) more w)
   units_as a here so comes =
       so.made
-      ∙ ap (λ vs. all_statics_made i (map unit_of vs) so.externals (first_world now.storage before)) (next_unit here)
+      ∙ ap (λ vs. all_statics_made i (map unit_of vs) so.externals (world_at now before)) (next_unit here)
       ∙ ap (λ a. further a (λ more w. all_statics_made (suc i) (map unit_of (drop (i + 1) us)) more w)) comes
 
   pub units_more : (last : List (List LinkedGlobal)) → last ≡ tables ++ t ∷ [] → slice_get us i ≡ Some u → (so : UnitsSoFar us i old now tables)
@@ -258,9 +276,9 @@ module _ (us : List Member) (u : Member) (i : ℕ) (old now new : Shared) (table
       record {
         externals = one.after;
         made =
-            units_as (Yields one.after (first_world new.storage (before ++ statics_from i 0 t))) here so one.made
-            ∙ ap (λ ss. all_statics_made (suc i) (map unit_of (drop (i + 1) us)) one.after (first_world new.storage ss)) (sym joined)
-            ∙ ap (λ k. all_statics_made k (map unit_of (drop (i + 1) us)) one.after (first_world new.storage (all_statics 0 last))) next;
+            units_as (Yields one.after (world_at new (before ++ statics_from i 0 t))) here so one.made
+            ∙ ap (λ ss. all_statics_made (suc i) (map unit_of (drop (i + 1) us)) one.after (world_at new ss)) (sym joined)
+            ∙ ap (λ k. all_statics_made k (map unit_of (drop (i + 1) us)) one.after (world_at new (all_statics 0 last))) next;
         known = one.known;
         same =
             ap (map entries_in) (take_more us i u within ∙ ap (λ v. take i us ++ v ∷ []) (get_or_from_slice_get us i u u here))
@@ -270,17 +288,18 @@ module _ (us : List Member) (u : Member) (i : ℕ) (old now new : Shared) (table
       }
 
   pub units_end : (f : StoreFault) → slice_get us i ≡ Some u → (so : UnitsSoFar us i old now tables)
-      → LinksUnit i (unit_of u).globals before so.externals now new t (Err f) → EndsEarlier f (all_statics_made 0 (map unit_of us) [] (first_world old.storage []))
+      → LinksUnit i (unit_of u).globals before so.externals now new t (Err f) → EndsEarlier f (all_statics_made 0 (map unit_of us) [] (world_at old []))
   units_end (fault.Raised e) here so ends = record {
     storage = new.storage;
+    stacks = new.stacks;
     statics = before ++ statics_from i 0 t;
-    ends = units_as (Raises e (first_world new.storage (before ++ statics_from i 0 t))) here so ends;
+    ends = units_as (Raises e (world_at new (before ++ statics_from i 0 t))) here so ends;
   }
   units_end fault.NoRule here so ends = units_as Wrong here so ends
   units_end fault.OutOfMemory here so ends = tt
 
 pub units_all : (us : List Member) (i : ℕ) (old now : Shared) (tables : List (List LinkedGlobal)) → length us ≤ i → UnitsSoFar us i old now tables → AllLinked us old now tables
 units_all us i old now tables past so = record {
-  made = so.made ∙ ap (λ vs. all_statics_made i (map unit_of vs) so.externals (first_world now.storage (all_statics 0 tables))) (drop_all i us past);
+  made = so.made ∙ ap (λ vs. all_statics_made i (map unit_of vs) so.externals (world_at now (all_statics 0 tables))) (drop_all i us past);
   same = ap (map entries_in) (sym (take_all i us past)) ∙ so.same;
 }

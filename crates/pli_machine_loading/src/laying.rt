@@ -3,11 +3,13 @@ ghost use Rattle.std.specs.Prelude.{◌≡◌, Some, IfOk, IfSome};
 ghost use Rattle.pli_type_tree.specs.Templates.{Template};
 ghost use Rattle.pli_code.specs.CodeTables.{template_at};
 ghost use Rattle.pli_code.specs.views.CodeView.{code_view};
-ghost use Rattle.pli_machine_activations.specs.answers.LaidTemplates.{IsLaid, AreLaid, UnitsLaid};
+ghost use Rattle.pli_machine_activations.specs.answers.LaidTemplates.{AreLaid, UnitsLaid};
+ghost use Rattle.pli_stacks.specs.answers.LaidBytes.{IsLaid};
 
 use pli_code::{Code, Module};
-use pli_machine_activations::{initial_bytes, template_of};
+use pli_machine_activations::template_of;
 use pli_map::far_size;
+use pli_stacks::initial_bytes;
 use std::alloc::{AllocError, Global};
 
 /// How many bytes are laid for a template at most (own).

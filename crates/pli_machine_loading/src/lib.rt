@@ -1,9 +1,10 @@
-//! Modules made ready to be run: the variables that are made before the program begins.
+//! Modules made ready to be run: the variables that are there before the program begins.
 #![tactic(auto)]
 
 mod laying;
 mod linking;
 mod loading;
 mod shared;
+mod standing;
 
 pub use loading::{Loading, load};

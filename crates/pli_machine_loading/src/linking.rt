@@ -1,41 +1,102 @@
 //! Globals of units, made before the program begins.
 ghost use Rattle.std.specs.Prelude.{◌≡◌, ◌<◌, ◌∷◌, ◌++◌, ℕ, List, [], None, Some, map, drop, get_or, length, option_map, OnOk};
 ghost use Rattle.pli_base.specs.Name.{Name};
-ghost use Rattle.pli_world.specs.World.{Standing, Static};
-ghost use Rattle.pli_code.specs.CodeTables as plain;
+ghost use Rattle.pli_map.specs.views.DescriptionView.{description_view};
+ghost use Rattle.pli_type_tree.specs.Templates.{variable_of};
+ghost use Rattle.pli_type_tree.specs.views.TemplateView.{initial_view};
+ghost use Rattle.pli_program.specs.declared.kind.VariableKind.TheVariants.{Static as StaticKind, Controlled};
+ghost use Rattle.pli_world.specs.World as plain;
+ghost use Rattle.pli_world.specs.World.{Static};
+ghost use Rattle.pli_code.specs.CodeTables as tables;
 ghost use Rattle.pli_code.specs.CodeTables.{globals_linked, there, variable_at};
 ghost use Rattle.pli_code.specs.Modules.{unit_of};
 ghost use Rattle.pli_code.specs.views.CodeView.{code_view, global_view, member_view};
-ghost use Rattle.pli_machine_loading.specs.answers.MadeGlobals.{Placed, PlacedKnown, IsNoted, LinkTaken, AreKnown, as_global, NextLinked, Links, LinksUnit, LinksAll};
+ghost use Rattle.pli_machine_loading.specs.answers.MadeGlobals.{MadeAs, Placed, PlacedKnown, IsNoted, LinkTaken, AreKnown, global_of, as_global, NextLinked, Links, LinksUnit, LinksAll};
 
 use crate::shared::Shared;
-use pli_code::{Code, CodedGlobal, Member, Module, VariableKind};
-use pli_machine_activations::{LinkedGlobal, make_initial, template_of};
-use pli_store::{Made, Place, StoreFault};
+use crate::standing::Standing;
+use pli_code::{Code, CodedGlobal, Member, Module};
+use pli_machine_activations::{LinkedGlobal, template_of};
+use pli_map::Description;
+use pli_program::VariableKind;
+use pli_stacks::make_initial;
+use pli_store::{Made, StoreFault};
+use pli_type_tree::InitialScalar;
 use std::alloc::{AllocError, Global};
 
-/// Makes the variable of a template's number; where the tables have no such template, there is no variable.
+/// Makes a variable of one generation.
 fn make_static<'m>(
+    alloc: Global,
+    shared: &mut Shared<'m>,
+    description: &'m Description,
+    scalars: &'m [InitialScalar],
+) -> Result<Standing<'m>, StoreFault>
+    ensures made { (statics : List Static) → MadeAs StaticKind
+        (variable_of (record { description = description_view description.now; initial = map initial_view scalars.now })) shared.old shared.new statics result }
+    ensures same { shared.new.externals ≡ shared.old.externals }
+{
+    match make_initial(
+        alloc,
+        &mut shared.storage,
+        description,
+        Made::Static,
+        scalars,
+        None,
+    ) {
+        Ok(place) => Ok(Standing::Lies(place)),
+        Err(fault) => Err(fault),
+    }
+}
+
+/// Makes a CONTROLLED variable, which has no generation yet.
+fn make_stack<'m>(
+    alloc: Global,
+    shared: &mut Shared<'m>,
+    description: &'m Description,
+    scalars: &'m [InitialScalar],
+) -> Result<Standing<'m>, StoreFault>
+    ensures made { (statics : List Static) → MadeAs Controlled
+        (variable_of (record { description = description_view description.now; initial = map initial_view scalars.now })) shared.old shared.new statics result }
+    ensures same { shared.new.externals ≡ shared.old.externals }
+{
+    let stack = shared.stacks.add(alloc, description, scalars)?;
+    Ok(Standing::Stacked(stack))
+}
+
+/// Makes a variable, as its generations come.
+fn make_kind<'m>(
+    alloc: Global,
+    shared: &mut Shared<'m>,
+    kind: VariableKind,
+    description: &'m Description,
+    scalars: &'m [InitialScalar],
+) -> Result<Standing<'m>, StoreFault>
+    ensures made { (statics : List Static) → MadeAs kind
+        (variable_of (record { description = description_view description.now; initial = map initial_view scalars.now })) shared.old shared.new statics result }
+    ensures same { shared.new.externals ≡ shared.old.externals }
+{
+    match kind {
+        VariableKind::Static => make_static(alloc, shared, description, scalars),
+        VariableKind::Controlled => make_stack(alloc, shared, description, scalars),
+    }
+}
+
+/// Makes the variable of a template's number; where the tables have no such template, there is no variable.
+fn make_variable<'m>(
     alloc: Global,
     code: &'m Code,
     shared: &mut Shared<'m>,
+    kind: VariableKind,
     template: u16,
-) -> Result<Option<Place<'m>>, StoreFault>
+) -> Result<Option<Standing<'m>>, StoreFault>
     ensures placed { (statics : List Static) →
-        Placed (variable_at (code_view code.now) template) None shared.old.storage shared.new.storage statics result }
+        Placed kind (variable_at (code_view code.now) template) None shared.old shared.new statics result }
     ensures same { shared.new.externals ≡ shared.old.externals }
 {
     match template_of(code, template) {
         Some((description, scalars)) => {
-            match make_initial(
-                alloc,
-                &mut shared.storage,
-                description,
-                Made::Static,
-                scalars,
-                None,
-            ) {
-                Ok(place) => Ok(Some(place)),
+            match make_kind(alloc, shared, kind, description, scalars) {
+                Ok(standing) => Ok(Some(standing)),
                 Err(fault) => Err(fault),
             }
         }
@@ -43,18 +104,18 @@ fn make_static<'m>(
     }
 }
 
-/// Where the external variable of a number is, if it was made already.
-fn known_place<'m>(externals: &[Option<Place<'m>>], number: u16) -> Option<Place<'m>>
+/// Where the external variable of a number stands, if it was made already.
+fn known_standing<'m>(externals: &[Option<Standing<'m>>], number: u16) -> Option<Standing<'m>>
     ensures { result ≡ get_or externals.now number None }
 {
     match externals.get(number as usize) {
-        Some(place) => *place,
+        Some(standing) => *standing,
         None => None,
     }
 }
 
 /// Makes the list long enough for a number, with nothing noted there.
-fn make_room(externals: &mut Vec<Option<Place>>, number: u16) -> Result<(), AllocError>
+fn make_room(externals: &mut Vec<Option<Standing>>, number: u16) -> Result<(), AllocError>
     ensures room { OnOk result (number < length externals.new.items) }
     ensures same { OnOk result ((other : ℕ) → get_or externals.new.items other None ≡ get_or externals.old.items other None) }
 {
@@ -64,16 +125,16 @@ fn make_room(externals: &mut Vec<Option<Place>>, number: u16) -> Result<(), Allo
     Ok(())
 }
 
-/// Notes where the external variable of a number is.
+/// Notes where the external variable of a number stands.
 fn note_external<'m>(
-    externals: &mut Vec<Option<Place<'m>>>,
+    externals: &mut Vec<Option<Standing<'m>>>,
     number: u16,
-    place: Place<'m>,
+    standing: Standing<'m>,
 ) -> Result<(), AllocError>
-    ensures { OnOk result (IsNoted number place.entry externals.old.items externals.new.items) }
+    ensures { OnOk result (IsNoted number standing.entry externals.old.items externals.new.items) }
 {
     make_room(externals, number)?;
-    externals[number as usize] = Some(place);
+    externals[number as usize] = Some(standing);
     Ok(())
 }
 
@@ -83,63 +144,75 @@ fn make_external<'m>(
     code: &'m Code,
     shared: &mut Shared<'m>,
     number: u16,
+    kind: VariableKind,
     template: u16,
-) -> Result<Option<Place<'m>>, StoreFault>
+) -> Result<Option<Standing<'m>>, StoreFault>
     requires { get_or shared.old.externals.items number None ≡ None }
-    ensures { (statics : List Static) (externals : List (ℕ × Standing)) → AreKnown shared.old externals →
-        PlacedKnown (variable_at (code_view code.now) template) (Some number) shared.old shared.new statics externals result }
+    ensures { (statics : List Static) (externals : List (ℕ × plain.Standing)) → AreKnown shared.old externals →
+        PlacedKnown kind (variable_at (code_view code.now) template) (Some number) shared.old shared.new statics externals result }
 {
-    match make_static(alloc, code, shared, template) {
-        Ok(Some(place)) => {
-            note_external(&mut shared.externals, number, place)?;
-            Ok(Some(place))
+    match make_variable(alloc, code, shared, kind, template) {
+        Ok(Some(standing)) => {
+            note_external(&mut shared.externals, number, standing)?;
+            Ok(Some(standing))
         }
         Ok(None) => Ok(None),
         Err(fault) => Err(fault),
     }
 }
 
-/// The place of a variable that was made already, if the tables have the template of this number.
-fn place_again<'m>(code: &Code, place: Place<'m>, template: u16) -> Option<Place<'m>>
-    ensures { result ≡ option_map (λ _. place.entry) (variable_at (code_view code.now) template) }
+/// Where a variable stands that was made already, if the tables have the template of this number.
+fn again<'m>(code: &Code, standing: Standing<'m>, template: u16) -> Option<Standing<'m>>
+    ensures { result ≡ option_map (λ _. standing.entry) (variable_at (code_view code.now) template) }
 {
     match template_of(code, template) {
-        Some(_) => Some(place),
+        Some(_) => Some(standing),
         None => None,
     }
 }
 
-/// Where the external variable of a number is: the first unit that has it makes it.
+/// Where the external variable of a number stands: the first unit that has it makes it.
 fn place_external<'m>(
     alloc: Global,
     code: &'m Code,
     shared: &mut Shared<'m>,
     number: u16,
+    kind: VariableKind,
     template: u16,
-) -> Result<Option<Place<'m>>, StoreFault>
-    ensures { (statics : List Static) (externals : List (ℕ × Standing)) → AreKnown shared.old externals →
-        PlacedKnown (variable_at (code_view code.now) template) (Some number) shared.old shared.new statics externals result }
+) -> Result<Option<Standing<'m>>, StoreFault>
+    ensures { (statics : List Static) (externals : List (ℕ × plain.Standing)) → AreKnown shared.old externals →
+        PlacedKnown kind (variable_at (code_view code.now) template) (Some number) shared.old shared.new statics externals result }
 {
-    match known_place(&shared.externals, number) {
-        Some(place) => Ok(place_again(code, place, template)),
-        None => make_external(alloc, code, shared, number, template),
+    match known_standing(&shared.externals, number) {
+        Some(standing) => Ok(again(code, standing, template)),
+        None => make_external(alloc, code, shared, number, kind, template),
     }
 }
 
-/// A variable of this place, if there is one, as a global.
+/// A variable that stands so as a global.
+fn global_of<'m>(standing: Standing<'m>) -> LinkedGlobal<'m>
+    ensures { result ≡ global_of standing.entry }
+{
+    match standing {
+        Standing::Lies(place) => LinkedGlobal::Variable(place),
+        Standing::Stacked(stack) => LinkedGlobal::ControlledVariable(stack),
+    }
+}
+
+/// A variable that stands so, if there is one, as a global.
 fn as_global<'m>(
-    placed: Result<Option<Place<'m>>, StoreFault>,
+    placed: Result<Option<Standing<'m>>, StoreFault>,
 ) -> Result<Option<LinkedGlobal<'m>>, StoreFault>
     ensures { result ≡ as_global placed.entry }
 {
     match placed {
-        Ok(Some(place)) => Ok(Some(LinkedGlobal::Variable(place))),
+        Ok(Some(standing)) => Ok(Some(global_of(standing))),
         Ok(None) => Ok(None),
         Err(fault) => Err(fault),
     }
 }
 
-/// Makes a variable of a unit's own; a CONTROLLED one is not made yet.
+/// Makes a variable of a unit's own.
 fn link_own<'m>(
     alloc: Global,
     code: &'m Code,
@@ -147,18 +220,15 @@ fn link_own<'m>(
     kind: VariableKind,
     template: u16,
 ) -> Result<Option<LinkedGlobal<'m>>, StoreFault>
-    ensures { (more : List plain.CodedGlobal) (links : List ℕ) (unit number : ℕ) (statics : List Static) (externals : List (ℕ × Standing))
+    ensures { (more : List tables.CodedGlobal) (links : List ℕ) (unit number : ℕ) (statics : List Static) (externals : List (ℕ × plain.Standing))
         → AreKnown shared.old externals → Links unit number statics externals
-        (globals_linked (code_view code.now) (plain.OwnVariable kind template ∷ more) links) (globals_linked (code_view code.now) more links)
+        (globals_linked (code_view code.now) (tables.OwnVariable kind template ∷ more) links) (globals_linked (code_view code.now) more links)
         shared.old shared.new result }
 {
-    match kind {
-        VariableKind::Static => as_global(make_static(alloc, code, shared, template)),
-        VariableKind::Controlled => Ok(Some(LinkedGlobal::ControlledVariable)),
-    }
+    as_global(make_variable(alloc, code, shared, kind, template))
 }
 
-/// Makes the external variable of a number, unless it was made before; a CONTROLLED one is not made yet.
+/// Makes the external variable of a number, unless it was made before.
 fn link_external<'m>(
     alloc: Global,
     code: &'m Code,
@@ -167,17 +237,12 @@ fn link_external<'m>(
     kind: VariableKind,
     template: u16,
 ) -> Result<Option<LinkedGlobal<'m>>, StoreFault>
-    ensures { (name : Name) (more : List plain.CodedGlobal) (links : List ℕ) (unit number : ℕ) (statics : List Static) (externals : List (ℕ × Standing))
+    ensures { (name : Name) (more : List tables.CodedGlobal) (links : List ℕ) (unit number : ℕ) (statics : List Static) (externals : List (ℕ × plain.Standing))
         → AreKnown shared.old externals → Links unit number statics externals
-        (globals_linked (code_view code.now) (plain.ExternalVariable name kind template ∷ more) (external ∷ links))
+        (globals_linked (code_view code.now) (tables.ExternalVariable name kind template ∷ more) (external ∷ links))
         (globals_linked (code_view code.now) more links) shared.old shared.new result }
 {
-    match kind {
-        VariableKind::Static => {
-            as_global(place_external(alloc, code, shared, external, template))
-        }
-        VariableKind::Controlled => Ok(Some(LinkedGlobal::ControlledVariable)),
-    }
+    as_global(place_external(alloc, code, shared, external, kind, template))
 }
 
 /// The next link, if there is one.
@@ -202,9 +267,9 @@ fn link_next<'m>(
     kind: VariableKind,
     template: u16,
 ) -> Result<Option<LinkedGlobal<'m>>, StoreFault>
-    ensures { (name : Name) (more : List plain.CodedGlobal) (own number : ℕ) (statics : List Static) (externals : List (ℕ × Standing))
+    ensures { (name : Name) (more : List tables.CodedGlobal) (own number : ℕ) (statics : List Static) (externals : List (ℕ × plain.Standing))
         → AreKnown shared.old externals → Links own number statics externals
-        (globals_linked (code_view unit.now.deck.code) (plain.ExternalVariable name kind template ∷ more) (drop taken.old unit.now.links.items))
+        (globals_linked (code_view unit.now.deck.code) (tables.ExternalVariable name kind template ∷ more) (drop taken.old unit.now.links.items))
         (globals_linked (code_view unit.now.deck.code) more (drop taken.new unit.now.links.items)) shared.old shared.new result }
 {
     match next_link(&unit.links, taken) {
@@ -215,9 +280,9 @@ fn link_next<'m>(
 
 /// The entry of the unit that the next link stands for, if there is one.
 fn link_entry<'m>(unit: &Member, shared: &Shared, taken: &mut usize) -> Option<LinkedGlobal<'m>>
-    ensures { (name : Name) (signature : plain.CodedSignature) (more : List plain.CodedGlobal) (own number : ℕ) (statics : List Static)
-        (externals : List (ℕ × Standing)) → AreKnown shared.now externals → NextLinked own number statics externals
-        (globals_linked (code_view unit.now.deck.code) (plain.EntryPoint name signature ∷ more) (drop taken.old unit.now.links.items))
+    ensures { (name : Name) (signature : tables.CodedSignature) (more : List tables.CodedGlobal) (own number : ℕ) (statics : List Static)
+        (externals : List (ℕ × plain.Standing)) → AreKnown shared.now externals → NextLinked own number statics externals
+        (globals_linked (code_view unit.now.deck.code) (tables.EntryPoint name signature ∷ more) (drop taken.old unit.now.links.items))
         (globals_linked (code_view unit.now.deck.code) more (drop taken.new unit.now.links.items)) shared.now shared.now result }
 {
     match next_link(&unit.links, taken) {
@@ -226,8 +291,8 @@ fn link_entry<'m>(unit: &Member, shared: &Shared, taken: &mut usize) -> Option<L
     }
 }
 
-/// Makes the next global of a unit, of whose links so many are taken; a CONTROLLED variable is not made yet. None where the
-/// tables have not what it names, or there is no link for it.
+/// Makes the next global of a unit, of whose links so many are taken. None where the tables have not what it names, or there
+/// is no link for it.
 fn link_global<'m>(
     alloc: Global,
     unit: &'m Member,
@@ -235,7 +300,7 @@ fn link_global<'m>(
     taken: &mut usize,
     global: &CodedGlobal,
 ) -> Result<Option<LinkedGlobal<'m>>, StoreFault>
-    ensures { (more : List plain.CodedGlobal) (own number : ℕ) (statics : List Static) (externals : List (ℕ × Standing))
+    ensures { (more : List tables.CodedGlobal) (own number : ℕ) (statics : List Static) (externals : List (ℕ × plain.Standing))
         → AreKnown shared.old externals → Links own number statics externals
         (globals_linked (code_view unit.now.deck.code) (global_view global.now ∷ more) (drop taken.old unit.now.links.items))
         (globals_linked (code_view unit.now.deck.code) more (drop taken.new unit.now.links.items)) shared.old shared.new result }
@@ -272,7 +337,7 @@ fn link_unit<'m>(
     table: &mut Vec<LinkedGlobal<'m>>,
 ) -> Result<(), StoreFault>
     requires { table.old.items ≡ [] }
-    ensures { (number : ℕ) (statics : List Static) (externals : List (ℕ × Standing)) → AreKnown shared.old externals →
+    ensures { (number : ℕ) (statics : List Static) (externals : List (ℕ × plain.Standing)) → AreKnown shared.old externals →
         LinksUnit number (unit_of (member_view unit.now)).globals statics externals shared.old shared.new table.new.items result }
 {
     let mut taken = 0;

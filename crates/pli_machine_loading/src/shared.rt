@@ -1,10 +1,13 @@
 //! What units share while they are linked.
 
-use pli_store::{Place, Storage};
+use crate::standing::Standing;
+use pli_stacks::Stacks;
+use pli_store::Storage;
 
-/// The storage, and where the external variables are that were made already, by their numbers.
+/// The storage and the stacks, and where the external variables stand that were made already, by their numbers.
 #[derive(Drop)]
 pub struct Shared<'m> {
     pub storage: Storage<'m>,
-    pub externals: Vec<Option<Place<'m>>>,
+    pub stacks: Stacks<'m>,
+    pub externals: Vec<Option<Standing<'m>>>,
 }

@@ -1,3 +1,4 @@
+pub mod GenerationMoves
 pub mod InstructionsDo
 pub mod OperationLemmas
 pub mod WorldLemmas

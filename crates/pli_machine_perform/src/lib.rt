@@ -1,6 +1,7 @@
 //! What each instruction does to the machine.
 #![tactic(auto)]
 
+mod generations;
 mod instructions;
 mod jumping;
 mod keeping;
@@ -16,4 +17,4 @@ mod storing;
 pub use performing::perform;
 pub use places::bounded;
 pub use printing::print_number;
-pub use slots::slot_place;
+pub use slots::{global_place, slot_place};

@@ -4,6 +4,7 @@ ghost use Rattle.pli_code.specs.views.CodeView.{member_view};
 ghost use Rattle.pli_machine_activations.specs.views.ImageView.{image_of};
 ghost use Rattle.pli_machine_activations.specs.views.MachineView.{Performs};
 
+use crate::generations::{allocate_controlled, count_generations, free_controlled};
 use crate::instructions::{
     calculate, constant, copy, field, fit, jump, jump_unless, load, make_dummy, store, subscript,
 };
@@ -68,13 +69,17 @@ pub fn perform<'m>(
         Instruction::Skip => skip(machine),
         Instruction::SetTemporary { number } => set_temporary(alloc, machine, number as usize),
         Instruction::TakeTemporary { number } => take_temporary(alloc, machine, number as usize),
+        Instruction::AllocateControlled { global } => {
+            allocate_controlled(alloc, unit, machine, global as usize)
+        }
+        Instruction::FreeControlled { global } => free_controlled(unit, machine, global as usize),
+        Instruction::CountGenerations { global } => {
+            count_generations(unit, machine, global as usize)
+        }
         Instruction::Based { .. }
         | Instruction::AddressOf
         | Instruction::ToPointer
         | Instruction::ToOffset
-        | Instruction::AllocateControlled { .. }
-        | Instruction::FreeControlled { .. }
-        | Instruction::CountGenerations { .. }
         | Instruction::AllocateBased { .. }
         | Instruction::AllocateInArea { .. }
         | Instruction::FreeBased { .. }

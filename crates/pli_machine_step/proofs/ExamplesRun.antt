@@ -3,6 +3,7 @@ use Rattle.std.specs.Prelude.{refl}
 use Rattle.std.specs.Fmt.{digits}
 use Rattle.pli_operation.specs.Operations.{calculated}
 use Rattle.pli_world.specs.World.{nothing, entered, made_of, left_by, parts_held, parts_stored, held, stored, cleared, at_statement, stepped, height_of, slot_place, static_place, printed, line_ended, error_at}
+use Rattle.pli_world.specs.Stacks.{stacked, unstacked, counted, stack_named, generation_stacked, generation_unstacked, generations_counted}
 use Rattle.pli_machine_step.specs.examples.MachineExamples as example
 
 pub smallest_stops : example.SmallestStops
@@ -144,3 +145,15 @@ unit_fails = refl
 pub no_unit_faults : example.NoUnitFaults
 unfolding nothing entered made_of stepped
 no_unit_faults = refl
+
+pub generations_print : example.GenerationsPrint
+unfolding nothing entered made_of stepped left_by parts_held parts_stored held stored static_place stacked unstacked counted stack_named generation_stacked generation_unstacked generations_counted calculated printed line_ended digits
+generations_print = refl
+
+pub none_is_error : example.NoneIsError
+unfolding nothing entered stepped at_statement static_place unstacked stack_named generation_unstacked error_at
+none_is_error = (refl, refl)
+
+pub others_fault : example.OthersFault
+unfolding nothing entered made_of stepped stack_named generation_stacked
+others_fault = (refl, refl)

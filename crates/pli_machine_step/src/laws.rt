@@ -11,6 +11,7 @@ ghost use Rattle.pli_machine_step.specs.examples.MachineExamples.{ElementFails, 
 ghost use Rattle.pli_machine_step.specs.examples.MachineExamples.{ComparisonPrints, BitsPrint, SkipEndsLine};
 ghost use Rattle.pli_machine_step.specs.examples.MachineExamples.{StaticIsShared, UnitsShare, UnitsStop};
 ghost use Rattle.pli_machine_step.specs.examples.MachineExamples.{UnitFails, NoUnitFaults};
+ghost use Rattle.pli_machine_step.specs.examples.MachineExamples.{GenerationsPrint, NoneIsError, OthersFault};
 
 /// A law: a program's run gives one outcome.
 pub fn one_outcome()
@@ -35,7 +36,7 @@ pub fn every_run_ends()
 /// Worked examples: steps, a GOTO out of a call, jumps without a step, the limit of activations, the kinds of
 /// blocks, the code's end, an argument by place, a function's value, a loop, an element and a part of a string that are
 /// there and that are not, how far a place is led on, a comparison, bits printed, a line ended, a variable that is made
-/// once, a call of another unit's procedure and a variable that both units have.
+/// once, a call of another unit's procedure and a variable that both units have, the generations of a CONTROLLED one.
 pub fn worked_examples()
     ensures smallest_stops { SmallestStops }
     ensures smallest_ends { SmallestEnds }
@@ -72,4 +73,7 @@ pub fn worked_examples()
     ensures units_stop { UnitsStop }
     ensures unit_fails { UnitFails }
     ensures no_unit_faults { NoUnitFaults }
+    ensures generations_print { GenerationsPrint }
+    ensures none_is_error { NoneIsError }
+    ensures others_fault { OthersFault }
 {}

@@ -5,10 +5,14 @@ use Rattle.std.specs.Cmp.Lexicographic.{nat_list_eq_equiv}
 use Rattle.std.specs.List.{AllByRecursion}
 use Rattle.std.specs.Map.{keys_of}
 use Rattle.std.proofs.Common.{sym, ap, ◌∙◌, subst, arith, true≢false}
+use Rattle.std.proofs.lemmas.Bool.{and_parts}
 use Rattle.std.proofs.lemmas.Option.{slice_get-map}
+use Rattle.std.specs.Option.{option_eq}
 use Rattle.pli_base.specs.Name.{Name}
 use Rattle.pli_base.specs.Words.{same_name, is_among}
 use Rattle.pli_map.specs.Description.{Description}
+use Rattle.pli_program.specs.declared.kind.VariableKind.{VariableKind}
+use Rattle.pli_program.specs.declared.kind.VariableKind.TheVariants.{Static, Controlled}
 use Rattle.pli_type_tree.specs.Templates.{Template}
 use Rattle.pli_type_tree.specs.TypedTree.{Signature, Global, OwnVariable, ExternalVariable, EntryPoint, TypedUnit}
 use Rattle.pli_code.specs.CodeTables.{CodedGlobal}
@@ -18,12 +22,12 @@ use Rattle.pli_meaning_tree.specs.TreeMeaning.{unit_named}
 use Rattle.pli_meaning_typed.specs.TypedPrograms.{IsLinked, all_globals}
 use Rattle.pli_type_keys.specs.Same.{same_template}
 use Rattle.pli_type_keys.specs.laws.KeyLaws.{template_decides}
-use Rattle.pli_link.specs.Alike.{same_signature}
+use Rattle.pli_link.specs.Alike.{same_kind, same_signature}
 use Rattle.pli_link.specs.Link.{link_faults}
 use Rattle.pli_link.specs.Links.{number_in, links_of, linked_unit, module_of}
 use Rattle.pli_link.specs.Mismatches.{is_unlike_procedure, is_unlike, has_fault, name_of, each_once, faulty_in, faulty_names, faulty_in_unit, faulty_linked}
 use Rattle.pli_link.specs.Names as meaning
-use Rattle.pli_link.specs.Names.{Declaration, meant, procedures_from, procedures, externals, first_template, unit_at}
+use Rattle.pli_link.specs.Names.{Declaration, meant, procedures_from, procedures, externals, first_declaration, unit_at}
 use Rattle.pli_link.specs.Units.{Compiled}
 use Rattle.pli_link.specs.declared.global_fault.GlobalFault.{GlobalFault}
 use Rattle.pli_link.specs.declared.global_fault.GlobalFault.TheVariants.{Unresolved, Mismatch}
@@ -102,6 +106,12 @@ found_once a b e =
     ap (λ ps. signature_of ps a.result) (same_parameters a.parameters b.parameters (ap (λ s. s.parameters) e))
     ∙ ap (signature_of b.parameters) (same_result a.result b.result (ap (λ s. s.result) e))
 
+kinds_are_same : (a b : VariableKind) → same_kind a b ≡ true → a ≡ b
+kinds_are_same Static Static e = refl
+kinds_are_same Static Controlled e = absurd (true≢false (sym e))
+kinds_are_same Controlled Static e = absurd (true≢false (sym e))
+kinds_are_same Controlled Controlled e = refl
+
 not_false : (b : Bool) → not b ≡ false → b ≡ true
 not_false true e = refl
 not_false false e = absurd (true≢false e)
@@ -178,8 +188,8 @@ module _ (us : List TypedUnit) where
 
   -- what is known of a global of a unit
   abbrev pub Fits : Global → Type 0
-  Fits (OwnVariable t) = Unit {0}
-  Fits (ExternalVariable name t) = first_template (map coded_tree us) name ≡ Some (Some t)
+  Fits (OwnVariable kind t) = Unit {0}
+  Fits (ExternalVariable name kind t) = (d : Declaration) × (first_declaration (map coded_tree us) name ≡ Some d) × (d.kind ≡ kind) × (d.template ≡ Some t)
   Fits (EntryPoint name s) = (l : Leads name) × (l.unit.signature ≡ s)
 
   entry_fits : (u : TypedUnit) (name : Name) (s : Signature) → IsFound u (EntryPoint name s)
@@ -192,24 +202,25 @@ module _ (us : List TypedUnit) where
       ∙ alike name refl in
       (l, found_once l.unit.signature s ((signature_decides (found l.unit.signature) (found s)).0 (not_false _ unlike)))
 
-  variable_fits : (u : TypedUnit) (name : Name) (t : Template) → IsFound u (ExternalVariable name t)
-      → HasNone cs Mismatch (coded_tree u) (coded_global u (ExternalVariable name t)) → Fits (ExternalVariable name t)
-  variable_fits u name t f alike =
-      by (meaning.unit_named cs name) (first_template cs name) refl
-      (sym (ap (λ o. is_unlike o (meaning.unit_named cs name) (first_template cs name)) f) ∙ alike name refl)
+  variable_fits : (u : TypedUnit) (name : Name) (kind : VariableKind) (t : Template) → IsFound u (ExternalVariable name kind t)
+      → HasNone cs Mismatch (coded_tree u) (coded_global u (ExternalVariable name kind t)) → Fits (ExternalVariable name kind t)
+  variable_fits u name kind t f alike =
+      by (meaning.unit_named cs name) (first_declaration cs name) refl
+      (sym (ap (λ o. is_unlike kind o (meaning.unit_named cs name) (first_declaration cs name)) f) ∙ alike name refl)
     where
-      by : (p : Option Compiled) (o : Option (Option Template)) → first_template (map coded_tree us) name ≡ o → is_unlike (Some t) p o ≡ false
-          → first_template (map coded_tree us) name ≡ Some (Some t)
+      by : (p : Option Compiled) (o : Option Declaration) → first_declaration (map coded_tree us) name ≡ o → is_unlike kind (Some t) p o ≡ false → Fits (ExternalVariable name kind t)
       by (Some c) o e h = absurd (true≢false h)
       by None None e h = absurd (true≢false h)
-      by None (Some first) e h = e ∙ ap Some ((option_decides same_template template_decides first (Some t)).0 (not_false _ h))
+      by None (Some first) e h =
+          let both = and_parts (same_kind first.kind kind) (option_eq same_template first.template (Some t)) (not_false _ h) in
+          (first, e, kinds_are_same first.kind kind both.0, (option_decides same_template template_decides first.template (Some t)).0 both.1)
 
   globals_fit : (u : TypedUnit) (gs : List Global) → AllByRecursion (IsFound u) gs
       → AllByRecursion (HasNone cs Unresolved (coded_tree u)) (map (coded_global u) gs) → AllByRecursion (HasNone cs Mismatch (coded_tree u)) (map (coded_global u) gs)
       → AllByRecursion Fits gs
   globals_fit u [] f resolved alike = tt
-  globals_fit u (OwnVariable t ∷ gs) f resolved alike = (tt, globals_fit u gs f.1 resolved.1 alike.1)
-  globals_fit u (ExternalVariable name t ∷ gs) f resolved alike = (variable_fits u name t f.0 alike.0, globals_fit u gs f.1 resolved.1 alike.1)
+  globals_fit u (OwnVariable kind t ∷ gs) f resolved alike = (tt, globals_fit u gs f.1 resolved.1 alike.1)
+  globals_fit u (ExternalVariable name kind t ∷ gs) f resolved alike = (variable_fits u name kind t f.0 alike.0, globals_fit u gs f.1 resolved.1 alike.1)
   globals_fit u (EntryPoint name s ∷ gs) f resolved alike = (entry_fits u name s f.0 resolved.0 alike.0, globals_fit u gs f.1 resolved.1 alike.1)
 
   units_fit : (some : List TypedUnit) → AllByRecursion (HasNoneInUnit cs Unresolved) (map coded_tree some) → AllByRecursion (HasNoneInUnit cs Mismatch) (map coded_tree some)
@@ -225,10 +236,11 @@ module _ (us : List TypedUnit) where
   pub linked_where_fit : AllByRecursion Fits (all_globals us) → IsLinked us
   linked_where_fit all = record {
     entries = λ i name s e. let fit = all_at Fits (all_globals us) i (EntryPoint name s) all e in (fit.0.number, fit.0.named, (fit.0.unit, fit.0.there, fit.1));
-    variables = λ i j name one other e f.
-        let first = all_at Fits (all_globals us) i (ExternalVariable name one) all e in
-        let second = all_at Fits (all_globals us) j (ExternalVariable name other) all f in
-        some_is one other (some_is (Some one) (Some other) (sym first ∙ second));
+    variables = λ i j name kind like one other e f.
+        let first = all_at Fits (all_globals us) i (ExternalVariable name kind one) all e in
+        let second = all_at Fits (all_globals us) j (ExternalVariable name like other) all f in
+        let same : first.0 ≡ second.0 = some_is first.0 second.0 (sym first.1 ∙ second.1) in
+        (sym first.2 ∙ ap (λ (d : Declaration). d.kind) same ∙ second.2, some_is one other (sym first.3 ∙ ap (λ (d : Declaration). d.template) same ∙ second.3));
   }
 
   -- where no fault of linking is told
@@ -236,18 +248,14 @@ module _ (us : List TypedUnit) where
     abbrev names : List Name
     names = keys_of (externals (map coded_tree us))
 
-    external_number : (name : Name) (t : Template) → Fits (ExternalVariable name t) → position (same_name name) names ≡ Some (number_in names name)
-    external_number name t fit = have_numbers cs clean name (by (meant (externals cs) name) fit)
-      where
-        by : (o : Option Declaration) → option_map (λ d. d.template) o ≡ Some (Some t) → is_some o ≡ true
-        by None e = let bad : ⊥ = cc in absurd bad
-        by (Some d) e = refl
+    external_number : (name : Name) (kind : VariableKind) (t : Template) → Fits (ExternalVariable name kind t) → position (same_name name) names ≡ Some (number_in names name)
+    external_number name kind t fit = have_numbers cs clean name (ap is_some fit.1)
 
     -- the links that the linker gives a unit are the numbers of its external variables and of the units of its entries
     links_are : (u : TypedUnit) (gs : List Global) → AllByRecursion Fits gs → AreLinks us names gs (links_of names (procedures cs) (map (coded_global u) gs))
     links_are u [] all = tt
-    links_are u (OwnVariable t ∷ gs) all = links_are u gs all.1
-    links_are u (ExternalVariable name t ∷ gs) all = (external_number name t all.0, links_are u gs all.1)
+    links_are u (OwnVariable kind t ∷ gs) all = links_are u gs all.1
+    links_are u (ExternalVariable name kind t ∷ gs) all = (external_number name kind t all.0, links_are u gs all.1)
     links_are u (EntryPoint name s ∷ gs) all =
         let l = all.0.0 in
         (l.named ∙ ap (λ o. Some (unwrap_or o 0)) (sym l.means), links_are u gs all.1)

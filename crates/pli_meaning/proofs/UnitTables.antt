@@ -7,6 +7,9 @@ use Rattle.pli_base.specs.Name.{Name}
 use Rattle.pli_map.specs.Description.{Description}
 use Rattle.pli_map.specs.Same.{same}
 use Rattle.pli_map.specs.laws.SameLaws.{same_decides}
+use Rattle.pli_meaning_typed.specs.TypedPrograms.{made_of_kind}
+use Rattle.pli_program.specs.declared.kind.VariableKind.{VariableKind}
+use Rattle.pli_program.specs.declared.kind.VariableKind.TheVariants.{Static, Controlled}
 use Rattle.pli_type_tree.specs.Templates.{Template}
 use Rattle.pli_type_tree.specs.TypedTree.{Signature, Global, OwnVariable, ExternalVariable, EntryPoint, TypedUnit}
 use Rattle.pli_code.specs.CodeTables.{CodedGlobal, template_at, there, with_description, described}
@@ -19,7 +22,7 @@ use Rattle.pli_type_keys.specs.laws.KeyLaws.{template_decides}
 use Rattle.pli_gen_emit.proofs.TableNumbers.{Has, number_stands, has_all}
 use Rattle.pli_gen.proofs.UnitLemmas.{globals_described}
 use Rattle.pli_link.specs.Alike.{FoundSignature, description_at, signature_at}
-use Rattle.pli_link.specs.ModuleSize.{own_of}
+use Rattle.pli_link.specs.ModuleSize.{made_of, own_of}
 use Rattle.pli_link.specs.Names.{Declaration, shared_from}
 
 -- a signature that was found whole
@@ -30,19 +33,24 @@ found s = record { parameters = map Some s.parameters; result = option_map Some 
 abbrev pub AreDeclared : List Global → List (Name × Declaration) → Type 0
 AreDeclared [] [] = Unit {0}
 AreDeclared [] (d ∷ ds) = ⊥
-AreDeclared (OwnVariable t ∷ gs) ds = AreDeclared gs ds
-AreDeclared (ExternalVariable name t ∷ gs) [] = ⊥
-AreDeclared (ExternalVariable name t ∷ gs) (d ∷ ds) = (d.0 ≡ name) × (d.1.template ≡ Some t) × AreDeclared gs ds
+AreDeclared (OwnVariable kind t ∷ gs) ds = AreDeclared gs ds
+AreDeclared (ExternalVariable name kind t ∷ gs) [] = ⊥
+AreDeclared (ExternalVariable name kind t ∷ gs) (d ∷ ds) = (d.0 ≡ name) × (d.1.kind ≡ kind) × (d.1.template ≡ Some t) × AreDeclared gs ds
 AreDeclared (EntryPoint name signature ∷ gs) ds = AreDeclared gs ds
 
--- the variables that a unit has for itself
+-- the STATIC variables that a unit has for itself
 abbrev pub own_one : Global → List Template
-own_one (OwnVariable t) = t ∷ []
-own_one (ExternalVariable name t) = []
+own_one (OwnVariable kind t) = made_of_kind kind t
+own_one (ExternalVariable name kind t) = []
 own_one (EntryPoint name signature) = []
 
 abbrev pub owned : List Global → List Template
 owned gs = flat_map own_one gs
+
+-- the linker counts what is made
+pub made_same : (kind : VariableKind) (t : Template) → made_of kind (Some t) ≡ made_of_kind kind t
+made_same Static t = refl
+made_same Controlled t = refl
 
 -- the tables of a unit
 abbrev pub tables : TypedUnit → NumberedTables
@@ -130,14 +138,14 @@ module _ (u : TypedUnit) where
 
   -- what is found of a global
   abbrev pub IsFound : Global → Type 0
-  IsFound (OwnVariable t) = IsThere t
-  IsFound (ExternalVariable name t) = IsThere t
+  IsFound (OwnVariable kind t) = IsThere t
+  IsFound (ExternalVariable name kind t) = IsThere t
   IsFound (EntryPoint name s) = signature_at (code_of u) (signature_code (tables u) s) ≡ found s
 
   globals_found : (gs : List Global) → AllByRecursion HasDescription (flat_map global_descriptions gs) → AllByRecursion IsThere (flat_map global_templates gs) → AllByRecursion IsFound gs
   globals_found [] ds ts = tt
-  globals_found (OwnVariable t ∷ gs) ds ts = (ts.0, globals_found gs ds.1 ts.1)
-  globals_found (ExternalVariable name t ∷ gs) ds ts = (ts.0, globals_found gs ds.1 ts.1)
+  globals_found (OwnVariable kind t ∷ gs) ds ts = (ts.0, globals_found gs ds.1 ts.1)
+  globals_found (ExternalVariable name kind t ∷ gs) ds ts = (ts.0, globals_found gs ds.1 ts.1)
   globals_found (EntryPoint name s ∷ gs) ds ts = (
     signature_found s (all_described _ (all_front HasDescription (signature_descriptions s) (flat_map global_descriptions gs) ds)),
     globals_found gs (all_back HasDescription (signature_descriptions s) (flat_map global_descriptions gs) ds) ts,
@@ -148,15 +156,16 @@ module _ (u : TypedUnit) where
 
   shared_found : (unit global : ℕ) (gs : List Global) → AllByRecursion IsFound gs → AreDeclared gs (shared_from (code_of u) unit global (map (coded_global u) gs))
   shared_found unit global [] h = tt
-  shared_found unit global (OwnVariable t ∷ gs) h = shared_found unit (global + 1) gs h.1
-  shared_found unit global (ExternalVariable name t ∷ gs) h = (refl, h.0, shared_found unit (global + 1) gs h.1)
+  shared_found unit global (OwnVariable kind t ∷ gs) h = shared_found unit (global + 1) gs h.1
+  shared_found unit global (ExternalVariable name kind t ∷ gs) h = (refl, refl, h.0, shared_found unit (global + 1) gs h.1)
   shared_found unit global (EntryPoint name s ∷ gs) h = shared_found unit (global + 1) gs h.1
 
   own_found : (gs : List Global) → AllByRecursion IsFound gs → own_of (code_of u) (map (coded_global u) gs) ≡ owned gs
   own_found [] h = refl
-  own_found (OwnVariable t ∷ gs) h =
-      ap (λ o. there o ++ own_of (code_of u) (map (coded_global u) gs)) h.0 ∙ ap (λ xs. t ∷ xs) (own_found gs h.1)
-  own_found (ExternalVariable name t ∷ gs) h = own_found gs h.1
+  own_found (OwnVariable kind t ∷ gs) h =
+      ap (λ o. made_of kind o ++ own_of (code_of u) (map (coded_global u) gs)) h.0
+      ∙ ap (λ ts. ts ++ own_of (code_of u) (map (coded_global u) gs)) (made_same kind t) ∙ ap (λ xs. made_of_kind kind t ++ xs) (own_found gs h.1)
+  own_found (ExternalVariable name kind t ∷ gs) h = own_found gs h.1
   own_found (EntryPoint name s ∷ gs) h = own_found gs h.1
 
   pub unit_shares : (unit : ℕ) → AreDeclared u.globals (shared_from (code_of u) unit 0 (code_of u).globals)

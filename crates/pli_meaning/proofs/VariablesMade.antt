@@ -7,6 +7,7 @@ use Rattle.std.specs.Map.{values_of}
 use Rattle.std.specs.Ordering.{nat_cmp}
 use Rattle.std.proofs.Common.{sym, ap, ◌∙◌, subst, arith}
 use Rattle.std.proofs.lemmas.Bool.Decides.{nat_tests}
+use Rattle.std.proofs.lemmas.Grind.{flat_map-append}
 use Rattle.std.proofs.lemmas.List.{length-map}
 use Rattle.std.proofs.lemmas.List.Sums.{sum_by-cons}
 use Rattle.pli_base.specs.Name.{Name}
@@ -14,18 +15,19 @@ use Rattle.pli_base.specs.Words.{same_name, is_among}
 use Rattle.pli_map.specs.Sizes.{size_of}
 use Rattle.pli_world.specs.Storage.{generation_limit}
 use Rattle.pli_map.specs.Variables.{byte_limit}
+use Rattle.pli_program.specs.declared.kind.VariableKind.{VariableKind}
+use Rattle.pli_program.specs.declared.kind.VariableKind.TheVariants.{Static, Controlled}
 use Rattle.pli_type_tree.specs.Templates.{Template}
 use Rattle.pli_type_tree.specs.TypedTree.{Global, OwnVariable, ExternalVariable, EntryPoint, TypedUnit}
-use Rattle.pli_code.specs.CodeTables.{there}
 use Rattle.pli_gen_emit.specs.Encoding.{code_of}
 use Rattle.pli_gen.specs.Limits.{is_over, has_many_slots, has_many_members, initial_bytes, has_wide_number, is_too_long}
-use Rattle.pli_link.specs.ModuleSize.{are_too_large, is_oversized, all_own, variables_made}
+use Rattle.pli_link.specs.ModuleSize.{are_too_large, is_oversized, made_of, all_own, shared_in, variables_made}
 use Rattle.pli_link.specs.Names.{Declaration, meant, shared_from, all_shared, with_declaration, first_declared, externals}
 use Rattle.pli_link.proofs.Faultless.{IsSmall}
 use Rattle.pli_link.proofs.Tables.{put_by, put_found}
 use Rattle.pli_members.specs.Members.{Member}
-use Rattle.pli_meaning_typed.specs.TypedPrograms.{unless, made_for, bytes_of, all_globals}
-use Rattle.pli_meaning.proofs.UnitTables.{AreDeclared, owned, coded_global, unit_shares, unit_owns}
+use Rattle.pli_meaning_typed.specs.TypedPrograms.{made_of_kind, unless, made_for, bytes_of, all_globals}
+use Rattle.pli_meaning.proofs.UnitTables.{AreDeclared, own_one, owned, made_same, coded_global, unit_shares, unit_owns}
 use Rattle.pli_meaning.proofs.UnitsOfTrees.{coded_tree, AreOfMembers}
 
 -- lists of variables, joined
@@ -39,17 +41,14 @@ length_joined [] ys = omega arith
 length_joined (x ∷ xs) ys = omega (arith, length_joined xs ys)
 
 owned_joined : (xs ys : List Global) → owned (xs ++ ys) ≡ owned xs ++ owned ys
-owned_joined [] ys = refl
-owned_joined (OwnVariable t ∷ xs) ys = ap (λ ts. t ∷ ts) (owned_joined xs ys)
-owned_joined (ExternalVariable name t ∷ xs) ys = owned_joined xs ys
-owned_joined (EntryPoint name s ∷ xs) ys = owned_joined xs ys
+owned_joined xs ys = flat_map-append own_one xs ys
 
 declared_joined : (xs ys : List Global) (ds es : List (Name × Declaration)) → AreDeclared xs ds → AreDeclared ys es → AreDeclared (xs ++ ys) (ds ++ es)
 declared_joined [] ys [] es h k = k
 declared_joined [] ys (d ∷ ds) es h k = absurd h
-declared_joined (OwnVariable t ∷ xs) ys ds es h k = declared_joined xs ys ds es h k
-declared_joined (ExternalVariable name t ∷ xs) ys [] es h k = absurd h
-declared_joined (ExternalVariable name t ∷ xs) ys (d ∷ ds) es h k = (h.0, h.1, declared_joined xs ys ds es h.2 k)
+declared_joined (OwnVariable kind t ∷ xs) ys ds es h k = declared_joined xs ys ds es h k
+declared_joined (ExternalVariable name kind t ∷ xs) ys [] es h k = absurd h
+declared_joined (ExternalVariable name kind t ∷ xs) ys (d ∷ ds) es h k = (h.0, h.1, h.2, declared_joined xs ys ds es h.3 k)
 declared_joined (EntryPoint name s ∷ xs) ys ds es h k = declared_joined xs ys ds es h k
 
 -- what all units have
@@ -68,7 +67,7 @@ abbrev Alike : List Name → List (Name × Declaration) → Type 0
 Alike names before = (n : Name) → is_among n names ≡ is_some (meant before n)
 
 abbrev templates_in_table : List (Name × Declaration) → List Template
-templates_in_table es = flat_map (λ d. there d.template) (values_of es)
+templates_in_table es = flat_map shared_in (values_of es)
 
 same_meant : (n name : Name) → same_name n name ≡ true → (es : List (Name × Declaration)) → is_some (meant es n) ≡ is_some (meant es name)
 same_meant n name e es = ap (λ m. is_some (meant es m)) (same_text n name (sym e))
@@ -90,33 +89,40 @@ record IsMeasure (m : List Template → ℕ) : Type 0 where
   joined : (xs ys : List Template) → m (xs ++ ys) ≡ m xs + m ys
 
 module _ (m : List Template → ℕ) (adds : IsMeasure m) where
-  one_first : (before : List (Name × Declaration)) (d : Name × Declaration) (t : Template) → d.1.template ≡ Some t → (b : Bool) → is_some (meant before d.0) ≡ b
-      → m (templates_in_table (with_declaration before d)) ≡ m (unless b t) + m (templates_in_table before)
-  one_first before d t has true is =
+  one_first : (before : List (Name × Declaration)) (d : Name × Declaration) (kind : VariableKind) (t : Template) → d.1.kind ≡ kind → d.1.template ≡ Some t
+      → (b : Bool) → is_some (meant before d.0) ≡ b
+      → m (templates_in_table (with_declaration before d)) ≡ m (unless b (made_of_kind kind t)) + m (templates_in_table before)
+  one_first before d kind t like has true is =
       ap (λ b. m (templates_in_table (if b then before else insert_entry (slice_cmp nat_cmp) before d.0 d.1))) is ∙ omega (arith, adds.empty)
-  one_first before d t has false is =
+  one_first before d kind t like has false is =
       ap (λ b. m (templates_in_table (if b then before else insert_entry (slice_cmp nat_cmp) before d.0 d.1))) is
-      ∙ put_by d.0 d.1 (λ xs ys. m (templates_in_table ys) ≡ m (t ∷ []) + m (templates_in_table xs)) here later before is
+      ∙ put_by d.0 d.1 (λ xs ys. m (templates_in_table ys) ≡ m made + m (templates_in_table xs)) here later before is
     where
-      here : (es : List (Name × Declaration)) → m (there d.1.template ++ templates_in_table es) ≡ m (t ∷ []) + m (templates_in_table es)
-      here es = ap (λ o. m (there o ++ templates_in_table es)) has ∙ adds.joined (t ∷ []) (templates_in_table es)
+      made : List Template
+      made = made_of_kind kind t
 
-      later : (e : Name × Declaration) (xs ys : List (Name × Declaration)) → m (templates_in_table ys) ≡ m (t ∷ []) + m (templates_in_table xs)
-          → m (there e.1.template ++ templates_in_table ys) ≡ m (t ∷ []) + m (there e.1.template ++ templates_in_table xs)
-      later e xs ys h = omega (arith, h, adds.joined (there e.1.template) (templates_in_table xs), adds.joined (there e.1.template) (templates_in_table ys))
+      is_made : shared_in d.1 ≡ made
+      is_made = ap (λ k. made_of k d.1.template) like ∙ ap (made_of kind) has ∙ made_same kind t
+
+      here : (es : List (Name × Declaration)) → m (shared_in d.1 ++ templates_in_table es) ≡ m made + m (templates_in_table es)
+      here es = ap (λ ts. m (ts ++ templates_in_table es)) is_made ∙ adds.joined made (templates_in_table es)
+
+      later : (e : Name × Declaration) (xs ys : List (Name × Declaration)) → m (templates_in_table ys) ≡ m made + m (templates_in_table xs)
+          → m (shared_in e.1 ++ templates_in_table ys) ≡ m made + m (shared_in e.1 ++ templates_in_table xs)
+      later e xs ys h = omega (arith, h, adds.joined (shared_in e.1) (templates_in_table xs), adds.joined (shared_in e.1) (templates_in_table ys))
 
   made_measures : (gs : List Global) (ds : List (Name × Declaration)) → AreDeclared gs ds → (names : List Name) (before : List (Name × Declaration)) → Alike names before
       → m (made_for names gs) + m (templates_in_table before) ≡ m (owned gs) + m (templates_in_table (first_declared before ds))
   made_measures [] [] h names before all = omega (arith, adds.empty)
   made_measures [] (d ∷ ds) h names before all = absurd h
-  made_measures (OwnVariable t ∷ gs) ds h names before all =
-      omega (arith, adds.joined (t ∷ []) (made_for names gs), adds.joined (t ∷ []) (owned gs), made_measures gs ds h names before all)
-  made_measures (ExternalVariable name t ∷ gs) [] h names before all = absurd h
-  made_measures (ExternalVariable name t ∷ gs) (d ∷ ds) h names before all =
+  made_measures (OwnVariable kind t ∷ gs) ds h names before all =
+      omega (arith, adds.joined (made_of_kind kind t) (made_for names gs), adds.joined (made_of_kind kind t) (owned gs), made_measures gs ds h names before all)
+  made_measures (ExternalVariable name kind t ∷ gs) [] h names before all = absurd h
+  made_measures (ExternalVariable name kind t ∷ gs) (d ∷ ds) h names before all =
       let same : is_some (meant before d.0) ≡ is_among name names = sym (ap (λ n. is_among n names) (sym h.0) ∙ all d.0) in
-      let here = one_first before d t h.1 (is_among name names) same in
-      let rest = made_measures gs ds h.2 (name ∷ names) (with_declaration before d) (subst (λ n. Alike (n ∷ names) (with_declaration before d)) h.0 (still_alike names before d all)) in
-      omega (arith, adds.joined (unless (is_among name names) t) (made_for (name ∷ names) gs), here, rest)
+      let here = one_first before d kind t h.1 h.2 (is_among name names) same in
+      let rest = made_measures gs ds h.3 (name ∷ names) (with_declaration before d) (subst (λ n. Alike (n ∷ names) (with_declaration before d)) h.0 (still_alike names before d all)) in
+      omega (arith, adds.joined (unless (is_among name names) (made_of_kind kind t)) (made_for (name ∷ names) gs), here, rest)
   made_measures (EntryPoint name s ∷ gs) ds h names before all = made_measures gs ds h names before all
 
   all_measures : (us : List TypedUnit) → m (made_for [] (all_globals us)) ≡ m (variables_made (map coded_tree us))
@@ -162,19 +168,23 @@ fourth_of false false false false e f g h i j is = refl
 few : {X : Type 0} (xs : List X) → is_over xs ≡ false → length xs ≤ 65535
 few xs is = grind (arith, nat_tests)
 
+-- of a template at most one variable is made
+one_made : (kind : VariableKind) (o : Option Template) (ts : List Template) → length (made_of kind o ++ ts) ≤ length ts + 1
+one_made Static None ts = omega arith
+one_made Static (Some t) ts = omega arith
+one_made Controlled o ts = omega arith
+
 own_short : (gs : List Global) → length (owned gs) ≤ length gs
 own_short [] = omega arith
-own_short (OwnVariable t ∷ gs) = omega (arith, own_short gs)
-own_short (ExternalVariable name t ∷ gs) = omega (arith, own_short gs)
+own_short (OwnVariable kind t ∷ gs) =
+    let one : length (made_of_kind kind t ++ owned gs) ≤ length (owned gs) + 1 = subst (λ ts. length (ts ++ owned gs) ≤ length (owned gs) + 1) (made_same kind t) (one_made kind (Some t) (owned gs)) in
+    omega (arith, one, own_short gs)
+own_short (ExternalVariable name kind t ∷ gs) = omega (arith, own_short gs)
 own_short (EntryPoint name s ∷ gs) = omega (arith, own_short gs)
 
 there_short : (es : List (Name × Declaration)) → length (templates_in_table es) ≤ length es
 there_short [] = omega arith
-there_short (e ∷ es) = by e.1.template (there_short es)
-  where
-    by : (o : Option Template) → length (templates_in_table es) ≤ length es → length (there o ++ templates_in_table es) ≤ length (e ∷ es)
-    by None h = omega (arith, h)
-    by (Some t) h = omega (arith, h)
+there_short (e ∷ es) = omega (arith, one_made e.1.kind e.1.template (templates_in_table es), there_short es)
 
 few_globals : (u : TypedUnit) → is_too_long (code_of u) ≡ false → length u.globals ≤ 65535
 few_globals u is =

@@ -250,8 +250,8 @@ module _ (p : Program) (units : List TypedUnit) (names : List Name) (at : Label 
         by : (o : Option Global) → HasCode units names o u.globals n
             → Does (machine.called_entry p.units (length before) (slice_get u.globals n) here fs w) (activates_entry p.greatest units (calls p.greatest units level) level (entry_unit units o) places w left)
         by None h = record { by = tt }
-        by (Some (OwnVariable x)) h = record { by = tt }
-        by (Some (ExternalVariable name x)) h = record { by = tt }
+        by (Some (OwnVariable kind x)) h = record { by = tt }
+        by (Some (ExternalVariable name kind x)) h = record { by = tt }
         by (Some (EntryPoint name signature)) h =
             subst (λ g. Does (machine.called_entry p.units (length before) g here fs w) (activates_entry p.greatest units (calls p.greatest units level) level (unit_named units name) places w left))
             (sym (h.1 ∙ ap Some h.2.is))

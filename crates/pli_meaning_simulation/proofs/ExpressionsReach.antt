@@ -6,12 +6,13 @@ use Rattle.pli_map.specs.Description.{Description}
 use Rattle.pli_world.specs.Storage.{Place}
 use Rattle.pli_world.specs.World.{World, Answer, held, slot_place, static_place, subscripted, calculation}
 use Rattle.pli_world.specs.World.{dummy_of, led_on}
+use Rattle.pli_world.specs.Stacks.{generations_counted}
 use Rattle.pli_value.specs.Value.{Value, Number, Characters, Bits, Located}
 use Rattle.pli_program.specs.Program as op
 use Rattle.pli_program.specs.Program.{UnitCode, Program}
 use Rattle.pli_machine_step.specs.Machine.{Operand, OfValue, AtPlace, Locals, Frame, At, values_off, places_off, operated, act, resume}
 use Rattle.pli_type_tree.specs.TypedOperations.{comes_to}
-use Rattle.pli_type_tree.specs.TypedTree.{TypedOperation, Fit, Operate, Root, InSlot, OfProgram, Callee, TypedExpression, Literal, Held, Calculated, Called, TypedReference, Whole, Part, Operands, NoOperand, OperandThen, Subscripts, NoSubscript, SubscriptThen, TypedArguments, NoArgument, ByPlace, ByDummy}
+use Rattle.pli_type_tree.specs.TypedTree.{TypedOperation, Fit, Operate, Root, InSlot, OfProgram, NewestOf, Callee, TypedExpression, Literal, Held, Calculated, Called, Generations, TypedReference, Whole, Part, Operands, NoOperand, OperandThen, Subscripts, NoSubscript, SubscriptThen, TypedArguments, NoArgument, ByPlace, ByDummy}
 use Rattle.pli_meaning_tree.specs.Effects.{Label, Doing, answered}
 use Rattle.pli_meaning_tree.specs.TreeMeaning as meaning
 use Rattle.pli_meaning_tree.specs.TreeMeaning.{Calls, a_value, in_order, root_place, element_of, value_of, place_of, element_at, called_with}
@@ -63,6 +64,7 @@ module _ (p : Program) (number : ℕ) (u : UnitCode) (at : Label → ℕ) where
     root_run : (r : Root) {a b : ℕ} → RootStands u r a b → Pushes AtPlace (root_place r) a b
     root_run (InSlot outward slot) is ops l fine fs w left = answers p number u at there (λ x. AtPlace x ∷ ops) (slot_place outward slot w) is fine w left refl
     root_run (OfProgram n) is ops l fine fs w left = answers p number u at there (λ x. AtPlace x ∷ ops) (static_place n w) is fine w left refl
+    root_run (NewestOf n) is ops l fine fs w left = answers p number u at there (λ x. AtPlace x ∷ ops) (static_place n w) is fine w left refl
 
     subscript_run : (low high : ℤ) (multiplier : ℕ) {a b : ℕ} → Is u (op.Subscript low high multiplier) a b → (q : Place) (v : Value) (ops : List Operand) (l : Locals) → Fine c l
         → (fs : List Frame) (w : World) (left : ℕ)
@@ -114,6 +116,7 @@ module _ (p : Program) (number : ℕ) (u : UnitCode) (at : Label → ℕ) where
           bound p number u at {to = returns p number u b ops fs} (called_with p.greatest call callee arguments [] w left) _
           (called_run arguments callee (arguments_in arguments) is [] (omega arith) ops l fine fs w left)
           (λ m k v w left. value_given v ops m k.fine fs w left)
+      value_run (Generations n) is ops l fine fs w left = answers p number u at there (λ v. OfValue v ∷ ops) (generations_counted n w) is fine w left refl
 
       pub operated_run : (operands : Operands) (operation : TypedOperation) {a b : ℕ} → Then (OperandsStand u operands) (Is u (operation_code operation)) a b
           → (before : List Value) (ops : List Operand) (l : Locals) → Fine c l → (fs : List Frame) (w : World) (left : ℕ)

@@ -5,14 +5,14 @@ use Rattle.std.proofs.lemmas.Bool.{and_parts, eqb-true}
 use Rattle.pli_world.specs.World.{World}
 use Rattle.pli_program.specs.Program.{UnitCode, Program}
 use Rattle.pli_machine_step.specs.Machine.{Locals, Frame, At, calm}
-use Rattle.pli_type_tree.specs.TypedTree.{TypedExpression, TypedStatement, Statement, Form, Null, Assign, AssignAggregate, Put, If, Begin, Group, While, Iterate, Call, Goto, Return, ReturnValue, Stop, OtherWise, NoElse, Else, TypedStatements, NoStatement, StatementThen}
+use Rattle.pli_type_tree.specs.TypedTree.{TypedExpression, TypedStatement, Statement, Form, Null, Assign, AssignAggregate, Put, Allocate, Free, If, Begin, Group, While, Iterate, Call, Goto, Return, ReturnValue, Stop, OtherWise, NoElse, Else, TypedStatements, NoStatement, StatementThen}
 use Rattle.pli_meaning_tree.specs.Effects.{Label, Returned, and_then, followed, chosen}
 use Rattle.pli_meaning_tree.specs.TreeMeaning.{Calls, condition, number_of, bears, as_list, does, does_form, does_else, does_from}
 use Rattle.pli_meaning_simulation.specs.CodeStands.{Context, deeper, ConditionStands, StatementStands, FormStands, IfStands, ListStands}
 use Rattle.pli_meaning_simulation.proofs.ReachesLemmas.{Fine, calm_kept, frame, flows, Reaches, gives, passes, goes_on, goes, begins}
 use Rattle.pli_meaning_simulation.proofs.ExpressionsReach.{CallsRun}
 use Rattle.pli_meaning_simulation.proofs.ControlReaches.{start_of, goto_run}
-use Rattle.pli_meaning_simulation.proofs.FormsReach.{either, Runs, RunsCalm, begin_run, assign_run, copy_run, put_run, call_run, return_run, guarded_run, choice_run, list_run, while_run}
+use Rattle.pli_meaning_simulation.proofs.FormsReach.{either, Runs, RunsCalm, begin_run, assign_run, copy_run, put_run, allocations_run, freeings_run, call_run, return_run, guarded_run, choice_run, list_run, while_run}
 use Rattle.pli_meaning_simulation.proofs.IterationsReach.{iterate_run}
 
 -- a statement stands where the label that it bears leads
@@ -34,6 +34,8 @@ module _ (p : Program) (number : ℕ) (u : UnitCode) (at : Label → ℕ) (there
     form_run (Assign target e) block n c a b is l fine none fs w left = assign_run p number u at there call calls_run level target e is l fine fs w left
     form_run (AssignAggregate target source) block n c a b is l fine none fs w left = copy_run p number u at there call calls_run level target source is l fine fs w left
     form_run (Put skip items) block n c a b is l fine none fs w left = put_run p number u at there call calls_run level skip items is l fine fs w left
+    form_run (Allocate items) block n c a b is l fine none fs w left = allocations_run p number u at there items is l fine fs w left
+    form_run (Free items) block n c a b is l fine none fs w left = freeings_run p number u at there items is l fine fs w left
     form_run (If e consequence alternative) block n c a b is l fine none fs w left =
         if_run alternative block c a b e consequence is
         (λ x y is l fine fs w left. does_run consequence block c x y is l fine fs w left) l fine fs w left

@@ -107,16 +107,16 @@ module _ (names : List Name) where
     unit_same program unit number [] [] stand xs ys all w = alike xs ys all w
     unit_same program unit number [] (g ∷ gs) stand xs ys all w = absurd stand
     unit_same program unit number (t ∷ ts) [] stand xs ys all w = absurd stand
-    unit_same program unit number (OwnVariable t ∷ ts) (g ∷ gs) stand xs ys all w =
+    unit_same program unit number (OwnVariable kind t ∷ ts) (g ∷ gs) stand xs ys all w =
         ap (λ g. further (statics_made nat_eq unit number (op.global_variable g ∷ map op.global_variable gs) ys w) by_number) stand.0
-        ∙ once_same (made_once (variable_of t) None w) _ _ (λ s v. unit_same program unit (suc number) ts gs stand.1 xs ys all (with_static unit number s v))
-    unit_same program unit number (ExternalVariable name t ∷ ts) (g ∷ gs) stand xs ys all w =
+        ∙ once_same (made_once kind (variable_of t) None w) _ _ (λ s v. unit_same program unit (suc number) ts gs stand.1 xs ys all (with_static unit number s v))
+    unit_same program unit number (ExternalVariable name kind t ∷ ts) (g ∷ gs) stand xs ys all w =
         let k = stand.0.external in
         let is = stand.0.named in
         ap (λ g. further (statics_made nat_eq unit number (op.global_variable g ∷ map op.global_variable gs) ys w) by_number) stand.0.is
-        ∙ ap (λ o. further (further (made_once (variable_of t) o w)
+        ∙ ap (λ o. further (further (made_once kind (variable_of t) o w)
         (λ s w. statics_made nat_eq unit (suc number) (map op.global_variable gs) (ys ++ (k, s) ∷ []) (with_static unit number s w))) by_number) (found_same xs ys all name k is)
-        ∙ once_same (made_once (variable_of t) (lookup (same_name name) xs) w) _ _
+        ∙ once_same (made_once kind (variable_of t) (lookup (same_name name) xs) w) _ _
         (λ s v. unit_same program unit (suc number) ts gs stand.1 (xs ++ (name, s) ∷ []) (ys ++ (k, s) ∷ []) (shared_more xs ys all name k is s) (with_static unit number s v))
     unit_same program unit number (EntryPoint name signature ∷ ts) (g ∷ gs) stand xs ys all w =
         ap (λ g. further (statics_made nat_eq unit number (op.global_variable g ∷ map op.global_variable gs) ys w) by_number) stand.0.is

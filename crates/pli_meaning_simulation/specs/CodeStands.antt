@@ -8,11 +8,14 @@ use Rattle.pli_run.specs.declared.ending.RunError.TheVariants.{NoReturnedValue}
 use Rattle.pli_program.specs.Program as op
 use Rattle.pli_program.specs.Program.{Instruction, BlockKind, Procedure, BeginBlock, Block, UnitCode}
 use Rattle.pli_program.specs.Program.{Program}
+use Rattle.pli_program.specs.declared.kind.VariableKind.{VariableKind}
 use Rattle.pli_operation.specs.declared.operation.Operation.TheVariants.{Add, Within}
 use Rattle.pli_type_tree.specs.Iterations.{kept_by, temporaries_of, limit_number, step_number, is_iterated}
 use Rattle.pli_type_tree.specs.Templates.{Template, variable_of}
-use Rattle.pli_type_tree.specs.TypedTree.{TypedOperation, Fit, Operate, Root, InSlot, OfProgram}
-use Rattle.pli_type_tree.specs.TypedTree.{TypedExpression, Literal, Held, Calculated, Called, TypedReference}
+use Rattle.pli_type_tree.specs.TypedTree.{TypedOperation, Fit, Operate, Root, InSlot, OfProgram, NewestOf}
+use Rattle.pli_type_tree.specs.TypedTree.{TypedExpression, Literal, Held, Calculated, Called, Generations}
+use Rattle.pli_type_tree.specs.TypedTree.{TypedReference, AllocatedItem, AllocatesControlled, FreedItem}
+use Rattle.pli_type_tree.specs.TypedTree.{FreesControlled, Allocate, Free}
 use Rattle.pli_type_tree.specs.TypedTree.{Whole, Part, Operands, NoOperand, OperandThen, Subscripts}
 use Rattle.pli_type_tree.specs.TypedTree.{NoSubscript, SubscriptThen, TypedArguments, NoArgument, ByPlace}
 use Rattle.pli_type_tree.specs.TypedTree.{ByDummy, BlockHead, TypedStatement, Statement, Form, Null, Assign}
@@ -110,6 +113,7 @@ module _ (u : UnitCode) where
   abbrev pub RootStands : Root → Span
   RootStands (InSlot outward slot) = Is (op.Local outward slot)
   RootStands (OfProgram number) = Is (op.Global number)
+  RootStands (NewestOf number) = Is (op.Global number)
 
   abbrev mutual
     -- the value of an expression
@@ -120,6 +124,7 @@ module _ (u : UnitCode) where
         Then (OperandsStand operands) (Is (operation_code operation))
     ValueStands (Called callee arguments) =
         Then (ArgumentsStand arguments) (Is (call_of callee (arguments_in arguments)))
+    ValueStands (Generations number) = Is (op.CountGenerations number)
 
     -- the values of operands, from left to right
     pub OperandsStand : Operands → Span
@@ -158,6 +163,24 @@ module _ (u : UnitCode) where
   abbrev pub SkipStands : Bool → Span
   SkipStands true = Is op.Skip
   SkipStands false = Empty
+
+  -- an item of ALLOCATE
+  abbrev pub AllocationStands : AllocatedItem → Span
+  AllocationStands (AllocatesControlled number) = Is (op.AllocateControlled number)
+
+  -- its items
+  abbrev pub AllocationsStand : List AllocatedItem → Span
+  AllocationsStand [] = Empty
+  AllocationsStand (item ∷ items) = Then (AllocationStands item) (AllocationsStand items)
+
+  -- an item of FREE
+  abbrev pub FreeingStands : FreedItem → Span
+  FreeingStands (FreesControlled number) = Is (op.FreeControlled number)
+
+  -- its items
+  abbrev pub FreeingsStand : List FreedItem → Span
+  FreeingsStand [] = Empty
+  FreeingsStand (item ∷ items) = Then (FreeingStands item) (FreeingsStand items)
 
   -- forms with jumps
 
@@ -291,6 +314,8 @@ module _ (u : UnitCode) where
       FormStands block number (AssignAggregate target source) c =
           Then (PlaceStands target) (Then (PlaceStands source) (Is op.Copy))
       FormStands block number (Put skip items) c = Then (SkipStands skip) (ItemsStand items)
+      FormStands block number (Allocate items) c = AllocationsStand items
+      FormStands block number (Free items) c = FreeingsStand items
       FormStands block number (If e consequence alternative) c =
           IfStands block (ConditionStands e) (StatementStands block consequence c) alternative c
       FormStands block number (Begin head statements) c =
@@ -339,10 +364,11 @@ module _ (u : UnitCode) where
     ProceduresStand [] = Unit
     ProceduresStand (f ∷ fs) = ProcedureStands f × ProceduresStand fs
 
--- an external variable of this name, made of this template, has the number of the name among these
-pub record ExternalStands (names : List Name) (name : Name) (t : Template) (g : op.GlobalCode) : Type 0 where
+-- an external variable of this name and kind, made of this template, has the number of the name among these
+pub record ExternalStands (names : List Name) (name : Name) (kind : VariableKind) (t : Template)
+    (g : op.GlobalCode) : Type 0 where
   pub external : ℕ
-  pub is : g ≡ op.ExternalVariable external (variable_of t)
+  pub is : g ≡ op.ExternalVariable external kind (variable_of t)
   pub named : position (same_name name) names ≡ Some external
 
 -- an entry of this name has the number of its unit in the program
@@ -355,8 +381,8 @@ pub record EntryStands (program : List TypedUnit) (name : Name) (g : op.GlobalCo
 module _ (program : List TypedUnit) (externals : List Name) where
   -- a global
   abbrev pub GlobalStands : Global → op.GlobalCode → Type 0
-  GlobalStands (OwnVariable t) g = g ≡ op.OwnVariable (variable_of t)
-  GlobalStands (ExternalVariable name t) g = ExternalStands externals name t g
+  GlobalStands (OwnVariable kind t) g = g ≡ op.OwnVariable kind (variable_of t)
+  GlobalStands (ExternalVariable name kind t) g = ExternalStands externals name kind t g
   GlobalStands (EntryPoint name signature) g = EntryStands program name g
 
   -- globals, one for one

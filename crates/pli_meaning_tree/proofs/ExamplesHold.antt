@@ -3,6 +3,7 @@ use Rattle.std.specs.Prelude.{refl}
 use Rattle.std.specs.Fmt.{digits}
 use Rattle.pli_operation.specs.Operations.{calculated}
 use Rattle.pli_world.specs.World.{nothing, made_of, parts_held, parts_stored, held, stored, copied, entered, left_by, cleared, at_statement, stepped, height_of, slot_place, static_place, dummy_of, printed, line_ended, error_at}
+use Rattle.pli_world.specs.Stacks.{stacked, unstacked, counted, stack_named, generation_stacked, generation_unstacked, generations_counted}
 use Rattle.pli_meaning_tree.specs.examples.TreeExamples as example
 
 pub loop_ends : example.LoopEnds
@@ -104,3 +105,11 @@ units_share = refl
 pub unit_fails : example.UnitFails
 unfolding calculated nothing made_of parts_held parts_stored held stored copied entered left_by cleared at_statement stepped height_of slot_place static_place dummy_of printed line_ended error_at digits
 unit_fails = refl
+
+pub newest_is_meant : example.NewestIsMeant
+unfolding calculated nothing made_of parts_held parts_stored held stored entered left_by at_statement stepped static_place stacked unstacked counted stack_named generation_stacked generation_unstacked generations_counted printed line_ended error_at digits
+newest_is_meant = refl
+
+pub none_is_left : example.NoneIsLeft
+unfolding calculated nothing made_of parts_held parts_stored held stored entered left_by at_statement stepped static_place stacked unstacked counted stack_named generation_stacked generation_unstacked generations_counted printed line_ended error_at digits
+none_is_left = (refl, refl, refl)

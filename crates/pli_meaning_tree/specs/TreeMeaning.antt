@@ -15,17 +15,21 @@ use Rattle.pli_world.specs.Storage.{Place}
 use Rattle.pli_world.specs.World.{Standing, World, Answer, Yields, known, further, nothing, height, held}
 use Rattle.pli_world.specs.World.{stored, copied, led_on, subscripted, calculation, entered, height_of}
 use Rattle.pli_world.specs.World.{slot_place, static_place, dummy_of, printed, line_ended, statics_made}
+use Rattle.pli_world.specs.Stacks.{generation_stacked, generation_unstacked, generations_counted}
 use Rattle.pli_base.specs.Words.{same_name}
 use Rattle.pli_type_tree.specs.Globals.{global_variable}
 use Rattle.pli_type_tree.specs.Iterations.{kept_by, limit_number, step_number, is_iterated}
 use Rattle.pli_type_tree.specs.Templates.{variable_of}
 use Rattle.pli_type_tree.specs.TypedOperations.{comes_to}
-use Rattle.pli_type_tree.specs.TypedTree.{TypedOperation, Root, InSlot, OfProgram, TypedExpression, Literal}
-use Rattle.pli_type_tree.specs.TypedTree.{Held, Calculated, Called, TypedReference, Whole, Part, Operands}
+use Rattle.pli_type_tree.specs.TypedTree.{TypedOperation, Root, InSlot, OfProgram, NewestOf, TypedExpression}
+use Rattle.pli_type_tree.specs.TypedTree.{Literal, Held, Calculated, Called, Generations, TypedReference}
+use Rattle.pli_type_tree.specs.TypedTree.{Whole, Part, Operands}
 use Rattle.pli_type_tree.specs.TypedTree.{NoOperand, OperandThen, Subscripts, NoSubscript, SubscriptThen}
 use Rattle.pli_type_tree.specs.TypedTree.{TypedArguments, NoArgument, ByPlace, ByDummy, BlockHead}
+use Rattle.pli_type_tree.specs.TypedTree.{AllocatedItem, AllocatesControlled, FreedItem, FreesControlled}
 use Rattle.pli_type_tree.specs.TypedTree.{TypedStatement, Statement, Form, Null, Assign, AssignAggregate, Put}
-use Rattle.pli_type_tree.specs.TypedTree.{If, Begin, Group, While, Iterate, TypedRange, Once, ToBy, ByTo}
+use Rattle.pli_type_tree.specs.TypedTree.{Allocate, Free, If, Begin, Group, While, Iterate, TypedRange}
+use Rattle.pli_type_tree.specs.TypedTree.{Once, ToBy, ByTo}
 use Rattle.pli_type_tree.specs.TypedTree.{Repeated, Iteration, Call, Goto, Return, ReturnValue, Stop}
 use Rattle.pli_type_tree.specs.TypedTree.{OtherWise, NoElse, Else, TypedStatements, NoStatement}
 use Rattle.pli_type_tree.specs.TypedTree.{StatementThen, TypedProcedure, Callee, OfBlock, OfEntry, Global}
@@ -67,6 +71,7 @@ in_order (x ∷ xs) behind = in_order xs (x ∷ behind)
 abbrev pub root_place : Root → Doing Place
 root_place (InSlot outward slot) w left = answered (slot_place outward slot w) left
 root_place (OfProgram number) w left = answered (static_place number w) left
+root_place (NewestOf number) w left = answered (static_place number w) left
 
 -- a subscript is a number, tested against its bounds
 abbrev pub element_of : (low high : ℤ) (multiplier : ℕ) → Place → Value → Doing Place
@@ -89,6 +94,7 @@ module _ (greatest : ℕ) (call : Calls) where
     value_of (Held r) w left = and_then (place_of r w left) (λ p w left. answered (held p w) left)
     value_of (Calculated operation operands) w left = operated operation operands [] w left
     value_of (Called callee arguments) w left = and_then (called_with callee arguments [] w left) a_value
+    value_of (Generations number) w left = answered (generations_counted number w) left
 
     -- an operation on its operands, which are evaluated from left to right; those before, the last first
     pub operated : TypedOperation → Operands → (before : List Value) → Doing Value
@@ -239,6 +245,26 @@ module _ (greatest : ℕ) (call : Calls) where
   returns_value outward e w left =
       and_then (value_of e w left) (λ v w left. Gives (Returned outward (Some v)) w left)
 
+-- an item of ALLOCATE: a generation more of a CONTROLLED variable
+abbrev pub allocates_item : AllocatedItem → Doing Flow
+allocates_item (AllocatesControlled number) w left =
+    and_then (answered (generation_stacked number w) left) (λ _ w left. Gives Next w left)
+
+-- its items, one after the other
+abbrev pub allocates : List AllocatedItem → Doing Flow
+allocates [] w left = Gives Next w left
+allocates (item ∷ items) w left = followed (allocates_item item w left) (allocates items)
+
+-- an item of FREE: the newest generation of a CONTROLLED variable ends
+abbrev pub frees_item : FreedItem → Doing Flow
+frees_item (FreesControlled number) w left =
+    and_then (answered (generation_unstacked number w) left) (λ _ w left. Gives Next w left)
+
+-- its items, one after the other
+abbrev pub frees : List FreedItem → Doing Flow
+frees [] w left = Gives Next w left
+frees (item ∷ items) w left = followed (frees_item item w left) (frees items)
+
 -- a jump to a label of the activation so many static links outward
 abbrev pub jumps_to : (outward : ℕ) → Label → Doing Flow
 jumps_to outward label w left =
@@ -307,6 +333,8 @@ module _ (greatest : ℕ) (call : Calls) (unit level : ℕ) where
         assigns_aggregate greatest call target source w left
     does_form block number (Put skip items) w left =
         skips greatest call skip (puts greatest call items) w left
+    does_form block number (Allocate items) w left = allocates items w left
+    does_form block number (Free items) w left = frees items w left
     does_form block number (If e consequence alternative) w left =
         and_then (condition greatest call e w left)
         (λ b w left. chosen b (does block consequence) (does_else block alternative) w left)
@@ -426,8 +454,8 @@ calls greatest us (suc level) unit u =
 
 -- programs
 
--- the variables of units, numbered from one on, that are made before the program begins, where these external
--- ones are made already
+-- the variables of units, numbered from one on, that are there before the program begins, where these
+-- external ones are there already
 abbrev pub all_made : (unit : ℕ) → List TypedUnit → (shared : List (Name × Standing)) → World → Answer Unit
 all_made unit [] shared w = Yields tt w
 all_made unit (u ∷ us) shared w =

@@ -7,11 +7,12 @@ ghost use Rattle.pli_meaning_tree.specs.examples.TreeExamples.{GotoGroupBeginsAn
 ghost use Rattle.pli_meaning_tree.specs.examples.TreeExamples.{TurnsAreSteps, NoTurnAndOne, StartMustFit};
 ghost use Rattle.pli_meaning_tree.specs.examples.TreeExamples.{StepMayBeNegative, StepOverflows};
 ghost use Rattle.pli_meaning_tree.specs.examples.TreeExamples.{VariableIsLookedAtAnew, RepeatGoesOn};
-ghost use Rattle.pli_meaning_tree.specs.examples.TreeExamples.{UnitsShare, UnitFails};
+ghost use Rattle.pli_meaning_tree.specs.examples.TreeExamples.{UnitsShare, UnitFails, NewestIsMeant, NoneIsLeft};
 
 /// What programs give with so many steps: loops of all forms, IF, an element out of bounds, an aggregate copied, bits
 /// printed, functions that call themselves, an argument changed by the procedure, GOTO out of blocks and calls, labels of
-/// units, RETURN, STOP, a call of another unit's procedure and a variable that both units have.
+/// units, RETURN, STOP, a call of another unit's procedure and a variable that both units have, the generations of a
+/// CONTROLLED variable.
 pub fn worked_examples()
     ensures loop_ends { LoopEnds }
     ensures loop_stops { LoopStops }
@@ -38,4 +39,6 @@ pub fn worked_examples()
     ensures repeat_goes_on { RepeatGoesOn }
     ensures units_share { UnitsShare }
     ensures unit_fails { UnitFails }
+    ensures newest_is_meant { NewestIsMeant }
+    ensures none_is_left { NoneIsLeft }
 {}

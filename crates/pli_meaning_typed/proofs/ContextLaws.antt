@@ -10,7 +10,9 @@ use Rattle.pli_world.specs.Activations.{Activation, activation_at, outward_from,
 use Rattle.pli_world.specs.Storage.{Place}
 use Rattle.pli_world.specs.World.{Standing, Lies, Stacked, World, Yields, known as there_is, further, height, height_of, slot_in, slot_place}
 use Rattle.pli_world.specs.World.{static_place, newest_unit, static_in, newest_in, place_standing}
-use Rattle.pli_type_tree.specs.Globals.{description_of}
+use Rattle.pli_program.specs.declared.kind.VariableKind.{VariableKind}
+use Rattle.pli_program.specs.declared.kind.VariableKind.TheVariants.{Static, Controlled}
+use Rattle.pli_type_tree.specs.Globals.{described_as}
 use Rattle.pli_type_tree.specs.TypedTree.{Global, TypedUnit}
 use Rattle.pli_type_tree.specs.WellTyped.{BlockAround, AreAround, blocks_from, with_labels}
 use Rattle.pli_meaning_tree.specs.Effects.{Label}
@@ -289,7 +291,7 @@ module _ (unit : ℕ) (units : List TypedUnit) (known : Known) (ss : List Shape)
         p.2,
       )
 
-first_unit : (w : World) (s : Shape) (ss : List Shape) (stack : List Activation) → AreShaped w (s ∷ ss) stack
+pub first_unit : (w : World) (s : Shape) (ss : List Shape) (stack : List Activation) → AreShaped w (s ∷ ss) stack
     → newest_unit stack ≡ Some s.unit
 first_unit w s ss [] h = absurd h
 first_unit w s ss (a ∷ older) h = ap (λ n. Some n) h.0
@@ -300,16 +302,23 @@ pub record IsUnit (units : List TypedUnit) (number : ℕ) (globals : List Global
   pub there : slice_get units number ≡ Some unit
   pub has : unit.globals ≡ globals
 
-pub static_answers : (units : List TypedUnit) (unit : ℕ) (globals : List Global) (s : Shape) (ss : List Shape) (w : World) (number : ℕ) (d : Description)
-    → IsUnit units unit globals → s.unit ≡ unit → IsSound units (s ∷ ss) w → description_of (slice_get globals number) ≡ Some d
+-- a variable that was there before the program began stands as its unit has it
+pub static_there : (units : List TypedUnit) (unit : ℕ) (globals : List Global) (ss : List Shape) (w : World) (number : ℕ) (kind : VariableKind) (d : Description)
+    → IsUnit units unit globals → IsSound units ss w → described_as kind (slice_get globals number) ≡ Some d
+    → (t : Standing) × (static_in w.statics unit number ≡ Some t) × StandsGood w kind d t
+static_there units unit globals ss w number kind d own sound e =
+    sound.made unit own.unit own.there number kind d (ap (λ gs. described_as kind (slice_get gs number)) own.has ∙ e)
+
+pub static_answers : (units : List TypedUnit) (unit : ℕ) (globals : List Global) (s : Shape) (ss : List Shape) (w : World) (number : ℕ) (kind : VariableKind) (d : Description)
+    → IsUnit units unit globals → s.unit ≡ unit → IsSound units (s ∷ ss) w → described_as kind (slice_get globals number) ≡ Some d
     → Answers units (λ p v. IsGood v d p × IsSound units (s ∷ ss) v × IsLater w v) (static_place number w)
 unfolding static_place
-static_answers units unit globals s ss w number d own top sound e =
-    let t = sound.made unit own.unit own.there number d (ap (λ gs. description_of (slice_get gs number)) own.has ∙ e) in
+static_answers units unit globals s ss w number kind d own top sound e =
+    let t = static_there units unit globals (s ∷ ss) w number kind d own sound e in
     subst (λ o. Answers units Good o)
     (sym (ap (λ o. further (there_is o w) (λ unit w. further (there_is (static_in w.statics unit number) w) place_standing)) (first_unit w s ss w.activations sound.stack)
     ∙ ap (λ n. further (there_is (static_in w.statics n number) w) place_standing) top ∙ ap (λ o. further (there_is o w) place_standing) t.1))
-    (placed t.0 t.2)
+    (placed kind t.0 t.2)
   where
     Good : Place → World → Type 0
     Good p v = IsGood v d p × IsSound units (s ∷ ss) v × IsLater w v
@@ -318,6 +327,11 @@ static_answers units unit globals s ss w number d own top sound e =
     newest [] good = error_named units s ss w NoGeneration sound
     newest (p ∷ ps) good = (good.0, sound, later_same w)
 
-    placed : (t : Standing) → StandsGood w d t → Answers units Good (place_standing t w)
-    placed (Lies p) good = (good, sound, later_same w)
-    placed (Stacked list) good = subst (λ o. Answers units Good (further (there_is o w) newest_in)) (sym good.1) (newest good.0 good.2)
+    placed : (kind : VariableKind) (t : Standing) → StandsGood w kind d t → Answers units Good (place_standing t w)
+    placed Static (Lies p) good = (good, sound, later_same w)
+    placed Static (Stacked stack) good = absurd good
+    placed Controlled (Lies p) good = absurd good
+    placed Controlled (Stacked stack) good =
+        let places = (sound.stacks stack good.0 good.1).1 in
+        subst (λ o. Answers units Good (further (there_is o w) (λ s w. newest_in s.places w))) (sym good.1)
+        (newest good.0.places (subst (λ d. EachGood w d good.0.places) good.2 places))

@@ -4,12 +4,14 @@ use Rattle.std.proofs.Common.{arith, sym, ap, ◌∙◌, subst, inl}
 use Rattle.std.proofs.lemmas.Bool.{eqb-true, leb-true}
 use Rattle.pli_base.specs.Name.{Name}
 use Rattle.pli_type_tree.specs.Templates.{Template}
+use Rattle.pli_program.specs.declared.kind.VariableKind.{VariableKind}
+use Rattle.pli_program.specs.declared.kind.VariableKind.TheVariants.{Static}
 use Rattle.pli_type_tree.specs.TypedTree.{Fit, TypedProcedure, TypedUnit, Held, Signature, Global, ExternalVariable, EntryPoint}
 use Rattle.pli_type_tree.specs.ValueTypes.{OfCharacters, OfBits, Numbers}
 use Rattle.pli_type_tree.specs.WellTyped.{KnownProcedure, TypingContext, IsTyped, IsString, IsValueFor, Convert, AreTypedStatements}
 use Rattle.pli_meaning_tree.specs.TreeMeaning.{procedure_in, unit_named}
 use Rattle.pli_meaning_typed.specs.TypedPrograms.{context_in, IsTypedProcedure, IsTypedUnit}
-use Rattle.pli_meaning_typed.specs.examples.TypedExamples.{number, counter, one_more, few, counting, returning, caller, successor, of_caller, of_successor, signatures, ExampleIsWellTyped, GroupsAreWellTyped, plain, shared, numeric, asker, answerer, asking_unit, answering_unit, UnitsAreWellTyped}
+use Rattle.pli_meaning_typed.specs.examples.TypedExamples.{number, counter, one_more, few, counting, returning, caller, successor, of_caller, of_successor, signatures, ExampleIsWellTyped, GroupsAreWellTyped, plain, StackIsWellTyped, shared, numeric, asker, answerer, asking_unit, answering_unit, UnitsAreWellTyped}
 
 abbrev in_caller : TypingContext
 in_caller = context_in [] signatures of_caller caller
@@ -131,7 +133,7 @@ example_is = record {
   units = (unit_is, tt);
   bytes = omega arith;
   count = omega arith;
-  linked = record { entries = λ i name s e. absurd (none_some e); variables = λ i j name t o e f. absurd (none_some e) };
+  linked = record { entries = λ i name s e. absurd (none_some e); variables = λ i j name kind like t o e f. absurd (none_some e) };
   main = refl;
 }
 
@@ -174,6 +176,10 @@ groups_are = (
   ),
   ((number, refl, (Numbers 1, (pos 1, refl, omega arith), counts 1), one_more_in_caller, few_in_caller), tt),
 )
+
+-- a CONTROLLED variable
+pub stack_is : StackIsWellTyped
+stack_is = ((refl, tt), ((number, refl, (Numbers 15, (refl, refl), (Numbers 31, refl, omega arith))), ((refl, tt), tt)))
 
 -- a program of two units
 abbrev known_asker : KnownProcedure
@@ -244,11 +250,11 @@ entry_is (suc zero) name s e = (cc, cc)
 entry_is (suc (suc zero)) name s e = absurd (cc)
 entry_is (suc (suc (suc i))) name s e = absurd (none_some e)
 
-variable_is : (i : ℕ) (name : Name) (t : Template) → slice_get globals i ≡ Some (ExternalVariable name t) → plain ≡ t
-variable_is zero name t e = cc
-variable_is (suc zero) name t e = absurd (cc)
-variable_is (suc (suc zero)) name t e = cc
-variable_is (suc (suc (suc i))) name t e = absurd (none_some e)
+variable_is : (i : ℕ) (name : Name) (kind : VariableKind) (t : Template) → slice_get globals i ≡ Some (ExternalVariable name kind t) → (Static ≡ kind) × (plain ≡ t)
+variable_is zero name kind t e = (cc, cc)
+variable_is (suc zero) name kind t e = absurd (cc)
+variable_is (suc (suc zero)) name kind t e = (cc, cc)
+variable_is (suc (suc (suc i))) name kind t e = absurd (none_some e)
 
 pub units_are : UnitsAreWellTyped
 units_are = record {
@@ -257,7 +263,9 @@ units_are = record {
       record {
         entries = λ i name s e. let n = entry_is i name s e in
             (1, ap (unit_named (asking_unit ∷ answering_unit ∷ [])) (sym n.0), (answering_unit, refl, n.1));
-        variables = λ i j name t other e f. sym (variable_is i name t e) ∙ variable_is j name other f;
+        variables = λ i j name kind like t other e f. let one = variable_is i name kind t e in
+            let two = variable_is j name like other f in
+            (sym one.0 ∙ two.0, sym one.1 ∙ two.1);
       };
   bytes = omega arith;
   count = omega arith;

@@ -12,14 +12,16 @@ use Rattle.pli_operation.specs.Operations.{Calculation, Calculates, RaisesCondit
 use Rattle.pli_world.specs.Storage.{Generation, Place, field_of, generation_in, offset_limit}
 use Rattle.pli_map.specs.Values.{holds}
 use Rattle.pli_world.specs.World.{World, Answer, Yields, Raises, Wrong, held, led_on, slot_place, static_place, calculation, dummy_of}
+use Rattle.pli_world.specs.Stacks.{generations_counted}
 use Rattle.pli_world.specs.laws.OperationLaws.{led_near}
 use Rattle.pli_value.specs.Value.{Value, Number, Characters, Bits}
 use Rattle.pli_value.specs.declared.number.Raised.TheVariants as raised
+use Rattle.pli_program.specs.declared.kind.VariableKind.TheVariants.{Static, Controlled}
 use Rattle.pli_type_tree.specs.TypedOperations.{comes_to}
-use Rattle.pli_type_tree.specs.TypedTree.{TypedOperation, Root, InSlot, OfProgram, Callee, Global, TypedUnit, Stride, TypedExpression, Literal, Held, Calculated, Called, TypedReference}
+use Rattle.pli_type_tree.specs.TypedTree.{TypedOperation, Root, InSlot, OfProgram, NewestOf, Callee, Global, TypedUnit, Stride, TypedExpression, Literal, Held, Calculated, Called, Generations, TypedReference}
 use Rattle.pli_type_tree.specs.TypedTree.{Whole, Part, Operands, NoOperand, OperandThen, Subscripts, NoSubscript, SubscriptThen}
 use Rattle.pli_type_tree.specs.TypedTree.{TypedArguments, NoArgument, ByPlace, ByDummy}
-use Rattle.pli_type_tree.specs.ValueTypes.{OfCharacters, OfBits, ValueType, Numbers, Strings, type_held, IsOf, AreOf, IsWithin, IsHeldBy, Operates}
+use Rattle.pli_type_tree.specs.ValueTypes.{OfCharacters, OfBits, ValueType, Numbers, Strings, type_held, count_precision, IsOf, AreOf, IsWithin, IsHeldBy, Operates}
 use Rattle.pli_type_tree.specs.WellTyped.{BlockAround, KnownProcedure, TypingContext, slot_of, root_of, LeadTo, IsCallee, IsTyped, IsPlaced, AreTyped}
 use Rattle.pli_map.specs.Scalars.{scalars_of}
 use Rattle.pli_type_tree.specs.WellTyped.{AreSubscripts, ArePassed}
@@ -30,6 +32,7 @@ use Rattle.pli_meaning_typed.proofs.MeansLemmas.{IsBelow, Means, then_means, ans
 use Rattle.pli_meaning_typed.proofs.OperationsFit.{IsCalculated, operated_fits}
 use Rattle.pli_meaning_typed.proofs.PartsWithin.{parts_within}
 use Rattle.pli_meaning_typed.proofs.ContextLaws.{IsUnit, Known, Stand, slot_there, static_answers}
+use Rattle.pli_meaning_typed.proofs.StackLaws.{counted_answers}
 use Rattle.pli_meaning_typed.proofs.WorldLaws.{later_same, later_then, goods_later, error_named, held_answers, dummy_answers}
 
 some_same : {A : Type 0} {x y : A} → Some x ≡ Some y → x ≡ y
@@ -238,7 +241,9 @@ module _ (units : List TypedUnit) (greatest level : ℕ) (call : Calls) (unit : 
           let p = slot_there unit units known (x ∷ ss) s.blocks w outward slot b d sound stand f e in
           subst (λ a. Here left w (AtPlace d) (answered a left)) (sym p.1) (omega arith, p.2, sound, later_same w)
   root_means (OfProgram number) d e w left sound =
-      answer_means units (AtPlace d) level left known (x ∷ ss) w (static_place number w) (static_answers units unit s.globals x ss w number d inside.own inside.top sound e)
+      answer_means units (AtPlace d) level left known (x ∷ ss) w (static_place number w) (static_answers units unit s.globals x ss w number Static d inside.own inside.top sound e)
+  root_means (NewestOf number) d e w left sound =
+      answer_means units (AtPlace d) level left known (x ∷ ss) w (static_place number w) (static_answers units unit s.globals x ss w number Controlled d inside.own inside.top sound e)
 
   -- what an operation comes to
   calculation_answers : (t : ValueType) (c : Calculation) (w : World) → Sound w → IsCalculated t c
@@ -320,6 +325,10 @@ module _ (units : List TypedUnit) (greatest level : ℕ) (call : Calls) (unit : 
         then_here (Gives (Some typed.1)) (OfType t) left w (called_with greatest call callee arguments [] w left) _
         (called_means arguments typed.0 callee typed.0 (Some typed.1) [] [] typed.3 refl typed.2 w left sound tt)
         (λ v w l is sound later. returned_means t typed.1 (Some typed.1) v w l refl typed.4 sound is)
+    value_means (Generations number) t typed w left sound =
+        subst (λ t. Here left w (OfType t) (answered (generations_counted number w) left)) (sym typed.1)
+        (answer_means units (OfType (Numbers count_precision)) level left known (x ∷ ss) w (generations_counted number w)
+        (counted_answers units x ss unit s.globals number inside.own inside.top typed.0 w sound))
 
     operated_means : (operands : Operands) (ts : List ValueType) (operation : TypedOperation) (before : List Value) (done : List ValueType) (t : ValueType)
         → AreTyped greatest s operands ts → AreOf done before → Operates greatest operation (in_order done ts) t

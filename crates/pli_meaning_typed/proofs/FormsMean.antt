@@ -3,22 +3,24 @@ use Rattle.std.specs.Prelude.{◌≡◌, ℕ, suc, Bool, true, false, Option, So
 use Rattle.std.specs.Prelude.{List, [], ◌∷◌, length, slice_get, refl}
 use Rattle.std.proofs.Common.{arith, sym, subst}
 use Rattle.pli_map.specs.Description.{Description}
+use Rattle.pli_world.specs.Stacks.{generation_stacked, generation_unstacked}
 use Rattle.pli_world.specs.World.{World, stored, copied, line_ended}
 use Rattle.pli_value.specs.Conversions.{bit_constant}
 use Rattle.pli_value.specs.Value.{Value}
 use Rattle.pli_type_tree.specs.TypedTree.{Callee, TypedUnit, TypedExpression, TypedReference, TypedArguments, Assign}
-use Rattle.pli_type_tree.specs.TypedTree.{AssignAggregate, Call, ReturnValue}
+use Rattle.pli_type_tree.specs.TypedTree.{AssignAggregate, AllocatedItem, AllocatesControlled, FreedItem, FreesControlled, Call, ReturnValue}
 use Rattle.pli_type_tree.specs.ValueTypes.{StringKind, OfCharacters, OfBits, ValueType, Strings, IsOf}
-use Rattle.pli_type_tree.specs.WellTyped.{BlockAround, TypingContext, IsTyped, IsPlaced, IsString, AreItems}
+use Rattle.pli_type_tree.specs.WellTyped.{BlockAround, TypingContext, IsTyped, IsPlaced, IsString, AreItems, AreAllocated, AreFreed}
 use Rattle.pli_type_tree.specs.WellTyped.{knows_label, IsTypedForm}
 use Rattle.pli_meaning_tree.specs.Effects.{Effect, Gives, Jumps, Flow, Next, Returned, Doing, and_then, answered, truth}
 use Rattle.pli_meaning_tree.specs.TreeMeaning.{Calls, no_value, printed_item, value_of, place_of, called_with, condition, assigns, assigns_aggregate, puts, skips}
-use Rattle.pli_meaning_tree.specs.TreeMeaning.{does_call, returns_value, jumps_to}
+use Rattle.pli_meaning_tree.specs.TreeMeaning.{allocates_item, allocates, frees_item, frees, does_call, returns_value, jumps_to}
 use Rattle.pli_meaning_typed.specs.SoundWorlds.{Shape, IsSound, IsLater}
 use Rattle.pli_meaning_typed.proofs.MeansLemmas.{IsBelow, Means, Anything, means_from, then_means, answer_kept}
 use Rattle.pli_meaning_typed.proofs.MeansLemmas.{followed_means}
 use Rattle.pli_meaning_typed.proofs.ExpressionsMean.{IsReturned, Gives as GivesBack, OfType, AtPlace, CallsMean, IsInside, narrow_held, one_scalar, value_means, place_means, called_means}
 use Rattle.pli_meaning_typed.proofs.ContextLaws.{Known, Stand, height_there}
+use Rattle.pli_meaning_typed.proofs.StackLaws.{allocated_answers, freed_answers}
 use Rattle.pli_meaning_typed.proofs.WorldLaws.{later_same, good_later, stored_answers, copied_answers, printed_sound, line_sound}
 
 none_some : {A : Type 0} {x : A} → None ≡ Some x → ⊥
@@ -131,6 +133,28 @@ module _ (units : List TypedUnit) (greatest level : ℕ) (call : Calls) (unit : 
         let l = line_sound units (x ∷ ss) w sound in
         means_from units (Flows s) level left left known (x ∷ ss) w (line_ended w) (puts greatest call items (line_ended w) left) (omega arith) l.1
         (puts_means items typed (line_ended w) left l.0)
+
+    pub allocates_mean : (items : List AllocatedItem) → AreAllocated s items → (w : World) (left : ℕ) → Sound w
+        → Here s known x ss left w (Flows s) (allocates items w left)
+    allocates_mean [] typed w left sound = ends w left sound
+    allocates_mean (AllocatesControlled number ∷ items) typed w left sound =
+        followed_means units (Flows s) level left known (x ∷ ss) w (allocates_item (AllocatesControlled number) w left) (allocates items)
+        (then_here Anything (Flows s) left w (answered (generation_stacked number w) left) _
+        (answer_kept units level left known (x ∷ ss) w (generation_stacked number w)
+        (allocated_answers units x ss unit s.globals number fits.inside.own fits.inside.top typed.0 w sound))
+        (λ _ w l any sound later. ends w l sound))
+        (λ w l le sound. allocates_mean items typed.1 w l sound)
+
+    pub frees_mean : (items : List FreedItem) → AreFreed s items → (w : World) (left : ℕ) → Sound w
+        → Here s known x ss left w (Flows s) (frees items w left)
+    frees_mean [] typed w left sound = ends w left sound
+    frees_mean (FreesControlled number ∷ items) typed w left sound =
+        followed_means units (Flows s) level left known (x ∷ ss) w (frees_item (FreesControlled number) w left) (frees items)
+        (then_here Anything (Flows s) left w (answered (generation_unstacked number w) left) _
+        (answer_kept units level left known (x ∷ ss) w (generation_unstacked number w)
+        (freed_answers units x ss unit s.globals number fits.inside.own fits.inside.top typed.0 w sound))
+        (λ _ w l any sound later. ends w l sound))
+        (λ w l le sound. frees_mean items typed.1 w l sound)
 
     no_value_means : (o : Option Description) (v : Option Value) (w : World) (left : ℕ) → o ≡ None → IsReturned o v → Sound w
         → Here s known x ss left w (Flows s) (no_value v w left)

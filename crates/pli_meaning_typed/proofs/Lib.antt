@@ -8,6 +8,7 @@ pub mod OperationsFit
 pub mod Parts
 pub mod PartsWithin
 pub mod ProgramsMean
+pub mod StackLaws
 pub mod StatementsMean
 pub mod StaticsMade
 pub mod StorageLemmas

@@ -19,7 +19,7 @@ use Rattle.std.specs.Prelude.{nat_eq, slice_index_or, ◌&&◌, ◌||◌}
 use Rattle.pli_map.specs.Description.{Description, FixedBinary, Character, Varying, Bit}
 use Rattle.pli_operation.specs.declared.operation.Operation.{Operation}
 use Rattle.pli_operation.specs.declared.operation.Operation.TheVariants.{Negate, Absolute, Sign, Not, LengthOf, FromBits, ToCharacters, Add, Subtract, Multiply, Modulo, Greatest, Least, Divide, Compare, Concatenate, And, Or, Index, Rest, Substring, Within}
-use Rattle.pli_operation.specs.Operations.{Calculation, Calculates, RaisesCondition, OutOfString, Misfits, as_number, as_characters, as_bits, calculated, in_columns, fitted_to, is_within_limit}
+use Rattle.pli_operation.specs.Operations.{Calculation, Calculates, RaisesCondition, OutOfString, Misfits, as_number, as_characters, as_bits, calculated, in_columns, fitted_to, is_within_limit, widest}
 use Rattle.pli_value.specs.Numbers.{has_digits, within, quotient, remainder, sign_of, greatest_of, least_of}
 use Rattle.pli_value.specs.Strings.{piece, concatenation, first_place, one_behind, index_of, fitted}
 use Rattle.pli_value.specs.Strings.{by_place, conjunction, disjunction, substring, substring_from, part_of, rest_of}
@@ -90,6 +90,25 @@ within_is p x = by (has_digits p x) refl
   where
     by : (b : Bool) → has_digits p x ≡ b → IsCalculated (Numbers p) (as_number (if b then Ok x else Err raised.Overflow))
     by true e = (x, refl, ltb-true (unsigned_abs x) (2 ^ p) e)
+    by false e = tt
+
+-- a number that has so few digits, within any bound
+kept_is : (n p : ℕ) (x : ℤ) → unsigned_abs x < 2 ^ p → IsCalculated (Numbers p) (as_number (within n x))
+kept_is n p x small = by (has_digits n x)
+  where
+    by : (b : Bool) → IsCalculated (Numbers p) (as_number (if b then Ok x else Err raised.Overflow))
+    by true = (x, refl, small)
+    by false = tt
+
+-- a number within the lesser of two bounds
+narrow_is : (p n : ℕ) (x : ℤ) → IsCalculated (Numbers p) (as_number (within (min p n) x))
+narrow_is p n x = by (has_digits (min p n) x) refl
+  where
+    below : min p n ≤ p
+    below = omega arith
+
+    by : (b : Bool) → has_digits (min p n) x ≡ b → IsCalculated (Numbers p) (as_number (if b then Ok x else Err raised.Overflow))
+    by true e = (x, refl, lt_of_lt_of_le (ltb-true (unsigned_abs x) (2 ^ min p n) e) (pow_mono below))
     by false e = tt
 
 -- a number within both bounds
@@ -165,10 +184,10 @@ remainder_is x (pos zero) q h = tt
 remainder_is x (pos (suc n)) q h = (int_rem_euclid x (pos (suc n)), refl, remainder_small x (pos (suc n)) q n refl h)
 remainder_is x (negsuc n) q h = (int_rem_euclid x (negsuc n), refl, remainder_small x (negsuc n) q n refl h)
 
-quotient_is : (p : ℕ) (x y : ℤ) → IsCalculated (Numbers p) (as_number (quotient p x y))
+quotient_is : (p : ℕ) (x y : ℤ) → IsCalculated (Numbers p) (as_number (quotient (min p widest) x y))
 quotient_is p x (pos zero) = tt
-quotient_is p x (pos (suc n)) = within_is p (int_div x (pos (suc n)))
-quotient_is p x (negsuc n) = within_is p (int_div x (negsuc n))
+quotient_is p x (pos (suc n)) = narrow_is p widest (int_div x (pos (suc n)))
+quotient_is p x (negsuc n) = narrow_is p widest (int_div x (negsuc n))
 
 -- lengths
 length_small : (n : ℕ) → n ≤ longest → n < 2 ^ length_precision
@@ -282,7 +301,12 @@ fitted_is (Varying n) (Strings OfCharacters a b) t v fit e h =
 fitted_is (Bit n) (Strings OfBits a b) t v fit e h =
     subst (λ t. IsCalculated t (fitted_to (Bit n) v)) (some_same e)
     (string (λ v. IsCalculated (Strings OfBits n n) (fitted_to (Bit n) v)) OfBits a b v h (λ s k le1 le2. absurd (cc))
-    (λ s k le1 le2. (fitted false n s, refl, omega (arith, fitted_length false n s), omega (arith, fitted_length false n s))))
+    (λ s k le1 le2. by (nat_le n 32767) s))
+  where
+    by : (b : Bool) (s : List Bool)
+        → IsCalculated (Strings OfBits n n) (if b then Calculates (Bits (fitted false n s)) else OutOfString)
+    by true s = (fitted false n s, refl, omega (arith, fitted_length false n s), omega (arith, fitted_length false n s))
+    by false s = tt
 fitted_is d u t v fit e h = absurd fit
 
 other_way : (p q : ℕ) → max p q ≡ max q p
@@ -331,10 +355,12 @@ module _ (n : ℕ) where
   unfolding calculated
   computed_fits Negate ts t vs h b =
       on_number n Negate t ts vs h.0 h.1 b
-      (λ x hx. subst (λ t. IsOf t (Number (neg_ℤ x))) (sym h.2) (neg_ℤ x, refl, subst (λ m. m < 2 ^ h.0) (sym (negated x)) hx))
+      (λ x hx. subst (λ t. IsCalculated t (as_number (within widest (neg_ℤ x)))) (sym h.2)
+      (kept_is widest h.0 (neg_ℤ x) (subst (λ m. m < 2 ^ h.0) (sym (negated x)) hx)))
   computed_fits Absolute ts t vs h b =
       on_number n Absolute t ts vs h.0 h.1 b
-      (λ x hx. subst (λ t. IsOf t (Number (pos (unsigned_abs x)))) (sym h.2) (pos (unsigned_abs x), refl, hx))
+      (λ x hx. subst (λ t. IsCalculated t (as_number (within widest (pos (unsigned_abs x))))) (sym h.2)
+      (kept_is widest h.0 (pos (unsigned_abs x)) hx))
   computed_fits Sign ts t vs h b =
       on_number n Sign t ts vs h.0 h.1 b
       (λ x hx. subst (λ t. IsOf t (Number (sign_of x))) (sym h.2) (sign_of x, refl, sign_small x))
@@ -381,7 +407,7 @@ module _ (n : ℕ) where
       (least_of x y, refl, either_small (int_le x y) x y h.0 h.1 hx hy))
   computed_fits (Divide precision) ts t vs h b =
       on_numbers n (Divide precision) t ts vs h.0 h.1 h.2 b
-      (λ x y hx hy. subst (λ t. IsCalculated t (as_number (quotient precision x y))) (sym h.3) (quotient_is precision x y))
+      (λ x y hx hy. subst (λ t. IsCalculated t (as_number (quotient (min precision widest) x y))) (sym h.3) (quotient_is precision x y))
   computed_fits (Compare relation) ts t vs h b = by h.0
     where
       bit : (c : Bool) → IsOf t (Bits (c ∷ []))

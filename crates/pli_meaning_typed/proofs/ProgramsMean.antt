@@ -22,7 +22,7 @@ use Rattle.pli_type_tree.specs.WellTyped.{BlockAround, KnownProcedure, IsReached
 use Rattle.pli_meaning_tree.specs.Effects.{Effect, Gives, Jumps, Fails, Spent, Lost, Short, Flow, Next, Returned, and_then, answered, unless_full, procedure_end}
 use Rattle.pli_meaning_tree.specs.TreeMeaning.{Calls, static_link, head_in, activation_of, does_list, procedure_run, activates_in, activates, procedure_in, entry_unit, activates_outer, activates_unit, activates_entry, called_in, calls}
 use Rattle.pli_meaning_tree.specs.TreeMeaning.{main_run, unit_run, unit_names, unless_fault, ran}
-use Rattle.pli_meaning_typed.specs.SoundWorlds.{AreGood, Shape, HoldsValues, AreShaped, AreStatics, IsSound}
+use Rattle.pli_meaning_typed.specs.SoundWorlds.{AreGood, Shape, HoldsValues, AreStacksGood, AreShaped, AreStatics, IsSound}
 use Rattle.pli_meaning_typed.specs.TypedPrograms.{context_in, HasEnd, IsTypedProcedure, IsOuter, IsTypedUnit, AreTypedUnits, IsLinked, HasMain, EveryRunIsMeant}
 use Rattle.pli_meaning_typed.proofs.ExpressionsMean.{IsReturned, Gives as GivesBack, CallsMean}
 use Rattle.pli_meaning_typed.proofs.MeansLemmas.{IsBelow, Means, behind_step, full_means}
@@ -192,8 +192,8 @@ module _ (units : List TypedUnit) (greatest : ℕ) (all_typed : AreTypedUnits gr
         by : (o : Option Global) → slice_get u.globals number ≡ o → signature_of o ≡ Some (record { parameters = parameters; result = value })
             → Mean value (activates_entry greatest units (calls greatest units level) level (entry_unit units o) places w left)
         by None h e = absurd (none_some e)
-        by (Some (OwnVariable t)) h e = absurd (none_some e)
-        by (Some (ExternalVariable name t)) h e = absurd (none_some e)
+        by (Some (OwnVariable kind t)) h e = absurd (none_some e)
+        by (Some (ExternalVariable name kind t)) h e = absurd (none_some e)
         by (Some (EntryPoint name s)) h e =
             let k = global_among units i u number (EntryPoint name s) there h in
             let v = linked_units.entries k.0 name s k.1 in
@@ -277,15 +277,16 @@ always_meant p typed steps =
     let made = statics_there p.greatest p.units typed.units typed.linked typed.count typed.bytes in
     subst (λ a. (x : Outcome) × (ran (unit_names p.units) (and_then (answered a steps) (λ _ w left. unit_run p.greatest (calls p.greatest p.units (suc steps)) (suc steps) p.main (slice_get p.units p.main) w left)) ≡ Some x))
     (sym made.1)
-    (by made.0 made.2 made.3 made.4 (slice_get p.units p.main) refl typed.main)
+    (by made.0 made.2 made.3 made.4 made.5 (slice_get p.units p.main) refl typed.main)
   where
-    by : (w : World) → HoldsValues w → w.activations ≡ [] → ((i : ℕ) (u : TypedUnit) → slice_get p.units i ≡ Some u → AreStatics i u.globals w)
+    by : (w : World) → HoldsValues w → AreStacksGood w → w.activations ≡ [] → ((i : ℕ) (u : TypedUnit) → slice_get p.units i ≡ Some u → AreStatics i u.globals w)
         → (o : Option TypedUnit) → slice_get p.units p.main ≡ o → HasMain o
         → (x : Outcome) × (ran (unit_names p.units) (unit_run p.greatest (calls p.greatest p.units (suc steps)) (suc steps) p.main o w steps) ≡ Some x)
-    by w values stack statics None e main = absurd main
-    by w values stack statics (Some u) e main =
+    by w values stacks stack statics None e main = absurd main
+    by w values stacks stack statics (Some u) e main =
         main_means p.units p.greatest typed.units typed.linked p.main u e main steps w (record {
           values = values;
+          stacks = stacks;
           stack = subst (λ all. AreShaped w [] all) (sym stack) tt;
           of_units = tt;
           made = statics;

@@ -1,9 +1,9 @@
 -- The variables that are made before the program begins are there, where they have room.
-use Rattle.std.specs.Prelude.{◌≡◌, ℕ, zero, suc, ◌+◌, ◌≤◌, ◌<◌, nat_eq, Bool, true, false, ◌&&◌, ◌||◌, Option, Some, None, List, [], ◌∷◌, ◌++◌}
+use Rattle.std.specs.Prelude.{◌≡◌, ℕ, zero, suc, ◌+◌, ◌≤◌, ◌<◌, nat_eq, Bool, true, false, ◌&&◌, ◌||◌, Option, Some, None, List, [], ◌∷◌, ◌++◌, ◌⊎◌}
 use Rattle.std.specs.Prelude.{length, map, slice_get, if◌then◌else◌, cond, refl}
 use Rattle.std.specs.Cmp.Lexicographic.{same_text}
 use Rattle.std.specs.Map.{lookup}
-use Rattle.std.proofs.Common.{arith, sym, ap, ◌∙◌, subst, append_assoc, length-append}
+use Rattle.std.proofs.Common.{arith, sym, ap, ◌∙◌, subst, inl, inr, append_assoc, length-append}
 use Rattle.std.proofs.lemmas.Bool.{eqb-true, eq-eqb}
 use Rattle.pli_base.specs.Name.{Name}
 use Rattle.pli_base.specs.Words.{same_name, is_among}
@@ -11,15 +11,18 @@ use Rattle.pli_map.specs.Description.{Description}
 use Rattle.pli_map.specs.Sizes.{size_of}
 use Rattle.pli_world.specs.Storage.{Generation, Static as AsStatic, whole, live_bytes, generation_limit}
 use Rattle.pli_map.specs.Variables.{byte_limit}
-use Rattle.pli_world.specs.World.{Standing, Lies, Static, World, Answer, Yields, further, static_in, made_once, with_static, statics_made, nothing}
-use Rattle.pli_type_tree.specs.Globals.{global_variable, templates_in, description_of}
+use Rattle.pli_program.specs.declared.kind.VariableKind.{VariableKind}
+use Rattle.pli_program.specs.declared.kind.VariableKind.TheVariants as kinds
+use Rattle.pli_world.specs.World.{Standing, Lies, Stacked, Static, Stack, World, Answer, Yields, further, static_in, made_once, with_new_stack, with_static, statics_made, nothing}
+use Rattle.pli_type_tree.specs.Globals.{global_variable, templates_in, kind_of, description_of, described_as}
+use Rattle.pli_type_tree.specs.laws.GlobalLaws.{described_parts}
 use Rattle.pli_type_tree.specs.Templates.{Template, variable_of}
 use Rattle.pli_type_tree.specs.TypedTree.{Global, OwnVariable, ExternalVariable, EntryPoint, TypedUnit}
-use Rattle.pli_type_tree.specs.WellTyped.{AreMade}
+use Rattle.pli_type_tree.specs.WellTyped.{IsMade as IsMadeWell, AreMade}
 use Rattle.pli_meaning_tree.specs.TreeMeaning.{all_made}
-use Rattle.pli_meaning_typed.specs.SoundWorlds.{HoldsValues, StandsGood, AreStatics, IsLater}
-use Rattle.pli_meaning_typed.specs.TypedPrograms.{all_globals, IsLinked, unless, made_for, bytes_of, AreTypedUnits}
-use Rattle.pli_meaning_typed.proofs.WorldLaws.{later_same, later_then, stands_later, small_near, new_generation, with_new, new_later, new_values, new_good, room_gives}
+use Rattle.pli_meaning_typed.specs.SoundWorlds.{HoldsValues, EachGood, AreStacksGood, StandsGood, AreStatics, IsLater}
+use Rattle.pli_meaning_typed.specs.TypedPrograms.{all_globals, IsLinked, made_of_kind, unless, made_for, bytes_of, AreTypedUnits}
+use Rattle.pli_meaning_typed.proofs.WorldLaws.{later_same, later_then, eaches_later, stands_later, stacks_later, small_near, new_generation, with_new, new_later, new_values, new_good, room_gives}
 
 none_some : {A : Type 0} {x : A} → None ≡ Some x → ⊥
 none_some e = absurd (cc)
@@ -58,7 +61,7 @@ further_gives a go y u x z e f = ap (λ o. further o go) e ∙ f
 
 -- the globals of a unit are among all
 
-among_front : (xs ys : List Global) (i : ℕ) (g : Global) → slice_get xs i ≡ Some g → slice_get (xs ++ ys) i ≡ Some g
+among_front : {A : Type 0} (xs ys : List A) (i : ℕ) (g : A) → slice_get xs i ≡ Some g → slice_get (xs ++ ys) i ≡ Some g
 among_front [] ys i g e = absurd (none_some e)
 among_front (x ∷ xs) ys zero g e = e
 among_front (x ∷ xs) ys (suc i) g e = among_front xs ys i g e
@@ -79,16 +82,18 @@ global_among (v ∷ us) (suc i) u number g e h =
 
 abbrev named_after : List Name → List Global → List Name
 named_after before [] = before
-named_after before (OwnVariable t ∷ gs) = named_after before gs
-named_after before (ExternalVariable name t ∷ gs) = named_after (name ∷ before) gs
+named_after before (OwnVariable kind t ∷ gs) = named_after before gs
+named_after before (ExternalVariable name kind t ∷ gs) = named_after (name ∷ before) gs
 named_after before (EntryPoint name s ∷ gs) = named_after before gs
 
 made_in_parts : (before : List Name) (gs hs : List Global) → made_for before (gs ++ hs) ≡ made_for before gs ++ made_for (named_after before gs) hs
 made_in_parts before [] hs = refl
-made_in_parts before (OwnVariable t ∷ gs) hs = ap (λ ts. t ∷ ts) (made_in_parts before gs hs)
-made_in_parts before (ExternalVariable name t ∷ gs) hs =
-    ap (λ ts. unless (is_among name before) t ++ ts) (made_in_parts (name ∷ before) gs hs)
-    ∙ sym (append_assoc (unless (is_among name before) t) (made_for (name ∷ before) gs) (made_for (named_after (name ∷ before) gs) hs))
+made_in_parts before (OwnVariable kind t ∷ gs) hs =
+    ap (λ ts. made_of_kind kind t ++ ts) (made_in_parts before gs hs)
+    ∙ sym (append_assoc (made_of_kind kind t) (made_for before gs) (made_for (named_after before gs) hs))
+made_in_parts before (ExternalVariable name kind t ∷ gs) hs =
+    ap (λ ts. unless (is_among name before) (made_of_kind kind t) ++ ts) (made_in_parts (name ∷ before) gs hs)
+    ∙ sym (append_assoc (unless (is_among name before) (made_of_kind kind t)) (made_for (name ∷ before) gs) (made_for (named_after (name ∷ before) gs) hs))
 made_in_parts before (EntryPoint name s ∷ gs) hs = made_in_parts before gs hs
 
 bytes_in_parts : (ts us : List Template) → bytes_of (ts ++ us) ≡ bytes_of ts + bytes_of us
@@ -116,12 +121,17 @@ first_alone (Some p) = refl
 first_alone None = refl
 
 -- what is declared of an external variable
-abbrev Declared : List Global → Name → Template → Type 0
-Declared all name t = (k : ℕ) × (slice_get all k ≡ Some (ExternalVariable name t))
+abbrev Declared : List Global → Name → VariableKind → Template → Type 0
+Declared all name kind t = (k : ℕ) × (slice_get all k ≡ Some (ExternalVariable name kind t))
+
+abbrev AreAlike : List Global → Type 0
+AreAlike all =
+    (i j : ℕ) (name : Name) (kind like : VariableKind) (one other : Template)
+    → slice_get all i ≡ Some (ExternalVariable name kind one) → slice_get all j ≡ Some (ExternalVariable name like other) → (kind ≡ like) × (one ≡ other)
 
 -- the external variables of these names are made, and no others; each is as it is declared
 abbrev IsMade : List Global → World → Name → Bool → Option Standing → Type 0
-IsMade all w name true (Some p) = (t : Template) → Declared all name t → StandsGood w t.description p
+IsMade all w name true (Some p) = (kind : VariableKind) (t : Template) → Declared all name kind t → StandsGood w kind t.description p
 IsMade all w name true None = ⊥
 IsMade all w name false (Some p) = ⊥
 IsMade all w name false None = Unit {0}
@@ -129,25 +139,24 @@ IsMade all w name false None = Unit {0}
 abbrev AreExternals : List Global → (before : List Name) → List (Name × Standing) → World → Type 0
 AreExternals all before shared w = (name : Name) → IsMade all w name (is_among name before) (lookup (same_name name) shared)
 
-made_later : (all : List Global) (w v : World) (name : Name) (b : Bool) (o : Option Standing) → IsLater w v → v.lists ≡ w.lists → IsMade all w name b o → IsMade all v name b o
-made_later all w v name true (Some p) later lists h = λ t d. stands_later w v t.description p later lists (h t d)
-made_later all w v name true None later lists h = absurd h
-made_later all w v name false (Some p) later lists h = absurd h
-made_later all w v name false None later lists h = tt
+made_later : (all : List Global) (w v : World) (name : Name) (b : Bool) (o : Option Standing) → IsLater w v → IsMade all w name b o → IsMade all v name b o
+made_later all w v name true (Some p) later h = λ kind t d. stands_later w v kind t.description p later (h kind t d)
+made_later all w v name true None later h = absurd h
+made_later all w v name false (Some p) later h = absurd h
+made_later all w v name false None later h = tt
 
 -- what making the variables of a unit, from a number on, leaves and adds
 record Grown (unit number : ℕ) (gs : List Global) (w v : World) : Type 0 where
   later : IsLater w v
-  lists : v.lists ≡ w.lists
   kept : (other k : ℕ) (p : Standing) → static_in w.statics other k ≡ Some p → static_in v.statics other k ≡ Some p
   apart : (other k : ℕ) → nat_eq unit other ≡ false → static_in w.statics other k ≡ None → static_in v.statics other k ≡ None
   found :
-      ((k : ℕ) → number ≤ k → static_in w.statics unit k ≡ None) → (i : ℕ) (d : Description) → description_of (slice_get gs i) ≡ Some d
-      → (p : Standing) × (static_in v.statics unit (number + i) ≡ Some p) × StandsGood v d p
+      ((k : ℕ) → number ≤ k → static_in w.statics unit k ≡ None) → (i : ℕ) (kind : VariableKind) (d : Description) → described_as kind (slice_get gs i) ≡ Some d
+      → (p : Standing) × (static_in v.statics unit (number + i) ≡ Some p) × StandsGood v kind d p
 
 -- a static more, which stands as it should
-module _ (unit number : ℕ) (d : Description) (p : Standing) (w x : World) (same : x.statics ≡ w.statics) (lists : x.lists ≡ w.lists) (later : IsLater w x)
-    (good : StandsGood x d p) where
+module _ (unit number : ℕ) (kind : VariableKind) (d : Description) (p : Standing) (w x : World) (same : x.statics ≡ w.statics) (later : IsLater w x)
+    (good : StandsGood x kind d p) where
   abbrev with_one : World
   with_one = with_static unit number p x
 
@@ -158,15 +167,15 @@ module _ (unit number : ℕ) (d : Description) (p : Standing) (w x : World) (sam
   statics_are = ap (λ ss. ss ++ new_one ∷ []) same
 
   one_later : IsLater w with_one
-  one_later = record { more = later.more; lived = later.lived }
+  one_later = record { more = later.more; lived = later.lived; stacks = later.stacks }
 
   one_after : IsLater x with_one
-  one_after = record { more = omega arith; lived = λ n g lt h. (g, h, refl) }
+  one_after = record { more = omega arith; lived = λ n g lt h. (g, h, refl); stacks = λ n s h. (s, h, refl) }
 
-  grown_more : (g : Global) (gs : List Global) (v : World) → description_of (Some g) ≡ Some d → Grown unit (suc number) gs with_one v → Grown unit number (g ∷ gs) w v
-  grown_more g gs v is m = record {
+  grown_more : (g : Global) (gs : List Global) (v : World) → kind_of (Some g) ≡ Some kind → description_of (Some g) ≡ Some d → Grown unit (suc number) gs with_one v
+      → Grown unit number (g ∷ gs) w v
+  grown_more g gs v kinded is m = record {
     later = later_then w with_one v one_later m.later;
-    lists = m.lists ∙ lists;
     kept = λ other k q h. m.kept other k q (subst (λ ss. static_in ss other k ≡ Some q) (sym statics_are) (more_kept w.statics new_one other k q h));
     apart = λ other k e h. m.apart other k e (subst (λ ss. static_in ss other k ≡ None) (sym statics_are)
         (more_behind w.statics new_one other k h ∙ ap (λ b. if b && nat_eq number k then Some p else None) e));
@@ -180,47 +189,52 @@ module _ (unit number : ℕ) (d : Description) (p : Standing) (w x : World) (sam
           by true e = absurd (omega (arith, eqb-true number k e, le))
           by false e = refl
 
-      found : ((k : ℕ) → number ≤ k → static_in w.statics unit k ≡ None) → (i : ℕ) (c : Description) → description_of (slice_get (g ∷ gs) i) ≡ Some c
-          → (q : Standing) × (static_in v.statics unit (number + i) ≡ Some q) × StandsGood v c q
-      found fresh zero c e =
+      stands : (like : VariableKind) (c : Description) → described_as like (Some g) ≡ Some c → StandsGood v like c p
+      stands like c e =
+          let parts = described_parts like (Some g) c e in
+          subst (λ k. StandsGood v k c p) (some_same (sym kinded ∙ parts.0))
+          (subst (λ c. StandsGood v kind c p) (some_same (sym is ∙ parts.1)) (stands_later x v kind d p (later_then x with_one v one_after m.later) good))
+
+      found : ((k : ℕ) → number ≤ k → static_in w.statics unit k ≡ None) → (i : ℕ) (like : VariableKind) (c : Description) → described_as like (slice_get (g ∷ gs) i) ≡ Some c
+          → (q : Standing) × (static_in v.statics unit (number + i) ≡ Some q) × StandsGood v like c q
+      found fresh zero like c e =
           let z : number ≡ number + 0 = omega arith in
           let here : static_in with_one.statics unit number ≡ Some p =
           ap (λ ss. static_in ss unit number) statics_are
           ∙ more_behind w.statics new_one unit number (fresh number (omega arith))
           ∙ ap (λ b. if b && nat_eq number number then Some p else None) (eq-eqb unit unit refl)
-          ∙ ap (λ b. if b then Some p else None) (eq-eqb number number refl) in (
-            p,
-            subst (λ n. static_in v.statics unit n ≡ Some p) z (m.kept unit number p here),
-            subst (λ c. StandsGood v c p) (some_same (sym is ∙ e)) (stands_later x v d p (later_then x with_one v one_after m.later) m.lists good),
-          )
-      found fresh (suc i) c e =
+          ∙ ap (λ b. if b then Some p else None) (eq-eqb number number refl) in
+          (p, subst (λ n. static_in v.statics unit n ≡ Some p) z (m.kept unit number p here), stands like c e)
+      found fresh (suc i) like c e =
           let z : suc number + i ≡ number + suc i = omega arith in
           let q = m.found (λ k le. ap (λ ss. static_in ss unit k) statics_are
           ∙ more_behind w.statics new_one unit k (fresh k (omega (arith, le)))
           ∙ ap (λ b. if b && nat_eq number k then Some p else None) (eq-eqb unit unit refl)
-          ∙ ap (λ b. if b then Some p else None) (unlike k le)) i c e in
+          ∙ ap (λ b. if b then Some p else None) (unlike k le)) i like c e in
           (q.0, subst (λ n. static_in v.statics unit n ≡ Some q.0) z q.1, q.2)
 
 -- the external variables stay, or one of a name is added
-own_externals : (all : List Global) (before : List Name) (shared : List (Name × Standing)) (unit number : ℕ) (d : Description) (p : Standing) (w x : World) (same : x.statics ≡ w.statics)
-    (lists : x.lists ≡ w.lists) (later : IsLater w x) (good : StandsGood x d p) → AreExternals all before shared w → AreExternals all before shared (with_static unit number p x)
-own_externals all before shared unit number d p w x same lists later good h other =
-    made_later all w (with_static unit number p x) other (is_among other before) (lookup (same_name other) shared) (one_later unit number d p w x same lists later good) lists (h other)
+own_externals : (all : List Global) (before : List Name) (shared : List (Name × Standing)) (unit number : ℕ) (kind : VariableKind) (d : Description) (p : Standing) (w x : World) (same : x.statics ≡ w.statics)
+    (later : IsLater w x) (good : StandsGood x kind d p) → AreExternals all before shared w → AreExternals all before shared (with_static unit number p x)
+own_externals all before shared unit number kind d p w x same later good h other =
+    made_later all w (with_static unit number p x) other (is_among other before) (lookup (same_name other) shared) (one_later unit number kind d p w x same later good) (h other)
 
-named_externals : (all : List Global) → ((i j : ℕ) (name : Name) (one other : Template) → slice_get all i ≡ Some (ExternalVariable name one) → slice_get all j ≡ Some (ExternalVariable name other) → one ≡ other)
-    → (before : List Name) (shared : List (Name × Standing)) (unit number : ℕ) (name : Name) (t : Template) (p : Standing) (w x : World) (same : x.statics ≡ w.statics)
-    (lists : x.lists ≡ w.lists) (later : IsLater w x) (good : StandsGood x t.description p) → Declared all name t → first_of (lookup (same_name name) shared) (Some p) ≡ Some p
+named_externals : (all : List Global) → AreAlike all
+    → (before : List Name) (shared : List (Name × Standing)) (unit number : ℕ) (name : Name) (kind : VariableKind) (t : Template) (p : Standing) (w x : World) (same : x.statics ≡ w.statics)
+    (later : IsLater w x) (good : StandsGood x kind t.description p) → Declared all name kind t → first_of (lookup (same_name name) shared) (Some p) ≡ Some p
     → AreExternals all before shared w → AreExternals all (name ∷ before) (shared ++ (name, p) ∷ []) (with_static unit number p x)
-named_externals all alike before shared unit number name t p w x same lists later good declared now h other = by (same_name other name) refl
+named_externals all alike before shared unit number name kind t p w x same later good declared now h other = by (same_name other name) refl
   where
     v : World
     v = with_static unit number p x
 
     after : IsLater x v
-    after = record { more = omega arith; lived = λ n g lt h. (g, h, refl) }
+    after = record { more = omega arith; lived = λ n g lt h. (g, h, refl); stacks = λ n s h. (s, h, refl) }
 
     this : IsMade all v name true (Some p)
-    this = λ one d. subst (λ t. StandsGood v t.description p) (alike declared.0 d.0 name t one declared.1 d.1) (stands_later x v t.description p after refl good)
+    this = λ like one d. let same = alike declared.0 d.0 name kind like t one declared.1 d.1 in
+        subst (λ k. StandsGood v k one.description p) same.0
+        (subst (λ t. StandsGood v kind t.description p) same.1 (stands_later x v kind t.description p after good))
 
     by : (b : Bool) → same_name other name ≡ b → IsMade all v other (b || is_among other before) (lookup (same_name other) (shared ++ (name, p) ∷ []))
     by true e =
@@ -233,13 +247,91 @@ named_externals all alike before shared unit number name t p w x same lists late
         subst (λ o. IsMade all v other (is_among other before) o)
         (sym (shared_more shared name p other
         ∙ ap (λ b. first_of (lookup (same_name other) shared) (cond b (Some p) None)) e ∙ first_alone (lookup (same_name other) shared)))
-        (made_later all w v other (is_among other before) (lookup (same_name other) shared) (one_later unit number t.description p w x same lists later good) lists (h other))
+        (made_later all w v other (is_among other before) (lookup (same_name other) shared) (one_later unit number kind t.description p w x same later good) (h other))
 
-module _ (all : List Global)
-    (alike : (i j : ℕ) (name : Name) (one other : Template) → slice_get all i ≡ Some (ExternalVariable name one) → slice_get all j ≡ Some (ExternalVariable name other) → one ≡ other) where
+stacks_kept : (unit number : ℕ) (p : Standing) (x : World) → AreStacksGood x → AreStacksGood (with_static unit number p x)
+stacks_kept unit number p x good =
+    stacks_later x (with_static unit number p x) (record { more = omega arith; lived = λ n g lt h. (g, h, refl); stacks = λ n s h. (s, h, refl) }) refl good
+
+-- a stack more
+last_there : {A : Type 0} (xs : List A) (y : A) → slice_get (xs ++ y ∷ []) (length xs) ≡ Some y
+last_there [] y = refl
+last_there (x ∷ xs) y = last_there xs y
+
+one_behind : {A : Type 0} (xs : List A) (y : A) (n : ℕ) (z : A) → slice_get (xs ++ y ∷ []) n ≡ Some z → (slice_get xs n ≡ Some z) ⊎ (y ≡ z)
+one_behind [] y zero z h = inr (some_same h)
+one_behind [] y (suc n) z h = absurd (none_some h)
+one_behind (x ∷ xs) y zero z h = inl h
+one_behind (x ∷ xs) y (suc n) z h = one_behind xs y n z h
+
+-- what making a variable comes to
+record OneMade (kind : VariableKind) (t : Template) (w : World) (p : Standing) (x : World) : Type 0 where
+  gives : made_once kind (variable_of t) None w ≡ Yields p x
+  statics : x.statics ≡ w.statics
+  stack : x.activations ≡ w.activations
+  later : IsLater w x
+  values : HoldsValues x
+  stacks : AreStacksGood x
+  good : StandsGood x kind t.description p
+  bytes : live_bytes x.storage ≡ live_bytes w.storage + bytes_of (made_of_kind kind t)
+  count : x.made ≡ w.made + length (made_of_kind kind t)
+
+one_made : (kind : VariableKind) (t : Template) (w : World) → IsMadeWell (variable_of t) → HoldsValues w → AreStacksGood w
+    → w.made + length (made_of_kind kind t) ≤ generation_limit → live_bytes w.storage + bytes_of (made_of_kind kind t) ≤ byte_limit
+    → (p : Standing) × (x : World) × OneMade kind t w p x
+one_made kinds.Static t w made values stacks few small =
+    let d = t.description in
+    let vs = (variable_of t).initial in
+    let later = new_later d AsStatic vs w values made.1 in
+    let more = live_more w.storage (new_generation d AsStatic vs w) in (
+      Lies (whole w.made d),
+      with_new d AsStatic vs w,
+      record {
+        gives = ap (λ a. further a (λ p w. Yields (Lies p) w)) (room_gives d AsStatic vs w values made.1 (omega (arith, few)) (omega (arith, small)));
+        statics = refl;
+        stack = refl;
+        later = later;
+        values = new_values d AsStatic vs w values made.1;
+        stacks = stacks_later w (with_new d AsStatic vs w) later refl stacks;
+        good = new_good d AsStatic vs w values made.1 (small_near d made.0);
+        bytes = omega (arith, more);
+        count = omega arith;
+      },
+    )
+one_made kinds.Controlled t w made values stacks few small = (
+  Stacked (length w.stacks),
+  with_new_stack (variable_of t) w,
+  record {
+    gives = refl;
+    statics = refl;
+    stack = refl;
+    later = later;
+    values = values;
+    stacks = λ n s h. each n s (one_behind w.stacks new n s h);
+    good = (new, last_there w.stacks new, refl);
+    bytes = omega arith;
+    count = omega arith;
+  },
+)
+  where
+    new : Stack
+    new = record { variable = variable_of t; places = [] }
+
+    later : IsLater w (with_new_stack (variable_of t) w)
+    later = record { more = omega arith; lived = λ n g lt h. (g, h, refl); stacks = λ n s h. (s, among_front w.stacks (new ∷ []) n s h, refl) }
+
+    each : (n : ℕ) (s : Stack) → (slice_get w.stacks n ≡ Some s) ⊎ (new ≡ s)
+        → IsMadeWell s.variable × EachGood (with_new_stack (variable_of t) w) s.variable.description s.places
+    each n s (inl h) =
+        let good = stacks n s h in (good.0, eaches_later w (with_new_stack (variable_of t) w) s.variable.description s.places later good.1)
+    each n s (inr e) =
+        subst (λ (s : Stack). IsMadeWell s.variable × EachGood (with_new_stack (variable_of t) w) s.variable.description s.places) e (made, tt)
+
+module _ (all : List Global) (alike : AreAlike all) where
   -- what making the variables of a unit, from a number on, comes to
   record MakesAll (unit number : ℕ) (before : List Name) (gs : List Global) (more : List (Name × Standing)) (w v : World) : Type 0 where
     values : HoldsValues v
+    stacks : AreStacksGood v
     bytes : live_bytes v.storage ≡ live_bytes w.storage + bytes_of (made_for before gs)
     count : v.made ≡ w.made + length (made_for before gs)
     stack : v.activations ≡ w.activations
@@ -253,142 +345,148 @@ module _ (all : List Global)
   abbrev AreAmong : List Global → Type 0
   AreAmong gs = (i : ℕ) (g : Global) → slice_get gs i ≡ Some g → (k : ℕ) × (slice_get all k ≡ Some g)
 
-  makes_all : (gs : List Global) (unit number : ℕ) (before : List Name) (shared : List (Name × Standing)) (w : World) → HoldsValues w → AreExternals all before shared w
+  makes_all : (gs : List Global) (unit number : ℕ) (before : List Name) (shared : List (Name × Standing)) (w : World) → HoldsValues w → AreStacksGood w → AreExternals all before shared w
       → AreMade (map variable_of (templates_in gs)) → AreAmong gs
       → w.made + length (made_for before gs) ≤ generation_limit → live_bytes w.storage + bytes_of (made_for before gs) ≤ byte_limit
       → Makes unit number before gs w (statics_made same_name unit number (map global_variable gs) shared w)
-  makes_all [] unit number before shared w values externals made among few small = (
+  makes_all [] unit number before shared w values stacks externals made among few small = (
     w,
     shared,
     refl,
     record {
       values = values;
+      stacks = stacks;
       bytes = omega arith;
       count = omega arith;
       stack = refl;
       externals = externals;
-      grown = record { later = later_same w; lists = refl; kept = λ other k p h. h; apart = λ other k e h. h; found = λ fresh i d e. absurd (none_some e) };
+      grown = record { later = later_same w; kept = λ other k p h. h; apart = λ other k e h. h; found = λ fresh i kind d e. absurd (none_some (described_parts kind None d e).1) };
     },
   )
-  makes_all (EntryPoint entry s ∷ gs) unit number before shared w values externals made among few small =
-      let r = makes_all gs unit (suc number) before shared w values externals made (λ i g e. among (suc i) g e) few small in
+  makes_all (EntryPoint entry s ∷ gs) unit number before shared w values stacks externals made among few small =
+      let r = makes_all gs unit (suc number) before shared w values stacks externals made (λ i g e. among (suc i) g e) few small in
       let m = r.3 in (
         r.0,
         r.1,
         r.2,
         record {
           values = m.values;
+          stacks = m.stacks;
           bytes = m.bytes;
           count = m.count;
           stack = m.stack;
           externals = m.externals;
-          grown = record { later = m.grown.later; lists = m.grown.lists; kept = m.grown.kept; apart = m.grown.apart; found = found r.0 m.grown };
+          grown = record { later = m.grown.later; kept = m.grown.kept; apart = m.grown.apart; found = found r.0 m.grown };
         },
       )
     where
-      found : (v : World) → Grown unit (suc number) gs w v → ((k : ℕ) → number ≤ k → static_in w.statics unit k ≡ None) → (i : ℕ) (d : Description)
-          → description_of (slice_get (EntryPoint entry s ∷ gs) i) ≡ Some d → (p : Standing) × (static_in v.statics unit (number + i) ≡ Some p) × StandsGood v d p
-      found v m fresh zero d e = absurd (none_some e)
-      found v m fresh (suc i) d e =
+      found : (v : World) → Grown unit (suc number) gs w v → ((k : ℕ) → number ≤ k → static_in w.statics unit k ≡ None) → (i : ℕ) (kind : VariableKind) (d : Description)
+          → described_as kind (slice_get (EntryPoint entry s ∷ gs) i) ≡ Some d → (p : Standing) × (static_in v.statics unit (number + i) ≡ Some p) × StandsGood v kind d p
+      found v m fresh zero kind d e = absurd (none_some (described_parts kind (Some (EntryPoint entry s)) d e).1)
+      found v m fresh (suc i) kind d e =
           let z : suc number + i ≡ number + suc i = omega arith in
-          let q = m.found (λ k le. fresh k (omega (arith, le))) i d e in
+          let q = m.found (λ k le. fresh k (omega (arith, le))) i kind d e in
           (q.0, subst (λ n. static_in v.statics unit n ≡ Some q.0) z q.1, q.2)
-  makes_all (OwnVariable t ∷ gs) unit number before shared w values externals made among few small =
-      let d = t.description in
-      let vs = (variable_of t).initial in
-      let x = with_new d AsStatic vs w in
-      let p = whole w.made d in
-      let later = new_later d AsStatic vs w values made.0.1 in
-      let good = new_good d AsStatic vs w values made.0.1 (small_near d made.0.0) in
-      let few2 : suc w.made + length (made_for before gs) ≤ generation_limit = omega (arith, few) in
-      let small2 : live_bytes (w.storage ++ new_generation d AsStatic vs w ∷ []) + bytes_of (made_for before gs) ≤ byte_limit =
-      omega (arith, small, live_more w.storage (new_generation d AsStatic vs w)) in
-      let r = makes_all gs unit (suc number) before shared (with_static unit number (Lies p) x) (new_values d AsStatic vs w values made.0.1)
-      (own_externals all before shared unit number d (Lies p) w x refl refl later good externals) made.1 (λ i g e. among (suc i) g e) few2 small2 in
-      let m = r.3 in (
+  makes_all (OwnVariable kind t ∷ gs) unit number before shared w values stacks externals made among few small =
+      let here = made_of_kind kind t in
+      let counted = length-append here (made_for before gs) in
+      let summed = bytes_in_parts here (made_for before gs) in
+      let o = one_made kind t w made.0 values stacks (omega (arith, few, counted)) (omega (arith, small, summed)) in
+      let p = o.0 in
+      let x = o.1 in
+      let one = o.2 in
+      let few2 : x.made + length (made_for before gs) ≤ generation_limit = omega (arith, few, counted, one.count) in
+      let small2 : live_bytes x.storage + bytes_of (made_for before gs) ≤ byte_limit = omega (arith, small, summed, one.bytes) in
+      let r = makes_all gs unit (suc number) before shared (with_static unit number p x) one.values (stacks_kept unit number p x one.stacks)
+      (own_externals all before shared unit number kind t.description p w x one.statics one.later one.good externals) made.1 (λ i g e. among (suc i) g e) few2 small2 in
+      let m = r.3 in
+      let m_bytes : live_bytes r.0.storage ≡ live_bytes w.storage + bytes_of (here ++ made_for before gs) = omega (arith, m.bytes, summed, one.bytes) in
+      let m_count : r.0.made ≡ w.made + length (here ++ made_for before gs) = omega (arith, m.count, counted, one.count) in (
         r.0,
         r.1,
-        further_gives (made_once (variable_of t) None w) (λ s w. statics_made same_name unit (suc number) (map global_variable gs) shared (with_static unit number s w)) (Lies p) r.1 x r.0
-            (ap (λ a. further a (λ p w. Yields (Lies p) w)) (room_gives d AsStatic vs w values made.0.1 (omega (arith, few)) (omega (arith, small)))) r.2,
+        further_gives (made_once kind (variable_of t) None w) (λ s w. statics_made same_name unit (suc number) (map global_variable gs) shared (with_static unit number s w)) p r.1 x r.0 one.gives r.2,
         record {
           values = m.values;
-          bytes = omega (arith, m.bytes, live_more w.storage (new_generation d AsStatic vs w));
-          count = omega (arith, m.count);
-          stack = m.stack;
+          stacks = m.stacks;
+          bytes = m_bytes;
+          count = m_count;
+          stack = m.stack ∙ one.stack;
           externals = m.externals;
-          grown = grown_more unit number d (Lies p) w x refl refl later good (OwnVariable t) gs r.0 refl m.grown;
+          grown = grown_more unit number kind t.description p w x one.statics one.later one.good (OwnVariable kind t) gs r.0 refl refl m.grown;
         },
       )
-  makes_all (ExternalVariable own t ∷ gs) unit number before shared w values externals made among few small =
+  makes_all (ExternalVariable own kind t ∷ gs) unit number before shared w values stacks externals made among few small =
       by (is_among own before) (lookup (same_name own) shared) refl refl (externals own) few small
-      (λ more x v e f g. makes_all gs unit (suc number) (own ∷ before) more x v e made.1 (λ i g e. among (suc i) g e) f g)
+      (λ more x v s e f g. makes_all gs unit (suc number) (own ∷ before) more x v s e made.1 (λ i g e. among (suc i) g e) f g)
     where
-      declared : Declared all own t
-      declared = among 0 (ExternalVariable own t) refl
+      declared : Declared all own kind t
+      declared = among 0 (ExternalVariable own kind t) refl
 
       by : (b : Bool) (o : Option Standing) → is_among own before ≡ b → lookup (same_name own) shared ≡ o → IsMade all w own b o
-          → w.made + length (unless b t ++ made_for (own ∷ before) gs) ≤ generation_limit
-          → live_bytes w.storage + bytes_of (unless b t ++ made_for (own ∷ before) gs) ≤ byte_limit
-          → ((more : List (Name × Standing)) (x : World) → HoldsValues x → AreExternals all (own ∷ before) more x
+          → w.made + length (unless b (made_of_kind kind t) ++ made_for (own ∷ before) gs) ≤ generation_limit
+          → live_bytes w.storage + bytes_of (unless b (made_of_kind kind t) ++ made_for (own ∷ before) gs) ≤ byte_limit
+          → ((more : List (Name × Standing)) (x : World) → HoldsValues x → AreStacksGood x → AreExternals all (own ∷ before) more x
           → x.made + length (made_for (own ∷ before) gs) ≤ generation_limit → live_bytes x.storage + bytes_of (made_for (own ∷ before) gs) ≤ byte_limit
           → Makes unit (suc number) (own ∷ before) gs x (statics_made same_name unit (suc number) (map global_variable gs) more x))
-          → Makes unit number before (ExternalVariable own t ∷ gs) w
-          (further (made_once (variable_of t) o w)
+          → Makes unit number before (ExternalVariable own kind t ∷ gs) w
+          (further (made_once kind (variable_of t) o w)
           (λ s w. statics_made same_name unit (suc number) (map global_variable gs) (shared ++ (own, s) ∷ []) (with_static unit number s w)))
       by true None e f is few small rest = absurd is
       by false (Some p) e f is few small rest = absurd is
       by true (Some p) e f is few small rest =
           let later = later_same w in
-          let good : StandsGood w t.description p = is t declared in
-          let r = rest (shared ++ (own, p) ∷ []) (with_static unit number p w) values
-          (named_externals all alike before shared unit number own t p w w refl refl later good declared (ap (λ o. first_of o (Some p)) f) externals) few small in
+          let good : StandsGood w kind t.description p = is kind t declared in
+          let r = rest (shared ++ (own, p) ∷ []) (with_static unit number p w) values (stacks_kept unit number p w stacks)
+          (named_externals all alike before shared unit number own kind t p w w refl later good declared (ap (λ o. first_of o (Some p)) f) externals) few small in
           let m = r.3 in (
             r.0,
             r.1,
             r.2,
             record {
               values = m.values;
-              bytes = m.bytes ∙ ap (λ b. live_bytes w.storage + bytes_of (unless b t ++ made_for (own ∷ before) gs)) (sym e);
-              count = m.count ∙ ap (λ b. w.made + length (unless b t ++ made_for (own ∷ before) gs)) (sym e);
+              stacks = m.stacks;
+              bytes = m.bytes ∙ ap (λ b. live_bytes w.storage + bytes_of (unless b (made_of_kind kind t) ++ made_for (own ∷ before) gs)) (sym e);
+              count = m.count ∙ ap (λ b. w.made + length (unless b (made_of_kind kind t) ++ made_for (own ∷ before) gs)) (sym e);
               stack = m.stack;
               externals = m.externals;
-              grown = grown_more unit number t.description p w w refl refl later good (ExternalVariable own t) gs r.0 refl m.grown;
+              grown = grown_more unit number kind t.description p w w refl later good (ExternalVariable own kind t) gs r.0 refl refl m.grown;
             },
           )
       by false None e f is few small rest =
-          let x = with_new t.description AsStatic (variable_of t).initial w in
-          let p = whole w.made t.description in
-          let later = new_later t.description AsStatic (variable_of t).initial w values made.0.1 in
-          let good = new_good t.description AsStatic (variable_of t).initial w values made.0.1 (small_near t.description made.0.0) in
-          let bytes = live_more w.storage (new_generation t.description AsStatic (variable_of t).initial w) in
-          let few2 : suc w.made + length (made_for (own ∷ before) gs) ≤ generation_limit = omega (arith, few) in
-          let small2 : live_bytes (w.storage ++ new_generation t.description AsStatic (variable_of t).initial w ∷ []) + bytes_of (made_for (own ∷ before) gs) ≤ byte_limit =
-          omega (arith, small, bytes) in
-          let r = rest (shared ++ (own, Lies p) ∷ []) (with_static unit number (Lies p) x) (new_values t.description AsStatic (variable_of t).initial w values made.0.1)
-          (named_externals all alike before shared unit number own t (Lies p) w x refl refl later good declared (ap (λ o. first_of o (Some (Lies p))) f) externals) few2 small2 in
+          let here = made_of_kind kind t in
+          let counted = length-append here (made_for (own ∷ before) gs) in
+          let summed = bytes_in_parts here (made_for (own ∷ before) gs) in
+          let o = one_made kind t w made.0 values stacks (omega (arith, few, counted)) (omega (arith, small, summed)) in
+          let p = o.0 in
+          let x = o.1 in
+          let one = o.2 in
+          let few2 : x.made + length (made_for (own ∷ before) gs) ≤ generation_limit = omega (arith, few, counted, one.count) in
+          let small2 : live_bytes x.storage + bytes_of (made_for (own ∷ before) gs) ≤ byte_limit = omega (arith, small, summed, one.bytes) in
+          let r = rest (shared ++ (own, p) ∷ []) (with_static unit number p x) one.values (stacks_kept unit number p x one.stacks)
+          (named_externals all alike before shared unit number own kind t p w x one.statics one.later one.good declared (ap (λ o. first_of o (Some p)) f) externals) few2 small2 in
           let m = r.3 in
-          let m_bytes : live_bytes r.0.storage ≡ live_bytes w.storage + bytes_of (t ∷ made_for (own ∷ before) gs) = omega (arith, m.bytes, bytes) in
-          let m_count : r.0.made ≡ w.made + length (t ∷ made_for (own ∷ before) gs) = omega (arith, m.count) in (
+          let m_bytes : live_bytes r.0.storage ≡ live_bytes w.storage + bytes_of (here ++ made_for (own ∷ before) gs) = omega (arith, m.bytes, summed, one.bytes) in
+          let m_count : r.0.made ≡ w.made + length (here ++ made_for (own ∷ before) gs) = omega (arith, m.count, counted, one.count) in (
             r.0,
             r.1,
-            further_gives (made_once (variable_of t) None w)
-                (λ s w. statics_made same_name unit (suc number) (map global_variable gs) (shared ++ (own, s) ∷ []) (with_static unit number s w)) (Lies p) r.1 x r.0
-                (ap (λ a. further a (λ p w. Yields (Lies p) w)) (room_gives t.description AsStatic (variable_of t).initial w values made.0.1 (omega (arith, few)) (omega (arith, small)))) r.2,
+            further_gives (made_once kind (variable_of t) None w)
+                (λ s w. statics_made same_name unit (suc number) (map global_variable gs) (shared ++ (own, s) ∷ []) (with_static unit number s w)) p r.1 x r.0 one.gives r.2,
             record {
               values = m.values;
-              bytes = m_bytes ∙ ap (λ b. live_bytes w.storage + bytes_of (unless b t ++ made_for (own ∷ before) gs)) (sym e);
-              count = m_count ∙ ap (λ b. w.made + length (unless b t ++ made_for (own ∷ before) gs)) (sym e);
-              stack = m.stack;
+              stacks = m.stacks;
+              bytes = m_bytes ∙ ap (λ b. live_bytes w.storage + bytes_of (unless b here ++ made_for (own ∷ before) gs)) (sym e);
+              count = m_count ∙ ap (λ b. w.made + length (unless b here ++ made_for (own ∷ before) gs)) (sym e);
+              stack = m.stack ∙ one.stack;
               externals = m.externals;
-              grown = grown_more unit number t.description (Lies p) w x refl refl later good (ExternalVariable own t) gs r.0 refl m.grown;
+              grown = grown_more unit number kind t.description p w x one.statics one.later one.good (ExternalVariable own kind t) gs r.0 refl refl m.grown;
             },
           )
 
   -- the variables of all units, numbered from one on: they are there, where no such unit had any
   record Made (from : ℕ) (us : List TypedUnit) (w v : World) : Type 0 where
     values : HoldsValues v
+    stacks : AreStacksGood v
     later : IsLater w v
-    lists : v.lists ≡ w.lists
     stack : v.activations ≡ w.activations
     kept : (unit k : ℕ) (p : Standing) → static_in w.statics unit k ≡ Some p → static_in v.statics unit k ≡ Some p
     found :
@@ -406,8 +504,8 @@ module _ (all : List Global)
       → Made from (u ∷ us) w y
   behind from u us before more w x y m r = record {
     values = r.values;
+    stacks = r.stacks;
     later = later_then w x y m.grown.later r.later;
-    lists = r.lists ∙ m.grown.lists;
     stack = r.stack ∙ m.stack;
     kept = λ unit k p h. r.kept unit k p (m.grown.kept unit k p h);
     found = found;
@@ -419,28 +517,28 @@ module _ (all : List Global)
           let at : from ≡ from + 0 = omega arith in
           subst (λ n. AreStatics n v.globals y) at
           (subst (λ v. AreStatics from v.globals y) (some_same e)
-          (λ k d h. let p = m.grown.found (λ k le. fresh from k (omega arith)) k d h in
+          (λ k kind d h. let p = m.grown.found (λ k le. fresh from k (omega arith)) k kind d h in
           let z : 0 + k ≡ k = omega arith in
-          (p.0, r.kept from k p.0 (subst (λ n. static_in x.statics from n ≡ Some p.0) z p.1), stands_later x y d p.0 r.later r.lists p.2)))
+          (p.0, r.kept from k p.0 (subst (λ n. static_in x.statics from n ≡ Some p.0) z p.1), stands_later x y kind d p.0 r.later p.2)))
       found fresh (suc i) v e =
           let at : suc from + i ≡ from + suc i = omega arith in
           subst (λ n. AreStatics n v.globals y) at
           (r.found (λ unit k le. m.grown.apart unit k (apart_from from unit (omega (arith, le))) (fresh unit k (omega (arith, le)))) i v e)
 
-  all_are_made : (n from : ℕ) (us : List TypedUnit) (before : List Name) (shared : List (Name × Standing)) (w : World) → AreTypedUnits n us → HoldsValues w → AreExternals all before shared w
+  all_are_made : (n from : ℕ) (us : List TypedUnit) (before : List Name) (shared : List (Name × Standing)) (w : World) → AreTypedUnits n us → HoldsValues w → AreStacksGood w → AreExternals all before shared w
       → AreAmong (all_globals us) → w.made + length (made_for before (all_globals us)) ≤ generation_limit
       → live_bytes w.storage + bytes_of (made_for before (all_globals us)) ≤ byte_limit
       → (v : World) × (all_made from us shared w ≡ Yields tt v) × Made from us w v
-  all_are_made n from [] before shared w typed values externals among few small =
-      (w, refl, record { values = values; later = later_same w; lists = refl; stack = refl; kept = λ unit k p h. h; found = λ fresh i u e. absurd (none_some e) })
-  all_are_made n from (u ∷ us) before shared w typed values externals among few small =
+  all_are_made n from [] before shared w typed values stacks externals among few small =
+      (w, refl, record { values = values; stacks = stacks; later = later_same w; stack = refl; kept = λ unit k p h. h; found = λ fresh i u e. absurd (none_some e) })
+  all_are_made n from (u ∷ us) before shared w typed values stacks externals among few small =
       let few2 = subst (λ k. w.made + k ≤ generation_limit)
       (ap (λ ts. length ts) (made_in_parts before u.globals (all_globals us)) ∙ length-append (made_for before u.globals) (made_for (named_after before u.globals) (all_globals us))) few in
       let small2 = subst (λ k. live_bytes w.storage + k ≤ byte_limit)
       (ap (λ ts. bytes_of ts) (made_in_parts before u.globals (all_globals us)) ∙ bytes_in_parts (made_for before u.globals) (made_for (named_after before u.globals) (all_globals us))) small in
-      let first = makes_all u.globals from 0 before shared w values externals typed.0.made (λ i g e. among i g (among_front u.globals (all_globals us) i g e)) (omega (arith, few2)) (omega (arith, small2)) in
+      let first = makes_all u.globals from 0 before shared w values stacks externals typed.0.made (λ i g e. among i g (among_front u.globals (all_globals us) i g e)) (omega (arith, few2)) (omega (arith, small2)) in
       let m = first.3 in
-      let rest = all_are_made n (suc from) us (named_after before u.globals) first.1 first.0 typed.1 m.values m.externals (λ i g e. let b = among_behind u.globals (all_globals us) i g e in among b.0 g b.1)
+      let rest = all_are_made n (suc from) us (named_after before u.globals) first.1 first.0 typed.1 m.values m.stacks m.externals (λ i g e. let b = among_behind u.globals (all_globals us) i g e in among b.0 g b.1)
       (omega (arith, few2, m.count)) (omega (arith, small2, m.bytes)) in (
         rest.0,
         further_gives (statics_made same_name from 0 (map global_variable u.globals) shared w) (λ more w. all_made (suc from) us more w) first.1 tt first.0 rest.0 first.2 rest.1,
@@ -449,9 +547,9 @@ module _ (all : List Global)
 
 pub statics_there : (n : ℕ) (us : List TypedUnit) → AreTypedUnits n us → IsLinked us → length (made_for [] (all_globals us)) ≤ generation_limit
     → bytes_of (made_for [] (all_globals us)) ≤ byte_limit
-    → (v : World) × (all_made 0 us [] nothing ≡ Yields tt v) × HoldsValues v × (v.activations ≡ [])
+    → (v : World) × (all_made 0 us [] nothing ≡ Yields tt v) × HoldsValues v × AreStacksGood v × (v.activations ≡ [])
     × ((i : ℕ) (u : TypedUnit) → slice_get us i ≡ Some u → AreStatics i u.globals v)
 unfolding nothing
 statics_there n us typed linked few small =
-    let m = all_are_made (all_globals us) linked.variables n 0 us [] [] nothing typed (λ k g h. absurd (none_some h)) (λ name. tt) (λ i g e. (i, e)) (omega (arith, few)) (omega (arith, small)) in
-    (m.0, m.1, m.2.values, m.2.stack, λ i u e. let z : 0 + i ≡ i = omega arith in subst (λ k. AreStatics k u.globals m.0) z (m.2.found (λ unit k le. refl) i u e))
+    let m = all_are_made (all_globals us) linked.variables n 0 us [] [] nothing typed (λ k g h. absurd (none_some h)) (λ k s h. absurd (none_some h)) (λ name. tt) (λ i g e. (i, e)) (omega (arith, few)) (omega (arith, small)) in
+    (m.0, m.1, m.2.values, m.2.stacks, m.2.stack, λ i u e. let z : 0 + i ≡ i = omega arith in subst (λ k. AreStatics k u.globals m.0) z (m.2.found (λ unit k le. refl) i u e))

@@ -1,5 +1,5 @@
 -- The operations keep worlds sound, and none is wrong where what it needs is there.
-use Rattle.std.specs.Prelude.{◌≡◌, ℕ, suc, ◌+◌, ◌≤◌, ◌<◌, nat_eq, nat_lt, nat_le, Bool, true, false, not}
+use Rattle.std.specs.Prelude.{◌≡◌, ℕ, suc, ◌+◌, ◌≤◌, ◌<◌, nat_lt, nat_le, Bool, true, false, not}
 use Rattle.std.specs.Prelude.{◌&&◌, IsTrue, Option, Some, None, List, [], ◌∷◌, ◌++◌, ◌⊎◌, map, slice_get}
 use Rattle.std.specs.Prelude.{if◌then◌else◌, refl, option_map}
 use Rattle.std.proofs.Common.{arith, sym, ap, ◌∙◌, subst, inl, inr, append_assoc, append-nil, lt-ltb, le-leb}
@@ -20,6 +20,8 @@ use Rattle.pli_world.specs.Storage.{Generation, Made, Automatic, Dummy, Place, c
 use Rattle.pli_world.specs.Storage.{with_values, with_contents, without, live_bytes, generation_limit, offset_limit}
 use Rattle.pli_map.specs.Variables.{byte_limit}
 use Rattle.pli_map.specs.Values.{holds, are_held}
+use Rattle.pli_program.specs.declared.kind.VariableKind.{VariableKind}
+use Rattle.pli_program.specs.declared.kind.VariableKind.TheVariants as kinds
 use Rattle.pli_world.specs.World.{Standing, Lies, Stacked, World, Answer, Yields, Raises, Wrong, further, known, made_of, unless_dead, parts_held}
 use Rattle.pli_world.specs.laws.OperationLaws.{used_outside, contents_outside}
 use Rattle.pli_world.specs.World.{parts_stored, single, held, stored, copied, in_newest, with_slot, made_all}
@@ -29,7 +31,7 @@ use Rattle.pli_world.specs.World.{static_in, printed, line_ended, error_in, erro
 use Rattle.pli_value.specs.Value.{Value}
 use Rattle.pli_type_tree.specs.TypedTree.{TypedUnit}
 use Rattle.pli_type_tree.specs.WellTyped.{AreHeld, AreMade}
-use Rattle.pli_meaning_typed.specs.SoundWorlds.{IsPartAt, IsNear, IsGood, AreGood, HoldsValues, Shape, AreShaped, AreOfUnits, EachGood, StandsGood, AreStatics}
+use Rattle.pli_meaning_typed.specs.SoundWorlds.{IsPartAt, IsNear, IsGood, AreGood, HoldsValues, Shape, AreShaped, AreOfUnits, EachGood, AreStacksGood, StandsGood, AreStatics}
 use Rattle.pli_meaning_typed.specs.SoundWorlds.{IsSound, IsLater, IsTold, Answers}
 use Rattle.pli_meaning_tree.specs.TreeMeaning.{unit_names}
 use Rattle.pli_meaning_typed.proofs.Parts.{part_held, part_stored}
@@ -42,7 +44,7 @@ some_same e = cc
 -- later worlds
 
 pub later_same : (w : World) → IsLater w w
-later_same w = record { more = omega arith; lived = λ n g lt h. (g, h, refl) }
+later_same w = record { more = omega arith; lived = λ n g lt h. (g, h, refl); stacks = λ n s h. (s, h, refl) }
 
 pub later_then : (u v w : World) → IsLater u v → IsLater v w → IsLater u w
 later_then u v w f g = record {
@@ -51,6 +53,10 @@ later_then u v w f g = record {
       let y = g.lived n x (omega (arith, lt, f.more)) h in
       let z = f.lived n y.0 lt y.1 in
       (z.0, z.1, z.2 ∙ y.2);
+  stacks = λ n s h.
+      let x = f.stacks n s h in
+      let y = g.stacks n x.0 x.1 in
+      (y.0, y.1, y.2 ∙ x.2);
 }
 
 pub good_later : (v w : World) (d : Description) (p : Place) → IsLater v w → IsGood v d p → IsGood w d p
@@ -69,15 +75,22 @@ goods_later v w [] (p ∷ ps) later g = absurd g
 goods_later v w (d ∷ ds) [] later g = absurd g
 goods_later v w (d ∷ ds) (p ∷ ps) later g = (good_later v w d p later g.0, goods_later v w ds ps later g.1)
 
--- so does what stands, where the lists are as they were
-eaches_later : (v w : World) (d : Description) (ps : List Place) → IsLater v w → EachGood v d ps → EachGood w d ps
+pub eaches_later : (v w : World) (d : Description) (ps : List Place) → IsLater v w → EachGood v d ps → EachGood w d ps
 eaches_later v w d [] later h = tt
 eaches_later v w d (p ∷ ps) later h = (good_later v w d p later h.0, eaches_later v w d ps later h.1)
 
-pub stands_later : (v w : World) (d : Description) (s : Standing) → IsLater v w → w.lists ≡ v.lists → StandsGood v d s → StandsGood w d s
-stands_later v w d (Lies p) later lists h = good_later v w d p later h
-stands_later v w d (Stacked list) later lists h =
-    (h.0, subst (λ all. slice_get all list ≡ Some h.0) (sym lists) h.1, eaches_later v w d h.0 later h.2)
+-- so do what stands, and stacks that are as they were
+pub stands_later : (v w : World) (kind : VariableKind) (d : Description) (s : Standing) → IsLater v w → StandsGood v kind d s → StandsGood w kind d s
+stands_later v w kinds.Static d (Lies p) later h = good_later v w d p later h
+stands_later v w kinds.Static d (Stacked number) later h = absurd h
+stands_later v w kinds.Controlled d (Lies p) later h = absurd h
+stands_later v w kinds.Controlled d (Stacked number) later h =
+    let t = later.stacks number h.0 h.1 in (t.0, t.1, ap (λ (x : Variable). x.description) t.2 ∙ h.2)
+
+pub stacks_later : (v w : World) → IsLater v w → w.stacks ≡ v.stacks → AreStacksGood v → AreStacksGood w
+stacks_later v w later same h n s e =
+    let good = h n s (subst (λ all. slice_get all n ≡ Some s) same e) in
+    (good.0, eaches_later v w s.variable.description s.places later good.1)
 
 module _ (units : List TypedUnit) where
   pub shaped_later : (v w : World) (ss : List Shape) (stack : List Activation) → IsLater v w → AreShaped v ss stack
@@ -91,32 +104,34 @@ module _ (units : List TypedUnit) where
   abbrev AllStatics : World → Type 0
   AllStatics w = (i : ℕ) (u : TypedUnit) → slice_get units i ≡ Some u → AreStatics i u.globals w
 
-  statics_later : (v w : World) → IsLater v w → w.statics ≡ v.statics → w.lists ≡ v.lists → AllStatics v → AllStatics w
-  statics_later v w later e lists h i u f n d g =
-      let s = h i u f n d g in
-      (s.0, subst (λ ss. static_in ss i n ≡ Some s.0) (sym e) s.1, stands_later v w d s.0 later lists s.2)
+  pub statics_later : (v w : World) → IsLater v w → w.statics ≡ v.statics → AllStatics v → AllStatics w
+  statics_later v w later e h i u f n kind d g =
+      let s = h i u f n kind d g in
+      (s.0, subst (λ ss. static_in ss i n ≡ Some s.0) (sym e) s.1, stands_later v w kind d s.0 later s.2)
 
   -- the stack as it was
   pub same_stack : (ss : List Shape) (v w : World) → IsSound units ss v → IsLater v w → HoldsValues w
-      → w.activations ≡ v.activations → w.statics ≡ v.statics → w.lists ≡ v.lists → IsSound units ss w
-  same_stack ss v w s later values e f lists = record {
+      → w.activations ≡ v.activations → w.statics ≡ v.statics → w.stacks ≡ v.stacks → IsSound units ss w
+  same_stack ss v w s later values e f g = record {
     values = values;
+    stacks = stacks_later v w later g s.stacks;
     stack = subst (λ stack. AreShaped w ss stack) (sym e) (shaped_later v w ss v.activations later s.stack);
     of_units = s.of_units;
-    made = statics_later v w later f lists s.made;
+    made = statics_later v w later f s.made;
   }
 
   -- the newest changed
   pub newest_later : (change : Activation → Activation) (w : World) → IsLater w (in_newest change w)
-  newest_later change w = record { more = omega arith; lived = λ n g lt h. (g, h, refl) }
+  newest_later change w = record { more = omega arith; lived = λ n g lt h. (g, h, refl); stacks = λ n s h. (s, h, refl) }
 
   pub newest_sound : (change : Activation → Activation) (ss ts : List Shape) (w : World) → IsSound units ss w → AreOfUnits units ts
       → AreShaped w ts (with_newest change w.activations) → IsSound units ts (in_newest change w)
   newest_sound change ss ts w sound own h = record {
     values = sound.values;
+    stacks = stacks_later w (in_newest change w) (newest_later change w) refl sound.stacks;
     of_units = own;
     stack = shaped_later w (in_newest change w) ts (with_newest change w.activations) (newest_later change w) h;
-    made = statics_later w (in_newest change w) (newest_later change w) refl refl sound.made;
+    made = statics_later w (in_newest change w) (newest_later change w) refl sound.made;
   }
 
   -- an error names a statement of a unit
@@ -171,7 +186,7 @@ module _ (d : Description) (how : Made) (vs : List Value) (w : World) (old : Hol
   g = new_generation d how vs w
 
   pub new_later : IsLater w (with_new d how vs w)
-  new_later = record { more = omega arith; lived = λ n x lt e. before n x lt (appended w.storage g n x e) }
+  new_later = record { more = omega arith; lived = λ n x lt e. before n x lt (appended w.storage g n x e); stacks = λ n s h. (s, h, refl) }
     where
       before : (n : ℕ) (x : Generation) → n < w.made → (generation_in w.storage n ≡ Some x) ⊎ ((w.made ≡ n) × (g ≡ x))
           → (o : Generation) × (generation_in w.storage n ≡ Some o) × (o.description ≡ x.description)
@@ -205,7 +220,7 @@ module _ (units : List TypedUnit) (s : Shape) (ss : List Shape) where
   abbrev Sound : World → Type 0
   Sound w = IsSound units (s ∷ ss) w
 
-  abbrev MadeAt : World → Description → Place → World → Type 0
+  abbrev pub MadeAt : World → Description → Place → World → Type 0
   MadeAt w d p v = IsGood v d p × Sound v × IsLater w v
 
   pub made_answers : (d : Description) (how : Made) (vs : List Value) (w : World) → Sound w → IsNear 0 d → AreHeld (scalars_of d) vs
@@ -278,6 +293,7 @@ module _ (units : List TypedUnit) (s : Shape) (ss : List Shape) where
           let later : IsLater w new = record {
             more = omega arith;
             lived = λ n x lt e. let r = replaced w.storage p.generation xs n x e in (r.old, r.there, r.described);
+            stacks = λ n s h. (s, h, refl);
           } in
           subst (λ o. Answers units (Kept w) (further (known o w) (λ k w. Yields tt (record w { storage = with_contents w.storage p (with_values_at k vs g.values) })))) (sym f.1)
           (subst (λ gs. Kept w tt (record w { storage = gs })) (sym (contents_outside w.storage p xs good.outside))
@@ -446,10 +462,11 @@ module _ (units : List TypedUnit) where
   unfolding entered
   entered_answers head link given parameters ss w sound own good h =
       let u = begun_in head link given w in
-      let later : IsLater w u = record { more = omega arith; lived = λ n g lt h. (g, h, refl) } in
+      let later : IsLater w u = record { more = omega arith; lived = λ n g lt h. (g, h, refl); stacks = λ n s h. (s, h, refl) } in
       weaken (shape head.unit head.block link (parameters ++ map (λ v. v.description) head.variables) ∷ ss) w u (made_all head.variables u) later
       (made_all_answers head.variables head.unit head.block link parameters ss u (record {
         values = sound.values;
+        stacks = stacks_later w u later refl sound.stacks;
         stack = (
           refl,
           refl,
@@ -458,14 +475,15 @@ module _ (units : List TypedUnit) where
           shaped_later units w u ss _ later (handed_shaped ss w given w.activations sound.stack),
         );
         of_units = (own, sound.of_units);
-        made = statics_later units w u later refl refl sound.made;
+        made = statics_later units w u later refl sound.made;
       }) h)
 
   -- the newest ends
-  ended_later : (numbers : List ℕ) (w v : World) → v.storage ≡ without numbers w.storage → v.made ≡ w.made → IsLater w v
-  ended_later numbers w v e f = record {
+  pub ended_later : (numbers : List ℕ) (w v : World) → v.storage ≡ without numbers w.storage → v.made ≡ w.made → v.stacks ≡ w.stacks → IsLater w v
+  ended_later numbers w v e f same = record {
     more = omega (arith, f);
     lived = λ n g lt h. (g, lived_before numbers w.storage n g (sym (ap (λ gs. generation_in gs n) e) ∙ h), refl);
+    stacks = λ n s h. (s, subst (λ all. slice_get all n ≡ Some s) (sym same) h, refl);
   }
 
   older_shaped : (s : Shape) (ss : List Shape) (w : World) (stack : List Activation) → AreShaped w (s ∷ ss) stack
@@ -475,16 +493,17 @@ module _ (units : List TypedUnit) where
 
   pub left_later : (w : World) → IsLater w (left_by w)
   unfolding left_by
-  left_later w = ended_later (ended_with w.activations) w (left_by w) refl refl
+  left_later w = ended_later (ended_with w.activations) w (left_by w) refl refl refl
 
   pub left_sound : (s : Shape) (ss : List Shape) (w : World) → IsSound units (s ∷ ss) w → IsSound units ss (left_by w)
   unfolding left_by
   left_sound s ss w sound =
-      let later = ended_later (ended_with w.activations) w (left_by w) refl refl in record {
+      let later = ended_later (ended_with w.activations) w (left_by w) refl refl refl in record {
         values = λ n g h. sound.values n g (lived_before (ended_with w.activations) w.storage n g h);
+        stacks = stacks_later w (left_by w) later refl sound.stacks;
         stack = shaped_later units w (left_by w) ss (without_newest w.activations) later (older_shaped s ss w w.activations sound.stack);
         of_units = sound.of_units.1;
-        made = statics_later units w (left_by w) later refl refl sound.made;
+        made = statics_later units w (left_by w) later refl sound.made;
       }
 
   -- the calls that it prepares are given up
@@ -497,16 +516,17 @@ module _ (units : List TypedUnit) where
 
   pub cleared_later : (w : World) → IsLater w (cleared w)
   unfolding cleared
-  cleared_later w = ended_later (prepared_by w.activations) w (cleared w) refl refl
+  cleared_later w = ended_later (prepared_by w.activations) w (cleared w) refl refl refl
 
   pub cleared_sound : (ss : List Shape) (w : World) → IsSound units ss w → IsSound units ss (cleared w)
   unfolding cleared
   cleared_sound ss w sound =
-      let later = ended_later (prepared_by w.activations) w (cleared w) refl refl in record {
+      let later = ended_later (prepared_by w.activations) w (cleared w) refl refl refl in record {
         values = λ n g h. sound.values n g (lived_before (prepared_by w.activations) w.storage n g h);
+        stacks = stacks_later w (cleared w) later refl sound.stacks;
         stack = shaped_later units w (cleared w) ss _ later (cleared_shaped ss w w.activations sound.stack);
         of_units = sound.of_units;
-        made = statics_later units w (cleared w) later refl refl sound.made;
+        made = statics_later units w (cleared w) later refl sound.made;
       }
 
   -- a statement, a step, output
@@ -529,19 +549,19 @@ module _ (units : List TypedUnit) where
       → IsSound units ss (stepped w) × IsLater w (stepped w)
   unfolding stepped
   stepped_sound ss w sound =
-      let later : IsLater w (stepped w) = record { more = omega arith; lived = λ n g lt h. (g, h, refl) } in
+      let later : IsLater w (stepped w) = record { more = omega arith; lived = λ n g lt h. (g, h, refl); stacks = λ n s h. (s, h, refl) } in
       (same_stack units ss w (stepped w) sound later sound.values refl refl refl, later)
 
   pub printed_sound : (ss : List Shape) (text : List ℕ) (w : World) → IsSound units ss w
       → IsSound units ss (printed text w) × IsLater w (printed text w)
   unfolding printed
   printed_sound ss text w sound =
-      let later : IsLater w (printed text w) = record { more = omega arith; lived = λ n g lt h. (g, h, refl) } in
+      let later : IsLater w (printed text w) = record { more = omega arith; lived = λ n g lt h. (g, h, refl); stacks = λ n s h. (s, h, refl) } in
       (same_stack units ss w (printed text w) sound later sound.values refl refl refl, later)
 
   pub line_sound : (ss : List Shape) (w : World) → IsSound units ss w
       → IsSound units ss (line_ended w) × IsLater w (line_ended w)
   unfolding line_ended
   line_sound ss w sound =
-      let later : IsLater w (line_ended w) = record { more = omega arith; lived = λ n g lt h. (g, h, refl) } in
+      let later : IsLater w (line_ended w) = record { more = omega arith; lived = λ n g lt h. (g, h, refl); stacks = λ n s h. (s, h, refl) } in
       (same_stack units ss w (line_ended w) sound later sound.values refl refl refl, later)

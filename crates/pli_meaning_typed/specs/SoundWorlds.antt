@@ -6,11 +6,13 @@ use Rattle.pli_map.specs.Scalars.{first_scalar}
 use Rattle.pli_world.specs.Activations.{Activation}
 use Rattle.pli_world.specs.Ends.{RunEnd, told}
 use Rattle.pli_world.specs.Storage.{Generation, Place, generation_in, offset_limit}
-use Rattle.pli_world.specs.World.{Standing, Lies, Stacked, World, Answer, Yields, Raises, Wrong}
+use Rattle.pli_program.specs.declared.kind.VariableKind.{VariableKind}
+use Rattle.pli_program.specs.declared.kind.VariableKind.TheVariants.{Static, Controlled}
+use Rattle.pli_world.specs.World.{Standing, Lies, Stacked, Stack, World, Answer, Yields, Raises, Wrong}
 use Rattle.pli_world.specs.World.{static_in, error_at}
-use Rattle.pli_type_tree.specs.Globals.{description_of}
+use Rattle.pli_type_tree.specs.Globals.{described_as}
 use Rattle.pli_type_tree.specs.TypedTree.{Global, TypedUnit}
-use Rattle.pli_type_tree.specs.WellTyped.{AreHeld}
+use Rattle.pli_type_tree.specs.WellTyped.{AreHeld, IsMade}
 use Rattle.pli_meaning_tree.specs.TreeMeaning.{unit_names}
 use Rattle.pli_map.specs.Scalars.{scalars_of}
 
@@ -74,31 +76,47 @@ abbrev pub EachGood : World → Description → List Place → Type 0
 EachGood w d [] = Unit {0}
 EachGood w d (p ∷ ps) = IsGood w d p × EachGood w d ps
 
--- what stands so is of a description: its place, or each place of its list, which is there
-abbrev pub StandsGood : World → Description → Standing → Type 0
-StandsGood w d (Lies p) = IsGood w d p
-StandsGood w d (Stacked list) = (ps : List Place) × (slice_get w.lists list ≡ Some ps) × EachGood w d ps
+-- of each stack the variable is made well, and each place is one of its description
+abbrev pub AreStacksGood : World → Type 0
+AreStacksGood w =
+    (number : ℕ) (s : Stack) → slice_get w.stacks number ≡ Some s
+    → IsMade s.variable × EachGood w s.variable.description s.places
+
+-- a variable of a kind and of a description stands so: a STATIC one lies at a place of it, and a CONTROLLED
+-- one has a stack of a variable of it
+abbrev pub StandsGood : World → VariableKind → Description → Standing → Type 0
+StandsGood w Static d (Lies p) = IsGood w d p
+StandsGood w Static d (Stacked number) = ⊥
+StandsGood w Controlled d (Lies p) = ⊥
+StandsGood w Controlled d (Stacked number) =
+    (s : Stack) × (slice_get w.stacks number ≡ Some s) × (s.variable.description ≡ d)
 
 -- the variables among the globals of the unit of a number, which were there before the program began
 abbrev pub AreStatics : (unit : ℕ) → List Global → World → Type 0
 AreStatics unit globals w =
-    (number : ℕ) (d : Description) → description_of (slice_get globals number) ≡ Some d
-    → (s : Standing) × (static_in w.statics unit number ≡ Some s) × StandsGood w d s
+    (number : ℕ) (kind : VariableKind) (d : Description)
+    → described_as kind (slice_get globals number) ≡ Some d
+    → (s : Standing) × (static_in w.statics unit number ≡ Some s) × StandsGood w kind d s
 
 -- a world of a program of these units
 pub record IsSound (units : List TypedUnit) (shapes : List Shape) (w : World) : Type 0 where
   pub values : HoldsValues w
+  pub stacks : AreStacksGood w
   pub stack : AreShaped w shapes w.activations
   pub of_units : AreOfUnits units shapes
   pub made : (i : ℕ) (u : TypedUnit) → slice_get units i ≡ Some u → AreStatics i u.globals w
 
--- a later world: what lives there and was made before lived before, and is of the same description
+-- a later world: what lives there and was made before lived before, and is of the same description; each
+-- stack is there still, and is of the same variable
 pub record IsLater (before after : World) : Type 0 where
   pub more : before.made ≤ after.made
   pub lived :
       (number : ℕ) (g : Generation) → number < before.made → generation_in after.storage number ≡ Some g
       → (old : Generation) × (generation_in before.storage number ≡ Some old)
       × (old.description ≡ g.description)
+  pub stacks :
+      (number : ℕ) (s : Stack) → slice_get before.stacks number ≡ Some s
+      → (t : Stack) × (slice_get after.stacks number ≡ Some t) × (t.variable ≡ s.variable)
 
 -- an end is told as one that the language has
 abbrev pub IsTold : List TypedUnit → RunEnd → Type 0

@@ -10,6 +10,8 @@ use Rattle.pli_map.specs.Sizes.{size_of}
 use Rattle.pli_machine_step.specs.Runs.{Outcome}
 use Rattle.pli_world.specs.Storage.{generation_limit}
 use Rattle.pli_map.specs.Variables.{byte_limit}
+use Rattle.pli_program.specs.declared.kind.VariableKind.{VariableKind}
+use Rattle.pli_program.specs.declared.kind.VariableKind.TheVariants.{Static, Controlled}
 use Rattle.pli_type_tree.specs.Templates.{Template, variable_of}
 use Rattle.pli_type_tree.specs.Globals.{templates_in}
 use Rattle.pli_type_tree.specs.TypedTree.{TypedProcedure, Signature, Global, OwnVariable, ExternalVariable}
@@ -77,22 +79,28 @@ pub record IsLinked (units : List TypedUnit) : Type 0 where
       → (number : ℕ) × (unit_named units name ≡ Some number)
       × ((u : TypedUnit) × (slice_get units number ≡ Some u) × (u.signature ≡ signature))
   pub variables :
-      (i j : ℕ) (name : Name) (one other : Template)
-      → slice_get (all_globals units) i ≡ Some (ExternalVariable name one)
-      → slice_get (all_globals units) j ≡ Some (ExternalVariable name other) → one ≡ other
+      (i j : ℕ) (name : Name) (kind like : VariableKind) (one other : Template)
+      → slice_get (all_globals units) i ≡ Some (ExternalVariable name kind one)
+      → slice_get (all_globals units) j ≡ Some (ExternalVariable name like other)
+      → (kind ≡ like) × (one ≡ other)
 
--- a template, unless its variable was made before
-abbrev pub unless : Bool → Template → List Template
-unless true t = []
-unless false t = t ∷ []
+-- a generation is made of a STATIC variable; of a CONTROLLED one there is none yet
+abbrev pub made_of_kind : VariableKind → Template → List Template
+made_of_kind Static t = t ∷ []
+made_of_kind Controlled t = []
 
--- what is made for globals: an external variable is made once, where it is declared first; those of these
--- names were made before
+-- nothing, where the variable was made before
+abbrev pub unless : Bool → List Template → List Template
+unless true ts = []
+unless false ts = ts
+
+-- of which generations are made for globals: an external variable is made once, where it is declared first;
+-- those of these names were made before
 abbrev pub made_for : (before : List Name) → List Global → List Template
 made_for before [] = []
-made_for before (OwnVariable t ∷ gs) = t ∷ made_for before gs
-made_for before (ExternalVariable name t ∷ gs) =
-    unless (is_among name before) t ++ made_for (name ∷ before) gs
+made_for before (OwnVariable kind t ∷ gs) = made_of_kind kind t ++ made_for before gs
+made_for before (ExternalVariable name kind t ∷ gs) =
+    unless (is_among name before) (made_of_kind kind t) ++ made_for (name ∷ before) gs
 made_for before (EntryPoint name signature ∷ gs) = made_for before gs
 
 -- the bytes of variables

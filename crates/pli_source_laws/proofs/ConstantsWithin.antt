@@ -4,7 +4,7 @@ use Rattle.std.specs.List.{AllByRecursion, list_any}
 use Rattle.std.proofs.Math.Pow.{pow_mono}
 use Rattle.std.proofs.lemmas.Bool.{and_parts, ltb-true, leb-true}
 use Rattle.pli_base.specs.Statements as tree
-use Rattle.pli_base.specs.Statements.{Range, Control, Statement, Numbered, Body, Statements, Ended, Before, Alternative}
+use Rattle.pli_base.specs.Statements.{Range, Control, Allocation, Statement, Numbered, Body, Statements, Ended, Before, Alternative}
 use Rattle.pli_base.specs.Syntax.{Expression, Referred, Constant, Parenthesized, Prefix, Infix, Reference, Named, JoinedParts, Alone, Joined, Arguments, Absent, Given, Expressions, Empty, Listed}
 use Rattle.pli_base.specs.declared.syntax.ConstantValue.{ConstantValue}
 use Rattle.pli_base.specs.declared.syntax.ConstantValue.TheVariants as constants
@@ -13,9 +13,9 @@ use Rattle.pli_deck_laws.specs.Limits.{IfThere}
 use Rattle.pli_type.specs.Checked.{checked, unless_unbuilt}
 use Rattle.pli_type.specs.NamedUnits.{named_unit, checked_unit, compiled_of}
 use Rattle.pli_type.specs.Names.{Compiled, NamedUnit}
-use Rattle.pli_type.specs.Unbuilt.{is_of_language, later_expression, later_reference, later_joined, later_arguments, later_list, later_part, later_range, later_control, later_statement, later_body, later_alternative, later_statements, later_heading, first_of, first_unbuilt, or_else, token_if}
+use Rattle.pli_type.specs.Unbuilt.{is_of_language, later_expression, later_reference, later_joined, later_arguments, later_list, later_part, later_range, later_control, later_allocation, later_statement, later_body, later_alternative, later_statements, later_heading, first_of, first_unbuilt, or_else, token_if}
 use Rattle.pli_deck_laws.proofs.FieldsFit.{neither}
-use Rattle.pli_source_laws.specs.Sources.{IsWritten, IsSource, IsSourceReference, AreSourceParts, AreSourceArguments, AreSources, IsSourceRange, IsSourceControl, IsSourceStatement, IsSourceBody, IsSourceElse, AreSourceStatements}
+use Rattle.pli_source_laws.specs.Sources.{IsWritten, IsSource, IsSourceReference, AreSourceParts, AreSourceArguments, AreSources, IsSourceRange, IsSourceControl, IsSourceAllocation, IsSourceStatement, IsSourceBody, IsSourceElse, AreSourceStatements}
 use Rattle.pli_source_laws.specs.CompiledSources.{ConstantsAreWithinLimits}
 use Rattle.pli_type_tree.specs.TypedTree.{TypedUnit}
 
@@ -117,6 +117,23 @@ module _ (n : Compiled) (limit : n.greatest ≡ 31) where
       let two = neither (later_expression n e) (list_any (later_expression n) es) l in
       (source e two.0, each es two.1)
 
+  given : (o : Option Reference) → later_part (later_reference n) o ≡ false → IfThere IsSourceReference o
+  given None l = tt
+  given (Some r) l = source_reference r l
+
+  each_allocation : (items : List Allocation) → list_any (later_allocation n) items ≡ false → AllByRecursion IsSourceAllocation items
+  each_allocation [] l = tt
+  each_allocation (a ∷ items) l =
+      let two = neither (later_allocation n a) (list_any (later_allocation n) items) l in
+      let one = neither (later_part (later_reference n) a.area) (later_part (later_reference n) a.target) two.0 in
+      ((given a.area one.0, given a.target one.1), each_allocation items two.1)
+
+  each_reference : (references : List Reference) → list_any (later_reference n) references ≡ false → AllByRecursion IsSourceReference references
+  each_reference [] l = tt
+  each_reference (r ∷ references) l =
+      let two = neither (later_reference n r) (list_any (later_reference n) references) l in
+      (source_reference r two.0, each_reference references two.1)
+
   -- ---- statements
 
   mutual
@@ -138,6 +155,8 @@ module _ (n : Compiled) (limit : n.greatest ≡ 31) where
         nothing_else (token_if (later_expression n condition) at) (or_else (later_statement n consequence) (later_alternative n alternative)) l in
         let three = nothing_else (later_statement n consequence) (later_alternative n alternative) two.1 in
         (source condition (not_so (later_expression n condition) at two.0), stated consequence three.0, stated_else alternative three.1)
+    stated_body at (tree.Allocate items) l = each_allocation items (not_so (list_any (later_allocation n) items) at l)
+    stated_body at (tree.Free references) l = each_reference references (not_so (list_any (later_reference n) references) at l)
     stated_body at (tree.Call name arguments) l = source_arguments arguments (not_so (later_arguments n arguments) at l)
     stated_body at (tree.Return value) l = optional value (not_so (later_part (later_expression n) value) at l)
     stated_body at (tree.Put skip items) l = each items (not_so (list_any (later_expression n) items) at l)

@@ -3,8 +3,8 @@
 use Rattle.std.specs.Prelude.{◌≤◌, length}
 use Rattle.std.specs.List.{AllByRecursion}
 use Rattle.pli_base.specs.Statements as tree
-use Rattle.pli_base.specs.Statements.{Range, Control, Statement, Numbered, Body, Statements, Ended, Before}
-use Rattle.pli_base.specs.Statements.{Alternative}
+use Rattle.pli_base.specs.Statements.{Range, Control, Allocation, Statement, Numbered, Body, Statements}
+use Rattle.pli_base.specs.Statements.{Ended, Before, Alternative}
 use Rattle.pli_base.specs.Syntax.{Expression, Referred, Constant, Parenthesized, Prefix, Infix, Reference}
 use Rattle.pli_base.specs.Syntax.{Named}
 use Rattle.pli_base.specs.Syntax.{JoinedParts, Alone, Joined, Arguments, Absent, Given, Expressions, Empty}
@@ -60,6 +60,10 @@ IsSourceControl (tree.While condition) = IsSource condition
 IsSourceControl (tree.Iterate variable equals first range condition) =
     IsSourceReference variable × IsSource first × IfThere IsSourceRange range × IfThere IsSource condition
 
+-- what ALLOCATE makes, and where
+abbrev pub IsSourceAllocation : Allocation → Type 0
+IsSourceAllocation a = IfThere IsSourceReference a.area × IfThere IsSourceReference a.target
+
 -- statements that are compiled
 abbrev mutual
   pub IsSourceStatement : Statement → Type 0
@@ -74,6 +78,8 @@ abbrev mutual
       IfThere IsSourceControl control × AreSourceStatements statements
   IsSourceBody (tree.If condition consequence alternative) =
       IsSource condition × IsSourceStatement consequence × IsSourceElse alternative
+  IsSourceBody (tree.Allocate allocations) = AllByRecursion IsSourceAllocation allocations
+  IsSourceBody (tree.Free references) = AllByRecursion IsSourceReference references
   IsSourceBody (tree.Call name arguments) = AreSourceArguments arguments
   IsSourceBody (tree.Return value) = IfThere IsSource value
   IsSourceBody (tree.Put skip items) = AllByRecursion IsSource items

@@ -84,9 +84,10 @@ pub(crate) enum Call<'a> {
     AllocateIn(Spot, usize, &'a [Item]),
     Based(usize, Locator),
     Free(usize, Locator),
-    /// A stack more; ALLOCATE of the CONTROLLED variable of a stack, a reference to it, ALLOCATION and FREE.
-    Stack,
-    Push(usize, usize, &'a [Item]),
+    /// A stack more, of a CONTROLLED variable of a description; ALLOCATE of the variable of a stack, a reference to it,
+    /// ALLOCATION and FREE.
+    Stack(usize),
+    Push(usize),
     Newest(usize),
     Count(usize),
     Pop(usize),

@@ -10,7 +10,7 @@ use std::test::*;
 /// `make n15 => 0` makes generation 0 for a variable of an activation, `static` one before the program begins,
 /// `dummy` one for an argument. `allocate n15 => ^0+0` is ALLOCATE of a BASED variable and gives a pointer. `based
 /// n15 ^0 => ^0+0` finds what a reference leads to, `free n15 ^0` is FREE, `address 0:n15 => ^0+0` ADDR. `stack` adds
-/// a stack, `push 0 n15` is ALLOCATE of a CONTROLLED variable, `newest 0` finds the generation of a reference, `count
+/// a stack, `push 0` is ALLOCATE of a CONTROLLED variable, `newest 0` finds the generation of a reference, `count
 /// 0` is ALLOCATION, `pop 0` FREE. `end` ends a generation as an activation's end does.
 static SEQUENCES: &str = "\
 // what is allocated is found by its pointer
@@ -55,7 +55,7 @@ make two => 0; address 0+0:n15 => wrong; address 0+2:n15 => wrong; address 0+4:t
 make one => 1; address 1:n15 => wrong; address 1:one => ^1+0; end 1; address 1:n15 => E4; address 1:one => E4
 address 1+2:one => E4; make few => 2; address 2:late => wrong; address 2:few => ^2+0
 // what ADDR gave is not freed, with an equal description neither
-make n15 => 0; static n15 => 1; dummy n15 0 => 2; stack => 0; push 0 n15; address 0:n15 => ^0+0; free n15 ^0 => E5
+make n15 => 0; static n15 => 1; dummy n15 0 => 2; stack n15 => 0; push 0; address 0:n15 => ^0+0; free n15 ^0 => E5
 free n15 ^1 => E5; free n15 ^2 => E5; address 3:n15 => ^3+0; free n15 ^3 => E5; free n14 ^0 => E5; held 0+0:n15 => 0
 held 1+0:n15 => 0; held 2+0:n15 => 0; held 3+0:n15 => 0; newest 0 => 3; count 0 => 1; allocate n15 => ^4+0
 address 4:n15 => ^4+0; free n15 ^4; free n15 ^4 => E4
@@ -63,37 +63,34 @@ address 4:n15 => ^4+0; free n15 ^4; free n15 ^4 => E4
 make n15 => 0; address 0:n15 => ^0+0; end 0; based n15 ^0 => E4; free n15 ^0 => E4; make n15 => 1; based n15 ^0 => E4
 based n15 ^1 => ^1+0
 // a CONTROLLED variable means its newest generation, and FREE ends that one
-stack => 0; newest 0 => E6; count 0 => 0; pop 0 => E6; push 0 n31; newest 0 => 0; store 0+0:n31 1; push 0 n31
+stack n31 => 0; newest 0 => E6; count 0 => 0; pop 0 => E6; push 0; newest 0 => 0; store 0+0:n31 1; push 0
 newest 0 => 1; store 1+0:n31 2; count 0 => 2; held 0+0:n31 => 1; pop 0; held 1+0:n31 => E4; held 0+0:n31 => 1
-newest 0 => 0; count 0 => 1; push 0 n31; newest 0 => 2; held 2+0:n31 => 0; pop 0; pop 0; held 0+0:n31 => E4
+newest 0 => 0; count 0 => 1; push 0; newest 0 => 2; held 2+0:n31 => 0; pop 0; pop 0; held 0+0:n31 => E4
 held 2+0:n31 => E4; newest 0 => E6; count 0 => 0; pop 0 => E6
-// generations of one stack may have any descriptions
-stack => 0; push 0 n15; push 0 two; push 0 c1; count 0 => 3; newest 0 => 2; pop 0; newest 0 => 1; address 1:two => ^1+0
-based two ^1 => ^1+0; based n15 ^0 => ^0+0; pop 0; based two ^1 => E4; based n15 ^0 => ^0+0
+// a CONTROLLED variable may be an aggregate
+stack two => 0; push 0; push 0; count 0 => 2; newest 0 => 1; address 1:two => ^1+0; based two ^1 => ^1+0
+store 1+0:n15 3; held 1+0:n15 => 3; held 0+0:n15 => 0; pop 0; based two ^1 => E4; held 0+0:n15 => 0; newest 0 => 0
 // stacks are apart
-stack => 0; stack => 1; push 0 n15; push 1 n15; push 0 n15; newest 0 => 2; newest 1 => 1; count 0 => 2; count 1 => 1
-pop 1; newest 1 => E6; newest 0 => 2; pop 0; newest 0 => 0; stack => 2; count 2 => 0; pop 2 => E6; push 2 n15
+stack n15 => 0; stack n15 => 1; push 0; push 1; push 0; newest 0 => 2; newest 1 => 1; count 0 => 2; count 1 => 1
+pop 1; newest 1 => E6; newest 0 => 2; pop 0; newest 0 => 0; stack n15 => 2; count 2 => 0; pop 2 => E6; push 2
 newest 2 => 3; newest 0 => 0
 // a stack that is not there is wrong to ask for, before all else
-newest 0 => wrong; count 0 => wrong; pop 0 => wrong; push 0 n15 => wrong; push 0 n15 'ABC' => wrong; stack => 0
-newest 1 => wrong; push 1 n15 => wrong; count 1 => wrong; pop 1 => wrong; push 0 n15; newest 0 => 0
+newest 0 => wrong; count 0 => wrong; pop 0 => wrong; push 0 => wrong; stack n15 => 0; newest 1 => wrong
+push 1 => wrong; count 1 => wrong; pop 1 => wrong; push 0; newest 0 => 0
 // a place that was found before keeps its generation
-stack => 0; push 0 n15; store 0+0:n15 3; push 0 n15; held 0+0:n15 => 3; store 1+0:n15 4; pop 0; held 1+0:n15 => E4
+stack n15 => 0; push 0; store 0+0:n15 3; push 0; held 0+0:n15 => 3; store 1+0:n15 4; pop 0; held 1+0:n15 => E4
 store 1+0:n15 5 => E4; held 0+0:n15 => 3
 // nothing to begin with is wrong, and changes nothing
-allocate n15 'ABC' => wrong; allocate n15 => ^0+0; stack => 0; push 0 n15 'ABC' => wrong; count 0 => 0; newest 0 => E6
-push 0 n15; newest 0 => 1; push 0 two 'ABC' => wrong; count 0 => 1; newest 0 => 1; allocate two 'ABC' => wrong
-allocate two => ^2+0
+allocate n15 'ABC' => wrong; allocate n15 => ^0+0; allocate two 'ABC' => wrong; allocate two => ^1+0
 // 16,777,216 bytes may live, and no byte more; where there is no room, nothing changes
-allocate hall => ^0+0; stack => 0; push 0 hall; allocate hall => ^2+0; push 0 hall; allocate hall => ^4+0; push 0 hall
-allocate hall => ^6+0; push 0 hall; allocate hall => ^8+0; push 0 hall; allocate hall => ^10+0; push 0 hall
-allocate hall => ^12+0; push 0 hall; allocate hall => ^14+0; push 0 hall; allocate hall => ^16+0; push 0 hall => E12
-count 0 => 8; newest 0 => 15; allocate hall => E12; push 0 c32767; allocate c32767 => ^18+0; push 0 c32767 => E12
-allocate c512 => ^19+0; allocate c1 => E12; push 0 c1 => E12; allocate c1 'ABC' => E12; push 0 c1 'ABC' => E12
-make c1 => E12; count 0 => 9; newest 0 => 17; free c1 ^19 => E5; allocate c1 => E12; free c512 ^19; push 0 c1
-newest 0 => 20; count 0 => 10; pop 0; allocate c512 => ^21+0; push 0 c1 => E12; pop 0; newest 0 => 15
-allocate c32767 => ^22+0; push 0 c1 => E12; free hall ^0; push 0 hall; newest 0 => 23; free hall ^0 => E4
-free hall ^23 => E5";
+stack hall => 0; stack c32767 => 1; stack c1 => 2; allocate hall => ^0+0; push 0; allocate hall => ^2+0; push 0
+allocate hall => ^4+0; push 0; allocate hall => ^6+0; push 0; allocate hall => ^8+0; push 0; allocate hall => ^10+0
+push 0; allocate hall => ^12+0; push 0; allocate hall => ^14+0; push 0; allocate hall => ^16+0; push 0 => E12
+count 0 => 8; newest 0 => 15; allocate hall => E12; push 1; allocate c32767 => ^18+0; push 1 => E12
+allocate c512 => ^19+0; allocate c1 => E12; push 2 => E12; allocate c1 'ABC' => E12; make c1 => E12; count 1 => 1
+newest 1 => 17; free c1 ^19 => E5; allocate c1 => E12; free c512 ^19; push 2; newest 2 => 20; count 2 => 1; pop 2
+allocate c512 => ^21+0; push 2 => E12; pop 1; newest 1 => E6; allocate c32767 => ^22+0; push 2 => E12; free hall ^0
+push 0; newest 0 => 23; free hall ^0 => E4; free hall ^23 => E5";
 
 #[test]
 fn worked(rt: HostRuntime) {
@@ -107,8 +104,8 @@ fn many_on_one_stack(rt: HostRuntime) {
     let shapes = all_shapes(&rt, alloc);
     let twins = twins_of(&rt, alloc, &shapes);
     let mut pair = Pair::new(alloc, &shapes, &twins);
-    let push = Call::Push(0, shape_number(&rt, &shapes, "c1"), &[]);
-    pair.answer(&rt, alloc, Call::Stack);
+    let push = Call::Push(0);
+    pair.answer(&rt, alloc, Call::Stack(shape_number(&rt, &shapes, "c1")));
     for _ in 0..32_767 {
         pair.answer(&rt, alloc, push);
     }

@@ -43,6 +43,13 @@ impl Meeting {
     }
 }
 
+/// A CONTROLLED variable: the number of its description, and the numbers of its generations, the newest last.
+#[derive(Drop)]
+pub(crate) struct StackModel {
+    pub(crate) shape: usize,
+    pub(crate) numbers: Vec<u32>,
+}
+
 /// All generations by their numbers, what references have met, and the stacks of CONTROLLED variables.
 #[derive(Drop)]
 pub(crate) struct Model<'m> {
@@ -51,7 +58,7 @@ pub(crate) struct Model<'m> {
     live: u64,
     blocks: Vec<Content>,
     pub(crate) meetings: Vec<Meeting>,
-    pub(crate) stacks: Vec<Vec<u32>>,
+    pub(crate) stacks: Vec<StackModel>,
 }
 
 pub(crate) const DEAD: Answer = Answer::Raised(RunError::DeadLocator);

@@ -2,7 +2,7 @@
 
 use crate::calls::{Answer, Call, Spot, Use};
 use crate::items::Item;
-use crate::model::{MISMATCH, Meeting, Model};
+use crate::model::{MISMATCH, Meeting, Model, StackModel};
 use pli_map::is_area;
 use pli_run::RunError;
 use pli_value::Locator;
@@ -171,8 +171,8 @@ impl<'m> Model<'m> {
         }))
     }
 
-    /// The generations of a CONTROLLED variable, the newest last.
-    fn stack(&self, list: usize) -> Result<&[u32], Answer> {
+    /// A CONTROLLED variable.
+    fn stack(&self, list: usize) -> Result<&StackModel, Answer> {
         match self.stacks.get(list) {
             Some(stack) => Ok(stack),
             None => Err(Answer::Wrong),
@@ -181,31 +181,24 @@ impl<'m> Model<'m> {
 
     /// The number of the newest generation of a stack.
     fn newest(&self, list: usize) -> Result<u32, Answer> {
-        match self.stack(list)?.last() {
+        match self.stack(list)?.numbers.last() {
             Some(number) => Ok(*number),
             None => Err(Answer::Raised(RunError::NoGeneration)),
         }
     }
 
     /// ALLOCATE of a CONTROLLED variable.
-    fn push(
-        &mut self,
-        rt: &impl Abort,
-        alloc: Global,
-        list: usize,
-        shape: usize,
-        given: &[Item],
-    ) -> Result<Answer, Answer> {
-        self.stack(list)?;
-        let number = self.make(rt, alloc, shape, false, given)?;
+    fn push(&mut self, rt: &impl Abort, alloc: Global, list: usize) -> Result<Answer, Answer> {
+        let shape = self.stack(list)?.shape;
+        let number = self.make(rt, alloc, shape, false, &[])?;
         let stack = self.stacks.get_mut(list).expect(rt, "a stack");
-        stack.push(number).expect(rt, "memory");
+        stack.numbers.push(number).expect(rt, "memory");
         Ok(Answer::Done)
     }
 
     /// ALLOCATION of a CONTROLLED variable.
     fn counted(&self, list: usize) -> Result<Answer, Answer> {
-        let count = self.stack(list)?.len();
+        let count = self.stack(list)?.numbers.len();
         if count > 32_767 {
             Err(Answer::Raised(RunError::FixedOverflow))
         } else {
@@ -217,14 +210,19 @@ impl<'m> Model<'m> {
     fn pop(&mut self, rt: &impl Abort, list: usize) -> Result<Answer, Answer> {
         let number = self.newest(list)?;
         self.end(rt, number);
-        let _number = self.stacks.get_mut(list).expect(rt, "a stack").pop();
+        let stack = self.stacks.get_mut(list).expect(rt, "a stack");
+        let _number = stack.numbers.pop();
         Ok(Answer::Done)
     }
 
     /// A stack more.
-    fn add_stack(&mut self, rt: &impl Abort, alloc: Global) -> Answer {
+    fn add_stack(&mut self, rt: &impl Abort, alloc: Global, shape: usize) -> Answer {
         let list = self.stacks.len();
-        self.stacks.push(Vec::new(alloc)).expect(rt, "memory");
+        let stack = StackModel {
+            shape,
+            numbers: Vec::new(alloc),
+        };
+        self.stacks.push(stack).expect(rt, "memory");
         Answer::number(list)
     }
 
@@ -317,8 +315,8 @@ impl<'m> Model<'m> {
             }
             Call::Based(shape, locator) => either(self.based(rt, shape, locator)),
             Call::Free(shape, locator) => either(self.free(rt, shape, locator)),
-            Call::Stack => self.add_stack(rt, alloc),
-            Call::Push(list, shape, given) => either(self.push(rt, alloc, list, shape, given)),
+            Call::Stack(shape) => self.add_stack(rt, alloc, shape),
+            Call::Push(list) => either(self.push(rt, alloc, list)),
             Call::Newest(list) => match self.newest(list) {
                 Ok(number) => Answer::number(number as usize),
                 Err(answer) => answer,

@@ -201,7 +201,7 @@ fn make(
         0 | 1 => Call::Dummy(shape, numbers.item(rt, description)),
         2 => Call::Make(Made::Static, shape, &items),
         3 => Call::Allocate(shape, &items),
-        4 => Call::Push(numbers.index(4), shape, &items),
+        4 => Call::Push(numbers.index(4)),
         _ => Call::Make(Made::Automatic, shape, &items),
     };
     pair.answer(rt, alloc, call)
@@ -338,8 +338,10 @@ fn sequences(rt: &impl Abort, alloc: Global, times: u32, in_areas: bool, count: 
         } else {
             numbers.index(shapes.len())
         };
-        for _ in 0..3 {
-            pair.answer(rt, alloc, Call::Stack);
+        for number in 0..3 {
+            let shape = first.saturating_add(number % count.max(1)) % shapes.len().max(1);
+            let is_small = pair.model.values.shape(rt, shape).size <= SMALL;
+            pair.answer(rt, alloc, Call::Stack(if is_small { shape } else { 0 }));
         }
         for _ in 0..calls {
             take(rt, alloc, &mut numbers, &mut pair, first, count);

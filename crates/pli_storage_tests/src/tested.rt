@@ -8,8 +8,9 @@ use crate::items::{Item, Text};
 use crate::shapes::Shape;
 use pli_area_storage::{Areas, Reference, offset_in, pointer_in};
 use pli_bytes::{lay, lay_first};
-use pli_locators::{Stacks, allocate_based, based};
+use pli_locators::{allocate_based, based};
 use pli_map::{Description, is_area, size};
+use pli_stacks::Stacks;
 use pli_store::{Place, Storage, StoreFault};
 use pli_value::Locator;
 use std::alloc::Global;
@@ -178,19 +179,17 @@ impl<'m> Tested<'m> {
         }
     }
 
-    /// ALLOCATE of a CONTROLLED variable, whose place is noted.
-    fn push(
-        &mut self,
-        rt: &impl Abort,
-        alloc: Global,
-        list: usize,
-        shape: usize,
-        items: &[Item],
-    ) -> Answer {
+    /// A stack more, of a CONTROLLED variable of the description of a number.
+    fn add_stack(&mut self, rt: &impl Abort, alloc: Global, shape: usize) -> Answer {
         let description = self.described(rt, shape);
-        let bytes = initial(rt, alloc, description, items);
+        let number = self.stacks.add(alloc, description, &[]);
+        Answer::number(number.expect(rt, "memory"))
+    }
+
+    /// ALLOCATE of a CONTROLLED variable, whose place is noted.
+    fn push(&mut self, rt: &impl Abort, alloc: Global, list: usize) -> Answer {
         let stacks = &mut self.stacks;
-        let result = stacks.allocate_controlled(&mut self.storage, list, description, bytes);
+        let result = stacks.allocate_controlled(alloc, &mut self.storage, list);
         if result.is_ok() {
             let place = self.stacks.newest(list);
             let _number = self.noted(rt, alloc, place);
@@ -326,8 +325,8 @@ impl<'m> Tested<'m> {
                 let twin = self.twin(rt, shape);
                 Answer::done(rt, self.areas.free(&mut self.storage, twin, locator))
             }
-            Call::Stack => Answer::number(self.stacks.add(alloc).expect(rt, "memory")),
-            Call::Push(list, shape, items) => self.push(rt, alloc, list, shape, items),
+            Call::Stack(shape) => self.add_stack(rt, alloc, shape),
+            Call::Push(list) => self.push(rt, alloc, list),
             Call::Newest(list) => self.newest(rt, list),
             Call::Count(list) => self.count(rt, list),
             Call::Pop(list) => {

@@ -70,6 +70,7 @@ fn described(
     let items = items_of(rt, alloc, words);
     let call = match (verb, items.as_slice()) {
         ("room", _) => Call::Room(shape),
+        ("stack", _) => Call::Stack(shape),
         ("make", items) => Call::Make(Made::Automatic, shape, items),
         ("static", items) => Call::Make(Made::Static, shape, items),
         ("allocate", items) => Call::Allocate(shape, items),
@@ -82,26 +83,13 @@ fn described(
 }
 
 /// The answer to a call that speaks of a stack.
-fn stacked(
-    rt: &impl Abort,
-    alloc: Global,
-    pair: &mut Pair<'_>,
-    verb: &str,
-    list: &str,
-    words: &str,
-) -> Answer {
+fn stacked(rt: &impl Abort, alloc: Global, pair: &mut Pair<'_>, verb: &str, list: &str) -> Answer {
     let list = natural(rt, list) as usize;
-    let (name, words) = words.split_once(' ').unwrap_or((words, ""));
-    let items = items_of(rt, alloc, words);
     let call = match verb {
         "newest" => Call::Newest(list),
         "count" => Call::Count(list),
         "pop" => Call::Pop(list),
-        _ => Call::Push(
-            list,
-            shape_number(rt, pair.model.values.shapes, name),
-            &items,
-        ),
+        _ => Call::Push(list),
     };
     pair.answer(rt, alloc, call)
 }
@@ -174,11 +162,10 @@ fn answer_to(rt: &impl Abort, alloc: Global, pair: &mut Pair<'_>, call: &str) ->
     let (verb, words) = call.split_once(' ').unwrap_or((call, ""));
     let (target, rest) = words.split_once(' ').unwrap_or((words, ""));
     match verb {
-        "stack" => pair.answer(rt, alloc, Call::Stack),
         "end" => ended(rt, alloc, pair, words),
         "in" => allocated(rt, alloc, pair, target, rest),
-        "newest" | "count" | "pop" | "push" => stacked(rt, alloc, pair, verb, target, rest),
-        "room" | "make" | "static" | "allocate" | "dummy" | "based" | "free" => {
+        "newest" | "count" | "pop" | "push" => stacked(rt, alloc, pair, verb, target),
+        "room" | "stack" | "make" | "static" | "allocate" | "dummy" | "based" | "free" => {
             described(rt, alloc, pair, verb, target, rest)
         }
         _ => placed(rt, alloc, pair, verb, target, rest),

@@ -3,16 +3,18 @@ use Rattle.std.proofs.Common.{ℕ, Bool, true, false, IsTrue, Option, Some, None
 use Rattle.std.proofs.Common.{Err, if◌then◌else◌, refl}
 use Rattle.pli_base.specs.Results.{◌>>=◌}
 use Rattle.pli_base.specs.Statements as tree
-use Rattle.pli_base.specs.Statements.{Statement, Numbered, Body, Statements, Ended, Before, Alternative}
+use Rattle.pli_base.specs.Statements.{Allocation, Statement, Numbered, Body, Statements, Ended, Before, Alternative}
 use Rattle.pli_base.specs.Syntax.{Expression, Referred, Constant, Parenthesized, Prefix, Infix, Reference, Named}
 use Rattle.pli_base.specs.Syntax.{JoinedParts, Alone, Joined, Arguments, Absent, Given, Expressions, Empty, Listed}
 use Rattle.pli_base.specs.declared.code.Code.{Code}
 use Rattle.pli_base.specs.declared.code.Code.TheVariants.{WrongOperandType, CannotAssign, CannotPrint, NotYetBuilt}
+use Rattle.pli_base.specs.declared.code.Code.TheVariants.{CannotAllocateOrFree}
 use Rattle.pli_base.specs.declared.syntax.Identifier.{Identifier}
 use Rattle.pli_base.specs.declared.syntax.Joining.TheVariants.{Member, Located}
 use Rattle.pli_base.specs.declared.token.Fault.{Fault}
 use Rattle.pli_map.specs.Description.{Description}
 use Rattle.pli_resolve.specs.declared.built_in.BuiltInFunction.{BuiltInFunction}
+use Rattle.pli_type.specs.AllocationTyping.{in_turn, only_variable, place_given, allocated, freed}
 use Rattle.pli_type.specs.Checked.{checked, unless_unbuilt, typed_as}
 use Rattle.pli_type.specs.ExpressionTypes.{TypedValue}
 use Rattle.pli_type.specs.FunctionCalls.{Denoted, DenotesVariable, DenotesResult, Meant, OneValue, WholeAggregate}
@@ -252,6 +254,35 @@ only_return n s at None = only_if _ _ _ (fine _) (told _ _ refl)
 only_return n s at (Some e) =
     only_then _ _ (only_value_of n e) (λ v. only_returned n.greatest at (first_token e) s.begins s.value v)
 
+only_in_turn : {A B : Type 0} (each : A → Result B Fault) → ((x : A) → Only (each x)) → (xs : List A) → Only (in_turn each xs)
+only_in_turn each only [] = fine _
+only_in_turn each only (x ∷ xs) = only_then _ _ (only x) (λ y. only_then _ _ (only_in_turn each only xs) (λ ys. fine _))
+
+only_a_variable : (at : ℕ) (d : Denoted) → Only (only_variable at d)
+only_a_variable at (DenotesVariable r) = fine _
+only_a_variable at (DenotesResult value) = told _ _ refl
+
+only_place : (n : Naming) (o : Option Reference) → Only (place_given n o)
+only_place n None = fine _
+only_place n (Some reference) =
+    only_then _ _ (only_referred n AsLocator reference) (λ d. only_then _ _ (only_a_variable _ d) (λ r. fine _))
+
+only_allocated : (n : Naming) (a : Allocation) → Only (allocated n a)
+only_allocated n a =
+    only_then _ _ (only_place n a.area)
+    (λ area. only_then _ _ (only_place n a.target) (λ target. only_or CannotAllocateOrFree a.name.at _ refl))
+
+only_freed : (n : Naming) (reference : Reference) → Only (freed n reference)
+only_freed n reference =
+    only_then _ _ (only_referred n AsTarget reference)
+    (λ d. only_then _ _ (only_a_variable _ d) (λ r. only_or CannotAllocateOrFree _ _ refl))
+
+only_allocate : (n : Naming) (list : List Allocation) → Only (statements.allocate_typed n list)
+only_allocate n list = only_then _ _ (only_in_turn (allocated n) (only_allocated n) list) (λ xs. fine _)
+
+only_free : (n : Naming) (list : List Reference) → Only (statements.free_typed n list)
+only_free n list = only_then _ _ (only_in_turn (freed n) (only_freed n) list) (λ xs. fine _)
+
 only_limit : (n : Naming) (e : Expression) → Only (statements.limit n e)
 only_limit n e = only_then _ _ (only_value_of n e) (λ v. only_or WrongOperandType (first_token e) _ refl)
 
@@ -367,6 +398,8 @@ mutual
       told_together _ _ _ (told_own _ (only_condition (statements.naming_at u s) tested))
       (told_together _ _ _ (told_statement u s x consequence) (told_alternative u s _ alternative))
   told_body u s x number at tree.Stop = passed _
+  told_body u s x number at (tree.Allocate list) = told_own _ (only_allocate (statements.naming_at u s) list)
+  told_body u s x number at (tree.Free list) = told_own _ (only_free (statements.naming_at u s) list)
   told_body u s x number at (tree.Call name arguments) = told_own _ (only_call (statements.naming_at u s) name arguments)
   told_body u s x number at (tree.Goto label) = told_own _ (only_goto (statements.naming_at u s) s label)
   told_body u s x number at (tree.Return value) = told_own _ (only_return (statements.naming_at u s) s at value)

@@ -53,7 +53,7 @@ sum_precision greatest p q = min greatest (max p q + 1)
 abbrev pub product_precision : (greatest p q : ℕ) → ℕ
 product_precision greatest p q = min greatest (p + q + 1)
 
--- the precision of LENGTH, INDEX, SIGN, LBOUND and HBOUND
+-- the precision of LENGTH, INDEX, SIGN, ALLOCATION, LBOUND and HBOUND
 abbrev pub count_precision : ℕ
 count_precision = 15
 

@@ -19,7 +19,8 @@ use Rattle.pli_type.specs.ExpressionTypes.{precisions}
 use Rattle.pli_type.specs.ExpressionTypes.{TypedValue, type_of}
 use Rattle.pli_type.specs.ExpressionTypes.{precision_of, count_precision, all_operands}
 use Rattle.pli_type.specs.References.{Role, AsValue, AsArgument, Referent}
-use Rattle.pli_type_tree.specs.TypedTree.{Operate, TypedExpression, Literal, Held, Calculated}
+use Rattle.pli_type_tree.specs.TypedTree.{NewestOf, Operate, TypedExpression, Literal, Held, Calculated}
+use Rattle.pli_type_tree.specs.TypedTree.{Generations, TypedReference, Whole}
 use Rattle.pli_value.specs.Value.{Number}
 use Rattle.pli_type.specs.declared.expression_type.ExpressionType.{ExpressionType}
 use Rattle.pli_type.specs.declared.expression_type.ExpressionType.TheVariants as types
@@ -80,7 +81,8 @@ abbrev pub three : List Role
 three = AsValue ∷ AsValue ∷ AsValue ∷ []
 
 -- for what the arguments of a function stand, where it may have so many: SUBSTR has two or three. The
--- array of LBOUND and HBOUND is not evaluated, and their number and the precision of DIVIDE are constants
+-- array of LBOUND and HBOUND and the variable of ALLOCATION are not evaluated, and the number of a dimension
+-- and the precision of DIVIDE are constants
 abbrev pub roles_of : BuiltInFunction → (given : ℕ) → Option (List Role)
 roles_of functions.Abs given = exactly given one
 roles_of functions.Sign given = exactly given one
@@ -93,6 +95,7 @@ roles_of functions.Substring given = if nat_eq given 3 then Some three else exac
 roles_of functions.Divide given = exactly given (AsValue ∷ AsValue ∷ AsArgument ∷ [])
 roles_of functions.LowBound given = exactly given (AsArgument ∷ AsArgument ∷ [])
 roles_of functions.HighBound given = exactly given (AsArgument ∷ AsArgument ∷ [])
+roles_of functions.Allocation given = exactly given (AsArgument ∷ [])
 roles_of function given = None
 
 -- the type of what a function gives, by those of its arguments
@@ -197,6 +200,16 @@ abbrev pub the_bound : (Bounds → ℤ) → Meant → (written : Option ℕ) →
 the_bound which (WholeAggregate r) (Some number) = bound_in which number r.description
 the_bound which meant written = None
 
+-- how many generations there are, of a whole CONTROLLED variable at level 1
+abbrev pub generations_in : TypedReference → Option TypedValue
+generations_in (Whole (NewestOf number)) = Some (record { expression = Generations number; kind = a_count })
+generations_in reference = None
+
+-- ALLOCATION of an argument
+abbrev pub generations_of : Denoted → Option TypedValue
+generations_of (DenotesVariable r) = generations_in r.reference
+generations_of (DenotesResult value) = None
+
 -- the one value that an argument is
 abbrev pub value_in : Meant → Option TypedValue
 value_in (OneValue v) = Some v
@@ -221,6 +234,7 @@ of_arguments greatest functions.LowBound (a ∷ n ∷ []) =
     the_bound (λ b. b.low) (meant_as a.denoted) n.written
 of_arguments greatest functions.HighBound (a ∷ n ∷ []) =
     the_bound (λ b. b.high) (meant_as a.denoted) n.written
+of_arguments greatest functions.Allocation (a ∷ []) = generations_of a.denoted
 of_arguments greatest function arguments = option_and_then (of_values greatest function) (values_in arguments)
 
 -- T13 at the function's name where it does not take the arguments

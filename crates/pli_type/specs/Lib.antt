@@ -1,3 +1,4 @@
+pub mod AllocationTyping
 pub mod Checked
 pub mod ExpressionTypes
 pub mod FunctionCalls

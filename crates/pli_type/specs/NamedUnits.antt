@@ -14,6 +14,8 @@ use Rattle.pli_map.specs.Description.{Description, FixedBinary, Character, Varyi
 use Rattle.pli_map.specs.Description.{Members, NoMembers, MemberThen}
 use Rattle.pli_map.specs.Sizes.{count_of, size_of}
 use Rattle.pli_map.specs.declared.description.Bounds.{Bounds}
+use Rattle.pli_program.specs.declared.kind.VariableKind.{VariableKind}
+use Rattle.pli_program.specs.declared.kind.VariableKind.TheVariants as generations
 use Rattle.pli_resolve.specs.ResolvedUnits.{ResolvedUnit, ResolvedBlock, meaning_at, all_symbols, symbol_at}
 use Rattle.pli_resolve.specs.Symbols.{Symbol, SymbolKind, Variable, Member, Label, Procedure, Entry, BuiltIn}
 use Rattle.pli_resolve.specs.declared.block_numbers.ResolvedBlockKind.{ResolvedBlockKind}
@@ -31,7 +33,7 @@ use Rattle.pli_type.specs.TextOrder.{in_order, text_places}
 use Rattle.pli_type.specs.Unbuilt.{is_later_function}
 use Rattle.pli_type_tree.specs.Templates.{Template}
 use Rattle.pli_type_tree.specs.TypedTree.{OfBlock, OfEntry, Global, OwnVariable, ExternalVariable, EntryPoint}
-use Rattle.pli_type_tree.specs.TypedTree.{Root, InSlot, OfProgram, TypedUnit}
+use Rattle.pli_type_tree.specs.TypedTree.{Root, InSlot, OfProgram, NewestOf, TypedUnit}
 
 -- which variables there are
 
@@ -73,10 +75,16 @@ abbrev pub is_automatic : (greatest : ℕ) → StorageClass → Description → 
 is_automatic greatest classes.Automatic d = is_stored greatest d
 is_automatic greatest class d = false
 
--- a STATIC variable of it
-abbrev pub is_static : (greatest : ℕ) → StorageClass → Description → Bool
-is_static greatest classes.Static d = is_stored greatest d
-is_static greatest class d = false
+-- a variable of it that is there for the whole program: STATIC or CONTROLLED
+abbrev pub is_global : (greatest : ℕ) → StorageClass → Description → Bool
+is_global greatest classes.Static d = is_stored greatest d
+is_global greatest classes.Controlled d = is_stored greatest d
+is_global greatest class d = false
+
+-- how the generations of such a variable come
+abbrev pub kind_of_class : StorageClass → VariableKind
+kind_of_class classes.Controlled = generations.Controlled
+kind_of_class class = generations.Static
 
 -- blocks
 
@@ -141,10 +149,10 @@ such_before is_such [] number = 0
 such_before is_such (s ∷ ss) zero = 0
 such_before is_such (s ∷ ss) (suc number) = one_such is_such s.kind + such_before is_such ss number
 
--- how many globals a symbol is: a STATIC variable is one, and an external procedure
+-- how many globals a symbol is: a STATIC or CONTROLLED variable is one, and an external procedure
 abbrev pub one_global : (greatest : ℕ) → SymbolKind → ℕ
 one_global greatest (Variable description class scope initial area) =
-    if is_static greatest class description then 1 else 0
+    if is_global greatest class description then 1 else 0
 one_global greatest (Entry parameters returned) = 1
 one_global greatest kind = 0
 
@@ -199,8 +207,8 @@ is_parameter numbers slot number = is_number (slice_get numbers slot)
     is_number (Some n) = nat_eq n number
 
 -- Parameters stand in slots, each in its own, and the AUTOMATIC variables of the block behind them, in the
--- order of the text; STATIC variables are globals, which stand in the order of the text of the whole unit.
--- Other variables begin nowhere yet
+-- order of the text; STATIC and CONTROLLED variables are globals, which stand in the order of the text of the
+-- whole unit. Other variables begin nowhere yet
 abbrev pub root_of : (greatest : ℕ) → ResolvedUnit → (blocks : List ℕ) → SymbolKey → StorageClass
     → Description → Option Root
 root_of greatest r blocks key classes.Automatic d =
@@ -214,6 +222,8 @@ root_of greatest r blocks key (classes.Parameter slot) d =
     then in_slot (outward_to blocks key.block) slot else None
 root_of greatest r blocks key classes.Static d =
     if is_stored greatest d then Some (OfProgram (global_number greatest r key)) else None
+root_of greatest r blocks key classes.Controlled d =
+    if is_stored greatest d then Some (NewestOf (global_number greatest r key)) else None
 root_of greatest r blocks key class d = None
 
 -- what names mean
@@ -348,16 +358,16 @@ templates_of is_such symbols = templates_from is_such symbols 0 symbols
 -- the unit
 
 -- a variable by its scope
-abbrev pub global_of : ScopeAttribute → Name → Template → Global
-global_of scopes.Internal name template = OwnVariable template
-global_of scopes.External name template = ExternalVariable name template
+abbrev pub global_of : ScopeAttribute → VariableKind → Name → Template → Global
+global_of scopes.Internal kind name template = OwnVariable kind template
+global_of scopes.External kind name template = ExternalVariable name kind template
 
--- the global that a symbol is, if it is one: a STATIC variable, or an entry
+-- the global that a symbol is, if it is one: a STATIC or CONTROLLED variable, or an entry
 abbrev pub global_with : (greatest : ℕ) → (all : List Symbol) → (number : ℕ) → Name → SymbolKind
     → List Global
 global_with greatest all number name (Variable description class scope initial area) =
-    map (global_of scope name)
-    (template_at (is_static greatest) all number (Variable description class scope initial area))
+    map (global_of scope (kind_of_class class) name)
+    (template_at (is_global greatest) all number (Variable description class scope initial area))
 global_with greatest all number name (Entry parameters returned) =
     EntryPoint name (record { parameters = parameters; result = returned }) ∷ []
 global_with greatest all number name kind = []

@@ -7,7 +7,7 @@ use Rattle.pli_base.specs.Results.{◌>>=◌}
 use Rattle.pli_base.specs.Reading.{at_fault}
 use Rattle.pli_base.specs.Statements as tree
 use Rattle.pli_base.specs.Statements.{Range, Statement, Numbered, Body, Assign, Declare, Statements}
-use Rattle.pli_base.specs.Statements.{Before, Ended, Alternative}
+use Rattle.pli_base.specs.Statements.{Before, Ended, Allocation, Alternative}
 use Rattle.pli_base.specs.Syntax.{Expression, Referred, Reference, Arguments, Absent, Given}
 use Rattle.pli_base.specs.declared.code.Code.TheVariants.{NotAVariable, CannotAssign, NotCallableHere}
 use Rattle.pli_base.specs.declared.code.Code.TheVariants.{CannotPrint, WrongOperandType, WrongReturn}
@@ -17,6 +17,7 @@ use Rattle.pli_base.specs.declared.token.Fault.{Fault}
 use Rattle.pli_map.specs.Description.{Description, FixedBinary}
 use Rattle.pli_map.specs.Same.{same}
 use Rattle.pli_map.specs.Scalars.{is_aggregate}
+use Rattle.pli_type.specs.AllocationTyping.{in_turn, allocated, freed}
 use Rattle.pli_type.specs.ExpressionTypes.{TypedValue, conversions, converted, precision_of, printed}
 use Rattle.pli_type.specs.FunctionCalls.{Denoted, DenotesVariable, DenotesResult, Meant, OneValue}
 use Rattle.pli_type.specs.FunctionCalls.{WholeAggregate, Argument}
@@ -232,6 +233,16 @@ return_typed n s at None =
 return_typed n s at (Some e) = do
   v ← value_of n e
   returned_value n.greatest at (first_token e) s.begins s.value v
+
+-- ALLOCATE and FREE
+
+-- ALLOCATE with its items, one after the other
+abbrev pub allocate_typed : Naming → List Allocation → Result Form Fault
+allocate_typed n list = in_turn (allocated n) list >>= λ xs. Ok (typed.Allocate xs)
+
+-- FREE with its items, one after the other
+abbrev pub free_typed : Naming → List Reference → Result Form Fault
+free_typed n list = in_turn (freed n) list >>= λ xs. Ok (typed.Free xs)
 
 -- groups with a control variable
 
@@ -471,6 +482,8 @@ abbrev mutual
       if_form (condition (naming_at u s) tested) (statement_typed u s x consequence)
       (alternative_typed u s (behind x consequence) alternative)
   body_typed u s x number at tree.Stop = Ok (alone typed.Stop)
+  body_typed u s x number at (tree.Allocate list) = of_own (allocate_typed (naming_at u s) list)
+  body_typed u s x number at (tree.Free list) = of_own (free_typed (naming_at u s) list)
   body_typed u s x number at (tree.Call name arguments) =
       of_own (call_typed (naming_at u s) name arguments)
   body_typed u s x number at (tree.Goto label) = of_own (goto_typed (naming_at u s) s label)

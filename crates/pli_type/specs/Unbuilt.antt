@@ -10,8 +10,8 @@ use Rattle.pli_base.specs.Declarations.{DescribedAttribute, Plain, ParameterDesc
 use Rattle.pli_base.specs.Declarations as declared
 use Rattle.pli_base.specs.Name.{Name}
 use Rattle.pli_base.specs.Statements as tree
-use Rattle.pli_base.specs.Statements.{ProcedureOption, Main, Returns, Heading, Range, Control, Statement}
-use Rattle.pli_base.specs.Statements.{Numbered, Body}
+use Rattle.pli_base.specs.Statements.{ProcedureOption, Main, Returns, Heading, Range, Control, Allocation}
+use Rattle.pli_base.specs.Statements.{Statement, Numbered, Body}
 use Rattle.pli_base.specs.Statements.{Statements, Ended, Before, Alternative, ExternalProcedure}
 use Rattle.pli_base.specs.Syntax.{Expression, Referred, Constant, Parenthesized, Prefix, Infix, Reference}
 use Rattle.pli_base.specs.Syntax.{Named}
@@ -27,9 +27,8 @@ use Rattle.pli_resolve.specs.declared.built_in.BuiltInFunction.TheVariants as fu
 
 -- what comes later
 
--- ALLOCATION, ADDR, NULL, EMPTY, POINTER and OFFSET
+-- ADDR, NULL, EMPTY, POINTER and OFFSET
 abbrev pub is_later_function : BuiltInFunction → Bool
-is_later_function functions.Allocation = true
 is_later_function functions.Address = true
 is_later_function functions.Null = true
 is_later_function functions.Empty = true
@@ -89,13 +88,12 @@ abbrev pub later_part : {A : Type 0} → (A → Bool) → Option A → Bool
 later_part is_later None = false
 later_part is_later (Some x) = is_later x
 
--- attributes of locators and areas, and of storage that is allocated
+-- attributes of locators and areas, and BASED
 abbrev pub later_simple : SimpleAttribute → Bool
 later_simple declared.Pointer = true
 later_simple (declared.Offset area) = true
 later_simple (declared.Area size) = true
 later_simple (declared.Based locator) = true
-later_simple declared.Controlled = true
 later_simple attribute = false
 
 -- an attribute of a parameter or a result is such, or is ENTRY or RETURNS there
@@ -153,6 +151,10 @@ later_control n (tree.Iterate variable equals first range condition) =
     later_reference n variable || later_expression n first || later_part (later_range n) range
     || later_part (later_expression n) condition
 
+-- the reference in IN or in SET has
+abbrev pub later_allocation : Compiled → Allocation → Bool
+later_allocation n a = later_part (later_reference n) a.area || later_part (later_reference n) a.target
+
 -- a procedure gives what is not compiled yet
 abbrev pub later_option : ProcedureOption → Bool
 later_option (Returns attributes) = list_any later_described attributes
@@ -179,6 +181,8 @@ abbrev mutual
       or_else (token_if (later_expression n condition) at)
       (or_else (later_statement n consequence) (later_alternative n alternative))
   later_body n at tree.Stop = None
+  later_body n at (tree.Allocate items) = token_if (list_any (later_allocation n) items) at
+  later_body n at (tree.Free references) = token_if (list_any (later_reference n) references) at
   later_body n at (tree.Call name arguments) = token_if (later_arguments n arguments) at
   later_body n at (tree.Goto label) = None
   later_body n at (tree.Return value) = token_if (later_part (later_expression n) value) at

@@ -1,3 +1,4 @@
+pub mod AllocationExamples
 pub mod ControlExamples
 pub mod ExampleTrees
 pub mod FaultExamples

@@ -3,16 +3,16 @@ ghost use Rattle.std.specs.Prelude.{◌≡◌, [], ◌∷◌, IfOk, length, map,
 ghost use Rattle.pli_type.specs.ExpressionTypes as ext;
 ghost use Rattle.pli_type.specs.FunctionCalls as spec;
 ghost use Rattle.pli_type.specs.views.ValueView.{value_view};
-ghost use Rattle.pli_type_tree.specs.views.TypedView.{expression_view};
+ghost use Rattle.pli_type_tree.specs.views.TypedView.{expression_view, reference_view};
 
 use crate::expression_type::{ExpressionType, precisions};
 use crate::typed_value::{TypedValue, refused, with_two};
 use pli_operation::Operation;
 use pli_resolve::BuiltInFunction;
-use pli_type_tree::{TypedExpression, TypedOperation};
+use pli_type_tree::{Root, TypedExpression, TypedOperation, TypedReference};
 use std::alloc::{AllocError, Global};
 
-/// The precision of LENGTH, INDEX, SIGN, LBOUND and HBOUND (own).
+/// The precision of LENGTH, INDEX, SIGN, ALLOCATION, LBOUND and HBOUND (own).
 const COUNT_PRECISION: u8 = 15;
 
 /// A number that counts something.
@@ -194,4 +194,18 @@ pub fn quotient(
     };
     let expression = with_two(alloc, operation, left.expression, right.expression)?;
     Ok(Some(TypedValue { expression, kind }))
+}
+
+/// A call of ALLOCATION of a variable or a part of one: how many generations a whole CONTROLLED variable has; none of
+/// anything else (X3.74).
+pub fn generations(reference: &TypedReference) -> Option<TypedValue>
+    ensures { option_map value_view result ≡ spec.generations_in (reference_view reference.now) }
+{
+    match reference {
+        TypedReference::Whole(Root::NewestOf { number }) => Some(TypedValue {
+            expression: TypedExpression::Generations { number: *number },
+            kind: A_COUNT,
+        }),
+        _ => None,
+    }
 }

@@ -1,6 +1,7 @@
 //! Laws and worked examples of types and of their faults.
 ghost use Rattle.pli_type.specs.laws.Laws.{FaultsAreOfTypes};
 ghost use Rattle.pli_type.specs.laws.TextSorting.{TokensAreSorted};
+ghost use Rattle.pli_type.specs.examples.AllocationExamples.{WhatIsAllocated, WhatIsFreed, WhatIsCounted};
 ghost use Rattle.pli_type.specs.examples.FaultExamples.{OneFaultToAStatement, OperatorsTakeTheirTypes, AssignmentsConvert, AggregatesStandAlone, SubscriptsAreCounted, LocatorsAreNotAllowed, NamesOfNoVariable, FunctionsConvertNothing, BareConstants};
 ghost use Rattle.pli_type.specs.examples.ControlExamples.{ControlVariables, CallsAreTyped, BlocksAreTyped};
 ghost use Rattle.pli_type.specs.examples.TypeExamples.{ConstantsAreDecimal, PrecisionsOfOperations, PrecisionsOfFunctions, KindsOfStrings, ColumnsOfNumbers};
@@ -27,6 +28,13 @@ pub fn control_examples()
     ensures groups { ControlVariables }
     ensures calls { CallsAreTyped }
     ensures blocks { BlocksAreTyped }
+{}
+
+/// Worked examples of ALLOCATE, FREE and ALLOCATION.
+pub fn allocation_examples()
+    ensures allocated { WhatIsAllocated }
+    ensures freed { WhatIsFreed }
+    ensures counted { WhatIsCounted }
 {}
 
 /// Worked examples of types.

@@ -12,14 +12,13 @@ use pli_base::statement::ProcedureOption;
 use pli_base::syntax::Identifier;
 use pli_resolve::{BuiltInFunction, function_named};
 
-/// Whether a built-in function is not compiled yet: ALLOCATION, ADDR, NULL, EMPTY, POINTER and OFFSET (own).
+/// Whether a built-in function is not compiled yet: ADDR, NULL, EMPTY, POINTER and OFFSET (own).
 pub fn is_later_function(function: BuiltInFunction) -> bool
     ensures { result ≡ spec.is_later_function function }
 {
     matches!(
         function,
-        BuiltInFunction::Allocation
-            | BuiltInFunction::Address
+        BuiltInFunction::Address
             | BuiltInFunction::Null
             | BuiltInFunction::Empty
             | BuiltInFunction::Pointer
@@ -27,8 +26,7 @@ pub fn is_later_function(function: BuiltInFunction) -> bool
     )
 }
 
-/// Whether an attribute is one of a declaration that is not compiled yet: of locators, areas, and storage that is
-/// allocated (own).
+/// Whether an attribute is one of a declaration that is not compiled yet: of locators, areas, and BASED storage (own).
 fn later_simple(attribute: &SimpleAttribute) -> bool
     ensures { result ≡ spec.later_simple (simple_view attribute.now) }
 {
@@ -38,7 +36,6 @@ fn later_simple(attribute: &SimpleAttribute) -> bool
             | SimpleAttribute::Offset(_)
             | SimpleAttribute::Area(_)
             | SimpleAttribute::Based(_)
-            | SimpleAttribute::Controlled
     )
 }
 

@@ -282,6 +282,10 @@ module _ (program : ExternalProcedure) (is_later : ℕ → Bool) (meaning : List
     body_here s x number at (tree.Declare declared) sits =
         none_here sizes_of blocks_of_form x.block (x.block + 0) (body_typed U s x number at (tree.Declare declared)) (omega arith)
     body_here s x number at tree.Stop sits = none_here sizes_of blocks_of_form x.block (x.block + 0) (body_typed U s x number at tree.Stop) (omega arith)
+    body_here s x number at (tree.Allocate list) sits =
+        none_here sizes_of blocks_of_form x.block (x.block + 0) (body_typed U s x number at (tree.Allocate list)) (omega arith)
+    body_here s x number at (tree.Free list) sits =
+        none_here sizes_of blocks_of_form x.block (x.block + 0) (body_typed U s x number at (tree.Free list)) (omega arith)
     body_here s x number at (tree.Call name arguments) sits =
         none_here sizes_of blocks_of_form x.block (x.block + 0) (body_typed U s x number at (tree.Call name arguments)) (omega arith)
     body_here s x number at (tree.Goto label) sits =

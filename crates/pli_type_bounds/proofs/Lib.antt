@@ -1,3 +1,4 @@
+pub mod AllocationsFit
 pub mod BlocksThere
 pub mod ExpressionsFit
 pub mod FormsFit

@@ -19,9 +19,12 @@ use Rattle.pli_type.specs.NamedUnits.{outward_to, is_reached, all_globals, templ
 use Rattle.pli_type.specs.Names.{NamedVariable, NamedProcedure, NamedAs, AVariable, AFunction, AProcedure, ALabel, Untyped}
 use Rattle.pli_type_name_laws.proofs.NamesMean.{Begins, IsThere, variable_begins, procedure_named_so}
 use Rattle.pli_type_name_laws.proofs.RootsStand.{Standing, IsEntry, descriptions, automatic_stored, entry_stands}
-use Rattle.pli_type_tree.specs.Globals.{description_of, signature_of}
+use Rattle.pli_program.specs.declared.kind.VariableKind.{VariableKind}
+use Rattle.pli_program.specs.declared.kind.VariableKind.TheVariants.{Static, Controlled}
+use Rattle.pli_type_tree.specs.Globals.{description_of, described_as, signature_of}
+use Rattle.pli_type_tree.specs.laws.GlobalLaws.{described_parts}
 use Rattle.pli_type_tree.specs.Templates.{Template}
-use Rattle.pli_type_tree.specs.TypedTree.{Root, InSlot, OfProgram, Callee, OfBlock, OfEntry, Global, OwnVariable, ExternalVariable, EntryPoint, Signature, TypedUnit}
+use Rattle.pli_type_tree.specs.TypedTree.{Root, InSlot, OfProgram, NewestOf, Callee, OfBlock, OfEntry, Global, OwnVariable, ExternalVariable, EntryPoint, Signature, TypedUnit}
 use Rattle.pli_resolve_bounds.proofs.SymbolsWithin.{parameters_are_few}
 use Rattle.pli_type_bounds.proofs.Meanings.{IsVariable, IsProcedureNamed, IsMeaning}
 use Rattle.pli_type_bounds.proofs.PartsFit.{parts_fit}
@@ -189,8 +192,8 @@ module _ (u : ExternalProcedure) (none : resolution_faults u ≡ []) where
 
   global_described : (o : Option Global) (d : Description) → ((g : Global) → o ≡ Some g → IsGlobal g) → description_of o ≡ Some d → IsDescription d
   global_described None d h e = absurd (none-some d e)
-  global_described (Some (OwnVariable v)) d h e = subst IsDescription (same_Some v.description d e) (h (OwnVariable v) refl).0.0
-  global_described (Some (ExternalVariable name v)) d h e = subst IsDescription (same_Some v.description d e) (h (ExternalVariable name v) refl).0.0
+  global_described (Some (OwnVariable kind v)) d h e = subst IsDescription (same_Some v.description d e) (h (OwnVariable kind v) refl).0.0
+  global_described (Some (ExternalVariable name kind v)) d h e = subst IsDescription (same_Some v.description d e) (h (ExternalVariable name kind v) refl).0.0
   global_described (Some (EntryPoint name s)) d h e = absurd (none-some d e)
 
   module _ (t : TypedUnit) (has : Has t) where
@@ -210,17 +213,19 @@ module _ (u : ExternalProcedure) (none : resolution_faults u ≡ []) where
         ) in
         ((omega (arith, found.0, near), has.slots block slot found.1 within), at_all IsDescription _ slot d (slots_described block) there)
 
-    global_fits : (blocks : List ℕ) (number : ℕ) (d : Description) → Standing 31 R blocks (OfProgram number) d
-        → IsRoot t (OfProgram number) × IsDescription d
-    global_fits blocks number d e = (
-      subst (λ (gs : List Global). number < length gs) (sym has.globals) (global_within Globals number d e),
-      global_described (slice_get Globals number) d (λ g is. at_all IsGlobal Globals number g all_globals_fit is) e,
-    )
+    global_fits : (kind : VariableKind) (number : ℕ) (d : Description) → described_as kind (slice_get Globals number) ≡ Some d
+        → (number < length t.globals) × IsDescription d
+    global_fits kind number d e =
+        let is = (described_parts kind (slice_get Globals number) d e).1 in (
+          subst (λ (gs : List Global). number < length gs) (sym has.globals) (global_within Globals number d is),
+          global_described (slice_get Globals number) d (λ g is. at_all IsGlobal Globals number g all_globals_fit is) is,
+        )
 
     root_fits : (blocks : List ℕ) (root : Root) (d : Description) → length blocks ≤ link_limit → IsInside blocks → Standing 31 R blocks root d
         → IsRoot t root × IsDescription d
     root_fits blocks (InSlot outward slot) d near inside h = slot_fits blocks outward slot d near inside h
-    root_fits blocks (OfProgram number) d near inside h = global_fits blocks number d h
+    root_fits blocks (OfProgram number) d near inside h = global_fits Static number d h
+    root_fits blocks (NewestOf number) d near inside h = global_fits Controlled number d h
 
     variable_fits : (blocks : List ℕ) (v : NamedVariable) → length blocks ≤ link_limit → IsInside blocks → Begins 31 R blocks v → IsVariable t v
     variable_fits blocks v near inside b =

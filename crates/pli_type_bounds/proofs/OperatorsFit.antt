@@ -24,19 +24,19 @@ use Rattle.pli_type.specs.ExpressionTypes.{prefix_value, infix_value, on_numbers
 use Rattle.pli_type.specs.ExpressionTypes.{string_type, string_as, on_strings, as_bits, compared, comparison, concatenation, of_bits_alone}
 use Rattle.pli_type.specs.ExpressionTypes.{number_as_characters, as_characters, only_bits, suited, converted, string_conversions, bit_conversions, suiting, conversions, printed_from}
 use Rattle.pli_type.specs.FunctionCalls.{Meant, OneValue, WholeAggregate, meant_as, Argument, Denoted, DenotesVariable, DenotesResult, meant_by}
-use Rattle.pli_type.specs.FunctionCalls.{call_type, operation_of, calculation, of_values, bound_value, bound_in, the_bound}
+use Rattle.pli_type.specs.FunctionCalls.{call_type, operation_of, calculation, of_values, bound_value, bound_in, the_bound, generations_in, generations_of}
 use Rattle.pli_type.specs.FunctionCalls.{value_in, values_in, divided, of_arguments, or_bad_argument, function_called, number_type}
 use Rattle.pli_type.specs.References.{Role}
 use Rattle.pli_type.specs.declared.expression_type.ExpressionType.{ExpressionType}
 use Rattle.pli_type.specs.declared.expression_type.ExpressionType.TheVariants as types
-use Rattle.pli_type_tree.specs.TypedTree.{TypedOperation, Fit, Operate, TypedExpression, TypedReference, TypedUnit}
+use Rattle.pli_type_tree.specs.TypedTree.{NewestOf, TypedOperation, Fit, Operate, TypedExpression, TypedReference, Whole, TypedUnit}
 use Rattle.pli_type_laws.proofs.Conversions.{OnGiven, given_if}
 use Rattle.pli_type_laws.proofs.Denotations.{OnRead}
 use Rattle.pli_type_laws.proofs.Operators.{given_map}
 use Rattle.pli_type_bounds.proofs.Meanings.{IsValue, IsReferent, IsMeant, IsDenoted, AreArgumentsGiven}
 use Rattle.pli_source_laws.specs.Sources.{IsWritten}
 use Rattle.pli_deck_laws.specs.Limits.{IsDescription, IsBound, AreBounds, IsOperation}
-use Rattle.pli_deck_laws.specs.WellFormed.{IsExpression, AreOperands}
+use Rattle.pli_deck_laws.specs.WellFormed.{IsExpression, IsReference, AreOperands}
 
 -- no number becomes more characters than a byte counts
 -- whatever it is made from
@@ -293,6 +293,15 @@ module _ (t : TypedUnit) where
   bound_of which keeps (WholeAggregate r) None h = tt
   bound_of which keeps (WholeAggregate r) (Some number) h = bound_within which keeps number r.description h.described
 
+  -- ALLOCATION
+  generations_fit : (r : TypedReference) → IsReference t r → OnGiven (IsValue t) (generations_in r)
+  generations_fit (Whole (NewestOf number)) h = h
+  generations_fit r h = tt
+
+  generations_given : (d : Denoted) → IsDenoted t d → OnGiven (IsValue t) (generations_of d)
+  generations_given (DenotesVariable r) h = generations_fit r.reference h.reference
+  generations_given (DenotesResult v) h = tt
+
   -- arguments that are values
   one_value_in : (m : Meant) → IsMeant t m → OnGiven (IsValue t) (value_in m)
   one_value_in (OneValue v) h = h
@@ -320,6 +329,7 @@ module _ (t : TypedUnit) where
       division_fits (meant_as x.denoted) (meant_as y.denoted) p.written (denoted_fits x.denoted h.0) (denoted_fits y.denoted h.1.0)
   arguments_give functions.LowBound (a ∷ n ∷ []) h = bound_of (λ b. b.low) (λ b k. k.1) (meant_as a.denoted) n.written (denoted_fits a.denoted h.0)
   arguments_give functions.HighBound (a ∷ n ∷ []) h = bound_of (λ b. b.high) (λ b k. k.2) (meant_as a.denoted) n.written (denoted_fits a.denoted h.0)
+  arguments_give functions.Allocation (a ∷ []) h = generations_given a.denoted h.0
   arguments_give function gs h = given_values function (values_in gs) (all_values_in gs h)
 
   or_bad : (at : ℕ) (o : Option TypedValue) → OnGiven (IsValue t) o → OnRead (IsValue t) (or_bad_argument at o)

@@ -12,7 +12,7 @@ use Rattle.pli_parse_expression.specs.Expressions.{Deeper}
 use Rattle.pli_resolve.specs.TreeBlocks as blocks
 use Rattle.pli_type.specs.Names.{NamedUnit, NamedAs}
 use Rattle.pli_type.specs.StatementTyping.{Enclosing, Surroundings, naming_at, block_at, leaves_nothing, assignment, items}
-use Rattle.pli_type.specs.StatementTyping.{condition, iteration, call_typed, goto_typed, return_typed, WithProcedures, of_own, together}
+use Rattle.pli_type.specs.StatementTyping.{condition, iteration, allocate_typed, free_typed, call_typed, goto_typed, return_typed, WithProcedures, of_own, together}
 use Rattle.pli_type.specs.StatementTyping.{made, head_of, function_end, procedure_of, as_procedure, put_before, inside, behind_limits, in_begin, in_group, in_procedure, with_labels, labels_of}
 use Rattle.pli_type.specs.StatementTyping.{statement_typed, body_typed, alternative_typed, statements_typed}
 use Rattle.pli_type.specs.Temporaries.{Next, behind, temporaries_in, temporaries_of, temporaries_among, temporaries_behind}
@@ -24,6 +24,7 @@ use Rattle.pli_type_tree.specs.Templates.{Template}
 use Rattle.pli_type_tree.specs.TypedTree as typed
 use Rattle.pli_type_tree.specs.TypedTree.{Form, TypedStatement, TypedStatements, OtherWise, NoElse, Else}
 use Rattle.pli_type_tree.specs.TypedTree.{Global, TypedProcedure, TypedUnit}
+use Rattle.pli_type_bounds.proofs.AllocationsFit.{allocate_fits, free_fits}
 use Rattle.pli_type_bounds.proofs.FormsFit.{condition_fits, items_fit, assignment_fits, call_fits, return_fits, goto_fits, iteration_fits}
 use Rattle.pli_type_laws.proofs.Denotations.{OnRead}
 use Rattle.pli_type_laws.proofs.TypedParts.{OnTyped}
@@ -284,6 +285,10 @@ module _ (t : TypedUnit) (program : ExternalProcedure) (is_later : ℕ → Bool)
         (alternative_fits i s (behind x consequence) (a + count consequence) alternative (fewer i s (subst (λ k. Sits size k s) e sits)) g.1 h.1
         (omega (arith, low)) (omega (arith, room)) l.2)))
     body_fits d m s x number at a tree.Stop sits n h lt low room l = ((tt, omega arith), tt)
+    body_fits d m s x number at a (tree.Allocate list) sits n h lt low room l =
+        form_fits t (allocate_typed (naming_at U s) list) (allocate_fits t (meaning (numbers s)) (known m s sits) list)
+    body_fits d m s x number at a (tree.Free list) sits n h lt low room l =
+        form_fits t (free_typed (naming_at U s) list) (free_fits t (meaning (numbers s)) (known m s sits) list l)
     body_fits d m s x number at a (tree.Call name arguments) sits n h lt low room l =
         form_fits t (call_typed (naming_at U s) name arguments) (call_fits t (meaning (numbers s)) (known m s sits) name arguments l)
     body_fits d m s x number at a (tree.Goto label) sits n h lt low room l =

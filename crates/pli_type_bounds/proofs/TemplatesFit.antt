@@ -25,13 +25,14 @@ use Rattle.pli_map.specs.Values.{holds}
 use Rattle.pli_resolve.specs.Symbols.{Symbol, SymbolKind, Variable, Member, Label, Procedure, Entry, BuiltIn}
 use Rattle.pli_resolve.specs.declared.symbol.StorageClass.{StorageClass}
 use Rattle.pli_type.specs.InitialScalars.{counted_from, scalars_on, scalars_in_member, as_held, each_with, values_written, InitialItem, initial_scalars, template_of}
-use Rattle.pli_type.specs.NamedUnits.{is_plain, all_plain, is_stored, is_static, member_items, template_at, templates_from}
+use Rattle.pli_type.specs.NamedUnits.{is_plain, all_plain, is_stored, is_global, kind_of_class, member_items, template_at, templates_from}
 use Rattle.pli_type.specs.NamedUnits.{global_of, global_with, globals_from, globals_of, all_globals}
 use Rattle.pli_type.specs.NamedUnits.{PlacedGlobal, placed, block_globals}
 use Rattle.pli_type.specs.TextOrder.{in_order}
 use Rattle.pli_type.proofs.TextNumbers.{same_items}
 use Rattle.pli_type_name_laws.proofs.PlainDescriptions.{plain_element, plain_members}
-use Rattle.pli_type_name_laws.proofs.RootsStand.{static_stored}
+use Rattle.pli_type_name_laws.proofs.RootsStand.{global_stored}
+use Rattle.pli_program.specs.declared.kind.VariableKind.{VariableKind}
 use Rattle.pli_type_tree.specs.Templates.{Template}
 use Rattle.pli_type_tree.specs.TypedTree.{Global}
 use Rattle.pli_value.specs.Numbers.{has_digits}
@@ -90,6 +91,9 @@ varying_kept k s le e = (le-leb _ k e, omega (arith, le, e))
 bits_kept : (k : ℕ) (s : List Bool) → k ≤ 32767 → length s ≡ k → IsKept (Bit k) (Bits s)
 bits_kept k s le e = (eq-eqb _ k e, omega (arith, le, e))
 
+bits_as_held : (k : ℕ) (s : List Bool) → nat_le k 32767 ≡ true → as_held (Bit k) (Bits s) ≡ Bits (fitted false k s)
+bits_as_held k s e = rw e refl
+
 few : (k : ℕ) → is_plain 31 (Character k) ≡ true → k ≤ 32767
 few k h = leb-true k 32767 (and_parts _ _ h).1
 
@@ -107,7 +111,8 @@ kept_is (Varying k) (Characters s) plain one = varying_kept k (take k s) (few k 
 kept_is (Varying k) (Number x) plain one = varying_kept k [] (few k plain) (omega arith)
 kept_is (Varying k) (Bits s) plain one = varying_kept k [] (few k plain) (omega arith)
 kept_is (Varying k) (Located l) plain one = varying_kept k [] (few k plain) (omega arith)
-kept_is (Bit k) (Bits s) plain one = bits_kept k (fitted false k s) (few k plain) (fitted_length false k s)
+kept_is (Bit k) (Bits s) plain one =
+    subst (IsKept (Bit k)) (sym (bits_as_held k s (and_parts _ _ plain).1)) (bits_kept k (fitted false k s) (few k plain) (fitted_length false k s))
 kept_is (Bit k) (Number x) plain one = bits_kept k (replicate k false) (few k plain) (length-replicate k false)
 kept_is (Bit k) (Characters s) plain one = bits_kept k (replicate k false) (few k plain) (length-replicate k false)
 kept_is (Bit k) (Located l) plain one = bits_kept k (replicate k false) (few k plain) (length-replicate k false)
@@ -293,18 +298,18 @@ pub all_described : (ds : List Description) → AllByRecursion IsMade ds → All
 all_described [] h = tt
 all_described (d ∷ ds) h = (h.0.0, all_described ds h.1)
 
-scoped_fit : (scope : ScopeAttribute) (name : Name) (ts : List Template) → AllByRecursion IsTemplate ts
-    → AllByRecursion IsGlobal (map (global_of scope name) ts)
-scoped_fit scope name [] h = tt
-scoped_fit scopes.Internal name (t ∷ ts) h = (h.0, scoped_fit scopes.Internal name ts h.1)
-scoped_fit scopes.External name (t ∷ ts) h = (h.0, scoped_fit scopes.External name ts h.1)
+scoped_fit : (scope : ScopeAttribute) (kind : VariableKind) (name : Name) (ts : List Template) → AllByRecursion IsTemplate ts
+    → AllByRecursion IsGlobal (map (global_of scope kind name) ts)
+scoped_fit scope kind name [] h = tt
+scoped_fit scopes.Internal kind name (t ∷ ts) h = (h.0, scoped_fit scopes.Internal kind name ts h.1)
+scoped_fit scopes.External kind name (t ∷ ts) h = (h.0, scoped_fit scopes.External kind name ts h.1)
 
 module _ (all : List Symbol) where
   global_fits : (number : ℕ) (name : Name) (kind : SymbolKind) → IsLimited kind → HasFewInitial all number kind
       → AllByRecursion IsGlobal (global_with 31 all number name kind)
   global_fits number name (Variable d class scope values area) h few =
-      scoped_fit scope name (template_at (is_static 31) all number (Variable d class scope values area))
-      (symbol_fits (is_static 31) (static_stored 31) all number (Variable d class scope values area) h few)
+      scoped_fit scope (kind_of_class class) name (template_at (is_global 31) all number (Variable d class scope values area))
+      (symbol_fits (is_global 31) (global_stored 31) all number (Variable d class scope values area) h few)
   global_fits number name (Member root path values area) h few = tt
   global_fits number name (Label statement) h few = tt
   global_fits number name (Procedure block returned area) h few = tt

@@ -101,6 +101,20 @@ no_bound greatest functions.Empty p gs h = absurd (false≢true p)
 no_bound greatest functions.Pointer p gs h = absurd (false≢true p)
 no_bound greatest functions.Offset p gs h = absurd (false≢true p)
 
+-- nor generations
+
+generations_of_values : (greatest : ℕ) (vs : Option (List TypedValue))
+    → None ≡ option_and_then (of_values greatest functions.Allocation) vs
+generations_of_values greatest None = refl
+generations_of_values greatest (Some vs) = refl
+
+-- but of one argument there may be generations
+pub no_generations : (greatest : ℕ) (gs : List Argument) → (length gs ≡ 1 → ⊥)
+    → None ≡ of_arguments greatest functions.Allocation gs
+no_generations greatest [] h = refl
+no_generations greatest (a ∷ []) h = absurd (h refl)
+no_generations greatest (a ∷ b ∷ gs) h = generations_of_values greatest (values_in (a ∷ b ∷ gs))
+
 -- and of three a quotient
 pub no_quotient : (greatest : ℕ) (gs : List Argument) → (length gs ≡ 3 → ⊥)
     → None ≡ of_arguments greatest functions.Divide gs

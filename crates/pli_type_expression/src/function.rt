@@ -16,7 +16,7 @@ use crate::role::Role;
 use pli_base::{Code, fault};
 use pli_map::{Bounds, Description};
 use pli_resolve::BuiltInFunction;
-use pli_type::{ExpressionType, TypedValue, call, quotient};
+use pli_type::{ExpressionType, TypedValue, call, generations, quotient};
 use pli_type_tree::TypedExpression;
 use pli_value::Value;
 use std::alloc::{AllocError, Global};
@@ -25,7 +25,8 @@ use std::alloc::{AllocError, Global};
 const BOUND_PRECISION: u8 = 15;
 
 /// For what the arguments of a built-in function stand, where it may have so many: SUBSTR has two or three. The array
-/// of LBOUND and HBOUND is not evaluated, and their number and the precision of DIVIDE are constants (X3.74).
+/// of LBOUND and HBOUND and the variable of ALLOCATION are not evaluated, and the number of a dimension and the
+/// precision of DIVIDE are constants (X3.74).
 pub(crate) fn roles_of(function: BuiltInFunction, given: usize) -> Option<&'static [Role]>
     ensures { option_map (λ roles. map role_view roles.now) result ≡ spec.roles_of function given }
 {
@@ -39,6 +40,7 @@ pub(crate) fn roles_of(function: BuiltInFunction, given: usize) -> Option<&'stat
         | BuiltInFunction::Substring => &[Role::Value, Role::Value],
         BuiltInFunction::Divide => &[Role::Value, Role::Value, Role::Argument],
         BuiltInFunction::LowBound | BuiltInFunction::HighBound => &[Role::Argument, Role::Argument],
+        BuiltInFunction::Allocation => &[Role::Argument],
         _ => return None,
     };
     if given == roles.len() {
@@ -185,6 +187,27 @@ fn bound_called(function: BuiltInFunction, arguments: &[Argument<'_>]) -> Option
     Some(bound_value(bound))
 }
 
+/// How many generations a whole CONTROLLED variable has that is denoted; none of anything else.
+fn generations_of(denoted: &Denoted<'_>) -> Option<TypedValue>
+    ensures { option_map value_view result ≡ spec.generations_of (denoted_view denoted.now) }
+{
+    match denoted {
+        Denoted::Variable(referent) => generations(&referent.reference),
+        Denoted::Result(_) => None,
+    }
+}
+
+/// What ALLOCATION gives of its argument.
+fn allocation_called(arguments: &[Argument<'_>]) -> Option<TypedValue>
+    ensures { (greatest : ℕ) → option_map value_view result
+        ≡ spec.of_arguments greatest BuiltInFunction.Allocation (map argument_view arguments.now) }
+{
+    let [variable] = arguments else {
+        return None;
+    };
+    generations_of(&variable.denoted)
+}
+
 /// What DIVIDE gives of its arguments.
 fn divide_called(
     alloc: Global,
@@ -220,6 +243,7 @@ fn of_arguments(
         BuiltInFunction::LowBound | BuiltInFunction::HighBound => {
             Ok(bound_called(function, arguments.as_slice()))
         }
+        BuiltInFunction::Allocation => Ok(allocation_called(arguments.as_slice())),
         _ => match values_in(alloc, arguments)? {
             Some(values) => of_values(alloc, greatest, function, values),
             None => Ok(None),

@@ -11,19 +11,21 @@ use Rattle.pli_resolve.specs.declared.built_in.BuiltInFunction.{BuiltInFunction}
 use Rattle.pli_resolve.specs.declared.built_in.BuiltInFunction.TheVariants as functions
 use Rattle.pli_type.specs.ExpressionTypes.{TypedValue, precision_of, precisions, all_operands}
 use Rattle.pli_type.specs.FunctionCalls.{Meant, OneValue, WholeAggregate, meant_as, Argument, calculation, of_values, string_kind, with_number, of_one_kind}
-use Rattle.pli_type.specs.FunctionCalls.{a_count, number_type, bound_value, bound_in, the_bound, value_in, values_in}
+use Rattle.pli_type.specs.FunctionCalls.{Denoted, DenotesVariable, DenotesResult, a_count, number_type, bound_value, bound_in, the_bound, generations_in, generations_of, value_in, values_in}
 use Rattle.pli_type.specs.FunctionCalls.{divided, of_arguments, or_bad_argument, function_called}
 use Rattle.pli_type.specs.NamedUnits.{is_plain, are_bounds}
 use Rattle.pli_type.specs.References.{Role}
 use Rattle.pli_type.specs.declared.expression_type.ExpressionType.{ExpressionType}
 use Rattle.pli_type.specs.declared.expression_type.ExpressionType.TheVariants as types
 use Rattle.pli_type_laws.proofs.Conversions.{OnGiven, given_if}
-use Rattle.pli_type_laws.proofs.Denotations.{OnRead, IsMeant, AreArguments, denoted_meant}
+use Rattle.pli_type_laws.proofs.Denotations.{OnRead, IsMeant, IsDenoted, AreArguments, denoted_meant}
 use Rattle.pli_type_laws.proofs.Operators.{HasValue, has_precision, have_precisions, of_one, of_two, AreNumbers}
 use Rattle.pli_type_laws.specs.ExpressionTyping.{HasType, IsNumber}
-use Rattle.pli_type_tree.specs.TypedTree.{Operate, TypedExpression, Calculated}
+use Rattle.pli_program.specs.declared.kind.VariableKind.TheVariants.{Controlled}
+use Rattle.pli_type_tree.specs.laws.GlobalLaws.{described_parts}
+use Rattle.pli_type_tree.specs.TypedTree.{NewestOf, Operate, TypedExpression, Calculated, TypedReference, Whole}
 use Rattle.pli_type_tree.specs.ValueTypes.{ValueType, Numbers, OfCharacters, OfBits, Computes}
-use Rattle.pli_type_tree.specs.WellTyped.{TypingContext, IsTyped}
+use Rattle.pli_type_tree.specs.WellTyped.{TypingContext, IsTyped, IsPlaced}
 
 abbrev pub AreValues : TypingContext → List TypedValue → Type 0
 AreValues s [] = Unit {0}
@@ -223,6 +225,16 @@ module _ (s : TypingContext) where
   bound_of which small (WholeAggregate r) None h = tt
   bound_of which small (WholeAggregate r) (Some number) h = bound_within which small number (r.description) h.1
 
+  -- numbers of generations
+  generations_typed : (r : TypedReference) (d : Description) → IsPlaced 31 s r d → OnGiven (HasValue s) (generations_in r)
+  generations_typed (Whole (NewestOf number)) d placed =
+      (15, ((described_parts Controlled (slice_get s.globals number) d placed).0, refl), (omega arith, omega arith, omega arith))
+  generations_typed r d placed = tt
+
+  generations_given : (d : Denoted) → IsDenoted s d → OnGiven (HasValue s) (generations_of d)
+  generations_given (DenotesVariable r) h = generations_typed r.reference r.description h.0
+  generations_given (DenotesResult v) h = tt
+
   -- arguments that are values
   one_value_in : (m : Meant) → IsMeant s m → OnGiven (HasValue s) (value_in m)
   one_value_in (OneValue v) h = h
@@ -259,6 +271,7 @@ module _ (s : TypingContext) where
       bound_of (λ b. b.low) (λ bs e. (bounds_small bs e).0) (meant_as a.denoted) n.written (denoted_meant s a.denoted h.0)
   arguments_give functions.HighBound (a ∷ n ∷ []) h =
       bound_of (λ b. b.high) (λ bs e. (bounds_small bs e).1) (meant_as a.denoted) n.written (denoted_meant s a.denoted h.0)
+  arguments_give functions.Allocation (a ∷ []) h = generations_given a.denoted h.0
   arguments_give function gs h = by_values function gs h
 
   or_bad : (at : ℕ) (o : Option TypedValue) → OnGiven (HasValue s) o → OnRead (HasValue s) (or_bad_argument at o)

@@ -1,3 +1,4 @@
+pub mod Allocations
 pub mod BlocksKnown
 pub mod Calls
 pub mod CheckedUnits

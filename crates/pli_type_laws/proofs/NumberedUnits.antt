@@ -15,7 +15,7 @@ use Rattle.pli_parse_expression.specs.Expressions.{Deeper}
 use Rattle.pli_type.specs.Checked.{in_unit, first_inside, external_of, unit_of, typed_as, checked, unless_unbuilt}
 use Rattle.pli_type.specs.Names.{NamedUnit}
 use Rattle.pli_type.specs.StatementTyping.{Surroundings, naming_at, block_at, leaves_nothing, assignment, items, condition, iteration}
-use Rattle.pli_type.specs.StatementTyping.{call_typed, goto_typed, return_typed, WithProcedures, alone, of_own, together, made, head_of}
+use Rattle.pli_type.specs.StatementTyping.{allocate_typed, free_typed, call_typed, goto_typed, return_typed, WithProcedures, alone, of_own, together, made, head_of}
 use Rattle.pli_type.specs.StatementTyping.{procedure_of, as_procedure, put_before, inside, behind_limits, in_group, in_begin, in_procedure}
 use Rattle.pli_type.specs.StatementTyping.{statement_typed, body_typed, alternative_typed, statements_typed}
 use Rattle.pli_resolve.specs.TreeBlocks as blocks
@@ -27,7 +27,7 @@ use Rattle.pli_type_laws.proofs.Denotations.{OnRead}
 use Rattle.pli_type_laws.proofs.NumberedParts.{AreRoomy, roomy_both, blocks_within, Good, good_alone, good_made, good_both}
 use Rattle.pli_type_laws.proofs.NumberedParts.{HereForm, HereStatement, HereElse, HereList, GoodForm, GoodStatement, GoodElse, GoodList}
 use Rattle.pli_type_laws.proofs.NumberedParts.{good_numbered, good_begin, good_procedure}
-use Rattle.pli_type_laws.proofs.Shapes.{IsSimple, simple_assignment, simple_goto, simple_call, simple_return, HasOwn, iteration_keeps}
+use Rattle.pli_type_laws.proofs.Shapes.{IsSimple, simple_assignment, simple_goto, simple_call, simple_return, simple_allocate, simple_free, HasOwn, iteration_keeps}
 use Rattle.pli_type_laws.proofs.TypedParts.{OnTyped}
 use Rattle.pli_type_laws.specs.TypedUnits.{TypedUnitsAreNumbered}
 use Rattle.pli_type_name_laws.specs.Nesting.{NestsWithin, BodyNests, ListNests, ElseNests}
@@ -296,6 +296,12 @@ module _ (u : NamedUnit) where
     body_good d m s x number at a (tree.Assign target equals value) few n h =
         own_good m x.temporary _ a (a + 0) x.block (x.block + 0) (assignment (naming_at u s) at target equals value) (omega arith)
         (omega arith) (simple_assignment (naming_at u s) at target equals value)
+    body_good d m s x number at a (tree.Allocate list) few n h =
+        own_good m x.temporary _ a (a + 0) x.block (x.block + 0) (allocate_typed (naming_at u s) list) (omega arith)
+        (omega arith) (simple_allocate (naming_at u s) list)
+    body_good d m s x number at a (tree.Free list) few n h =
+        own_good m x.temporary _ a (a + 0) x.block (x.block + 0) (free_typed (naming_at u s) list) (omega arith)
+        (omega arith) (simple_free (naming_at u s) list)
     body_good d m s x number at a (tree.Call name arguments) few n h =
         own_good m x.temporary _ a (a + 0) x.block (x.block + 0) (call_typed (naming_at u s) name arguments) (omega arith)
         (omega arith) (simple_call (naming_at u s) name arguments)

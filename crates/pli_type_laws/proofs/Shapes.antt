@@ -3,7 +3,7 @@ use Rattle.std.specs.Prelude.{◌≡◌, ℕ, suc, Option, Some, None, is_none, 
 use Rattle.std.specs.Prelude.{Result, Ok, Err, refl}
 use Rattle.pli_base.specs.Results.{◌>>=◌}
 use Rattle.pli_base.specs.Statements as tree
-use Rattle.pli_base.specs.Statements.{Range}
+use Rattle.pli_base.specs.Statements.{Range, Allocation}
 use Rattle.pli_base.specs.Syntax.{Expression, Referred, Reference, Arguments}
 use Rattle.pli_base.specs.declared.code.Code.{Code}
 use Rattle.pli_base.specs.declared.code.Code.TheVariants.{CannotAssign, NotYetBuilt}
@@ -12,13 +12,14 @@ use Rattle.pli_base.specs.declared.token.Fault.{Fault}
 use Rattle.pli_map.specs.Description.{Description}
 use Rattle.pli_map.specs.Same.{same}
 use Rattle.pli_map.specs.Scalars.{is_aggregate}
+use Rattle.pli_type.specs.AllocationTyping.{in_turn, allocated, freed}
 use Rattle.pli_type.specs.ExpressionTypes.{TypedValue, converted, conversions}
 use Rattle.pli_type.specs.FunctionCalls.{Denoted, DenotesVariable, DenotesResult, Meant, OneValue, WholeAggregate, Argument}
 use Rattle.pli_type.specs.Names.{NamedAs, AVariable, AFunction, AProcedure, ALabel, Untyped, Naming}
 use Rattle.pli_type.specs.ProcedureCalls.{arguments_passed}
 use Rattle.pli_type.specs.References.{AsArgument, AsLocator, AsTarget, Referent}
 use Rattle.pli_type.specs.StatementTyping.{aggregate_assigned, assigned, assignment, Surroundings, label_found, jump_to, jump, goto_typed}
-use Rattle.pli_type.specs.StatementTyping.{arguments_typed, no_function, call_of, call_typed, returned_value, return_typed}
+use Rattle.pli_type.specs.StatementTyping.{arguments_typed, no_function, call_of, call_typed, returned_value, return_typed, allocate_typed, free_typed}
 use Rattle.pli_type.specs.StatementTyping.{limit, limits, controls, possible_condition, with_repeat, iteration}
 use Rattle.pli_type.specs.Temporaries.{limits_kept}
 use Rattle.pli_type.specs.Typing.{first_token, or_fault, meant, referred, value_of}
@@ -103,6 +104,12 @@ pub simple_return : (n : Naming) (s : Surroundings) (at : ℕ) (v : Option Expre
 simple_return n s at None = read_if IsSimple (is_none s.value) _ _ tt tt
 simple_return n s at (Some e) =
     read_any IsSimple (value_of n e) _ (λ v. simple_returned n.greatest at (first_token e) s.begins s.value v)
+
+pub simple_allocate : (n : Naming) (list : List Allocation) → OnRead IsSimple (allocate_typed n list)
+simple_allocate n list = read_any IsSimple (in_turn (allocated n) list) _ (λ xs. tt)
+
+pub simple_free : (n : Naming) (list : List Reference) → OnRead IsSimple (free_typed n list)
+simple_free n list = read_any IsSimple (in_turn (freed n) list) _ (λ xs. tt)
 
 -- ---- iterations
 

@@ -11,13 +11,14 @@ use Rattle.pli_resolve.specs.declared.block_numbers.ResolvedBlockKind.TheVariant
 use Rattle.pli_type.specs.Names.{NamedUnit, NamedAs, Compiled}
 use Rattle.pli_type.specs.StatementTyping as source
 use Rattle.pli_type.specs.StatementTyping.{Enclosing, enclosing, Surroundings, naming_at, block_at, leaves_nothing, assignment, items}
-use Rattle.pli_type.specs.StatementTyping.{condition, iteration, call_typed, goto_typed, return_typed, WithProcedures, of_own, together}
+use Rattle.pli_type.specs.StatementTyping.{condition, iteration, allocate_typed, free_typed, call_typed, goto_typed, return_typed, WithProcedures, of_own, together}
 use Rattle.pli_type.specs.StatementTyping.{made, head_of, function_end, procedure_of, as_procedure, put_before, inside, behind_limits}
 use Rattle.pli_type.specs.StatementTyping.{statement_typed, body_typed, alternative_typed, statements_typed}
 use Rattle.pli_resolve.specs.TreeBlocks as blocks
 use Rattle.pli_type.specs.Temporaries.{Next, behind}
 use Rattle.pli_type.specs.Unbuilt.{later_expression, later_control, or_else, token_if, later_statement}
 use Rattle.pli_type.specs.Unbuilt.{later_body, later_alternative, later_statements}
+use Rattle.pli_type_laws.proofs.Allocations.{allocate_is_typed, free_is_typed}
 use Rattle.pli_type_laws.proofs.BlocksKnown.{Within, within_self, within_both, within_behind, begun_count, Sits, sits_parts}
 use Rattle.pli_type_laws.proofs.BlocksKnown.{AreHome, home_labels, StandsDirectly}
 use Rattle.pli_type_laws.proofs.Contexts.{Knows, around_self, group_known, label_known, known_as, own_procedure, procedure_there}
@@ -323,6 +324,12 @@ module _ (program : ExternalProcedure) (is_later : ℕ → Bool) (meaning : List
           (λ y z h k. (h, k)) (statement_is_typed s x consequence inner.0 home within places.0 t knows)
           (alternative_is_typed s (behind x consequence) alternative inner.1 home within places.1 t knows))
       body_is_typed s x number first at tree.Stop l home within sits t knows = (tt, tt, tt)
+      body_is_typed s x number first at (tree.Allocate list) l home within sits t knows =
+          typed_own U (IsTypedForm 31 t) x.block (allocate_typed (naming_at U s) list)
+          (allocate_is_typed is_later (meaning (numbers s)) t (known s home t knows) list)
+      body_is_typed s x number first at (tree.Free list) l home within sits t knows =
+          typed_own U (IsTypedForm 31 t) x.block (free_typed (naming_at U s) list)
+          (free_is_typed is_later (meaning (numbers s)) t (known s home t knows) list (no_token _ first l))
       body_is_typed s x number first at (tree.Call name arguments) l home within sits t knows =
           typed_own U (IsTypedForm 31 t) x.block (call_typed (naming_at U s) name arguments)
           (call_is_typed is_later (meaning (numbers s)) t (known s home t knows) name arguments (no_token _ first l))

@@ -21,11 +21,12 @@ use Rattle.pli_map.proofs.FirstHeld.{firsts_held}
 use Rattle.pli_resolve.specs.Symbols.{Symbol, SymbolKind, Variable, Member, Label, Procedure, Entry, BuiltIn}
 use Rattle.pli_resolve.specs.declared.symbol.StorageClass.{StorageClass}
 use Rattle.pli_type.specs.InitialScalars.{InitialItem, initial_scalars, template_of}
-use Rattle.pli_type.specs.NamedUnits.{is_plain, is_stored, is_static, member_items, template_at, templates_from}
+use Rattle.pli_type.specs.NamedUnits.{is_plain, is_stored, is_global, kind_of_class, member_items, template_at, templates_from}
 use Rattle.pli_type.specs.NamedUnits.{global_of, global_with, globals_from, globals_of, all_globals}
 use Rattle.pli_type.specs.NamedUnits.{PlacedGlobal, placed, block_globals}
 use Rattle.pli_type.specs.TextOrder.{in_order}
 use Rattle.pli_type.proofs.TextNumbers.{same_items}
+use Rattle.pli_program.specs.declared.kind.VariableKind.{VariableKind}
 use Rattle.pli_type_tree.specs.Globals.{templates_in}
 use Rattle.pli_type_tree.specs.Templates.{InitialScalar, Template, with_initial, variable_of}
 use Rattle.pli_type_tree.specs.TypedTree.{Global, OwnVariable, ExternalVariable, EntryPoint}
@@ -97,17 +98,17 @@ module _ (n : ℕ) (is_such : StorageClass → Description → Bool) (stored : (
 
 -- ---- globals
 
-scoped_made : (scope : ScopeAttribute) (name : Name) (ts : List Template) (rest : List Global) → AreMade (map variable_of ts)
-    → AreMade (map variable_of (templates_in rest)) → AreMade (map variable_of (templates_in (map (global_of scope name) ts ++ rest)))
-scoped_made scope name [] rest h g = g
-scoped_made scopes.Internal name (t ∷ ts) rest h g = (h.0, scoped_made scopes.Internal name ts rest h.1 g)
-scoped_made scopes.External name (t ∷ ts) rest h g = (h.0, scoped_made scopes.External name ts rest h.1 g)
+scoped_made : (scope : ScopeAttribute) (kind : VariableKind) (name : Name) (ts : List Template) (rest : List Global) → AreMade (map variable_of ts)
+    → AreMade (map variable_of (templates_in rest)) → AreMade (map variable_of (templates_in (map (global_of scope kind name) ts ++ rest)))
+scoped_made scope kind name [] rest h g = g
+scoped_made scopes.Internal kind name (t ∷ ts) rest h g = (h.0, scoped_made scopes.Internal kind name ts rest h.1 g)
+scoped_made scopes.External kind name (t ∷ ts) rest h g = (h.0, scoped_made scopes.External kind name ts rest h.1 g)
 
 both_made : (xs ys : List Global) → AreMade (map variable_of (templates_in xs)) → AreMade (map variable_of (templates_in ys))
     → AreMade (map variable_of (templates_in (xs ++ ys)))
 both_made [] ys h g = g
-both_made (OwnVariable t ∷ xs) ys h g = (h.0, both_made xs ys h.1 g)
-both_made (ExternalVariable name t ∷ xs) ys h g = (h.0, both_made xs ys h.1 g)
+both_made (OwnVariable kind t ∷ xs) ys h g = (h.0, both_made xs ys h.1 g)
+both_made (ExternalVariable name kind t ∷ xs) ys h g = (h.0, both_made xs ys h.1 g)
 both_made (EntryPoint name signature ∷ xs) ys h g = both_made xs ys h g
 
 abbrev GlobalsMade : List Global → Type 0
@@ -118,14 +119,14 @@ IsGlobalMade g = GlobalsMade (g ∷ [])
 
 each_made : (gs : List Global) → GlobalsMade gs → AllByRecursion IsGlobalMade gs
 each_made [] h = tt
-each_made (OwnVariable t ∷ gs) h = ((h.0, tt), each_made gs h.1)
-each_made (ExternalVariable name t ∷ gs) h = ((h.0, tt), each_made gs h.1)
+each_made (OwnVariable kind t ∷ gs) h = ((h.0, tt), each_made gs h.1)
+each_made (ExternalVariable name kind t ∷ gs) h = ((h.0, tt), each_made gs h.1)
 each_made (EntryPoint name signature ∷ gs) h = (tt, each_made gs h)
 
 made_again : (gs : List Global) → AllByRecursion IsGlobalMade gs → GlobalsMade gs
 made_again [] h = tt
-made_again (OwnVariable t ∷ gs) h = (h.0.0, made_again gs h.1)
-made_again (ExternalVariable name t ∷ gs) h = (h.0.0, made_again gs h.1)
+made_again (OwnVariable kind t ∷ gs) h = (h.0.0, made_again gs h.1)
+made_again (ExternalVariable name kind t ∷ gs) h = (h.0.0, made_again gs h.1)
 made_again (EntryPoint name signature ∷ gs) h = made_again gs h.1
 
 -- without the tokens of their names
@@ -136,14 +137,14 @@ alone_placed : (at : ℕ) (gs : List Global) → alone (map (placed at) gs) ≡ 
 alone_placed at [] = refl
 alone_placed at (g ∷ gs) = ap (λ others. g ∷ others) (alone_placed at gs)
 
-module _ (n : ℕ) (stored : (class : StorageClass) (d : Description) → is_static n class d ≡ true → is_stored n d ≡ true) where
+module _ (n : ℕ) (stored : (class : StorageClass) (d : Description) → is_global n class d ≡ true → is_stored n d ≡ true) where
   global_made : (all : List Symbol) (number : ℕ) (name : Name) (kind : SymbolKind) (rest : List Global)
       → AreMade (map variable_of (templates_in rest)) → AreMade (map variable_of (templates_in (global_with n all number name kind ++ rest)))
   global_made all number name (Variable d class scope initial area) rest h =
-      let ts : List Template = template_at (is_static n) all number (Variable d class scope initial area) in
-      scoped_made scope name ts rest
+      let ts : List Template = template_at (is_global n) all number (Variable d class scope initial area) in
+      scoped_made scope (kind_of_class class) name ts rest
       (subst (λ us. AreMade (map variable_of us)) (append-nil ts)
-      (symbol_made n (is_static n) stored all number (Variable d class scope initial area) [] tt)) h
+      (symbol_made n (is_global n) stored all number (Variable d class scope initial area) [] tt)) h
   global_made all number name (Member root path initial area) rest h = h
   global_made all number name (Label statement) rest h = h
   global_made all number name (Procedure block returned area) rest h = h

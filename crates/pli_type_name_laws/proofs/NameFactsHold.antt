@@ -13,8 +13,9 @@ use Rattle.pli_type.specs.NamedUnits.{is_plain, is_stored, is_automatic, block_s
 use Rattle.pli_type.specs.NamedUnits.{outward_to, is_reached, is_procedure, stands_around, gives_stored}
 use Rattle.pli_type.specs.NamedUnits.{named_procedure, named_unit}
 use Rattle.pli_type.specs.Names.{NamedUnit, NamedVariable, NamedProcedure}
-use Rattle.pli_type_tree.specs.Globals.{description_of, signature_of}
-use Rattle.pli_type_tree.specs.TypedTree.{Callee, OfBlock, OfEntry, Root, InSlot, OfProgram}
+use Rattle.pli_program.specs.declared.kind.VariableKind.TheVariants.{Static, Controlled}
+use Rattle.pli_type_tree.specs.Globals.{described_as, signature_of}
+use Rattle.pli_type_tree.specs.TypedTree.{Callee, OfBlock, OfEntry, Root, InSlot, OfProgram, NewestOf}
 use Rattle.pli_type_tree.specs.WellTyped.{BlockAround, TypingContext, slot_of, root_of}
 use Rattle.pli_type_name_laws.specs.NameFacts.{HaveSlots, VariableFacts, BlockCalled, IsCalled, ProcedureFacts, NameFacts}
 use Rattle.pli_type_name_laws.specs.SourceBlocks.{SourceBlock, unit_blocks, innermost, slots_in}
@@ -22,7 +23,7 @@ use Rattle.pli_type_name_laws.specs.UnitBlocks.{in_unit, in_tree, BlocksAreOfTre
 use Rattle.pli_type_name_laws.proofs.InitialHeld.{all_made, globals_behind}
 use Rattle.pli_type_name_laws.proofs.NamesMean.{Begins, IsThere, IsNamed, variable_begins, procedure_named_so, is_a_procedure, around, same_place}
 use Rattle.pli_type_name_laws.proofs.PartsOfNames.{part_stands, subscripts_lead, whole_is}
-use Rattle.pli_type_name_laws.proofs.RootsStand.{Standing, automatic_stored, static_stored, entry_stands}
+use Rattle.pli_type_name_laws.proofs.RootsStand.{Standing, automatic_stored, global_stored, entry_stands}
 
 stored_plain : (n : ℕ) (d : Description) → is_stored n d ≡ true → is_plain n d ≡ true
 stored_plain n d h = (and_parts (is_plain n d) (nat_le (size_of d) 1000000) h).0
@@ -62,7 +63,9 @@ module _ (r : ResolvedUnit) where
   in_context blocks s (InSlot outward slot) d globals slots h =
       slot_there U blocks s.blocks h.0 outward slot d slots h.1 h.2
   in_context blocks s (OfProgram number) d globals slots h =
-      ap (λ gs. description_of (slice_get gs number)) globals ∙ h
+      ap (λ gs. described_as Static (slice_get gs number)) globals ∙ h
+  in_context blocks s (NewestOf number) d globals slots h =
+      ap (λ gs. described_as Controlled (slice_get gs number)) globals ∙ h
 
   variable_facts : (blocks : List ℕ) (v : NamedVariable) → Begins 31 r blocks v → VariableFacts U blocks v
   variable_facts blocks v b =
@@ -151,5 +154,5 @@ module _ (r : ResolvedUnit) where
       automatic = λ block.
           all_made 31 (is_automatic 31) (automatic_stored 31) (block_symbols r block) 0
           (block_symbols r block);
-      globals = globals_behind 31 (static_stored 31) (all_symbols r);
+      globals = globals_behind 31 (global_stored 31) (all_symbols r);
     }

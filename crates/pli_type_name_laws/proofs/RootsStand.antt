@@ -16,7 +16,7 @@ use Rattle.pli_resolve.specs.declared.symbol.StorageClass.{StorageClass}
 use Rattle.pli_resolve.specs.declared.symbol.StorageClass.TheVariants as classes
 use Rattle.pli_resolve.specs.declared.symbol.SymbolKey.{SymbolKey}
 use Rattle.pli_type.specs.InitialScalars.{template_of}
-use Rattle.pli_type.specs.NamedUnits.{is_stored, is_automatic, is_static, one_such, such_before, one_global, globals_before, globals_in}
+use Rattle.pli_type.specs.NamedUnits.{is_stored, is_automatic, is_global, kind_of_class, one_such, such_before, one_global, globals_before, globals_in}
 use Rattle.pli_type.specs.NamedUnits.{parameter_numbers, description_in, parameters_of, outward_to, in_slot, is_parameter}
 use Rattle.pli_type.specs.NamedUnits.{root_of, member_items, template_at, templates_from, templates_of}
 use Rattle.pli_type.specs.NamedUnits.{block_symbols, global_number, global_of, global_with, globals_from, globals_of, all_globals}
@@ -24,8 +24,10 @@ use Rattle.pli_type.specs.NamedUnits.{PlacedGlobal, placed, global_at, global_to
 use Rattle.pli_type.specs.TextOrder.{in_order, text_places}
 use Rattle.pli_type.proofs.TextNumbers.{stands_in_text}
 use Rattle.pli_type_tree.specs.Templates.{Template}
-use Rattle.pli_type_tree.specs.Globals.{description_of, signature_of}
-use Rattle.pli_type_tree.specs.TypedTree.{Global, EntryPoint, Root, InSlot, OfProgram}
+use Rattle.pli_program.specs.declared.kind.VariableKind.{VariableKind}
+use Rattle.pli_program.specs.declared.kind.VariableKind.TheVariants.{Static, Controlled}
+use Rattle.pli_type_tree.specs.Globals.{described_as, signature_of}
+use Rattle.pli_type_tree.specs.TypedTree.{Global, EntryPoint, Root, InSlot, OfProgram, NewestOf}
 
 abbrev pub descriptions : List Template → List Description
 descriptions ts = map (λ t. t.description) ts
@@ -117,7 +119,7 @@ if_counted f false t = refl
 global_counted : (n : ℕ) (all : List Symbol) (number : ℕ) (name : Name) (kind : SymbolKind)
     → length (global_with n all number name kind) ≡ one_global n kind
 global_counted n all number name (Variable d class scope initial area) =
-    if_counted (global_of scope name) (is_static n class d)
+    if_counted (global_of scope (kind_of_class class) name) (is_global n class d)
     (template_of d (record { path = []; values = initial } ∷ member_items number all))
 global_counted n all number name (Entry parameters returned) = length_one (EntryPoint name (record { parameters = parameters; result = returned })) []
 global_counted n all number name (Member root path initial area) = refl
@@ -213,9 +215,11 @@ module _ (n : ℕ) where
       ∙ stands_in_text token (block_globals n all) inner p found)
 
 -- a variable, by its scope
-global_described : (scope : ScopeAttribute) (name : Name) (t : Template) → description_of (Some (global_of scope name t)) ≡ Some t.description
-global_described scopes.Internal name t = refl
-global_described scopes.External name t = refl
+global_described : (scope : ScopeAttribute) (kind : VariableKind) (name : Name) (t : Template) → described_as kind (Some (global_of scope kind name t)) ≡ Some t.description
+global_described scopes.Internal Static name t = refl
+global_described scopes.Internal Controlled name t = refl
+global_described scopes.External Static name t = refl
+global_described scopes.External Controlled name t = refl
 
 -- ---- where a variable begins
 
@@ -233,23 +237,27 @@ such is_such class d (Procedure block returned area) h e = absurd h
 such is_such class d (Entry parameters returned) h e = absurd h
 such is_such class d BuiltIn h e = absurd h
 
--- a STATIC variable is a global of its description
-abbrev IsGlobal : (n : ℕ) (all : List Symbol) (number : ℕ) (name : Name) (kind : SymbolKind) (d : Description) → Type 0
-IsGlobal n all number name kind d =
-    (g : Global) × (global_with n all number name kind ≡ g ∷ []) × (description_of (Some g) ≡ Some d)
+-- a STATIC or CONTROLLED variable is a global of its kind and description
+abbrev IsGlobal : (n : ℕ) (all : List Symbol) (number : ℕ) (name : Name) (kind : SymbolKind) (class : StorageClass) (d : Description) → Type 0
+IsGlobal n all number name kind class d =
+    (g : Global) × (global_with n all number name kind ≡ g ∷ []) × (described_as (kind_of_class class) (Some g) ≡ Some d)
 
-static_global : (n : ℕ) (all : List Symbol) (number : ℕ) (name : Name) (d : Description) (kind : SymbolKind) → IsOf classes.Static d kind
-    → is_stored n d ≡ true → IsGlobal n all number name kind d
-static_global n all number name d (Variable description class scope initial area) h e =
+one_global_of : (n : ℕ) (all : List Symbol) (number : ℕ) (name : Name) (class : StorageClass) (d : Description) (kind : SymbolKind) → IsOf class d kind
+    → is_global n class d ≡ true → IsGlobal n all number name kind class d
+one_global_of n all number name class d (Variable description c scope initial area) h e =
     let t : Template = template_of description (record { path = []; values = initial } ∷ member_items number all) in
-    let is : is_static n class description ≡ true =
-    ap (λ x. is_static n class x) h.0 ∙ ap (λ x. is_static n x d) h.1 ∙ e in
-    (global_of scope name t, ap (λ b. map (global_of scope name) (if b then t ∷ [] else [])) is, global_described scope name t ∙ ap Some h.0)
-static_global n all number name d (Member root path initial area) h e = absurd h
-static_global n all number name d (Label statement) h e = absurd h
-static_global n all number name d (Procedure block returned area) h e = absurd h
-static_global n all number name d (Entry parameters returned) h e = absurd h
-static_global n all number name d BuiltIn h e = absurd h
+    let is : is_global n c description ≡ true =
+    ap (λ x. is_global n c x) h.0 ∙ ap (λ x. is_global n x d) h.1 ∙ e in
+    let g : Global = global_of scope (kind_of_class c) name t in (
+      g,
+      ap (λ b. map (global_of scope (kind_of_class c) name) (if b then t ∷ [] else [])) is,
+      ap (λ x. described_as (kind_of_class x) (Some g)) (sym h.1) ∙ global_described scope (kind_of_class c) name t ∙ ap Some h.0,
+    )
+one_global_of n all number name class d (Member root path initial area) h e = absurd h
+one_global_of n all number name class d (Label statement) h e = absurd h
+one_global_of n all number name class d (Procedure block returned area) h e = absurd h
+one_global_of n all number name class d (Entry parameters returned) h e = absurd h
+one_global_of n all number name class d BuiltIn h e = absurd h
 
 described : (class : StorageClass) (d : Description) (s : Symbol) (kind : SymbolKind) → s.kind ≡ kind → IsOf class d kind
     → description_in (Some s) ≡ d
@@ -275,9 +283,10 @@ pub automatic_stored : (n : ℕ) (class : StorageClass) (d : Description) → is
 automatic_stored n classes.Automatic d h = h
 automatic_stored n class d h = absurd (not_true h)
 
-pub static_stored : (n : ℕ) (class : StorageClass) (d : Description) → is_static n class d ≡ true → is_stored n d ≡ true
-static_stored n classes.Static d h = h
-static_stored n class d h = absurd (not_true h)
+pub global_stored : (n : ℕ) (class : StorageClass) (d : Description) → is_global n class d ≡ true → is_stored n d ≡ true
+global_stored n classes.Static d h = h
+global_stored n classes.Controlled d h = h
+global_stored n class d h = absurd (not_true h)
 
 module _ (n : ℕ) (r : ResolvedUnit) (blocks : List ℕ) where
   -- the slots of a block
@@ -288,7 +297,8 @@ module _ (n : ℕ) (r : ResolvedUnit) (blocks : List ℕ) where
   abbrev pub Standing : Root → Description → Type 0
   Standing (InSlot outward slot) d =
       (block : ℕ) × (outward_to blocks block ≡ Some outward) × (slice_get (slots block) slot ≡ Some d)
-  Standing (OfProgram number) d = description_of (slice_get (all_globals n (all_symbols r)) number) ≡ Some d
+  Standing (OfProgram number) d = described_as Static (slice_get (all_globals n (all_symbols r)) number) ≡ Some d
+  Standing (NewestOf number) d = described_as Controlled (slice_get (all_globals n (all_symbols r)) number) ≡ Some d
 
   slot_stands : (o : Option ℕ) (block slot : ℕ) (d : Description) (root : Root) → outward_to blocks block ≡ o
       → slice_get (slots block) slot ≡ Some d → in_slot o slot ≡ Some root → Standing root d
@@ -330,22 +340,30 @@ module _ (n : ℕ) (r : ResolvedUnit) (blocks : List ℕ) where
         )
     parameter_begins slot of false both e = absurd (none-some root e)
 
+    global_stands : (class : StorageClass) → IsOf class d s.kind → is_global n class d ≡ true
+        → described_as (kind_of_class class) (slice_get (all_globals n (all_symbols r)) (global_number n r key)) ≡ Some d
+    global_stands class of stored =
+        let is : IsGlobal n (block_symbols r key.block) key.number s.identifier.name s.kind class d =
+        one_global_of n (block_symbols r key.block) key.number s.identifier.name class d s.kind of stored in
+        ap (described_as (kind_of_class class)) (found_in_text n (all_symbols r) key.block key.number s is.0 there is.1) ∙ is.2
+
     static_begins : IsOf classes.Static d s.kind → (b : Bool) → is_stored n d ≡ b
         → (if b then Some (OfProgram (global_number n r key)) else None) ≡ Some root → Begun
     static_begins of true stored e =
-        let is : IsGlobal n (block_symbols r key.block) key.number s.identifier.name s.kind d =
-        static_global n (block_symbols r key.block) key.number s.identifier.name d s.kind of stored in (
-          subst (λ q. Standing q d) (same_Some (OfProgram (global_number n r key)) root e)
-              (ap description_of (found_in_text n (all_symbols r) key.block key.number s is.0 there is.1) ∙ is.2),
-          stored,
-        )
+        (subst (λ q. Standing q d) (same_Some (OfProgram (global_number n r key)) root e) (global_stands classes.Static of stored), stored)
     static_begins of false stored e = absurd (none-some root e)
+
+    controlled_begins : IsOf classes.Controlled d s.kind → (b : Bool) → is_stored n d ≡ b
+        → (if b then Some (NewestOf (global_number n r key)) else None) ≡ Some root → Begun
+    controlled_begins of true stored e =
+        (subst (λ q. Standing q d) (same_Some (NewestOf (global_number n r key)) root e) (global_stands classes.Controlled of stored), stored)
+    controlled_begins of false stored e = absurd (none-some root e)
 
     pub root_begins : (class : StorageClass) → IsOf class d s.kind → root_of n r blocks key class d ≡ Some root → Begun
     root_begins classes.Automatic of e = automatic_begins of (is_stored n d) refl e
     root_begins (classes.Parameter slot) of e = parameter_begins slot of _ refl e
     root_begins classes.Static of e = static_begins of (is_stored n d) refl e
-    root_begins classes.Controlled of e = absurd (none-some root e)
+    root_begins classes.Controlled of e = controlled_begins of (is_stored n d) refl e
     root_begins (classes.Based locator) of e = absurd (none-some root e)
 
 -- the entry that a symbol is stands where it is counted

@@ -45,7 +45,8 @@ root_is r blocks key (classes.Parameter slot) d =
     if_placed (root_from blocks key.block) (is_stored 31 d && is_parameter (parameter_numbers r key.block) slot key.number) (InBlock slot)
 root_is r blocks key classes.Static d =
     if_placed (root_from blocks key.block) (is_stored 31 d) _
-root_is r blocks key classes.Controlled d = refl
+root_is r blocks key classes.Controlled d =
+    if_placed (root_from blocks key.block) (is_stored 31 d) _
 root_is r blocks key (classes.Based locator) d = refl
 
 -- ---- variables and members

@@ -9,11 +9,11 @@ use Rattle.pli_resolve.specs.declared.symbol.Symbol.{Symbol}
 use Rattle.pli_resolve.specs.declared.symbol.StorageClass.{StorageClass}
 use Rattle.pli_resolve.specs.declared.symbol.StorageClass.TheVariants as classes
 use Rattle.pli_resolve.specs.views.SymbolView.{symbol_view, symbol_kind_view}
-use Rattle.pli_type.specs.NamedUnits.{is_parameter, is_stored, is_automatic, is_static, one_such, such_before, one_global, globals_before}
+use Rattle.pli_type.specs.NamedUnits.{is_parameter, is_stored, is_automatic, is_global, one_such, such_before, one_global, globals_before}
 use Rattle.pli_type_names.specs.BlockFacts.{BlockFacts}
 use Rattle.pli_type_names.specs.OwnVariables.{OwnVariable, begun, global_at, own_at, own_behind, slots_of, globals_of}
 use Rattle.pli_type_names.specs.declared.place.Location.{Location}
-use Rattle.pli_type_names.specs.declared.place.Location.TheVariants.{InBlock, BeforeProgram}
+use Rattle.pli_type_names.specs.declared.place.Location.TheVariants.{InBlock, BeforeProgram, NewestOf}
 
 -- ---- one variable
 
@@ -44,7 +44,9 @@ own_is f number slots globals (Variable d classes.Static scope initial area) e g
     ∙ ap (λ n. begun (if is_stored 31 d then Some (BeforeProgram n) else None) d) g
 own_is f number slots globals (Variable d (classes.Parameter slot) scope initial area) e g =
     in_both (is_stored 31 d) (is_parameter f.parameters slot number) (InBlock slot) d
-own_is f number slots globals (Variable d classes.Controlled scope initial area) e g = nowhere (is_stored 31 d) None
+own_is f number slots globals (Variable d classes.Controlled scope initial area) e g =
+    in_order (is_stored 31 d) (NewestOf globals) d
+    ∙ ap (λ n. begun (if is_stored 31 d then Some (NewestOf n) else None) d) g
 own_is f number slots globals (Variable d (classes.Based locator) scope initial area) e g = nowhere (is_stored 31 d) None
 own_is f number slots globals (Member root path initial area) e g = refl
 own_is f number slots globals (Label statement) e g = refl
@@ -71,11 +73,11 @@ slots_stored d classes.Controlled e = refl
 slots_stored d (classes.Based locator) e = refl
 
 pub globals_stored : (d : Description) (class : StorageClass) → is_stored 31 d ≡ true
-    → one_if (is_static 31 class d) ≡ globals_of class
+    → one_if (is_global 31 class d) ≡ globals_of class
 globals_stored d classes.Automatic e = refl
 globals_stored d classes.Static e = ap one_if e
 globals_stored d (classes.Parameter slot) e = refl
-globals_stored d classes.Controlled e = refl
+globals_stored d classes.Controlled e = ap one_if e
 globals_stored d (classes.Based locator) e = refl
 
 -- one that is not
@@ -88,11 +90,11 @@ slots_unstored d classes.Controlled e = refl
 slots_unstored d (classes.Based locator) e = refl
 
 pub globals_unstored : (d : Description) (class : StorageClass) → is_stored 31 d ≡ false
-    → one_if (is_static 31 class d) ≡ 0
+    → one_if (is_global 31 class d) ≡ 0
 globals_unstored d classes.Automatic e = refl
 globals_unstored d classes.Static e = ap one_if e
 globals_unstored d (classes.Parameter slot) e = refl
-globals_unstored d classes.Controlled e = refl
+globals_unstored d classes.Controlled e = ap one_if e
 globals_unstored d (classes.Based locator) e = refl
 
 -- ---- one symbol further on
@@ -153,7 +155,7 @@ global_more ss n d h =
     ap (globals_before 31 (map symbol_view ss)) next ∙ global_next ss n d h
 
 one_global_at_most : (k : SymbolKind) → one_global 31 k ≤ 1
-one_global_at_most (Variable d class scope initial area) = one_if_few (is_static 31 class d)
+one_global_at_most (Variable d class scope initial area) = one_if_few (is_global 31 class d)
 one_global_at_most (Member root path initial area) = omega arith
 one_global_at_most (Label statement) = omega arith
 one_global_at_most (Procedure block returned area) = omega arith

@@ -8,7 +8,7 @@ use Rattle.pli_type.specs.NamedUnits.{globals_before, is_automatic, is_parameter
 use Rattle.pli_type_names.specs.BlockFacts.{BlockFacts}
 use Rattle.pli_type_names.specs.Numbered.{each_from}
 use Rattle.pli_type_names.specs.declared.place.Location.{Location}
-use Rattle.pli_type_names.specs.declared.place.Location.TheVariants.{InBlock, BeforeProgram}
+use Rattle.pli_type_names.specs.declared.place.Location.TheVariants.{InBlock, BeforeProgram, NewestOf}
 
 -- where it begins, seen from its own block, and the description of the whole variable
 pub record OwnVariable : Type 0 where
@@ -25,7 +25,7 @@ abbrev pub global_at : BlockFacts → (number : ℕ) → ℕ
 global_at f number = get_or f.places (f.globals + globals_before 31 f.symbols number) 0
 
 -- where a variable of a block begins: parameters have slots of their own, AUTOMATIC variables those behind
--- them, and STATIC variables are globals
+-- them, and STATIC and CONTROLLED variables are globals
 abbrev pub place_at : BlockFacts → (number : ℕ) → StorageClass → Description → Option Location
 place_at f number classes.Automatic d =
     if is_stored 31 d
@@ -34,6 +34,8 @@ place_at f number (classes.Parameter slot) d =
     if is_stored 31 d && is_parameter f.parameters slot number then Some (InBlock slot) else None
 place_at f number classes.Static d =
     if is_stored 31 d then Some (BeforeProgram (global_at f number)) else None
+place_at f number classes.Controlled d =
+    if is_stored 31 d then Some (NewestOf (global_at f number)) else None
 place_at f number class d = None
 
 -- the variable that is the symbol of this number, if it is one that is compiled; a member is none of its own
@@ -55,6 +57,7 @@ place_behind parameters slots global number classes.Automatic = Some (InBlock sl
 place_behind parameters slots global number (classes.Parameter slot) =
     if is_parameter parameters slot number then Some (InBlock slot) else None
 place_behind parameters slots global number classes.Static = Some (BeforeProgram global)
+place_behind parameters slots global number classes.Controlled = Some (NewestOf global)
 place_behind parameters slots global number class = None
 
 -- the variable that a symbol is, there
@@ -72,4 +75,5 @@ slots_of class = 0
 -- how many globals it is
 abbrev pub globals_of : StorageClass → ℕ
 globals_of classes.Static = 1
+globals_of classes.Controlled = 1
 globals_of class = 0

@@ -12,8 +12,8 @@ use Rattle.pli_type_names.specs.SymbolMeaning.{is_way}
 use Rattle.pli_type_names.specs.Numbered.{each_from}
 use Rattle.pli_type_names.specs.OwnVariables.{OwnVariable, global_at, own_variables}
 use Rattle.pli_type_names.specs.declared.place.Location.{Location}
-use Rattle.pli_type_names.specs.declared.place.Location.TheVariants.{InBlock, BeforeProgram}
-use Rattle.pli_type_tree.specs.TypedTree.{OfBlock, OfEntry, Root, OfProgram}
+use Rattle.pli_type_names.specs.declared.place.Location.TheVariants as locations
+use Rattle.pli_type_tree.specs.TypedTree.{OfBlock, OfEntry, Root, OfProgram, NewestOf}
 
 -- where a name is used
 
@@ -76,8 +76,9 @@ kept_symbols f =
 
 -- where a variable of a block begins where these blocks stand around
 abbrev pub root_from : (blocks : List ℕ) → (block : ℕ) → Location → Option Root
-root_from blocks block (InBlock slot) = in_slot (outward_to blocks block) slot
-root_from blocks block (BeforeProgram number) = Some (OfProgram number)
+root_from blocks block (locations.InBlock slot) = in_slot (outward_to blocks block) slot
+root_from blocks block (locations.BeforeProgram number) = Some (OfProgram number)
+root_from blocks block (locations.NewestOf number) = Some (NewestOf number)
 
 -- a variable, where it begins somewhere
 abbrev pub variable_seen : Option Root → (is_member : Bool) → (part : Option StridedPart) → Seen

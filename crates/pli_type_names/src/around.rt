@@ -29,7 +29,7 @@ pub(crate) fn stands_around(around: &[usize], outer: Option<usize>) -> bool
     }
 }
 
-/// Where a variable of a block begins, if the block stands around or it is one that is made before the program begins.
+/// Where a variable of a block begins, if the block stands around or it is one that is there for the whole program.
 pub(crate) fn root_from(around: &[usize], block: usize, begins: Location) -> Option<Root>
     ensures { option_map root_view result ≡ root_from (reverse around.now) block begins }
 {
@@ -39,5 +39,6 @@ pub(crate) fn root_from(around: &[usize], block: usize, begins: Location) -> Opt
             Some(Root::InSlot { outward, slot })
         }
         Location::BeforeProgram { number } => Some(Root::OfProgram { number }),
+        Location::NewestOf { number } => Some(Root::NewestOf { number }),
     }
 }

@@ -15,17 +15,17 @@ use pli_map::Description;
 use pli_resolve::{ResolvedUnit, StorageClass, Symbol, SymbolKind};
 use std::alloc::{AllocError, Global};
 
-/// Whether a variable is STATIC and compiled.
-fn is_static(class: StorageClass, description: &Description) -> bool
-    ensures { result ≡ units.is_static 31 class (description_view description.now) }
+/// Whether a variable is STATIC or CONTROLLED, and compiled.
+fn is_whole_program(class: StorageClass, description: &Description) -> bool
+    ensures { result ≡ units.is_global 31 class (description_view description.now) }
 {
     match class {
-        StorageClass::Static => is_stored(description),
+        StorageClass::Static | StorageClass::Controlled => is_stored(description),
         _ => false,
     }
 }
 
-/// Whether a symbol is a global: a STATIC variable that is compiled, or an entry.
+/// Whether a symbol is a global: a STATIC or CONTROLLED variable that is compiled, or an entry.
 fn is_global(kind: SymbolKind<'_>) -> bool
     ensures { (if result then 1 else 0) ≡ one_global 31 (symbol_kind_view kind.entry) }
 {
@@ -34,7 +34,7 @@ fn is_global(kind: SymbolKind<'_>) -> bool
             description,
             class,
             ..
-        } => is_static(class, description),
+        } => is_whole_program(class, description),
         SymbolKind::Entry { .. } => true,
         _ => false,
     }

@@ -55,7 +55,7 @@ fn parameter_place(parameters: &[usize], slot: usize, number: usize) -> Option<L
 }
 
 /// Where a variable of this class and number begins, if it is of a class that is compiled: parameters and AUTOMATIC
-/// variables in slots, STATIC ones before the program begins.
+/// variables in slots, STATIC and CONTROLLED ones under their numbers among the globals.
 fn place(
     class: StorageClass,
     number: usize,
@@ -78,8 +78,12 @@ fn place(
             let number = under(places, take(&mut free.globals));
             Some(Location::BeforeProgram { number })
         }
+        StorageClass::Controlled => {
+            let number = under(places, take(&mut free.globals));
+            Some(Location::NewestOf { number })
+        }
         StorageClass::Parameter(slot) => parameter_place(parameters, slot, number),
-        StorageClass::Controlled | StorageClass::Based(_) => None,
+        StorageClass::Based(_) => None,
     }
 }
 

@@ -7,4 +7,6 @@ pub(crate) enum Location {
     InBlock { slot: usize },
     /// Under this number among the globals of the unit, in the order of the text; it is made before the program begins.
     BeforeProgram { number: usize },
+    /// At the newest generation of a CONTROLLED variable that has this number among the globals.
+    NewestOf { number: usize },
 }

@@ -2,12 +2,12 @@
 use Rattle.std.proofs.Common.{◌≡◌, ℕ, Bool, true, false, ◌||◌, List, Option, Some, None, refl}
 use Rattle.std.specs.List.{list_any}
 use Rattle.pli_base.specs.Statements as tree
-use Rattle.pli_base.specs.Statements.{Control, Heading, Range, Statement, Numbered, Alternative, Statements, Before}
+use Rattle.pli_base.specs.Statements.{Allocation, Control, Heading, Range, Statement, Numbered, Alternative, Statements, Before}
 use Rattle.pli_base.specs.Syntax.{Arguments, Expression, Reference}
 use Rattle.pli_base.specs.declared.syntax.Identifier.{Identifier}
 use Rattle.pli_type.specs.Names.{Compiled}
 use Rattle.pli_type.specs.Unbuilt.{or_else, token_if, later_expression, later_reference, later_statement, later_body}
-use Rattle.pli_type.specs.Unbuilt.{later_alternative, later_statements, later_arguments, later_control, later_option, later_part, later_range, first_of}
+use Rattle.pli_type.specs.Unbuilt.{later_allocation, later_alternative, later_statements, later_arguments, later_control, later_option, later_part, later_range, first_of}
 
 neither : (x y : Option ℕ) → or_else x y ≡ None → (x ≡ None) × (y ≡ None)
 neither None y h = (refl, h)
@@ -39,6 +39,14 @@ assignment_built n at t equals e h =
 pub put_built : (n : Compiled) (at : ℕ) (skip : Bool) (es : List Expression)
     → later_body n at (tree.Put skip es) ≡ None → list_any (later_expression n) es ≡ false
 put_built n at skip es h = no_token (list_any (later_expression n) es) at h
+
+pub allocate_built : (n : Compiled) (at : ℕ) (list : List Allocation)
+    → later_body n at (tree.Allocate list) ≡ None → list_any (later_allocation n) list ≡ false
+allocate_built n at list h = no_token (list_any (later_allocation n) list) at h
+
+pub free_built : (n : Compiled) (at : ℕ) (list : List Reference)
+    → later_body n at (tree.Free list) ≡ None → list_any (later_reference n) list ≡ false
+free_built n at list h = no_token (list_any (later_reference n) list) at h
 
 pub call_built : (n : Compiled) (at : ℕ) (name : Identifier) (list : Arguments)
     → later_body n at (tree.Call name list) ≡ None → later_arguments n list ≡ false

@@ -8,7 +8,7 @@ use Rattle.pli_base.specs.declared.code.Code.TheVariants.{NotYetBuilt}
 use Rattle.pli_base.specs.declared.token.Fault.{Fault}
 use Rattle.pli_type.specs.Names.{Naming}
 use Rattle.pli_type.specs.StatementTyping.{Surroundings, assignment, call_typed, goto_typed}
-use Rattle.pli_type.specs.StatementTyping.{items, return_typed}
+use Rattle.pli_type.specs.StatementTyping.{allocate_typed, free_typed, items, return_typed}
 use Rattle.pli_type_tree.specs.TypedTree as typed
 use Rattle.pli_type_tree.specs.TypedTree.{Form}
 
@@ -24,6 +24,8 @@ simple_typed n s at tree.Null = Ok typed.Null
 simple_typed n s at (tree.Declare declared) = Ok typed.Null
 simple_typed n s at (tree.Assign target equals value) = assignment n at target equals value
 simple_typed n s at tree.Stop = Ok typed.Stop
+simple_typed n s at (tree.Allocate list) = allocate_typed n list
+simple_typed n s at (tree.Free list) = free_typed n list
 simple_typed n s at (tree.Call name arguments) = call_typed n name arguments
 simple_typed n s at (tree.Goto label) = goto_typed n s label
 simple_typed n s at (tree.Return value) = return_typed n s at value

@@ -19,6 +19,7 @@ use crate::surroundings::Surroundings;
 use pli_base::statement::Body;
 use pli_base::syntax::Expression;
 use pli_base::{Code, fault};
+use pli_type_allocation::{allocate, free};
 use pli_type_expression::TypeError;
 use pli_type_names::Naming;
 use pli_type_tree::Form;
@@ -40,7 +41,7 @@ fn put(
 }
 
 /// A statement without statements in it, which begins at the token `at`. What is not compiled yet is Z1 there.
-#[tactic(auto, using(crate::proofs::NothingLater::assignment_built, crate::proofs::NothingLater::call_built, crate::proofs::NothingLater::return_built, crate::proofs::NothingLater::put_built))]
+#[tactic(auto, using(crate::proofs::NothingLater::assignment_built, crate::proofs::NothingLater::call_built, crate::proofs::NothingLater::return_built, crate::proofs::NothingLater::put_built, crate::proofs::NothingLater::allocate_built, crate::proofs::NothingLater::free_built))]
 pub(crate) fn simple(
     alloc: Global,
     naming: &Naming<'_>,
@@ -55,6 +56,8 @@ pub(crate) fn simple(
     match body {
         Body::Null | Body::Declare(_) => Ok(Form::Null),
         Body::Stop => Ok(Form::Stop),
+        Body::Allocate(items) => allocate(alloc, naming, items.as_slice()),
+        Body::Free(references) => free(alloc, naming, references.as_slice()),
         Body::Assign {
             target,
             equals,

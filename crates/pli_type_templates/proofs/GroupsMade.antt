@@ -4,18 +4,18 @@ use Rattle.std.specs.Prelude.{if◌then◌else◌}
 use Rattle.pli_base.specs.Name.{Name}
 use Rattle.pli_declare_outline.specs.Outlines.{PlacedMark}
 use Rattle.pli_resolve.specs.Symbols.{Symbol, SymbolKind, Variable, Member, Label, Procedure, Entry, BuiltIn}
-use Rattle.pli_resolve.specs.declared.symbol.StorageClass.{StorageClass}
-use Rattle.pli_resolve.specs.declared.symbol.StorageClass.TheVariants as classes
 use Rattle.pli_type.specs.InitialScalars.{InitialItem}
-use Rattle.pli_type.specs.NamedUnits.{member_items, template_at, templates_from, global_of, global_with, globals_from, PlacedGlobal, placed}
+use Rattle.pli_type.specs.NamedUnits.{member_items, template_at, templates_from, global_of, global_with, globals_from, kind_of_class, PlacedGlobal, placed}
 use Rattle.pli_type_templates.specs.Groups.{HasItem, MadeVariable, global_as, global_made, is_such, made_as, made_in, template_with, templates_with}
 use Rattle.pli_type_templates.specs.ItemNames.{IsOfItem}
+use Rattle.pli_type_templates.specs.declared.lifetime.Lifetime.{Lifetime}
+use Rattle.pli_type_templates.specs.declared.lifetime.Lifetime.TheVariants as lifetimes
 
 if_made : (m : MadeVariable) (b : Bool) → (if b then template_with m ∷ [] else []) ≡ templates_with (if b then Some m else None)
 if_made m true = refl
 if_made m false = refl
 
-made_at : (wanted : StorageClass) (all : List Symbol) (number at : ℕ) (k : SymbolKind)
+made_at : (wanted : Lifetime) (all : List Symbol) (number at : ℕ) (k : SymbolKind)
     → template_at (is_such wanted) all number k ≡ templates_with (made_as wanted at (member_items number all) k)
 made_at wanted all number at (Variable description class scope initial area) =
     if_made (record { at = at; description = description; values = initial; members = member_items number all }) (is_such wanted class description)
@@ -26,7 +26,7 @@ made_at wanted all number at (Entry parameters returned) = refl
 made_at wanted all number at BuiltIn = refl
 
 -- one symbol more, and its members
-pub one_made : (wanted : StorageClass) (all : List Symbol) (number : ℕ) (s : Symbol) (left : List Symbol) (members : List InitialItem)
+pub one_made : (wanted : Lifetime) (all : List Symbol) (number : ℕ) (s : Symbol) (left : List Symbol) (members : List InitialItem)
     → members ≡ member_items number all
     → templates_from (is_such wanted) all number (s ∷ left)
     ≡ templates_with (made_in wanted s members) ++ templates_from (is_such wanted) all (number + 1) left
@@ -36,7 +36,7 @@ one_made wanted all number s left members are =
     ∙ ap (λ n. templates_with (made_in wanted s members) ++ templates_from (is_such wanted) all n left) (sym (add-one number))
 
 -- its item says what is made
-pub made_has_item : (wanted : StorageClass) (marks : List PlacedMark) (at : ℕ) (members : List InitialItem) (k : SymbolKind) (m : MadeVariable)
+pub made_has_item : (wanted : Lifetime) (marks : List PlacedMark) (at : ℕ) (members : List InitialItem) (k : SymbolKind) (m : MadeVariable)
     → Some m ≡ made_as wanted at members k → IsOfItem marks at k → HasItem marks m
 made_has_item wanted marks at members (Variable description class scope initial area) m e h = by (is_such wanted class description) e
   where
@@ -60,7 +60,7 @@ made_has_item wanted marks at members BuiltIn m e h = cc
 globals_made_at : (all : List Symbol) (number at : ℕ) (name : Name) (k : SymbolKind)
     → global_with 31 all number name k ≡ global_as at name (member_items number all) k
 globals_made_at all number at name (Variable description class scope initial area) =
-    ap (map (global_of scope name)) (made_at classes.Static all number at (Variable description class scope initial area))
+    ap (map (global_of scope (kind_of_class class) name)) (made_at lifetimes.Program all number at (Variable description class scope initial area))
 globals_made_at all number at name (Member root path initial area) = refl
 globals_made_at all number at name (Label statement) = refl
 globals_made_at all number at name (Procedure block returned area) = refl

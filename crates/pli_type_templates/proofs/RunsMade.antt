@@ -5,6 +5,7 @@ use Rattle.std.specs.Option.{option_to_list}
 use Rattle.std.proofs.lemmas.List.{append_assoc, drop_more, flat_map_more, length-map, map-append, take-append-drop}
 use Rattle.std.proofs.lemmas.List.Elements.{All-head, All-map, All-tail}
 use Rattle.pli_base.specs.Name.{Name}
+use Rattle.pli_program.specs.declared.kind.VariableKind.{VariableKind}
 use Rattle.pli_type_tree.specs.Templates.{Template}
 use Rattle.pli_type_tree.specs.TypedTree.{Global, OwnVariable, ExternalVariable, EntryPoint, Signature}
 use Rattle.pli_type_templates.specs.Globals.{IsLike, name_in, names_in}
@@ -40,33 +41,39 @@ group_more view f gs group all at n next first made lt is to of h =
 
 -- ---- groups of globals
 
-own_like : (t : Template) (g : Global) → IsLike (OwnVariable t) g → OwnVariable t ≡ g
-own_like t (OwnVariable u) h = ap OwnVariable (sym h)
-own_like t (ExternalVariable name u) h = absurd h
-own_like t (EntryPoint name s) h = absurd h
+own_like : (kind : VariableKind) (t : Template) (g : Global) → IsLike (OwnVariable kind t) g → OwnVariable kind t ≡ g
+own_like kind t (OwnVariable other u) h = ap (λ k. OwnVariable k t) (sym h.0) ∙ ap (OwnVariable other) (sym h.1)
+own_like kind t (ExternalVariable name other u) h = absurd h
+own_like kind t (EntryPoint name s) h = absurd h
 
-own_behind : (t : Template) (gs : List Global) → All (IsLike (OwnVariable t)) gs → map OwnVariable (replicate (length gs) t) ≡ gs
-own_behind t [] h = refl
-own_behind t (g ∷ gs) h =
-    ap (λ x. x ∷ map OwnVariable (replicate (length gs) t)) (own_like t g (All-head (IsLike (OwnVariable t)) g gs h))
-    ∙ ap (λ xs. g ∷ xs) (own_behind t gs (All-tail (IsLike (OwnVariable t)) g gs h))
+own_behind : (kind : VariableKind) (t : Template) (gs : List Global) → All (IsLike (OwnVariable kind t)) gs
+    → map (OwnVariable kind) (replicate (length gs) t) ≡ gs
+own_behind kind t [] h = refl
+own_behind kind t (g ∷ gs) h =
+    ap (λ x. x ∷ map (OwnVariable kind) (replicate (length gs) t)) (own_like kind t g (All-head (IsLike (OwnVariable kind t)) g gs h))
+    ∙ ap (λ xs. g ∷ xs) (own_behind kind t gs (All-tail (IsLike (OwnVariable kind t)) g gs h))
 
-external_like : (t : Template) (name : Name) (g : Global) (names : List Name) (gs : List Global) → IsLike (ExternalVariable name t) g
-    → map (λ n. ExternalVariable n t) names ≡ gs → map (λ n. ExternalVariable n t) (option_to_list (name_in g) ++ names) ≡ g ∷ gs
-external_like t name (OwnVariable u) names gs h e = absurd h
-external_like t name (ExternalVariable further u) names gs h e =
-    ap (λ v. ExternalVariable further v ∷ map (λ n. ExternalVariable n t) names) (sym h) ∙ ap (λ xs. ExternalVariable further u ∷ xs) e
-external_like t name (EntryPoint further s) names gs h e = absurd h
+external_like : (kind : VariableKind) (t : Template) (name : Name) (g : Global) (names : List Name) (gs : List Global)
+    → IsLike (ExternalVariable name kind t) g → map (λ n. ExternalVariable n kind t) names ≡ gs
+    → map (λ n. ExternalVariable n kind t) (option_to_list (name_in g) ++ names) ≡ g ∷ gs
+external_like kind t name (OwnVariable other u) names gs h e = absurd h
+external_like kind t name (ExternalVariable further other u) names gs h e =
+    ap (λ k. ExternalVariable further k t ∷ map (λ n. ExternalVariable n kind t) names) (sym h.0)
+    ∙ ap (λ v. ExternalVariable further other v ∷ map (λ n. ExternalVariable n kind t) names) (sym h.1)
+    ∙ ap (λ xs. ExternalVariable further other u ∷ xs) e
+external_like kind t name (EntryPoint further s) names gs h e = absurd h
 
-external_behind : (name : Name) (t : Template) (gs : List Global) → All (IsLike (ExternalVariable name t)) gs → map (λ n. ExternalVariable n t) (names_in gs) ≡ gs
-external_behind name t [] h = refl
-external_behind name t (g ∷ gs) h =
-    external_like t name g (names_in gs) gs (All-head (IsLike (ExternalVariable name t)) g gs h) (external_behind name t gs (All-tail (IsLike (ExternalVariable name t)) g gs h))
+external_behind : (name : Name) (kind : VariableKind) (t : Template) (gs : List Global) → All (IsLike (ExternalVariable name kind t)) gs
+    → map (λ n. ExternalVariable n kind t) (names_in gs) ≡ gs
+external_behind name kind t [] h = refl
+external_behind name kind t (g ∷ gs) h =
+    external_like kind t name g (names_in gs) gs (All-head (IsLike (ExternalVariable name kind t)) g gs h)
+    (external_behind name kind t gs (All-tail (IsLike (ExternalVariable name kind t)) g gs h))
 
 entry_like : (s : Signature) (name : Name) (g : Global) (names : List Name) (gs : List Global) → IsLike (EntryPoint name s) g
     → map (λ n. EntryPoint n s) names ≡ gs → map (λ n. EntryPoint n s) (option_to_list (name_in g) ++ names) ≡ g ∷ gs
-entry_like s name (OwnVariable u) names gs h e = absurd h
-entry_like s name (ExternalVariable further u) names gs h e = absurd h
+entry_like s name (OwnVariable kind u) names gs h e = absurd h
+entry_like s name (ExternalVariable further kind u) names gs h e = absurd h
 entry_like s name (EntryPoint further r) names gs h e =
     ap (λ v. EntryPoint further v ∷ map (λ n. EntryPoint n s) names) (sym h) ∙ ap (λ xs. EntryPoint further r ∷ xs) e
 
@@ -83,15 +90,17 @@ module _ {A : Type 0} (view : A → Global) (first : Global) (more : List A) (al
   all_like : (g : Global) → first ≡ g → All (IsLike g) behind
   all_like g is = All-map (IsLike g) view more (subst (λ (f : Global). All (λ p. IsLike f (view p)) more) is alike)
 
-  pub own_group : (t : Template) → first ≡ OwnVariable t → map OwnVariable (replicate (length more + 1) t) ≡ first ∷ behind
-  own_group t is =
-      ap (λ k. map OwnVariable (replicate k t)) (add-one (length more)) ∙ ap (λ k. OwnVariable t ∷ map OwnVariable (replicate k t)) (sym (length-map more view))
-      ∙ ap (λ gs. OwnVariable t ∷ gs) (own_behind t behind (all_like (OwnVariable t) is)) ∙ ap (λ g. g ∷ behind) (sym is)
+  pub own_group : (kind : VariableKind) (t : Template) → first ≡ OwnVariable kind t
+      → map (OwnVariable kind) (replicate (length more + 1) t) ≡ first ∷ behind
+  own_group kind t is =
+      ap (λ k. map (OwnVariable kind) (replicate k t)) (add-one (length more))
+      ∙ ap (λ k. OwnVariable kind t ∷ map (OwnVariable kind) (replicate k t)) (sym (length-map more view))
+      ∙ ap (λ gs. OwnVariable kind t ∷ gs) (own_behind kind t behind (all_like (OwnVariable kind t) is)) ∙ ap (λ g. g ∷ behind) (sym is)
 
-  pub external_group : (name : Name) (t : Template) → first ≡ ExternalVariable name t
-      → map (λ n. ExternalVariable n t) (name ∷ names_in behind) ≡ first ∷ behind
-  external_group name t is =
-      ap (λ gs. ExternalVariable name t ∷ gs) (external_behind name t behind (all_like (ExternalVariable name t) is)) ∙ ap (λ g. g ∷ behind) (sym is)
+  pub external_group : (name : Name) (kind : VariableKind) (t : Template) → first ≡ ExternalVariable name kind t
+      → map (λ n. ExternalVariable n kind t) (name ∷ names_in behind) ≡ first ∷ behind
+  external_group name kind t is =
+      ap (λ gs. ExternalVariable name kind t ∷ gs) (external_behind name kind t behind (all_like (ExternalVariable name kind t) is)) ∙ ap (λ g. g ∷ behind) (sym is)
 
   pub entry_group : (name : Name) (s : Signature) → first ≡ EntryPoint name s → map (λ n. EntryPoint n s) (name ∷ names_in behind) ≡ first ∷ behind
   entry_group name s is =

@@ -7,15 +7,16 @@ use Rattle.pli_type_tree.specs.TypedTree.{Global, OwnVariable, ExternalVariable,
 
 -- globals of one kind that are made from one template, or take and give the same
 abbrev pub IsLike : Global → Global → Type 0
-IsLike (OwnVariable template) (OwnVariable other) = other ≡ template
-IsLike (ExternalVariable name template) (ExternalVariable further other) = other ≡ template
+IsLike (OwnVariable kind template) (OwnVariable other further) = (other ≡ kind) × (further ≡ template)
+IsLike (ExternalVariable name kind template) (ExternalVariable name_behind other further) =
+    (other ≡ kind) × (further ≡ template)
 IsLike (EntryPoint name signature) (EntryPoint further other) = other ≡ signature
 IsLike first global = ⊥
 
 -- the name of a global that has one beyond its unit
 abbrev pub name_in : Global → Option Name
-name_in (OwnVariable template) = None
-name_in (ExternalVariable name template) = Some name
+name_in (OwnVariable kind template) = None
+name_in (ExternalVariable name kind template) = Some name
 name_in (EntryPoint name signature) = Some name
 
 -- the names of globals

@@ -1,5 +1,5 @@
 -- Which variables are made, and the members of each.
-use Rattle.std.specs.Prelude.{◌≡◌, ◌<◌, ℕ, Bool, false, Option, Some}
+use Rattle.std.specs.Prelude.{◌≡◌, ◌<◌, ℕ, Bool, Option, Some}
 use Rattle.std.specs.Prelude.{None, List, [], ◌∷◌, ◌++◌, get_or, length, map, slice_set}
 use Rattle.std.specs.Prelude.{if◌then◌else◌}
 use Rattle.pli_base.specs.Name.{Name}
@@ -8,18 +8,18 @@ use Rattle.pli_declare_outline.specs.Outlines.{PlacedMark}
 use Rattle.pli_map.specs.Description.{Description}
 use Rattle.pli_resolve.specs.Symbols.{Symbol, SymbolKind, Variable, Member, Entry}
 use Rattle.pli_resolve.specs.declared.symbol.StorageClass.{StorageClass}
-use Rattle.pli_resolve.specs.declared.symbol.StorageClass.TheVariants as classes
 use Rattle.pli_type.specs.InitialScalars.{InitialItem, template_of}
-use Rattle.pli_type.specs.NamedUnits.{global_of, is_automatic, is_static, member_items}
+use Rattle.pli_type.specs.NamedUnits.{global_of, is_automatic, is_global, kind_of_class, member_items}
 use Rattle.pli_type_templates.specs.ItemNames.{HasValues}
+use Rattle.pli_type_templates.specs.declared.lifetime.Lifetime.{Lifetime}
+use Rattle.pli_type_templates.specs.declared.lifetime.Lifetime.TheVariants as lifetimes
 use Rattle.pli_type_tree.specs.Templates.{Template}
 use Rattle.pli_type_tree.specs.TypedTree.{Global, EntryPoint}
 
--- variables of this class: of those that are AUTOMATIC or STATIC such as are made
-abbrev pub is_such : (wanted : StorageClass) → StorageClass → Description → Bool
-is_such classes.Automatic class d = is_automatic 31 class d
-is_such classes.Static class d = is_static 31 class d
-is_such other class d = false
+-- variables of this lifetime such as are made
+abbrev pub is_such : (wanted : Lifetime) → StorageClass → Description → Bool
+is_such lifetimes.Activation class d = is_automatic 31 class d
+is_such lifetimes.Program class d = is_global 31 class d
 
 -- a variable that is made: the token of its name, the values in its INITIAL, and its members
 pub record MadeVariable : Type 0 where
@@ -36,8 +36,8 @@ template_with m = template_of m.description (record { path = []; values = m.valu
 abbrev pub HasItem : List PlacedMark → MadeVariable → Type 0
 HasItem marks m = HasValues marks m.at m.values
 
--- the variable of this class that is declared so, if it is made
-abbrev pub made_as : (wanted : StorageClass) → (at : ℕ) → (members : List InitialItem) → SymbolKind
+-- the variable of this lifetime that is declared so, if it is made
+abbrev pub made_as : (wanted : Lifetime) → (at : ℕ) → (members : List InitialItem) → SymbolKind
     → Option MadeVariable
 made_as wanted at members (Variable description class scope initial area) =
     if is_such wanted class description
@@ -45,8 +45,8 @@ made_as wanted at members (Variable description class scope initial area) =
     else None
 made_as wanted at members other = None
 
--- the variable of this class that a symbol with these members is, if it is made
-abbrev pub made_in : (wanted : StorageClass) → Symbol → (members : List InitialItem) → Option MadeVariable
+-- the variable of this lifetime that a symbol with these members is, if it is made
+abbrev pub made_in : (wanted : Lifetime) → Symbol → (members : List InitialItem) → Option MadeVariable
 made_in wanted s members = made_as wanted s.identifier.at members s.kind
 
 -- a member, and the variable that it is a member of
@@ -73,8 +73,8 @@ templates_with (Some m) = template_with m ∷ []
 -- the globals that a symbol is with these members
 abbrev pub global_as : (at : ℕ) → Name → (members : List InitialItem) → SymbolKind → List Global
 global_as at name members (Variable description class scope initial area) =
-    map (global_of scope name)
-    (templates_with (made_as classes.Static at members (Variable description class scope initial area)))
+    map (global_of scope (kind_of_class class) name)
+    (templates_with (made_as lifetimes.Program at members (Variable description class scope initial area)))
 global_as at name members (Entry parameters returned) =
     EntryPoint name (record { parameters = parameters; result = returned }) ∷ []
 global_as at name members kind = []

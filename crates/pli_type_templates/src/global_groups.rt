@@ -52,13 +52,21 @@ fn is_alike(items: &ItemNumbers<'_>, left: &PlacedGlobal<'_>, right: &PlacedGlob
         → IsLike (global_view left.now) (global_view right.now) }
 {
     match (&left.global, &right.global) {
-        (UnitGlobal::OwnVariable(left), UnitGlobal::OwnVariable(right)) => {
-            is_made_alike(items, left, right)
-        }
         (
-            UnitGlobal::ExternalVariable { made: left, .. },
-            UnitGlobal::ExternalVariable { made: right, .. },
-        ) => is_made_alike(items, left, right),
+            UnitGlobal::OwnVariable { kind, made },
+            UnitGlobal::OwnVariable {
+                kind: other,
+                made: further,
+            },
+        ) => kind == other && is_made_alike(items, made, further),
+        (
+            UnitGlobal::ExternalVariable { kind, made, .. },
+            UnitGlobal::ExternalVariable {
+                kind: other,
+                made: further,
+                ..
+            },
+        ) => kind == other && is_made_alike(items, made, further),
         (UnitGlobal::EntryPoint { .. }, UnitGlobal::EntryPoint { .. }) => {
             items.are_of_one(left.at, right.at)
         }
@@ -89,7 +97,7 @@ fn put_name(global: &UnitGlobal<'_>, names: &mut Vec<Name>) -> Result<(), AllocE
     ensures { OnOk result (names.new.items ≡ names.old.items ++ option_to_list (name_in (unit_global_view global.now))) }
 {
     match global {
-        UnitGlobal::OwnVariable(_) => Ok(()),
+        UnitGlobal::OwnVariable { .. } => Ok(()),
         UnitGlobal::ExternalVariable { name, .. } | UnitGlobal::EntryPoint { name, .. } => {
             names.push(*name)?;
             Ok(())
@@ -119,14 +127,21 @@ fn group_of(
     ensures { IfOk result (λ group. global_group_view group ≡ global_view first.now ∷ map global_view more.now) }
 {
     match &first.global {
-        UnitGlobal::OwnVariable(made) => {
+        UnitGlobal::OwnVariable { kind, made } => {
             let variables = variable_group(alloc, more.len() + 1, made)?;
-            Ok(GlobalGroup::OwnVariables(variables))
+            Ok(GlobalGroup::OwnVariables {
+                kind: *kind,
+                variables,
+            })
         }
-        UnitGlobal::ExternalVariable { name, made } => {
+        UnitGlobal::ExternalVariable { name, kind, made } => {
             let names = names_of(alloc, *name, more)?;
             let template = variable_template(alloc, made)?;
-            Ok(GlobalGroup::ExternalVariables { names, template })
+            Ok(GlobalGroup::ExternalVariables {
+                names,
+                kind: *kind,
+                template,
+            })
         }
         UnitGlobal::EntryPoint {
             name,

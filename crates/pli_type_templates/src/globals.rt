@@ -3,7 +3,7 @@ ghost use Rattle.std.specs.Prelude.{◌≡◌, ◌++◌, List, IfSome, OnOk, map
 ghost use Rattle.std.specs.List.{All};
 ghost use Rattle.pli_declare_outline.specs.Outlines.{PlacedMark};
 ghost use Rattle.pli_resolve.specs.views.SymbolView.{symbol_view};
-ghost use Rattle.pli_type.specs.NamedUnits.{global_of, globals_of, placed};
+ghost use Rattle.pli_type.specs.NamedUnits.{global_of, globals_of, kind_of_class, placed};
 ghost use Rattle.pli_type_templates.specs.Groups.{AreMembers, global_made};
 ghost use Rattle.pli_type_templates.specs.ItemNames.{AreOfItems};
 ghost use Rattle.pli_type_templates.specs.views.ItemView.{HasMadeItem, items_view, made_template, rows_view};
@@ -11,34 +11,52 @@ ghost use Rattle.pli_type_templates.specs.views.PlacedView.{HasGlobal, HasGlobal
 
 use crate::groups::made_in;
 use crate::items::ValuedItem;
+use crate::lifetime::Lifetime;
 use crate::made_variable::MadeVariable;
 use crate::placed_globals::{PlacedGlobal, UnitGlobal};
 use pli_base::Name;
 use pli_declare_attributes::ScopeAttribute;
+use pli_program::VariableKind;
 use pli_resolve::{StorageClass, Symbol, SymbolKind};
 use std::alloc::AllocError;
 
-/// A variable of this name, by its scope.
-fn variable_global<'a>(scope: ScopeAttribute, name: Name, made: MadeVariable<'a>) -> UnitGlobal<'a>
-    ensures view { unit_global_view result ≡ global_of scope name (made_template made.entry) }
-    ensures item { (marks : List PlacedMark) → HasMadeItem marks made.entry → HasGlobal marks made.entry.at result }
+/// How the generations come of a variable of this class that is there for the whole program.
+fn kind_of(class: StorageClass) -> VariableKind
+    ensures { result ≡ kind_of_class class }
 {
-    match scope {
-        ScopeAttribute::Internal => UnitGlobal::OwnVariable(made),
-        ScopeAttribute::External => UnitGlobal::ExternalVariable { name, made },
+    match class {
+        StorageClass::Controlled => VariableKind::Controlled,
+        _ => VariableKind::Static,
     }
 }
 
-/// The global that a symbol with these members is, if it is one: a STATIC variable that is compiled, or an entry.
+/// A variable of this name, by its scope.
+fn variable_global<'a>(
+    scope: ScopeAttribute,
+    kind: VariableKind,
+    name: Name,
+    made: MadeVariable<'a>,
+) -> UnitGlobal<'a>
+    ensures view { unit_global_view result ≡ global_of scope kind name (made_template made.entry) }
+    ensures item { (marks : List PlacedMark) → HasMadeItem marks made.entry → HasGlobal marks made.entry.at result }
+{
+    match scope {
+        ScopeAttribute::Internal => UnitGlobal::OwnVariable { kind, made },
+        ScopeAttribute::External => UnitGlobal::ExternalVariable { name, kind, made },
+    }
+}
+
+/// The global that a symbol with these members is, if it is one: a STATIC or CONTROLLED variable that is compiled, or
+/// an entry.
 fn global_in<'a>(symbol: &Symbol<'a>, members: &'a [ValuedItem<'a>]) -> Option<UnitGlobal<'a>>
     ensures view { global_found result ≡ global_made (symbol_view symbol.now) (items_view members.now) }
     ensures item { (marks : List PlacedMark) → AreOfItems marks (symbol_view symbol.now)
         → IfSome result (HasGlobal marks symbol.now.identifier.at) }
 {
     match symbol.kind {
-        SymbolKind::Variable { scope, .. } => {
-            let made = made_in(StorageClass::Static, symbol, members)?;
-            Some(variable_global(scope, symbol.identifier.name, made))
+        SymbolKind::Variable { class, scope, .. } => {
+            let made = made_in(Lifetime::Program, symbol, members)?;
+            Some(variable_global(scope, kind_of(class), symbol.identifier.name, made))
         }
         SymbolKind::Entry {
             parameters,

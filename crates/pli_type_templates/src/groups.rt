@@ -13,6 +13,7 @@ ghost use Rattle.pli_type_tree.specs.views.TemplateView.{group_view, groups_view
 
 use crate::item_numbers::ItemNumbers;
 use crate::items::{ValuedItem, put_item};
+use crate::lifetime::Lifetime;
 use crate::made_variable::MadeVariable;
 use crate::plan::plan_from;
 use pli_map::Description;
@@ -21,21 +22,23 @@ use pli_type_names::is_stored;
 use pli_type_tree::{Template, VariableGroup};
 use std::alloc::{AllocError, Global};
 
-/// Whether a variable is of the wanted class, AUTOMATIC or STATIC, and is compiled.
-fn is_such(wanted: StorageClass, class: StorageClass, description: &Description) -> bool
+/// Whether a variable has the wanted lifetime, and is compiled.
+fn is_such(wanted: Lifetime, class: StorageClass, description: &Description) -> bool
     ensures value { result ≡ is_such wanted class (description_view description.now) }
     ensures stored { result ≡ true → is_stored 31 (description_view description.now) ≡ true }
 {
     match (wanted, class) {
-        (StorageClass::Automatic, StorageClass::Automatic)
-        | (StorageClass::Static, StorageClass::Static) => is_stored(description),
+        (Lifetime::Activation, StorageClass::Automatic)
+        | (Lifetime::Program, StorageClass::Static | StorageClass::Controlled) => is_stored(
+            description,
+        ),
         _ => false,
     }
 }
 
-/// A variable of the wanted class that is compiled, with these members; none of anything else.
+/// A variable of the wanted lifetime that is compiled, with these members; none of anything else.
 pub(crate) fn made_in<'a>(
-    wanted: StorageClass,
+    wanted: Lifetime,
     symbol: &Symbol<'a>,
     members: &'a [ValuedItem<'a>],
 ) -> Option<MadeVariable<'a>>
@@ -88,9 +91,9 @@ pub(crate) fn variable_template(
     })
 }
 
-/// Puts the variable that a symbol is, if it is one of the wanted class that is compiled.
+/// Puts the variable that a symbol is, if it is one of the wanted lifetime that is compiled.
 fn put_made<'a>(
-    wanted: StorageClass,
+    wanted: Lifetime,
     symbol: &Symbol<'a>,
     members: &'a [ValuedItem<'a>],
     made: &mut Vec<MadeVariable<'a>>,
@@ -107,10 +110,10 @@ fn put_made<'a>(
     Ok(())
 }
 
-/// The variables of a class among the symbols of a block, AUTOMATIC or STATIC, in the order of the text.
+/// The variables of a lifetime among the symbols of a block, in the order of the text.
 fn made_variables<'a>(
     alloc: Global,
-    wanted: StorageClass,
+    wanted: Lifetime,
     symbols: &'a [Symbol<'a>],
     members: &'a [Vec<ValuedItem<'a>>],
 ) -> Result<Vec<MadeVariable<'a>>, AllocError>
@@ -208,11 +211,11 @@ fn grouped(
     Ok(groups)
 }
 
-/// What the variables of a class among the symbols of a block are made from, AUTOMATIC or STATIC, in the order of the text.
-pub(crate) fn class_groups<'a>(
+/// What the variables of a lifetime among the symbols of a block are made from, in the order of the text.
+pub(crate) fn lifetime_groups<'a>(
     alloc: Global,
     items: &ItemNumbers<'_>,
-    wanted: StorageClass,
+    wanted: Lifetime,
     symbols: &'a [Symbol<'a>],
     members: &'a [Vec<ValuedItem<'a>>],
 ) -> Result<Vec<VariableGroup>, AllocError>

@@ -8,6 +8,7 @@ mod groups;
 mod item_number;
 mod item_numbers;
 mod items;
+mod lifetime;
 mod made_variable;
 mod members;
 mod offsets;

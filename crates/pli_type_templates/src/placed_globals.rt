@@ -8,16 +8,21 @@ ghost use Rattle.pli_type_templates.specs.views.PlacedView.{placed_view};
 use crate::made_variable::MadeVariable;
 use pli_base::Name;
 use pli_map::Description;
+use pli_program::VariableKind;
 use std::alloc::AllocError;
 
 /// A global of a unit.
 #[derive(Clone, Copy)]
 pub(crate) enum UnitGlobal<'a> {
     /// A variable of the unit's own.
-    OwnVariable(MadeVariable<'a>),
+    OwnVariable {
+        kind: VariableKind,
+        made: MadeVariable<'a>,
+    },
     /// A variable of this name, which all units that declare it share.
     ExternalVariable {
         name: Name,
+        kind: VariableKind,
         made: MadeVariable<'a>,
     },
     /// An external procedure of this name, with what it takes and gives.

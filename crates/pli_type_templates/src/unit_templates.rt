@@ -16,10 +16,11 @@ ghost use Rattle.pli_type_tree.specs.views.TemplateView.{groups_view};
 use crate::block_names::{BlockNames, block_names};
 use crate::global_groups::groups;
 use crate::globals::put_globals;
-use crate::groups::class_groups;
+use crate::groups::lifetime_groups;
 use crate::item_numbers::ItemNumbers;
+use crate::lifetime::Lifetime;
 use crate::placed_globals::{PlacedGlobal, sort};
-use pli_resolve::{ResolvedUnit, StorageClass};
+use pli_resolve::ResolvedUnit;
 use pli_type_tree::{GlobalGroup, VariableGroup};
 use std::alloc::{AllocError, Global};
 use std::mem;
@@ -60,8 +61,8 @@ fn automatic_groups<'a>(
 {
     let mut made = Vec::new(alloc);
     for block in blocks {
-        let class = StorageClass::Automatic;
-        made.push(class_groups(alloc, items, class, &block.symbols, &block.members)?)?;
+        let wanted = Lifetime::Activation;
+        made.push(lifetime_groups(alloc, items, wanted, &block.symbols, &block.members)?)?;
     }
     Ok(made)
 }

@@ -6,14 +6,17 @@ use Rattle.std.specs.Prelude.{ℕ, ℤ, Bool, Option, List}
 use Rattle.pli_base.specs.Name.{Name}
 use Rattle.pli_map.specs.Description.{Description}
 use Rattle.pli_operation.specs.declared.operation.Operation.{Operation}
+use Rattle.pli_program.specs.declared.kind.VariableKind.{VariableKind}
 use Rattle.pli_value.specs.Value.{Value}
 use Rattle.pli_type_tree.specs.Templates.{Template}
 
--- where a reference begins: at a parameter or an AUTOMATIC variable, or at a variable that is made before the
--- program begins, by the number of its global
+-- where a reference begins: at a parameter or an AUTOMATIC variable; at a variable that is made before the
+-- program begins, by the number of its global; or at the newest generation of a CONTROLLED variable, by the
+-- number of its global
 pub data Root : Type 0 where
   InSlot : (outward slot : ℕ) → Root
   OfProgram : (number : ℕ) → Root
+  NewestOf : (number : ℕ) → Root
 
 -- what is called: a procedure of the unit, by its block, or an external one, by the number of its entry among
 -- the globals
@@ -33,12 +36,14 @@ pub record Stride : Type 0 where
   pub multiplier : ℕ
 
 mutual
-  -- a constant, what a variable holds, an operation on its operands, or a call of a function
+  -- a constant, what a variable holds, an operation on its operands, a call of a function, or how many
+  -- generations a CONTROLLED variable has, by the number of its global
   pub data TypedExpression : Type 0 where
     Literal : (value : Value) → TypedExpression
     Held : (variable : TypedReference) → TypedExpression
     Calculated : (operation : TypedOperation) (operands : Operands) → TypedExpression
     Called : (callee : Callee) (arguments : TypedArguments) → TypedExpression
+    Generations : (number : ℕ) → TypedExpression
 
   -- a whole variable; or a part, with its offset where all its subscripts are the lowest, its description,
   -- and the subscripts of all its levels in turn
@@ -88,6 +93,14 @@ pub record BlockHead : Type 0 where
   pub variables : List Template
   pub temporaries : ℕ
 
+-- what an item of ALLOCATE makes: a generation of a CONTROLLED variable, by the number of its global
+pub data AllocatedItem : Type 0 where
+  AllocatesControlled : (number : ℕ) → AllocatedItem
+
+-- what an item of FREE ends: the newest generation of a CONTROLLED variable, by the number of its global
+pub data FreedItem : Type 0 where
+  FreesControlled : (number : ℕ) → FreedItem
+
 mutual
   -- a statement with its number, and the numbers of its labels' statements are its own
   pub data TypedStatement : Type 0 where
@@ -100,6 +113,8 @@ mutual
     Assign : (target : TypedReference) (value : TypedExpression) → Form
     AssignAggregate : (target source : TypedReference) → Form
     Put : (skip : Bool) (items : List TypedExpression) → Form
+    Allocate : (items : List AllocatedItem) → Form
+    Free : (items : List FreedItem) → Form
     If : (condition : TypedExpression) (consequence : TypedStatement) (alternative : OtherWise) → Form
     Begin : (head : BlockHead) (statements : TypedStatements) → Form
     Group : (statements : TypedStatements) → Form
@@ -136,10 +151,10 @@ pub record Signature : Type 0 where
   pub result : Option Description
 
 -- what a unit names that is there for the whole program: a variable of its own, a variable that all units
--- which declare its name share, and an external procedure
+-- which declare its name share, and an external procedure; a variable is STATIC or CONTROLLED
 pub data Global : Type 0 where
-  OwnVariable : (template : Template) → Global
-  ExternalVariable : (name : Name) (template : Template) → Global
+  OwnVariable : (kind : VariableKind) (template : Template) → Global
+  ExternalVariable : (name : Name) (kind : VariableKind) (template : Template) → Global
   EntryPoint : (name : Name) (signature : Signature) → Global
 
 -- a unit: the name of its external procedure, and what that takes and gives; its globals in the order of the

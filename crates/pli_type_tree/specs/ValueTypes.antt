@@ -70,6 +70,10 @@ longest = 32767
 abbrev pub length_precision : ℕ
 length_precision = 15
 
+-- the precision of a number of generations
+abbrev pub count_precision : ℕ
+count_precision = 15
+
 -- numbers of so many binary digits have room in so many columns, with a sign
 abbrev pub HaveColumns : (width digits : ℕ) → Type 0
 HaveColumns width p = (p ≤ 31) × (n : ℕ) × (width ≡ suc n) × (2 ^ p ≤ 10 ^ n)

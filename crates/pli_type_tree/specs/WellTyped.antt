@@ -11,22 +11,25 @@ use Rattle.pli_map.specs.Sizes.{size_of}
 use Rattle.pli_map.specs.Values.{holds}
 use Rattle.pli_map.specs.Variables.{Variable}
 use Rattle.pli_value.specs.Value.{Value}
-use Rattle.pli_type_tree.specs.Globals.{description_of, signature_of}
+use Rattle.pli_program.specs.declared.kind.VariableKind.TheVariants.{Static, Controlled}
+use Rattle.pli_type_tree.specs.Globals.{kind_of, described_as, signature_of}
 use Rattle.pli_type_tree.specs.Templates.{variable_of}
-use Rattle.pli_type_tree.specs.TypedTree.{Root, InSlot, OfProgram, TypedOperation, TypedExpression, Literal}
-use Rattle.pli_type_tree.specs.TypedTree.{Held, Calculated}
+use Rattle.pli_type_tree.specs.TypedTree.{Root, InSlot, OfProgram, NewestOf, TypedOperation, TypedExpression}
+use Rattle.pli_type_tree.specs.TypedTree.{Literal, Held, Calculated, Generations}
 use Rattle.pli_type_tree.specs.TypedTree.{Callee, OfBlock, OfEntry, Global}
 use Rattle.pli_type_tree.specs.TypedTree.{Called, TypedReference, Whole, Part, Operands, NoOperand}
 use Rattle.pli_type_tree.specs.TypedTree.{OperandThen}
 use Rattle.pli_type_tree.specs.TypedTree.{Subscripts, NoSubscript, SubscriptThen, TypedArguments, NoArgument}
 use Rattle.pli_type_tree.specs.TypedTree.{ByPlace, ByDummy, BlockHead, TypedStatement, Statement, Form}
-use Rattle.pli_type_tree.specs.TypedTree.{Null, Assign}
+use Rattle.pli_type_tree.specs.TypedTree.{Null, Assign, Allocate, Free, AllocatedItem, AllocatesControlled}
+use Rattle.pli_type_tree.specs.TypedTree.{FreedItem, FreesControlled}
 use Rattle.pli_type_tree.specs.TypedTree.{AssignAggregate, Put, If, Begin, Group, While, Iterate, TypedRange}
 use Rattle.pli_type_tree.specs.TypedTree.{Once, ToBy, ByTo, Repeated, Iteration, Call, Goto, Return}
 use Rattle.pli_type_tree.specs.TypedTree.{ReturnValue, Stop, OtherWise, NoElse, Else, TypedStatements}
 use Rattle.pli_type_tree.specs.TypedTree.{NoStatement}
 use Rattle.pli_type_tree.specs.TypedTree.{StatementThen}
 use Rattle.pli_type_tree.specs.ValueTypes.{StringKind, OfBits, ValueType, Numbers, Strings, type_held}
+use Rattle.pli_type_tree.specs.ValueTypes.{count_precision}
 use Rattle.pli_type_tree.specs.ValueTypes.{IsOf, IsHeldBy}
 use Rattle.pli_type_tree.specs.ValueTypes.{Operates}
 
@@ -82,7 +85,12 @@ slot_of (Some b) slot = slice_get b.slots slot
 -- what the variable is at which a reference begins
 abbrev pub root_of : TypingContext → Root → Option Description
 root_of s (InSlot outward slot) = slot_of (slice_get s.blocks outward) slot
-root_of s (OfProgram number) = description_of (slice_get s.globals number)
+root_of s (OfProgram number) = described_as Static (slice_get s.globals number)
+root_of s (NewestOf number) = described_as Controlled (slice_get s.globals number)
+
+-- a global is a CONTROLLED variable
+abbrev pub IsControlled : TypingContext → (number : ℕ) → Type 0
+IsControlled s number = kind_of (slice_get s.globals number) ≡ Some Controlled
 
 -- the subscripts, where they are within their bounds, lead to a part of this description; and each bounds are
 -- those of some subscript
@@ -137,6 +145,7 @@ abbrev mutual
       (parameters : List Description) × (d : Description)
       × IsCallee s.globals s.procedures s.blocks callee parameters (Some d)
       × ArePassed n s arguments parameters × (type_held d ≡ Some t)
+  IsTyped n s (Generations number) t = IsControlled s number × (t ≡ Numbers count_precision)
 
   -- a reference leads to a variable or a part of this description
   pub IsPlaced : (greatest : ℕ) → TypingContext → TypedReference → Description → Type 0
@@ -180,6 +189,16 @@ IsString n s kind e = (least : ℕ) × (most : ℕ) × IsTyped n s e (Strings ki
 abbrev pub AreItems : (greatest : ℕ) → TypingContext → List TypedExpression → Type 0
 AreItems n s [] = Unit {0}
 AreItems n s (e ∷ es) = ((kind : StringKind) × IsString n s kind e) × AreItems n s es
+
+-- each item of ALLOCATE is of a CONTROLLED variable
+abbrev pub AreAllocated : TypingContext → List AllocatedItem → Type 0
+AreAllocated s [] = Unit {0}
+AreAllocated s (AllocatesControlled number ∷ items) = IsControlled s number × AreAllocated s items
+
+-- each item of FREE is
+abbrev pub AreFreed : TypingContext → List FreedItem → Type 0
+AreFreed s [] = Unit {0}
+AreFreed s (FreesControlled number ∷ items) = IsControlled s number × AreFreed s items
 
 -- groups with a control variable
 
@@ -270,6 +289,8 @@ abbrev mutual
   IsTypedForm n s (AssignAggregate target source) =
       (d : Description) × IsPlaced n s target d × IsPlaced n s source d × (is_area d ≡ false)
   IsTypedForm n s (Put skip items) = AreItems n s items
+  IsTypedForm n s (Allocate items) = AreAllocated s items
+  IsTypedForm n s (Free items) = AreFreed s items
   IsTypedForm n s (If condition consequence alternative) =
       IsString n s OfBits condition × IsTypedStatement n s consequence × IsTypedElse n s alternative
   IsTypedForm n s (Begin head statements) =

@@ -1,1 +1,2 @@
+pub mod GlobalLaws
 pub mod TypedTreeLaws

@@ -12,6 +12,9 @@ pub enum Root {
     /// At a variable that is made before the program begins, by the number of its global. Those of a unit are counted
     /// from 0.
     OfProgram { number: usize },
+    /// At the newest generation of a CONTROLLED variable, by the number of its global. Those of a unit are counted
+    /// from 0.
+    NewestOf { number: usize },
 }
 
 /// What is called.
@@ -93,5 +96,10 @@ pub enum TypedExpression {
     Called {
         callee: Callee,
         arguments: Vec<TypedArgument>,
+    },
+    /// How many generations a CONTROLLED variable has (ALLOCATION), by the number of its global. Those of a unit are
+    /// counted from 0.
+    Generations {
+        number: usize,
     },
 }

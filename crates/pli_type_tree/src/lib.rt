@@ -12,6 +12,6 @@ pub use expression::{
     TypedSubscript,
 };
 pub use iteration::{Iteration, TypedRange};
-pub use statement::{BlockHead, Form, TypedStatement};
+pub use statement::{AllocatedItem, BlockHead, Form, FreedItem, TypedStatement};
 pub use template::{InitialScalar, Template, VariableGroup};
 pub use unit::{GlobalGroup, Signature, TypedProcedure, TypedUnit};

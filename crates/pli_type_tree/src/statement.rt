@@ -17,6 +17,21 @@ pub struct BlockHead {
     pub temporaries: usize,
 }
 
+/// What an item of ALLOCATE makes.
+#[derive(Clone, Copy)]
+pub enum AllocatedItem {
+    /// A generation of a CONTROLLED variable, by the number of its global. Those of a unit are counted from 0.
+    Controlled { number: usize },
+}
+
+/// What an item of FREE ends.
+#[derive(Clone, Copy)]
+pub enum FreedItem {
+    /// The newest generation of a CONTROLLED variable, by the number of its global. Those of a unit are counted from
+    /// 0.
+    Controlled { number: usize },
+}
+
 /// A statement, with all the statements inside it.
 #[cycle(typed_statement)]
 #[derive(Drop)]
@@ -45,6 +60,10 @@ pub enum Form {
         skip: bool,
         items: Vec<TypedExpression>,
     },
+    /// One item after the other.
+    Allocate(Vec<AllocatedItem>),
+    /// One item after the other.
+    Free(Vec<FreedItem>),
     If {
         condition: TypedExpression,
         consequence: Box<TypedStatement>,

@@ -3,6 +3,7 @@ use crate::statement::{BlockHead, TypedStatement};
 use crate::template::{Template, VariableGroup};
 use pli_base::Name;
 use pli_map::Description;
+use pli_program::VariableKind;
 
 /// A procedure.
 #[derive(Drop)]
@@ -27,10 +28,14 @@ pub struct Signature {
 #[derive(Drop)]
 pub enum GlobalGroup {
     /// Variables of the unit's own.
-    OwnVariables(VariableGroup),
+    OwnVariables {
+        kind: VariableKind,
+        variables: VariableGroup,
+    },
     /// Variables of these names, which all units that declare them share.
     ExternalVariables {
         names: Vec<Name>,
+        kind: VariableKind,
         template: Template,
     },
     /// External procedures of these names.

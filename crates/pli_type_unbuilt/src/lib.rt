@@ -1,6 +1,7 @@
 //! The first form of a unit that is not compiled yet.
 #![tactic(auto)]
 
+mod allocations;
 mod constants;
 mod expressions;
 mod groups;

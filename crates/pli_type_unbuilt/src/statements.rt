@@ -6,6 +6,7 @@ ghost use Rattle.pli_base.specs.views.SyntaxView.{expression_view};
 ghost use Rattle.pli_type.specs.Unbuilt as spec;
 ghost use Rattle.pli_type_names.specs.UnitNaming.{compiled_in};
 
+use crate::allocations::{later_allocated, later_freed};
 use crate::expressions::{later_expression, later_list, later_optional, later_reference};
 use crate::groups::{later_called, later_control};
 use pli_base::statement::{Body, Procedure, ProcedureOption, Statement};
@@ -119,8 +120,9 @@ fn later_body(naming: &Naming<'_>, at: u32, body: &Body) -> Option<u32>
         Body::Call { arguments, .. } => token_if(later_called(naming, arguments), at),
         Body::Return(value) => token_if(later_optional(naming, value), at),
         Body::Put { items, .. } => token_if(later_printed(naming, items.as_slice()), at),
-        Body::On { .. } | Body::Revert(_) | Body::Signal(_) | Body::Allocate(_) | Body::Free(_) =>
-            Some(at),
+        Body::Allocate(items) => token_if(later_allocated(naming, items.as_slice()), at),
+        Body::Free(references) => token_if(later_freed(naming, references.as_slice()), at),
+        Body::On { .. } | Body::Revert(_) | Body::Signal(_) => Some(at),
     }
 }
 

@@ -19,6 +19,9 @@ use Rattle.pli_map.specs.Sizes.{size_of}
 use Rattle.pli_value.specs.Value.{Value}
 use Rattle.pli_value.specs.declared.number.Raised.TheVariants as raised
 use Rattle.pli_operation.specs.Operations.{Calculation, Calculates, RaisesCondition, OutOfString, Misfits}
+use Rattle.pli_program.specs.Program.{ProgramVariable}
+use Rattle.pli_program.specs.declared.kind.VariableKind.{VariableKind}
+use Rattle.pli_program.specs.declared.kind.VariableKind.TheVariants as kinds
 use Rattle.pli_world.specs.Activations.{Activation, outward_from, with_newest, without_newest}
 use Rattle.pli_world.specs.Activations.{activation_at, Head}
 use Rattle.pli_world.specs.Ends.{RunEnd, Error, MachineFault}
@@ -28,13 +31,13 @@ use Rattle.pli_world.specs.Storage.{scalar_at, values_from, with_values_at, with
 use Rattle.pli_world.specs.Storage.{generation_limit, offset_limit}
 use Rattle.pli_map.specs.Variables.{byte_limit}
 use Rattle.pli_map.specs.Values.{holds, are_held}
-use Rattle.pli_map.specs.Variables.{Variable, GlobalVariable}
+use Rattle.pli_map.specs.Variables.{Variable}
 
 -- where a variable stands that is there before the program begins: it lies at a place; or its generations are
--- stacked, as those of a CONTROLLED variable, in the list of places of a number
+-- stacked, as those of a CONTROLLED variable, in the stack of a number
 pub data Standing : Type 0 where
   Lies : (place : Place) → Standing
-  Stacked : (list : ℕ) → Standing
+  Stacked : (number : ℕ) → Standing
 
 -- a variable that is there before the program begins, as a unit has it: the unit's number and the number
 -- among its globals; and where it stands, the same in all units that share it
@@ -43,14 +46,20 @@ pub record Static : Type 0 where
   pub number : ℕ
   pub standing : Standing
 
+-- a stack: the variable from which generations are made, and the places of those that it has, the newest
+-- first
+pub record Stack : Type 0 where
+  pub variable : Variable
+  pub places : List Place
+
 -- storage with the number that the next generation gets; the variables that were there before the program
--- began, and the lists of those that are stacked, each the newest place first; activations; what is printed,
--- and the next column; how many steps were taken
+-- began, and the stacks of those that are stacked; activations; what is printed, and the next column; how
+-- many steps were taken
 pub record World : Type 0 where
   pub storage : List Generation
   pub made : ℕ
   pub statics : List Static
-  pub lists : List (List Place)
+  pub stacks : List Stack
   pub activations : List Activation
   pub output : List ℕ
   pub column : ℕ
@@ -63,7 +72,7 @@ nothing =
       storage = [];
       made = 0;
       statics = [];
-      lists = [];
+      stacks = [];
       activations = [];
       output = [];
       column = 1;
@@ -176,6 +185,10 @@ copied source target w =
     if not (is_area source.description) && same source.description target.description
     then further (parts_held source w) (λ vs w. parts_stored target vs w)
     else Wrong
+
+-- a generation ends
+abbrev pub generation_ended : (generation : ℕ) → World → World
+generation_ended generation w = record w { storage = without (generation ∷ []) w.storage }
 
 -- a place is led on by so many bytes, to a part of this description; it is wrong where that is too far behind
 -- the beginning
@@ -312,7 +325,7 @@ static_in [] unit number = None
 static_in (s ∷ ss) unit number =
     if nat_eq s.unit unit && nat_eq s.number number then Some s.standing else static_in ss unit number
 
--- the newest place of a list; it is an error to ask for it where there is none
+-- the newest of these places; it is an error to ask for it where there is none
 abbrev pub newest_in : List Place → World → Answer Place
 newest_in [] w = Raises NoGeneration w
 newest_in (p ∷ older) w = Yields p w
@@ -320,7 +333,8 @@ newest_in (p ∷ older) w = Yields p w
 -- the place of what stands so
 abbrev pub place_standing : Standing → World → Answer Place
 place_standing (Lies p) w = Yields p w
-place_standing (Stacked list) w = further (known (slice_get w.lists list) w) newest_in
+place_standing (Stacked number) w =
+    further (known (slice_get w.stacks number) w) (λ s w. newest_in s.places w)
 
 -- the unit of the newest activation
 abbrev pub newest_unit : List Activation → Option ℕ
@@ -346,10 +360,19 @@ abbrev pub with_shared : {K : Type 0} → (external : Option K) → Standing →
 with_shared None s shared = shared
 with_shared (Some key) s shared = shared ++ (key, s) ∷ []
 
+-- a stack more, of a variable that has no generation yet
+abbrev pub with_new_stack : Variable → World → World
+with_new_stack v w = record w { stacks = w.stacks ++ record { variable = v; places = [] } ∷ [] }
+
+-- a variable is made: one generation; or, where ALLOCATE makes generations, a stack
+abbrev pub made_as : VariableKind → Variable → World → Answer Standing
+made_as kinds.Static v w = further (made_of v.description AsStatic v.initial w) (λ p w. Yields (Lies p) w)
+made_as kinds.Controlled v w = Yields (Stacked (length w.stacks)) (with_new_stack v w)
+
 -- what was made already is not made again
-abbrev pub made_once : Variable → (before : Option Standing) → World → Answer Standing
-made_once v (Some s) w = Yields s w
-made_once v None w = further (made_of v.description AsStatic v.initial w) (λ p w. Yields (Lies p) w)
+abbrev pub made_once : VariableKind → Variable → (before : Option Standing) → World → Answer Standing
+made_once kind v (Some s) w = Yields s w
+made_once kind v None w = made_as kind v w
 
 -- a unit has such a variable, which stands so
 abbrev pub with_static : (unit number : ℕ) → Standing → World → World
@@ -359,13 +382,13 @@ with_static unit number s w =
 -- those among the globals of a unit are made, one after another, from a number on; the external ones that are
 -- made then, of all units so far
 abbrev pub statics_made : {K : Type 0} → (equal : K → K → Bool) → (unit number : ℕ)
-    → List (Option (GlobalVariable K)) → (shared : List (K × Standing)) → World
+    → List (Option (ProgramVariable K)) → (shared : List (K × Standing)) → World
     → Answer (List (K × Standing))
 statics_made equal unit number [] shared w = Yields shared w
 statics_made equal unit number (None ∷ gs) shared w = statics_made equal unit (suc number) gs shared w
-statics_made equal unit number (Some g ∷ gs) shared w =
-    further (made_once g.variable (made_before equal g.external shared) w)
-    (λ s w. statics_made equal unit (suc number) gs (with_shared g.external s shared)
+statics_made equal unit number (Some v ∷ gs) shared w =
+    further (made_once v.kind v.global.variable (made_before equal v.global.external shared) w)
+    (λ s w. statics_made equal unit (suc number) gs (with_shared v.global.external s shared)
     (with_static unit number s w))
 
 -- output

@@ -6,10 +6,12 @@ ghost use Rattle.pli_world.specs.laws.Operations.{SlotKeeps, DummyKeeps, Enterin
 ghost use Rattle.pli_world.specs.laws.Operations.{ClearingKeeps, StatementKeeps, PrintingKeeps, SteppingCounts};
 ghost use Rattle.pli_world.specs.laws.Operations.{PartsHeldKeep, PartsStoredKeep, CopyingKeeps, SubscriptKeeps};
 ghost use Rattle.pli_world.specs.laws.Operations.{CalculatingKeeps, StaticKeeps, StaticsKeep, LineKeeps, LeadingKeeps};
+ghost use Rattle.pli_world.specs.laws.Operations.{StackingKeeps, UnstackingKeeps, CountingKeeps};
 ghost use Rattle.pli_world.specs.examples.StorageExamples.{OuterVariable, DummyNumber, DummyEnds, TooLong};
 ghost use Rattle.pli_world.specs.examples.StorageExamples.{DummyDead, PartStored, PartHeld, ElementCopied};
 ghost use Rattle.pli_world.specs.examples.StorageExamples.{AggregateHeld, NoElement, NoPart, StaticStays};
-ghost use Rattle.pli_world.specs.examples.StorageExamples.{StaticOfOther, NewestOfList, ExternalIsShared, TooFar};
+ghost use Rattle.pli_world.specs.examples.StorageExamples.{StaticOfOther, NewestOfStack, ExternalIsShared, TooFar};
+ghost use Rattle.pli_world.specs.examples.StorageExamples.{NoneAtFirst, NewestFirst, StaticIsNotAllocated};
 
 /// A law: no operation takes a step or prints over what was printed, and each leaves as many activations as it
 /// should.
@@ -28,6 +30,9 @@ pub fn operations_keep()
     ensures one_static { StaticKeeps }
     ensures statics_by_number { StaticsKeep ℕ }
     ensures statics_by_name { StaticsKeep Name }
+    ensures stacking { StackingKeeps }
+    ensures unstacking { UnstackingKeeps }
+    ensures counting { CountingKeeps }
     ensures dummy { DummyKeeps }
     ensures entering { EnteringAdds }
     ensures leaving { LeavingTakes }
@@ -39,7 +44,7 @@ pub fn operations_keep()
 {}
 
 /// Worked examples: static links, dummy arguments, what ends with an activation, parts of aggregates, how far places
-/// are led on, variables that are made once, one whose generations are stacked, one that two units share.
+/// are led on, variables that are made once, CONTROLLED ones, one that two units share.
 pub fn worked_examples()
     ensures outer_variable { OuterVariable }
     ensures dummy_number { DummyNumber }
@@ -55,6 +60,9 @@ pub fn worked_examples()
     ensures no_part { NoPart }
     ensures static_stays { StaticStays }
     ensures static_of_other { StaticOfOther }
-    ensures newest_of_list { NewestOfList }
+    ensures newest_of_stack { NewestOfStack }
+    ensures none_at_first { NoneAtFirst }
+    ensures newest_first { NewestFirst }
+    ensures static_is_not_allocated { StaticIsNotAllocated }
     ensures external_is_shared { ExternalIsShared }
 {}

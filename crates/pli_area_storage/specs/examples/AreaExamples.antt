@@ -12,8 +12,8 @@ use Rattle.pli_value.specs.declared.locator.Locator.{Locator}
 use Rattle.pli_value.specs.declared.locator.Locator.TheVariants.{Null, Pointer, Offset}
 use Rattle.pli_world.specs.Storage.{Automatic, Place}
 use Rattle.pli_world.specs.World.{World, nothing, Answer, Yields, Wrong, further, made_of}
+use Rattle.pli_world.specs.World.{generation_ended}
 use Rattle.pli_world.specs.examples.StorageExamples.{result_of, error_of}
-use Rattle.pli_locators.specs.Locating.{ended}
 use Rattle.pli_area_storage.specs.Blocks.{Inhabited}
 use Rattle.pli_area_storage.specs.InAreas.{begun, allocated_in, based_in, freed_in}
 use Rattle.pli_area_storage.specs.InAreas.{addressed_in, held_in, stored_in, emptied, assigned, offset_in}
@@ -124,7 +124,8 @@ PlaceIsTestedAtUse =
 -- with its generation all blocks of an area end
 abbrev pub AreaEnds : Type 0
 AreaEnds =
-    error_of (with_block (λ large small l areas w. value_by number l areas (ended large w)))
+    error_of (with_block (λ large small l areas w.
+    value_by number l areas (generation_ended large.generation w)))
     ≡ Some DeadLocator
 
 -- ---- values
@@ -182,5 +183,6 @@ PointersAsOffsets =
     × (result_of (with_block (λ large small l areas w. pointer_in large (Offset 0) w)) ≡ Some Null)
     × (error_of (with_block (λ large small l areas w. offset_in small l w)) ≡ Some OutsideArea)
     × (error_of (with_block (λ large small l areas w. offset_in large (Pointer 0 0) w)) ≡ Some OutsideArea)
-    × (error_of (with_block (λ large small l areas w. offset_in large Null (ended large w)))
+    × (error_of (with_block (λ large small l areas w.
+    offset_in large Null (generation_ended large.generation w)))
     ≡ Some DeadLocator)

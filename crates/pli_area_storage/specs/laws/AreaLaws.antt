@@ -14,7 +14,7 @@ use Rattle.pli_value.specs.declared.locator.Locator.TheVariants.{Pointer}
 use Rattle.pli_world.specs.Storage.{Place, generation_in}
 use Rattle.pli_world.specs.World.{World, Answer, Yields, Raises, Wrong}
 use Rattle.pli_world.specs.Storage.{Block, block_at, with_block_values}
-use Rattle.pli_locators.specs.laws.Operations.{IfYields}
+use Rattle.pli_stacks.specs.laws.Operations.{IfYields}
 use Rattle.pli_area_storage.specs.Blocks.{Inhabited, room_in, place_in, end_of_blocks}
 use Rattle.pli_area_storage.specs.Blocks.{with_block, without_block, area_of, blocks_of}
 use Rattle.pli_area_storage.specs.Blocks.{with_blocks}

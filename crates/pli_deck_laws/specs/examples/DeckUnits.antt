@@ -4,6 +4,7 @@ use Rattle.pli_gen_emit.specs.Encoding.{code_of}
 use Rattle.pli_gen.specs.Limits.{is_too_long}
 use Rattle.pli_gen.specs.WellNumbered.{IsWellNumbered}
 use Rattle.pli_map.specs.Description.{Description, FixedBinary, Character, Array}
+use Rattle.pli_program.specs.declared.kind.VariableKind.TheVariants.{Static}
 use Rattle.pli_type_tree.specs.Templates.{Template}
 use Rattle.pli_type_tree.specs.TypedTree.{InSlot, Fit, TypedExpression, Literal, Calculated}
 use Rattle.pli_type_tree.specs.TypedTree.{TypedReference, Whole}
@@ -92,7 +93,7 @@ worked = record {
   is_main = true;
   signature = record { parameters = []; result = None };
   globals =
-      OwnVariable names
+      OwnVariable Static names
       ∷ EntryPoint (codes "E") (record { parameters = small ∷ []; result = Some (Character 3) })
       ∷ [];
   procedures = external ∷ inner ∷ [];

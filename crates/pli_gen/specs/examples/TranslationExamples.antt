@@ -8,18 +8,19 @@ use Rattle.pli_program.specs.Program.{Instruction, Step, Line, Jump, JumpUnless,
 use Rattle.pli_program.specs.Program.{Constant, Load, Store, Copy, MakeDummy, Operate, Skip, Raise}
 use Rattle.pli_program.specs.Program.{Procedure, BeginBlock}
 use Rattle.pli_program.specs.Program as op
+use Rattle.pli_program.specs.declared.kind.VariableKind.TheVariants.{Static, Controlled}
 use Rattle.pli_type_tree.specs.TypedTree.{InSlot, TypedExpression, Literal, Held, Calculated, Called, Whole}
 use Rattle.pli_type_tree.specs.TypedTree.{TypedReference, Part, NoOperand, OperandThen, NoSubscript}
 use Rattle.pli_type_tree.specs.TypedTree.{SubscriptThen, NoArgument, ByPlace, ByDummy, BlockHead, Statement}
 use Rattle.pli_type_tree.specs.TypedTree.{Null, Assign, AssignAggregate, Put, If, Begin, While, Call, Goto}
 use Rattle.pli_type_tree.specs.TypedTree.{Iterate, ToBy}
-use Rattle.pli_type_tree.specs.TypedTree.{Stop, NoElse, Else, NoStatement, StatementThen}
+use Rattle.pli_type_tree.specs.TypedTree.{Stop, Allocate, Free, NoElse, Else, NoStatement, StatementThen}
+use Rattle.pli_type_tree.specs.TypedTree.{NewestOf, Generations, AllocatesControlled, FreesControlled}
 use Rattle.pli_type_tree.specs.TypedTree.{OfBlock, OfEntry, TypedArguments, OwnVariable, ExternalVariable}
 use Rattle.pli_type_tree.specs.TypedTree.{EntryPoint, TypedUnit, TypedProcedure}
 use Rattle.pli_type_tree.specs.TypedTree as tree
 use Rattle.pli_code.specs.CodeTables as tables
 use Rattle.pli_code.specs.declared.instruction.Instruction.TheVariants as coded
-use Rattle.pli_code.specs.declared.code.VariableKind.TheVariants.{Static}
 use Rattle.pli_gen_emit.specs.Encoding.{code_of}
 use Rattle.pli_gen.specs.Limits.{is_too_long}
 use Rattle.pli_gen.specs.WellNumbered.{IsWellNumbered}
@@ -313,9 +314,9 @@ calling_unit = record {
   is_main = false;
   signature = record { parameters = Character 2 ∷ []; result = None };
   globals =
-      ExternalVariable (codes "N") (record { description = FixedBinary 15; initial = [] })
+      ExternalVariable (codes "N") Static (record { description = FixedBinary 15; initial = [] })
       ∷ EntryPoint (codes "F") (record { parameters = Character 2 ∷ []; result = Some (Bit 1) })
-      ∷ OwnVariable (record { description = Character 2; initial = [] })
+      ∷ OwnVariable Static (record { description = Character 2; initial = [] })
       ∷ EntryPoint (codes "G") (record { parameters = Character 2 ∷ []; result = None }) ∷ [];
   procedures = calling ∷ [];
 }
@@ -343,7 +344,55 @@ EntriesCalled = (code_of calling_unit).instructions
 -- with the number of N among external variables and those of the units that have F and G
 abbrev pub EntriesLinked : Type 0
 EntriesLinked = (unit_code calling_unit (3 ∷ 4 ∷ 2 ∷ [])).globals
-    ≡ op.ExternalVariable 3 (record { description = FixedBinary 15; initial = Number (pos 0) ∷ [] })
+    ≡ op.ExternalVariable 3 Static (record { description = FixedBinary 15; initial = Number (pos 0) ∷ [] })
     ∷ op.EntryPoint 4
-    ∷ op.OwnVariable (record { description = Character 2; initial = Characters (codes "  ") ∷ [] })
+    ∷ op.OwnVariable Static (record { description = Character 2; initial = Characters (codes "  ") ∷ [] })
     ∷ op.EntryPoint 2 ∷ []
+
+-- M: PROC OPTIONS(MAIN); DCL Q FIXED BIN(15) CTL INIT(7), N FIXED BIN(15) CTL EXTERNAL; ALLOCATE Q, N;
+-- Q = ALLOCATION(N); FREE Q; END M;
+abbrev stacking : TypedProcedure
+stacking = record {
+  head = head 0 1;
+  parent = None;
+  parameters = 0;
+  function_end = None;
+  statements =
+      StatementThen (Statement 3 (Allocate (AllocatesControlled 0 ∷ AllocatesControlled 1 ∷ [])))
+      (StatementThen (Statement 4 (Assign (Whole (NewestOf 0)) (Generations 1)))
+      (StatementThen (Statement 5 (Free (FreesControlled 0 ∷ []))) NoStatement));
+}
+
+-- its unit
+abbrev stacking_unit : TypedUnit
+stacking_unit = record {
+  name = codes "M";
+  procedure = codes "M";
+  is_main = true;
+  signature = record { parameters = []; result = None };
+  globals =
+      OwnVariable Controlled
+      (record {
+        description = FixedBinary 15;
+        initial = record { offset = 0; value = Number (pos 7) } ∷ [];
+      })
+      ∷ ExternalVariable (codes "N") Controlled (record { description = FixedBinary 15; initial = [] }) ∷ [];
+  procedures = stacking ∷ [];
+}
+
+-- each item of ALLOCATE and of FREE is an instruction; the place of the newest generation is the global's
+abbrev pub GenerationsStacked : Type 0
+GenerationsStacked = (code_of stacking_unit).instructions
+    ≡ coded.Step 3 ∷ coded.AllocateControlled 0 ∷ coded.AllocateControlled 1
+    ∷ coded.Step 4 ∷ coded.Global 0 ∷ coded.CountGenerations 1 ∷ coded.Store
+    ∷ coded.Step 5 ∷ coded.FreeControlled 0 ∷ coded.Return 0 ∷ []
+
+-- with the number of N among external variables; the initial values are those of each generation
+abbrev pub ControlledLinked : Type 0
+ControlledLinked =
+    ((code_of stacking_unit).globals
+    ≡ tables.OwnVariable Controlled 0 ∷ tables.ExternalVariable (codes "N") Controlled 1 ∷ [])
+    × ((unit_code stacking_unit (2 ∷ [])).globals
+    ≡ op.OwnVariable Controlled (record { description = FixedBinary 15; initial = Number (pos 7) ∷ [] })
+    ∷ op.ExternalVariable 2 Controlled
+    (record { description = FixedBinary 15; initial = Number (pos 0) ∷ [] }) ∷ [])

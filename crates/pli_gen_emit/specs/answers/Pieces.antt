@@ -3,9 +3,10 @@ use Rattle.std.specs.Prelude.{ℕ, ◌≡◌, List, [], ◌∷◌, ◌++◌, Opt
 use Rattle.pli_program.specs.Program.{Instruction, Store, Copy}
 use Rattle.pli_program.specs.Program as op
 use Rattle.pli_type_tree.specs.TypedTree.{Form, Assign, AssignAggregate, Put, Begin, Call, Goto, Return}
-use Rattle.pli_type_tree.specs.TypedTree.{ReturnValue, Stop, Iteration}
+use Rattle.pli_type_tree.specs.TypedTree.{ReturnValue, Stop, Allocate, Free, Iteration}
 use Rattle.pli_gen_emit.specs.TreeTranslation.{BlockTree, behind, block_code, place_code, value_code}
 use Rattle.pli_gen_emit.specs.TreeTranslation.{skip_code, items_code, call_code}
+use Rattle.pli_gen_emit.specs.TreeTranslation.{allocations_code, freeings_code}
 use Rattle.pli_gen_emit.specs.TreeTranslation.{limit_test, while_test, guarded}
 use Rattle.pli_gen_emit.specs.answers.Emitting.{emission, guard_landed}
 use Rattle.pli_gen_emit.specs.declared.emitter.Emitter.{Emitter}
@@ -22,6 +23,8 @@ simple_code (Goto outward label) = op.Goto outward label ∷ []
 simple_code (Return outward) = op.Return outward ∷ []
 simple_code (ReturnValue outward value) = value_code value ++ op.ReturnValue outward ∷ []
 simple_code Stop = op.Stop ∷ []
+simple_code (Allocate items) = allocations_code items
+simple_code (Free items) = freeings_code items
 simple_code form = []
 
 -- where the jump behind a test stands, if there is a test

@@ -12,7 +12,8 @@ use Rattle.pli_link.specs.declared.linking.LinkFault.TheVariants.{ModuleTooLarge
 use Rattle.pli_link.specs.declared.units.LinkedName.{LinkedName}
 use Rattle.pli_code.specs.CodeTables.{Code, CodedGlobal, CodedSignature, OwnVariable, ExternalVariable}
 use Rattle.pli_code.specs.CodeTables.{EntryPoint}
-use Rattle.pli_code.specs.declared.code.VariableKind.TheVariants.{Static, Controlled}
+use Rattle.pli_program.specs.declared.kind.VariableKind.{VariableKind}
+use Rattle.pli_program.specs.declared.kind.VariableKind.TheVariants.{Static, Controlled}
 use Rattle.pli_code.specs.Modules.{External, Member, Module}
 use Rattle.pli_code.specs.declared.instruction.Instruction.TheVariants as op
 
@@ -49,7 +50,7 @@ named n u = record { name = n; unit = u }
 abbrev pub linked : Compiled → (links : List ℕ) → Member
 linked c links = record { name = c.unit; deck = c.deck; links = links }
 
--- an external variable with its first declaration
+-- a STATIC external variable with its first declaration
 abbrev pub external : Name → (unit global : ℕ) → External
 external name unit global = record { name = name; kind = 2; unit = unit; global = global }
 
@@ -124,12 +125,25 @@ ByName =
     let externals = external (codes "A") 0 1 ∷ external (codes "B") 1 1 ∷ external (codes "Z") 0 0 ∷ [] in
     module_of (m ∷ q ∷ []) 0 ≡ linked_to 0 externals (linked m (2 ∷ 0 ∷ []) ∷ linked q (0 ∷ 1 ∷ []) ∷ [])
 
--- a CONTROLLED external variable is not resolved
+-- a unit with one external variable Z, a bit of this kind
+abbrev pub with_kind : (unit : Name) → Bool → VariableKind → Compiled
+with_kind name is_main kind =
+    unit name name is_main (code_with nothing (Bit 1 ∷ []) (ExternalVariable (codes "Z") kind 0 ∷ []))
+
+-- a CONTROLLED variable that two units share is the external variable 0
 abbrev pub ControlledShared : Type 0
 ControlledShared =
-    link_of (unit (codes "M") (codes "M") true
-    (code_with nothing (Bit 1 ∷ []) (ExternalVariable (codes "Z") Controlled 0 ∷ [])) ∷ [])
-    ≡ Err (Unresolved (named (codes "Z") (codes "M")) ∷ [])
+    let m = with_kind (codes "M") true Controlled in
+    let q = with_kind (codes "Q") false Controlled in
+    link_of (m ∷ q ∷ [])
+    ≡ Ok (linked_to 0 (record { name = codes "Z"; kind = 3; unit = 0; global = 0 } ∷ [])
+    (linked m (0 ∷ []) ∷ linked q (0 ∷ []) ∷ []))
+
+-- where it is STATIC in the first unit, the CONTROLLED one of the second is unlike it
+abbrev pub OtherKind : Type 0
+OtherKind =
+    link_of (with_kind (codes "M") true Static ∷ with_kind (codes "Q") false Controlled ∷ [])
+    ≡ Err (Mismatch (named (codes "Z") (codes "Q")) ∷ [])
 
 -- a procedure that takes a bit
 abbrev pub taking : Code
@@ -179,9 +193,15 @@ TooLarge = link_of (with_strings (replicate 17 (OwnVariable Static 0)) ∷ []) �
 abbrev pub many : List CodedGlobal
 many = replicate 16 (OwnVariable Static 0)
 
--- they have not
+-- 17 that are CONTROLLED
+abbrev pub stacked : List CodedGlobal
+stacked = replicate 17 (OwnVariable Controlled 0)
+
+-- they have not, and CONTROLLED ones do not count
 abbrev pub NotTooLarge : Type 0
-NotTooLarge = link_of (with_strings many ∷ []) ≡ Ok (linked_to 0 [] (linked (with_strings many) [] ∷ []))
+NotTooLarge =
+    (link_of (with_strings many ∷ []) ≡ Ok (linked_to 0 [] (linked (with_strings many) [] ∷ [])))
+    × (link_of (with_strings stacked ∷ []) ≡ Ok (linked_to 0 [] (linked (with_strings stacked) [] ∷ [])))
 
 -- one variable declared 17 times
 abbrev pub shared : List CodedGlobal

@@ -8,7 +8,12 @@ use Rattle.pli_type_keys.specs.views.KeyView.{templated}
 -- a declaration
 abbrev pub declaration_view : KnownExternal → Declaration
 declaration_view e =
-    record { template = option_map templated e.template; unit = e.unit; global = e.global }
+    record {
+      kind = e.kind;
+      template = option_map templated e.template;
+      unit = e.unit;
+      global = e.global;
+    }
 
 -- external variables with their first declarations
 abbrev pub externals_view : List (Name × KnownExternal) → List (Name × Declaration)

@@ -1,25 +1,16 @@
--- Worked examples: BASED variables that are allocated and freed, pointers of ADDR, and CONTROLLED variables.
-use Rattle.std.specs.Prelude.{◌≡◌, ℕ, pos, Some, [], ◌∷◌}
+-- Worked examples: BASED variables that are allocated and freed, and pointers of ADDR.
+use Rattle.std.specs.Prelude.{◌≡◌, pos, Some, [], ◌∷◌}
 use Rattle.pli_run.specs.declared.ending.RunError.TheVariants.{NullLocator, DeadLocator, DescriptionMismatch}
-use Rattle.pli_run.specs.declared.ending.RunError.TheVariants.{NoGeneration}
 use Rattle.pli_map.specs.Description.{Description, FixedBinary, Structure, NoMembers, MemberThen}
-use Rattle.pli_map.specs.Variables.{Variable}
 use Rattle.pli_value.specs.Value.{Number}
 use Rattle.pli_value.specs.declared.locator.Locator.{Locator}
 use Rattle.pli_value.specs.declared.locator.Locator.TheVariants.{Null, Pointer, Offset}
+use Rattle.pli_world.specs.Stacks.{newest}
 use Rattle.pli_world.specs.Storage.{Automatic, Place, whole, field_of}
 use Rattle.pli_world.specs.World.{World, nothing, Answer, Wrong, further, made_of, held}
 use Rattle.pli_world.specs.examples.StorageExamples.{result_of, error_of}
+use Rattle.pli_stacks.specs.examples.StackExamples.{number, beginning, with_two}
 use Rattle.pli_locators.specs.Locating.{based, allocated, freed, addressed}
-use Rattle.pli_locators.specs.Stacks.{with_new_stack, newest, stacked, unstacked, counted}
-
--- FIXED BINARY(15)
-abbrev pub number : Description
-number = FixedBinary 15
-
--- a variable of it that begins as this
-abbrev pub beginning : ℕ → Variable
-beginning x = record { description = number; initial = Number (pos x) ∷ [] }
 
 -- ---- BASED variables
 
@@ -111,50 +102,8 @@ AddressOfPart =
     × (error_of (with_allocated (λ l w. further (based number l w)
     (λ p w. further (freed number l w) (λ _ w. addressed (field_of 2 number p) w)))) ≡ Some DeadLocator)
 
--- ---- CONTROLLED variables
-
--- one has a generation that begins as 1 and a newer one that begins as 2
-abbrev pub with_two : {A : Type 0} → (World → Answer A) → Answer A
-with_two go =
-    further (stacked 0 (beginning 1) (with_new_stack nothing))
-    (λ _ w. further (stacked 0 (beginning 2) w) (λ _ w. go w))
-
--- the newest is what a reference means
-abbrev pub NewestIsMeant : Type 0
-NewestIsMeant =
-    (result_of (with_two (λ w. further (newest 0 w) held)) ≡ Some (Number (pos 2)))
-    × (result_of (with_two (counted 0)) ≡ Some 2)
-
--- the newest is freed, and the older one is meant again; the place of the newest is dead
-abbrev pub OlderIsLeft : Type 0
-OlderIsLeft =
-    (result_of (with_two (λ w. further (unstacked 0 w) (λ _ w. further (newest 0 w) held)))
-    ≡ Some (Number (pos 1)))
-    × (result_of (with_two (λ w. further (unstacked 0 w) (λ _ w. counted 0 w))) ≡ Some 1)
-    × (error_of (with_two (λ w. further (newest 0 w)
-    (λ p w. further (unstacked 0 w) (λ _ w. held p w)))) ≡ Some DeadLocator)
-
--- a place that was found before ALLOCATE keeps its generation
-abbrev pub PlaceStays : Type 0
-PlaceStays =
-    result_of (with_two (λ w. further (newest 0 w)
-    (λ p w. further (stacked 0 (beginning 7) w) (λ _ w. held p w)))) ≡ Some (Number (pos 2))
-
--- where there is none it is an error to mean or to free one, and there are 0
-abbrev pub NoneIsLeft : Type 0
-NoneIsLeft =
-    (error_of (newest 0 (with_new_stack nothing)) ≡ Some NoGeneration)
-    × (error_of (unstacked 0 (with_new_stack nothing)) ≡ Some NoGeneration)
-    × (result_of (counted 0 (with_new_stack nothing)) ≡ Some 0)
-    × (error_of (with_two (λ w. further (unstacked 0 w) (λ _ w. further (unstacked 0 w)
-    (λ _ w. unstacked 0 w)))) ≡ Some NoGeneration)
-
 -- what ADDR of a CONTROLLED variable gives is not freed as BASED
 abbrev pub ControlledIsNotFreed : Type 0
 ControlledIsNotFreed =
     error_of (with_two (λ w. further (newest 0 w)
     (λ p w. further (addressed p w) (λ l w. freed number l w)))) ≡ Some DescriptionMismatch
-
--- a stack that is not there is wrong to ask for
-abbrev pub NoStack : Type 0
-NoStack = (newest 0 nothing ≡ Wrong) × (stacked 0 (beginning 1) nothing ≡ Wrong) × (counted 0 nothing ≡ Wrong)

@@ -5,7 +5,7 @@ use Rattle.pli_base.specs.Name.{Name}
 use Rattle.pli_run.specs.declared.ending.Ending.{Ending}
 use Rattle.pli_run.specs.declared.ending.Ending.TheVariants.{Ended, OutOfSteps, Error, MachineFault}
 use Rattle.pli_run.specs.declared.ending.RunError.TheVariants.{TooManyActivations, SubscriptRange}
-use Rattle.pli_run.specs.declared.ending.RunError.TheVariants.{StringRange}
+use Rattle.pli_run.specs.declared.ending.RunError.TheVariants.{StringRange, NoGeneration}
 use Rattle.pli_map.specs.Description.{FixedBinary, Array}
 use Rattle.pli_operation.specs.declared.operation.Operation.{Operation}
 use Rattle.pli_operation.specs.declared.operation.Operation.TheVariants.{ToCharacters, Add, Compare}
@@ -20,7 +20,9 @@ use Rattle.pli_program.specs.Program.{Begin, Raise, Return, ReturnValue, Local, 
 use Rattle.pli_program.specs.Program.{Constant}
 use Rattle.pli_program.specs.Program.{Load, Store, Operate, Put, Skip}
 use Rattle.pli_program.specs.Program.{BlockKind, Procedure, BeginBlock, Block, GlobalCode, OwnVariable}
-use Rattle.pli_program.specs.Program.{ExternalVariable, EntryPoint, UnitCode, Program}
+use Rattle.pli_program.specs.Program.{ExternalVariable, EntryPoint, UnitCode, Program, AllocateControlled}
+use Rattle.pli_program.specs.Program.{FreeControlled, CountGenerations}
+use Rattle.pli_program.specs.declared.kind.VariableKind.TheVariants.{Static, Controlled}
 use Rattle.pli_machine_step.specs.Machine.{State, At, Over, iterate}
 use Rattle.pli_machine_step.specs.Runs.{Outcome, outcome_of, names_of, start, ProgramRunsTo}
 
@@ -326,7 +328,7 @@ twice = record {
   units =
       record {
         name = codes "M";
-        globals = OwnVariable five ∷ [];
+        globals = OwnVariable Static five ∷ [];
         blocks = block Procedure None 0 1 ∷ block Procedure (Some 0) 7 4 ∷ [];
         instructions =
             Call 1 0 ∷ Call 1 0 ∷ Global 0 ∷ Load ∷ Operate (ToCharacters 1) ∷ Put ∷ Return 0 ∷ Global 0
@@ -353,9 +355,9 @@ unit name globals instructions = record {
 abbrev pub units : (entry : ℕ) → List Instruction → Program
 units entry other = record {
   units =
-      unit (codes "M") (EntryPoint entry ∷ ExternalVariable 0 five ∷ [])
+      unit (codes "M") (EntryPoint entry ∷ ExternalVariable 0 Static five ∷ [])
       (CallExternal 0 0 ∷ Global 1 ∷ Load ∷ Operate (ToCharacters 1) ∷ Put ∷ Return 0 ∷ [])
-      ∷ unit (codes "N") (ExternalVariable 0 five ∷ []) other ∷ [];
+      ∷ unit (codes "N") (ExternalVariable 0 Static five ∷ []) other ∷ [];
   main = 0;
   greatest = 31;
 }
@@ -380,3 +382,40 @@ UnitFails =
 -- where there is no such unit it is a fault
 abbrev pub NoUnitFaults : Type 0
 NoUnitFaults = after (units 2 storing) 2 1 ≡ Some (gives [] MachineFault 1)
+
+-- a program whose CONTROLLED variable begins with 5
+abbrev pub controlled : List Instruction → Program
+controlled instructions = record {
+  units = unit (codes "M") (OwnVariable Controlled five ∷ []) instructions ∷ [];
+  main = 0;
+  greatest = 31;
+}
+
+-- how many generations it has, and what it holds, each on a line, and what comes then
+abbrev pub with_count : List Instruction → List Instruction
+with_count more =
+    CountGenerations 0 ∷ Operate (ToCharacters 1) ∷ Put ∷ Skip ∷ Global 0 ∷ Load ∷ Operate (ToCharacters 1)
+    ∷ Put ∷ Skip ∷ more
+
+-- the older of two generations holds 7, the newer one what the variable begins with; where the newer one is
+-- freed the older one is meant again
+abbrev pub GenerationsPrint : Type 0
+GenerationsPrint =
+    after
+    (controlled (AllocateControlled 0 ∷ Global 0 ∷ number 7 ∷ Store ∷ AllocateControlled 0
+    ∷ with_count (FreeControlled 0 ∷ with_count (Return 0 ∷ [])))) 1 25
+    ≡ Some (gives (codes "2 " ++ 10 ∷ codes "5 " ++ 10 ∷ codes "1 " ++ 10 ∷ codes "7 " ++ 10 ∷ []) Ended 1)
+
+-- where there is none it is an error to mean or to free one
+abbrev pub NoneIsError : Type 0
+NoneIsError =
+    (after (controlled (Line 2 ∷ Global 0 ∷ [])) 1 2
+    ≡ Some (gives [] (Error NoGeneration (codes "M") 2) 1))
+    × (after (controlled (Line 2 ∷ FreeControlled 0 ∷ [])) 1 2
+    ≡ Some (gives [] (Error NoGeneration (codes "M") 2) 1))
+
+-- a variable of another kind, and a global that is not there, are none to allocate
+abbrev pub OthersFault : Type 0
+OthersFault =
+    (after (units 1 (AllocateControlled 0 ∷ [])) 2 2 ≡ Some (gives [] MachineFault 1))
+    × (after (controlled (AllocateControlled 1 ∷ [])) 1 1 ≡ Some (gives [] MachineFault 1))

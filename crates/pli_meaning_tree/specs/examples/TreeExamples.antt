@@ -4,12 +4,13 @@ use Rattle.std.specs.Prelude.{map, codes}
 use Rattle.pli_run.specs.declared.ending.Ending.{Ending}
 use Rattle.pli_run.specs.declared.ending.Ending.TheVariants.{Ended, OutOfSteps, Error}
 use Rattle.pli_run.specs.declared.ending.RunError.TheVariants.{SubscriptRange, FixedOverflow}
-use Rattle.pli_run.specs.declared.ending.RunError.TheVariants.{NoReturnedValue}
+use Rattle.pli_run.specs.declared.ending.RunError.TheVariants.{NoReturnedValue, NoGeneration}
 use Rattle.pli_map.specs.Description.{Description, FixedBinary, Array}
 use Rattle.pli_operation.specs.declared.operation.Operation.{Operation}
 use Rattle.pli_operation.specs.declared.operation.Operation.TheVariants.{Add, Subtract, Compare, ToCharacters}
 use Rattle.pli_operation.specs.declared.operation.Relation.TheVariants.{Less}
 use Rattle.pli_world.specs.World.{nothing, cleared}
+use Rattle.pli_program.specs.declared.kind.VariableKind.TheVariants.{Static, Controlled}
 use Rattle.pli_value.specs.Value.{Number, Characters, Bits}
 use Rattle.pli_type_tree.specs.Templates.{Template}
 use Rattle.pli_type_tree.specs.TypedTree.{Fit, Operate, InSlot, OfProgram, OfBlock, OfEntry, TypedExpression}
@@ -20,8 +21,9 @@ use Rattle.pli_type_tree.specs.TypedTree.{TypedStatement, Statement, Form, Assig
 use Rattle.pli_type_tree.specs.TypedTree.{AssignAggregate, Put, If, Begin, Group, While, Iterate, Call, Goto}
 use Rattle.pli_type_tree.specs.TypedTree.{Return, Null, TypedRange, Once, ToBy, ByTo, Repeated, Iteration}
 use Rattle.pli_type_tree.specs.TypedTree.{ReturnValue, Stop, NoElse, Else, TypedStatements, NoStatement}
-use Rattle.pli_type_tree.specs.TypedTree.{StatementThen, TypedProcedure, Signature, Global, ExternalVariable}
-use Rattle.pli_type_tree.specs.TypedTree.{EntryPoint, TypedUnit}
+use Rattle.pli_type_tree.specs.TypedTree.{StatementThen, TypedProcedure, Signature, Global, OwnVariable}
+use Rattle.pli_type_tree.specs.TypedTree.{ExternalVariable, EntryPoint, TypedUnit, NewestOf, Generations}
+use Rattle.pli_type_tree.specs.TypedTree.{Allocate, AllocatesControlled, Free, FreesControlled}
 use Rattle.pli_meaning_tree.specs.Effects.{Label, Effect, Gives, Jumps, Flow, Next, Doing}
 use Rattle.pli_meaning_tree.specs.TreeMeaning.{TypedProgram, as_list, whole_run}
 
@@ -370,11 +372,11 @@ abbrev pub two_units : (statements : List TypedStatement) → TypedProgram
 two_units statements = record {
   units =
       unit_of (codes "M") nothing_given
-      (ExternalVariable (codes "X") (of (FixedBinary 31)) ∷ EntryPoint (codes "N") numeric ∷ [])
+      (ExternalVariable (codes "X") Static (of (FixedBinary 31)) ∷ EntryPoint (codes "N") numeric ∷ [])
       (main_of [] (listed (Statement 2 (Put false
       (shown (Called (OfEntry 1) (ByDummy (FixedBinary 31) (number 3) NoArgument)) ∷ shown (Held shared)
       ∷ [])) ∷ [])) ∷ [])
-      ∷ unit_of (codes "N") numeric (ExternalVariable (codes "X") (of (FixedBinary 31)) ∷ [])
+      ∷ unit_of (codes "N") numeric (ExternalVariable (codes "X") Static (of (FixedBinary 31)) ∷ [])
       (record {
         head = record { number = 0; statement = 1; variables = []; temporaries = 0 };
         parent = None;
@@ -402,3 +404,55 @@ abbrev pub UnitFails : Type 0
 UnitFails =
     whole_run (two_units (Statement 2 (Assign shared (with_two Add (number 2147483647) (number 1))) ∷ [])) 9
     ≡ Some (record { output = []; ending = Error FixedOverflow (codes "N") 2; column = 1 })
+
+-- a program whose unit M has a CONTROLLED variable C that begins with 7, and these statements
+abbrev pub controlled : List TypedStatement → TypedProgram
+controlled statements = record {
+  units =
+      unit_of (codes "M") nothing_given
+      (OwnVariable Controlled (record {
+        description = FixedBinary 31;
+        initial = record { offset = 0; value = Number (pos 7) } ∷ [];
+      }) ∷ [])
+      (main_of [] (listed statements) ∷ []) ∷ [];
+  main = 0;
+  greatest = 31;
+}
+
+-- C
+abbrev pub newest : TypedReference
+newest = Whole (NewestOf 0)
+
+-- `PUT SKIP LIST(ALLOCATION(C)); PUT SKIP LIST(C);`
+abbrev pub counts : (first second : ℕ) → List TypedStatement
+counts first second =
+    Statement first (Put true (shown (Generations 0) ∷ []))
+    ∷ Statement second (Put true (shown (Held newest) ∷ [])) ∷ []
+
+-- `ALLOCATE C; C = 1; ALLOCATE C, C;`, and C is 7; `FREE C, C;`, and it is 1
+abbrev pub NewestIsMeant : Type 0
+NewestIsMeant =
+    whole_run (controlled (Statement 2 (Allocate (AllocatesControlled 0 ∷ []))
+    ∷ Statement 3 (Assign newest (number 1))
+    ∷ Statement 4 (Allocate (AllocatesControlled 0 ∷ AllocatesControlled 0 ∷ []))
+    ∷ counts 5 6
+    ++ Statement 7 (Free (FreesControlled 0 ∷ FreesControlled 0 ∷ [])) ∷ counts 8 9)) 9
+    ≡ Some (record {
+      output = 10 ∷ codes "   3 " ++ 10 ∷ codes "   7 " ++ 10 ∷ codes "   1 " ++ 10 ∷ codes "   1 ";
+      ending = Ended;
+      column = 6;
+    })
+
+-- what prints error E6 at a statement
+abbrev pub HasNone : (statement : ℕ) → List TypedStatement → Type 0
+HasNone statement statements =
+    whole_run (controlled statements) 9
+    ≡ Some (record { output = []; ending = Error NoGeneration (codes "M") statement; column = 1 })
+
+-- `C = 1;`, `FREE C;`, and `ALLOCATE C; FREE C, C;`, where there is no generation
+abbrev pub NoneIsLeft : Type 0
+NoneIsLeft =
+    HasNone 2 (Statement 2 (Assign newest (number 1)) ∷ [])
+    × HasNone 2 (Statement 2 (Free (FreesControlled 0 ∷ [])) ∷ [])
+    × HasNone 3 (Statement 2 (Allocate (AllocatesControlled 0 ∷ []))
+    ∷ Statement 3 (Free (FreesControlled 0 ∷ FreesControlled 0 ∷ [])) ∷ [])

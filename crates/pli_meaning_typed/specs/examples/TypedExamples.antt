@@ -4,15 +4,19 @@ use Rattle.pli_map.specs.Description.{Description, FixedBinary}
 use Rattle.pli_operation.specs.declared.operation.Operation.TheVariants.{Add, Compare, ToCharacters}
 use Rattle.pli_operation.specs.declared.operation.Relation.TheVariants.{Less}
 use Rattle.pli_value.specs.Value.{Number}
+use Rattle.pli_program.specs.declared.kind.VariableKind.TheVariants.{Static, Controlled}
 use Rattle.pli_type_tree.specs.Templates.{Template}
-use Rattle.pli_type_tree.specs.TypedTree.{Fit, Operate, InSlot, OfProgram, OfBlock, OfEntry, Signature}
-use Rattle.pli_type_tree.specs.TypedTree.{Global, ExternalVariable, EntryPoint, TypedUnit, TypedExpression}
+use Rattle.pli_type_tree.specs.TypedTree.{Fit, Operate, InSlot, OfProgram, NewestOf, OfBlock, OfEntry}
+use Rattle.pli_type_tree.specs.TypedTree.{Signature, Global, OwnVariable, ExternalVariable, EntryPoint}
+use Rattle.pli_type_tree.specs.TypedTree.{TypedUnit, TypedExpression, Generations}
+use Rattle.pli_type_tree.specs.TypedTree.{AllocatesControlled, FreesControlled}
+use Rattle.pli_type_tree.specs.TypedTree.{Allocate, Free}
 use Rattle.pli_type_tree.specs.TypedTree.{Literal, Held, Calculated, Called, TypedReference, Whole, NoOperand}
 use Rattle.pli_type_tree.specs.TypedTree.{OperandThen, NoArgument, ByPlace, BlockHead, Statement, Assign, Put}
 use Rattle.pli_type_tree.specs.TypedTree.{If, Goto, ReturnValue, NoElse, TypedStatements, Form, Iterate}
 use Rattle.pli_type_tree.specs.TypedTree.{TypedRange, ByTo, Repeated, NoStatement, StatementThen}
 use Rattle.pli_type_tree.specs.TypedTree.{TypedProcedure}
-use Rattle.pli_type_tree.specs.WellTyped.{KnownProcedure, block_of, IsTypedForm}
+use Rattle.pli_type_tree.specs.WellTyped.{KnownProcedure, block_of, IsTypedForm, AreTypedStatements}
 use Rattle.pli_meaning_tree.specs.TreeMeaning.{TypedProgram}
 use Rattle.pli_meaning_typed.specs.TypedPrograms.{WellTyped, context_in}
 
@@ -144,9 +148,24 @@ GroupsAreWellTyped =
 abbrev pub plain : Template
 plain = record { description = number; initial = [] }
 
+-- X, CONTROLLED
+abbrev pub stacked : Global
+stacked = OwnVariable Controlled plain
+
+-- ALLOCATE X; X = ALLOCATION(X); FREE X;
+abbrev pub allocating : TypedStatements
+allocating =
+    StatementThen (Statement 2 (Allocate (AllocatesControlled 0 ∷ [])))
+    (StatementThen (Statement 3 (Assign (Whole (NewestOf 0)) (Generations 0)))
+    (StatementThen (Statement 4 (Free (FreesControlled 0 ∷ []))) NoStatement))
+
+-- they are well typed in P, where X is declared
+abbrev pub StackIsWellTyped : Type 0
+StackIsWellTyped = AreTypedStatements 31 (context_in (stacked ∷ []) signatures of_caller caller) allocating
+
 -- X, EXTERNAL
 abbrev pub shared : Global
-shared = ExternalVariable (codes "X") plain
+shared = ExternalVariable (codes "X") Static plain
 
 -- what N takes and gives
 abbrev pub numeric : Signature

@@ -1,9 +1,10 @@
 -- Worked examples of names: a resolved unit as types see it.
 --
 --     M: PROC OPTIONS(MAIN);
---     DCL 1 S STATIC, 2 A BIT, 2 B BIT INIT('1'B), X BIT, Y FIXED BIN(15) INIT(3), E ENTRY(BIT), Z BIT EXT;
+--     DCL 1 S STATIC, 2 A BIT, 2 B BIT INIT('1'B), X BIT, Y FIXED BIN(15) INIT(3), E ENTRY(BIT), Z BIT EXT,
+--         C BIT CTL INIT('1'B), D BIT CTL EXT;
 --
--- where B, Y, the built-in function ABS, M, E and Z are used at tokens 50, 52, 54, 56, 58 and 60.
+-- where B, Y, the built-in function ABS, M, E, Z and C are used at tokens 50, 52, 54, 56, 58, 60 and 62.
 use Rattle.std.specs.Prelude.{◌≡◌, ℕ, nat_eq, true, false, pos, Option, Some, None, List, [], ◌∷◌, codes}
 use Rattle.std.specs.Prelude.{if◌then◌else◌}
 use Rattle.pli_base.specs.Name.{Name}
@@ -12,6 +13,7 @@ use Rattle.pli_base.specs.declared.declaration.InitialValue.{InitialValue}
 use Rattle.pli_base.specs.declared.declaration.InitialValue.TheVariants as initial
 use Rattle.pli_declare_attributes.specs.declared.completed.ScopeAttribute.TheVariants as scopes
 use Rattle.pli_map.specs.Description.{Description, FixedBinary, Bit, Structure, NoMembers, MemberThen}
+use Rattle.pli_program.specs.declared.kind.VariableKind.TheVariants.{Static, Controlled}
 use Rattle.pli_resolve.specs.ResolvedUnits.{ResolvedUnit}
 use Rattle.pli_resolve.specs.Symbols.{Symbol, SymbolKind, Variable, Member, Procedure, Entry}
 use Rattle.pli_resolve.specs.declared.block_numbers.ResolvedBlockKind.TheVariants as kinds
@@ -24,7 +26,7 @@ use Rattle.pli_type.specs.NamedUnits.{named_as, named_unit}
 use Rattle.pli_type.specs.Names.{NamedAs, AVariable, AFunction, AProcedure}
 use Rattle.pli_type.specs.examples.ExampleTrees.{called}
 use Rattle.pli_type_tree.specs.TypedTree.{OwnVariable, ExternalVariable, EntryPoint, OfBlock, OfEntry}
-use Rattle.pli_type_tree.specs.TypedTree.{InSlot, OfProgram}
+use Rattle.pli_type_tree.specs.TypedTree.{InSlot, OfProgram, NewestOf}
 use Rattle.pli_value.specs.Value.{Number, Bits}
 
 -- a declared name
@@ -50,7 +52,9 @@ declared =
     (own (FixedBinary 15) classes.Automatic
     (initial.Integer None (record { negative = false; value = 3 }) ∷ []))
     ∷ symbol (codes "E") (Entry (Bit 1 ∷ []) None)
-    ∷ symbol (codes "Z") (Variable (Bit 1) classes.Static scopes.External [] None) ∷ []
+    ∷ symbol (codes "Z") (Variable (Bit 1) classes.Static scopes.External [] None)
+    ∷ symbol (codes "C") (own (Bit 1) classes.Controlled (initial.Bits (true ∷ []) ∷ []))
+    ∷ symbol (codes "D") (Variable (Bit 1) classes.Controlled scopes.External [] None) ∷ []
 
 -- what the names at tokens are, by their symbols
 abbrev pub used : (at : ℕ) → Option NameMeaning
@@ -61,6 +65,7 @@ used at =
     else if nat_eq at 56 then Some (meanings.Symbol (record { block = 1; number = 0 }))
     else if nat_eq at 58 then Some (meanings.Symbol (record { block = 0; number = 5 }))
     else if nat_eq at 60 then Some (meanings.Symbol (record { block = 0; number = 6 }))
+    else if nat_eq at 62 then Some (meanings.Symbol (record { block = 0; number = 7 }))
     else None
 
 -- the unit M, resolved
@@ -89,7 +94,7 @@ abbrev pub meant_at : (at : ℕ) → NamedAs
 meant_at at = named_as 31 resolved (0 ∷ []) (used at)
 
 -- B is a member of a global, Y stands in the second slot, ABS is a built-in function, M the procedure, E an
--- entry, Z a global
+-- entry, Z a global, C the newest generation of one
 abbrev pub NamesOfUnit : Type 0
 NamesOfUnit =
     (meant_at 50 ≡ AVariable (record { root = OfProgram 0; whole = pair; path = 1 ∷ [] }))
@@ -98,8 +103,9 @@ NamesOfUnit =
     × (meant_at 56 ≡ AProcedure (record { callee = OfBlock 0; parameters = []; returned = None }))
     × (meant_at 58 ≡ AProcedure (record { callee = OfEntry 1; parameters = Bit 1 ∷ []; returned = None }))
     × (meant_at 60 ≡ AVariable (record { root = OfProgram 2; whole = Bit 1; path = [] }))
+    × (meant_at 62 ≡ AVariable (record { root = NewestOf 3; whole = Bit 1; path = [] }))
 
--- AUTOMATIC: X without initial values, Y with 3; globals: S, whose second byte is B, E and Z
+-- AUTOMATIC: X without initial values, Y with 3; globals: S, whose second byte is B, E, Z, C, and D
 abbrev pub VariablesOfUnit : Type 0
 VariablesOfUnit =
     ((named_unit 31 resolved).automatic 0
@@ -107,7 +113,10 @@ VariablesOfUnit =
     ∷ record { description = FixedBinary 15; initial = record { offset = 0; value = Number (pos 3) } ∷ [] }
     ∷ [])
     × ((named_unit 31 resolved).globals
-    ≡ OwnVariable
+    ≡ OwnVariable Static
     (record { description = pair; initial = record { offset = 1; value = Bits (true ∷ []) } ∷ [] })
     ∷ EntryPoint (codes "E") (record { parameters = Bit 1 ∷ []; result = None })
-    ∷ ExternalVariable (codes "Z") (record { description = Bit 1; initial = [] }) ∷ [])
+    ∷ ExternalVariable (codes "Z") Static (record { description = Bit 1; initial = [] })
+    ∷ OwnVariable Controlled
+    (record { description = Bit 1; initial = record { offset = 0; value = Bits (true ∷ []) } ∷ [] })
+    ∷ ExternalVariable (codes "D") Controlled (record { description = Bit 1; initial = [] }) ∷ [])

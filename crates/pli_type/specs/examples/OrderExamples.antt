@@ -7,6 +7,7 @@ use Rattle.std.specs.Prelude.{◌≡◌, ℕ, Some, None, [], ◌∷◌, codes}
 use Rattle.pli_base.specs.Statements.{Main, Numbered, Declare, Begin, Ended, Before}
 use Rattle.pli_declare_attributes.specs.declared.completed.ScopeAttribute.TheVariants as scopes
 use Rattle.pli_map.specs.Description.{Description, Character, Bit}
+use Rattle.pli_program.specs.declared.kind.VariableKind.TheVariants.{Static}
 use Rattle.pli_resolve.specs.ResolvedUnits.{ResolvedUnit}
 use Rattle.pli_resolve.specs.Symbols.{Symbol, Variable, Procedure}
 use Rattle.pli_resolve.specs.declared.block_numbers.ResolvedBlockKind.TheVariants as kinds
@@ -63,8 +64,8 @@ shared_in block = declared_as 31 nested (1 ∷ 0 ∷ []) (record { block = block
 abbrev pub GlobalsOfUnit : Type 0
 GlobalsOfUnit =
     ((named_unit 31 nested).globals
-    ≡ ExternalVariable (codes "Z") (record { description = Bit 1; initial = [] })
-    ∷ ExternalVariable (codes "Z") (record { description = Character 1; initial = [] }) ∷ [])
+    ≡ ExternalVariable (codes "Z") Static (record { description = Bit 1; initial = [] })
+    ∷ ExternalVariable (codes "Z") Static (record { description = Character 1; initial = [] }) ∷ [])
     × (shared_in 0 ≡ AVariable (record { root = OfProgram 1; whole = Character 1; path = [] }))
     × (shared_in 1 ≡ AVariable (record { root = OfProgram 0; whole = Bit 1; path = [] }))
 

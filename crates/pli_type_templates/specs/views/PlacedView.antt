@@ -12,9 +12,9 @@ use Rattle.pli_type_tree.specs.TypedTree as plain
 
 -- a global
 abbrev pub unit_global_view : UnitGlobal → plain.Global
-unit_global_view (globals.OwnVariable made) = plain.OwnVariable (made_template made)
-unit_global_view (globals.ExternalVariable name made) =
-    plain.ExternalVariable name (made_template made)
+unit_global_view (globals.OwnVariable kind made) = plain.OwnVariable kind (made_template made)
+unit_global_view (globals.ExternalVariable name kind made) =
+    plain.ExternalVariable name kind (made_template made)
 unit_global_view (globals.EntryPoint name parameters returned) =
     plain.EntryPoint name (record {
       parameters = map description_view parameters.now;
@@ -36,8 +36,8 @@ placed_view p = units.placed p.at (global_view p)
 
 -- a global whose name, at this token, is one of an item that says what it is
 abbrev pub HasGlobal : List PlacedMark → (at : ℕ) → UnitGlobal → Type 0
-HasGlobal marks at (globals.OwnVariable made) = HasMadeItem marks made
-HasGlobal marks at (globals.ExternalVariable name made) = HasMadeItem marks made
+HasGlobal marks at (globals.OwnVariable kind made) = HasMadeItem marks made
+HasGlobal marks at (globals.ExternalVariable name kind made) = HasMadeItem marks made
 HasGlobal marks at (globals.EntryPoint name parameters returned) =
     HasEntry marks at (map description_view parameters.now)
     (option_map (λ d. description_view d.now) returned)

@@ -17,9 +17,9 @@ signature_view s = record {
 
 -- a global for each variable, or for each name
 abbrev pub global_group_view : GlobalGroup → List plain.Global
-global_group_view (groups.OwnVariables variables) = map plain.OwnVariable (group_view variables)
-global_group_view (groups.ExternalVariables names template) =
-    map (λ name. plain.ExternalVariable name (template_view template)) names.items
+global_group_view (groups.OwnVariables kind variables) = map (plain.OwnVariable kind) (group_view variables)
+global_group_view (groups.ExternalVariables names kind template) =
+    map (λ name. plain.ExternalVariable name kind (template_view template)) names.items
 global_group_view (groups.EntryPoints names signature) =
     map (λ name. plain.EntryPoint name (signature_view signature)) names.items
 

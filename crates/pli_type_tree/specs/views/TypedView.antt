@@ -10,7 +10,7 @@ use Rattle.pli_type_tree.specs.declared.expression.Callee.TheVariants as callees
 use Rattle.pli_type_tree.specs.declared.expression.Root.{Root}
 use Rattle.pli_type_tree.specs.declared.expression.Root.TheVariants as roots
 use Rattle.pli_type_tree.specs.declared.expression.Stride.{Stride}
-use Rattle.pli_type_tree.specs.declared.expression.TypedExpression.{TypedExpression, Literal, Held}
+use Rattle.pli_type_tree.specs.declared.expression.TypedExpression.{TypedExpression, Literal, Held, Generations}
 use Rattle.pli_type_tree.specs.declared.expression.TypedExpression.{Calculated', Called'}
 use Rattle.pli_type_tree.specs.declared.expression.TypedArgument.TheBlock.{Row_of-TypedExpression}
 use Rattle.pli_type_tree.specs.declared.expression.TypedArgument.TheBlock.{end_of-TypedExpression}
@@ -29,11 +29,15 @@ use Rattle.pli_type_tree.specs.declared.expression.TypedArgument.{TypedArgument,
 use Rattle.pli_type_tree.specs.declared.iteration.Iteration.{Iteration}
 use Rattle.pli_type_tree.specs.declared.iteration.TypedRange.{TypedRange}
 use Rattle.pli_type_tree.specs.declared.iteration.TypedRange.TheVariants as ranges
+use Rattle.pli_type_tree.specs.declared.statement.AllocatedItem.{AllocatedItem}
+use Rattle.pli_type_tree.specs.declared.statement.AllocatedItem.TheVariants as allocated
 use Rattle.pli_type_tree.specs.declared.statement.BlockHead.{BlockHead}
+use Rattle.pli_type_tree.specs.declared.statement.FreedItem.{FreedItem}
+use Rattle.pli_type_tree.specs.declared.statement.FreedItem.TheVariants as freed
 use Rattle.pli_type_tree.specs.declared.statement.TypedStatement.{TypedStatement}
 use Rattle.pli_type_tree.specs.declared.statement.Form.{Form, Null, Assign, AssignAggregate, Put, If', Begin'}
 use Rattle.pli_type_tree.specs.declared.statement.Form.{Group', While', Iterate', Call, Goto, Return}
-use Rattle.pli_type_tree.specs.declared.statement.Form.{ReturnValue, Stop}
+use Rattle.pli_type_tree.specs.declared.statement.Form.{ReturnValue, Stop, Allocate, Free}
 use Rattle.pli_type_tree.specs.declared.statement.Form.{Held-Form-If-2, None', Some', Row_of-TypedStatement}
 use Rattle.pli_type_tree.specs.declared.statement.Form.{end_of-TypedStatement, more_of-TypedStatement}
 use Rattle.pli_type_tree.specs.declared.unit.TypedProcedure.{TypedProcedure}
@@ -43,6 +47,7 @@ use Rattle.pli_type_tree.specs.declared.unit.TypedUnit.{TypedUnit}
 abbrev pub root_view : Root → plain.Root
 root_view (roots.InSlot outward slot) = plain.InSlot outward slot
 root_view (roots.OfProgram number) = plain.OfProgram number
+root_view (roots.NewestOf number) = plain.NewestOf number
 
 -- what is called
 abbrev pub callee_view : Callee → plain.Callee
@@ -67,6 +72,7 @@ abbrev mutual
       plain.Calculated (operation_view operation) (operand_row operands)
   expression_view (Called' callee shape arguments) =
       plain.Called (callee_view callee) (argument_row arguments)
+  expression_view (Generations number) = plain.Generations number
 
   -- a reference
   pub reference_view : TypedReference → plain.TypedReference
@@ -141,6 +147,14 @@ iteration_view i =
       temporary = i.temporary;
     }
 
+-- an item of ALLOCATE
+abbrev pub allocated_view : AllocatedItem → plain.AllocatedItem
+allocated_view (allocated.Controlled number) = plain.AllocatesControlled number
+
+-- an item of FREE
+abbrev pub freed_view : FreedItem → plain.FreedItem
+freed_view (freed.Controlled number) = plain.FreesControlled number
+
 abbrev mutual
   -- what a statement is, apart from its number
   pub form_view : Form → plain.Form
@@ -149,6 +163,8 @@ abbrev mutual
   form_view (AssignAggregate target source) =
       plain.AssignAggregate (reference_view target) (reference_view source)
   form_view (Put skip items) = plain.Put skip (map expression_view items.items)
+  form_view (Allocate items) = plain.Allocate (map allocated_view items.items)
+  form_view (Free items) = plain.Free (map freed_view items.items)
   form_view (If' condition p number form alternative) =
       plain.If (expression_view condition) (plain.Statement number (form_view form)) (else_view alternative)
   form_view (Begin' head shape statements) = plain.Begin (head_view head) (statement_row statements)

@@ -10,8 +10,11 @@ use Rattle.pli_world.specs.Storage.{Automatic, Place, whole, field_of}
 use Rattle.pli_map.specs.Values.{first_values}
 use Rattle.pli_world.specs.World.{Stacked, World, nothing, Answer, Yields, Raises, Wrong, further}
 use Rattle.pli_map.specs.Variables.{Variable}
+use Rattle.pli_program.specs.Program.{ProgramVariable}
+use Rattle.pli_program.specs.declared.kind.VariableKind.{VariableKind}
+use Rattle.pli_program.specs.declared.kind.VariableKind.TheVariants as kinds
 use Rattle.pli_world.specs.Activations.{Head}
-use Rattle.pli_map.specs.Variables.{GlobalVariable}
+use Rattle.pli_world.specs.Stacks.{generation_stacked, generation_unstacked, generations_counted}
 use Rattle.pli_world.specs.World.{made_of, entered, left_by, cleared, dummy_of, parts_held, held, slot_place}
 use Rattle.pli_world.specs.World.{stored, copied, led_on, subscripted, static_place, statics_made}
 
@@ -157,15 +160,15 @@ NoPart = with_aggregate (λ p w. held (field_of 3 (Character 1) p) w) ≡ Wrong
 abbrev pub once : Variable
 once = record { description = FixedBinary 15; initial = Number (pos 3) ∷ [] }
 
--- as the one global of a unit
-abbrev pub own : List (Option (GlobalVariable ℕ))
-own = Some (record { external = None; variable = once }) ∷ []
+-- as the one global of a unit, of a kind
+abbrev pub own : VariableKind → List (Option (ProgramVariable ℕ))
+own kind = Some (record { kind = kind; global = record { external = None; variable = once } }) ∷ []
 
 -- it is there in each activation of its unit, and keeps what it holds
 abbrev pub StaticStays : Type 0
 StaticStays =
     result_of
-    (further (statics_made nat_eq 0 0 own [] nothing)
+    (further (statics_made nat_eq 0 0 (own kinds.Static) [] nothing)
     (λ _ w. further (entered inner 0 [] w)
     (λ _ w. further (static_place 0 w)
     (λ p w. further (stored p (Number (pos 8)) w)
@@ -176,28 +179,69 @@ StaticStays =
 -- that of another unit is not there
 abbrev pub StaticOfOther : Type 0
 StaticOfOther =
-    further (statics_made nat_eq 1 0 own [] nothing)
+    further (statics_made nat_eq 1 0 (own kinds.Static) [] nothing)
     (λ _ w. further (entered inner 0 [] w) (λ _ w. static_place 0 w)) ≡ Wrong
 
--- the place of a unit's one variable, which is stacked in this list
+-- the place of a unit's one variable, whose stack has these places
 abbrev pub newest_of : List Place → Answer Place
 newest_of places =
     further (entered inner 0 [] (record nothing {
       statics = record { unit = 0; number = 0; standing = Stacked 0 } ∷ [];
-      lists = places ∷ [];
+      stacks = record { variable = once; places = places } ∷ [];
     }))
     (λ _ w. static_place 0 w)
 
 -- it is the newest one; where there is none it is an error to ask for it
-abbrev pub NewestOfList : Type 0
-NewestOfList =
+abbrev pub NewestOfStack : Type 0
+NewestOfStack =
     (result_of (newest_of (whole 2 (FixedBinary 15) ∷ whole 1 (FixedBinary 15) ∷ []))
     ≡ Some (whole 2 (FixedBinary 15)))
     × (error_of (newest_of []) ≡ Some NoGeneration)
 
+-- a unit begins whose one global is a variable of a kind, and then
+abbrev pub with_own : {A : Type 0} → VariableKind → (World → Answer A) → Answer A
+with_own kind go =
+    further (statics_made nat_eq 0 0 (own kind) [] nothing)
+    (λ _ w. further (entered inner 0 [] w) (λ _ w. go w))
+
+-- where it is CONTROLLED
+abbrev pub with_controlled : {A : Type 0} → (World → Answer A) → Answer A
+with_controlled go = with_own kinds.Controlled go
+
+-- it has no generation: there is none to mean or to free, and none was made
+abbrev pub NoneAtFirst : Type 0
+NoneAtFirst =
+    (error_of (with_controlled (static_place 0)) ≡ Some NoGeneration)
+    × (error_of (with_controlled (generation_unstacked 0)) ≡ Some NoGeneration)
+    × (result_of (with_controlled (generations_counted 0)) ≡ Some (Number (pos 0)))
+    × (result_of (with_controlled (made_of (FixedBinary 15) Automatic (Number (pos 0) ∷ [])))
+    ≡ Some (whole 0 (FixedBinary 15)))
+
+-- it gets one, which is changed, and then another, and then
+abbrev pub with_two : {A : Type 0} → (World → Answer A) → Answer A
+with_two go =
+    with_controlled (λ w. further (generation_stacked 0 w)
+    (λ _ w. further (static_place 0 w)
+    (λ p w. further (stored p (Number (pos 8)) w) (λ _ w. further (generation_stacked 0 w) (λ _ w. go w)))))
+
+-- the newer one is meant, and begins as the variable does; when it is freed the older one is meant again
+abbrev pub NewestFirst : Type 0
+NewestFirst =
+    (result_of (with_two (λ w. further (static_place 0 w) held)) ≡ Some (Number (pos 3)))
+    × (result_of (with_two (generations_counted 0)) ≡ Some (Number (pos 2)))
+    × (result_of (with_two (λ w. further (generation_unstacked 0 w)
+    (λ _ w. further (static_place 0 w) held))) ≡ Some (Number (pos 8)))
+
+-- a variable that is made once is not allocated, freed or counted
+abbrev pub StaticIsNotAllocated : Type 0
+StaticIsNotAllocated =
+    (with_own kinds.Static (generation_stacked 0) ≡ Wrong)
+    × (with_own kinds.Static (generation_unstacked 0) ≡ Wrong)
+    × (with_own kinds.Static (generations_counted 0) ≡ Wrong)
+
 -- a variable that units share, by its number
-abbrev pub shared : GlobalVariable ℕ
-shared = record { external = Some 0; variable = once }
+abbrev pub shared : ProgramVariable ℕ
+shared = record { kind = kinds.Static; global = record { external = Some 0; variable = once } }
 
 -- a procedure of another unit
 abbrev pub other : Head

@@ -7,7 +7,7 @@ use Rattle.std.proofs.lemmas.Bool.{lt-leb}
 use Rattle.pli_map.specs.Description.{Description}
 use Rattle.pli_run.specs.Print.{print}
 use Rattle.pli_run.specs.declared.ending.RunError.TheVariants.{StorageLimit, SubscriptRange}
-use Rattle.pli_run.specs.declared.ending.RunError.TheVariants.{DescriptionMismatch}
+use Rattle.pli_run.specs.declared.ending.RunError.TheVariants.{DescriptionMismatch, FixedOverflow}
 use Rattle.pli_map.specs.Same.{same}
 use Rattle.pli_map.specs.Scalars.{is_area, is_scalar, scalars_of}
 use Rattle.pli_map.specs.Sizes.{size_of}
@@ -15,14 +15,17 @@ use Rattle.pli_value.specs.Value.{Value}
 use Rattle.pli_value.specs.declared.number.Raised.TheVariants as raised
 use Rattle.pli_operation.specs.Operations.{Calculates, RaisesCondition, OutOfString, Misfits}
 use Rattle.pli_world.specs.Activations.{Activation, activation_at, outward_from, with_newest, without_newest}
-use Rattle.pli_world.specs.Storage.{Block, Generation, Automatic, Static as AsStatic, Dummy, Place, Contents}
-use Rattle.pli_world.specs.Storage.{contents_of, whole, field_of, generation_in, block_at, scalar_at}
+use Rattle.pli_world.specs.Storage.{Block, Generation, Automatic, Static as AsStatic, Controlled, Dummy}
+use Rattle.pli_world.specs.Storage.{Place, Contents, contents_of, whole, field_of, generation_in, block_at}
+use Rattle.pli_world.specs.Storage.{scalar_at}
 use Rattle.pli_world.specs.Storage.{with_values, with_contents, live_bytes, generation_limit}
 use Rattle.pli_world.specs.Storage.{offset_limit}
 use Rattle.pli_map.specs.Variables.{byte_limit}
 use Rattle.pli_map.specs.Values.{holds, are_held}
-use Rattle.pli_world.specs.World.{Standing, Lies, Stacked, World, Answer, Yields, Raises, Wrong, further}
-use Rattle.pli_world.specs.World.{known, height}
+use Rattle.pli_program.specs.declared.kind.VariableKind.{VariableKind}
+use Rattle.pli_program.specs.declared.kind.VariableKind.TheVariants as kinds
+use Rattle.pli_world.specs.World.{Standing, Lies, Stacked, Stack, World, Answer, Yields, Raises, Wrong}
+use Rattle.pli_world.specs.World.{further, known, height}
 use Rattle.pli_map.specs.Variables.{Variable}
 use Rattle.pli_world.specs.World.{made_of, unless_dead, unless_gone, unless_replaced, living, led_into, used}
 use Rattle.pli_world.specs.World.{parts_held, parts_stored, single, held}
@@ -31,13 +34,17 @@ use Rattle.pli_world.specs.World.{copied, led_on, made_all, in_newest, with_slot
 use Rattle.pli_world.specs.World.{without_handed, entered, left_by, cleared, at_statement, stepped, height_of}
 use Rattle.pli_world.specs.World.{slot_in, slot_place, newest_unit, static_in, newest_in, place_standing}
 use Rattle.pli_world.specs.World.{static_place, made_before}
-use Rattle.pli_world.specs.World.{made_once, with_shared, with_static, statics_made}
+use Rattle.pli_world.specs.World.{made_as, made_once, with_shared, with_static, statics_made}
 use Rattle.pli_world.specs.World.{dummy_of, printed, line_ended}
+use Rattle.pli_world.specs.Stacks.{stack_of, stacked, without_newest_of, unstacked}
+use Rattle.pli_world.specs.Stacks.{count_limit, counted, stack_standing, stack_named}
+use Rattle.pli_world.specs.Stacks.{generation_stacked, generation_unstacked, generations_counted}
 use Rattle.pli_world.specs.laws.Operations.{IsPrefix, Follows, AnswerFollows, MakingKeeps, LoadingKeeps}
 use Rattle.pli_world.specs.laws.Operations.{StoringKeeps, PartsHeldKeep, PartsStoredKeep, CopyingKeeps}
 use Rattle.pli_world.specs.laws.Operations.{LeadingKeeps, SubscriptKeeps, CalculatingKeeps, WalkingKeeps}
 use Rattle.pli_world.specs.laws.Operations.{SlotKeeps}
-use Rattle.pli_world.specs.laws.Operations.{StaticKeeps, StaticsKeep, DummyKeeps, EnteringAdds}
+use Rattle.pli_world.specs.laws.Operations.{StaticKeeps, StaticsKeep, StackingKeeps, UnstackingKeeps}
+use Rattle.pli_world.specs.laws.Operations.{CountingKeeps, DummyKeeps, EnteringAdds}
 use Rattle.pli_world.specs.laws.Operations.{LeavingTakes, ClearingKeeps, StatementKeeps, PrintingKeeps}
 use Rattle.pli_world.specs.laws.Operations.{LineKeeps, SteppingCounts}
 
@@ -325,15 +332,29 @@ dummy_keeps d v w =
     refl
     (λ p u f. newest_behind (height w) _ w u f))
 
+-- an operation that keeps, behind another
+one_after_another : {A B : Type 0} (a : World → Answer A) (go : A → World → Answer B)
+    → ((w : World) → AnswerFollows (height w) w (a w))
+    → ((x : A) (v : World) → AnswerFollows (height v) v (go x v)) → (w : World)
+    → AnswerFollows (height w) w (further (a w) go)
+one_after_another a go first next w =
+    further_follows (height w) (height w) w (a w) go (first w) refl
+    (λ x v f. behind (height w) w v (go x v) f (next x v))
+
+-- one on where a global stands
+named_keeps : {A : Type 0} (number : ℕ) (go : Standing → World → Answer A)
+    → ((s : Standing) (v : World) → AnswerFollows (height v) v (go s v)) → (w : World)
+    → AnswerFollows (height w) w
+    (further (known (newest_unit w.activations) w)
+    (λ unit w. further (known (static_in w.statics unit number) w) go))
+named_keeps number go keeps w =
+    one_after_another (known (newest_unit w.activations)) _ (known_follows (newest_unit w.activations))
+    (λ unit v. one_after_another (known (static_in v.statics unit number)) go
+    (known_follows (static_in v.statics unit number)) keeps v) w
+
 pub static_keeps : StaticKeeps
 unfolding static_place
-static_keeps number w =
-    further_follows (height w) (height w) w (known (newest_unit w.activations) w) _
-    (known_follows (newest_unit w.activations) w) refl
-    (λ unit v f. behind (height w) w v _ f
-    (further_follows (height v) (height v) v (known (static_in v.statics unit number) v) _
-    (known_follows (static_in v.statics unit number) v) refl
-    (λ s u f. behind (height v) v u _ f (standing_keeps s u))))
+static_keeps number w = named_keeps number place_standing standing_keeps w
   where
     newest_keeps : (ps : List Place) (w : World) → AnswerFollows (height w) w (newest_in ps w)
     newest_keeps [] w = follows_same w
@@ -341,27 +362,94 @@ static_keeps number w =
 
     standing_keeps : (s : Standing) (w : World) → AnswerFollows (height w) w (place_standing s w)
     standing_keeps (Lies p) w = follows_same w
-    standing_keeps (Stacked list) w =
-        further_follows (height w) (height w) w (known (slice_get w.lists list) w) newest_in
-        (known_follows (slice_get w.lists list) w) refl
-        (λ ps v f. behind (height w) w v (newest_in ps v) f (newest_keeps ps v))
+    standing_keeps (Stacked number) w =
+        one_after_another (known (slice_get w.stacks number)) (λ s w. newest_in s.places w)
+        (known_follows (slice_get w.stacks number)) (λ s v. newest_keeps s.places v) w
 
-once_keeps : (v : Variable) (before : Option Standing) (w : World)
-    → AnswerFollows (height w) w (made_once v before w)
-once_keeps v (Some s) w = follows_same w
-once_keeps v None w =
-    further_follows (height w) (height w) w (made_of v.description AsStatic v.initial w) _
-    (making_keeps v.description AsStatic v.initial w) refl (λ p v f. f)
+-- stacks
+
+-- so is one in a stack of a number
+stack_keeps : {A : Type 0} (number : ℕ) (go : Stack → World → Answer A)
+    → ((s : Stack) (v : World) → AnswerFollows (height v) v (go s v)) → (w : World)
+    → AnswerFollows (height w) w (further (stack_of number w) go)
+stack_keeps number go keeps w =
+    one_after_another (known (slice_get w.stacks number)) go (known_follows (slice_get w.stacks number)) keeps
+    w
+
+stacked_keeps : (number : ℕ) (w : World) → AnswerFollows (height w) w (stacked number w)
+unfolding stacked
+stacked_keeps number =
+    stack_keeps number _
+    (λ s v. further_follows (height v) (height v) v
+    (made_of s.variable.description Controlled s.variable.initial v) _
+    (making_keeps s.variable.description Controlled s.variable.initial v) refl
+    (λ p u f. record { steps = f.steps; heights = f.heights; output = f.output }))
+
+unstacked_keeps : (number : ℕ) (w : World) → AnswerFollows (height w) w (unstacked number w)
+unfolding unstacked
+unstacked_keeps number = stack_keeps number _ (λ s v. by s s.places v)
+  where
+    by : (s : Stack) (ps : List Place) (v : World)
+        → AnswerFollows (height v) v (without_newest_of number s ps v)
+    by s [] v = follows_same v
+    by s (p ∷ older) v = record { steps = refl; heights = refl; output = prefix_same v.output }
+
+counted_keeps : (number : ℕ) (w : World) → AnswerFollows (height w) w (counted number w)
+unfolding counted
+counted_keeps number = stack_keeps number _ (λ s v. by s.places (nat_le (length s.places) count_limit) v)
+  where
+    by : (ps : List Place) (few : Bool) (v : World)
+        → AnswerFollows (height v) v (if few then Yields (length ps) v else Raises FixedOverflow v)
+    by ps true v = follows_same v
+    by ps false v = follows_same v
+
+stack_named_keeps : (number : ℕ) (w : World) → AnswerFollows (height w) w (stack_named number w)
+unfolding stack_named
+stack_named_keeps number = named_keeps number stack_standing by
+  where
+    by : (s : Standing) (w : World) → AnswerFollows (height w) w (stack_standing s w)
+    by (Lies p) w = tt
+    by (Stacked number) w = follows_same w
+
+pub stacking_keeps : StackingKeeps
+unfolding generation_stacked
+stacking_keeps number =
+    one_after_another (stack_named number) stacked (stack_named_keeps number) stacked_keeps
+
+pub unstacking_keeps : UnstackingKeeps
+unfolding generation_unstacked
+unstacking_keeps number =
+    one_after_another (stack_named number) unstacked (stack_named_keeps number) unstacked_keeps
+
+pub counting_keeps : CountingKeeps
+unfolding generations_counted
+counting_keeps number =
+    one_after_another (stack_named number) _ (stack_named_keeps number)
+    (λ stack. one_after_another (counted stack) _ (counted_keeps stack) (λ count v. follows_same v))
+
+-- variables that are made before the program begins
+
+once_keeps : (kind : VariableKind) (v : Variable) (before : Option Standing) (w : World)
+    → AnswerFollows (height w) w (made_once kind v before w)
+once_keeps kind v (Some s) w = follows_same w
+once_keeps kind v None w = by kind
+  where
+    by : (kind : VariableKind) → AnswerFollows (height w) w (made_as kind v w)
+    by kinds.Static =
+        further_follows (height w) (height w) w (made_of v.description AsStatic v.initial w) _
+        (making_keeps v.description AsStatic v.initial w) refl (λ p v f. f)
+    by kinds.Controlled = record { steps = refl; heights = refl; output = prefix_same w.output }
 
 pub statics_keep : (K : Type 0) → StaticsKeep K
 statics_keep K equal unit number [] shared w = follows_same w
 statics_keep K equal unit number (None ∷ gs) shared w = statics_keep K equal unit (suc number) gs shared w
 statics_keep K equal unit number (Some g ∷ gs) shared w =
-    further_follows (height w) (height w) w (made_once g.variable (made_before equal g.external shared) w) _
-    (once_keeps g.variable (made_before equal g.external shared) w) refl
+    let before = made_before equal g.global.external shared in
+    further_follows (height w) (height w) w (made_once g.kind g.global.variable before w) _
+    (once_keeps g.kind g.global.variable before w) refl
     (λ s v f.
     let new = with_static unit number s v in
-    let more = with_shared g.external s shared in
+    let more = with_shared g.global.external s shared in
     behind (height w) w new (statics_made equal unit (suc number) gs more new)
     (record { steps = f.steps; heights = f.heights; output = f.output })
     (statics_keep K equal unit (suc number) gs more new))

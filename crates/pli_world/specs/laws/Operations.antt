@@ -6,12 +6,13 @@ use Rattle.pli_value.specs.Value.{Value}
 use Rattle.pli_operation.specs.Operations.{Calculation}
 use Rattle.pli_world.specs.Storage.{Made, Place}
 use Rattle.pli_world.specs.World.{Standing, World, Answer, Yields, Raises, Wrong, height, made_of}
-use Rattle.pli_map.specs.Variables.{GlobalVariable}
+use Rattle.pli_program.specs.Program.{ProgramVariable}
 use Rattle.pli_world.specs.Activations.{Head}
 use Rattle.pli_world.specs.World.{parts_held, parts_stored, held, stored, copied, led_on, subscripted}
 use Rattle.pli_world.specs.World.{calculation}
 use Rattle.pli_world.specs.World.{entered, left_by, cleared, at_statement, stepped, height_of, slot_place}
 use Rattle.pli_world.specs.World.{static_place, statics_made, dummy_of, printed, line_ended}
+use Rattle.pli_world.specs.Stacks.{generation_stacked, generation_unstacked, generations_counted}
 
 -- a list begins another
 pub record IsPrefix (short long : List ℕ) : Type 0 where
@@ -91,8 +92,20 @@ StaticKeeps = (number : ℕ) → Keeps (static_place number)
 -- making such variables is such an operation, whatever units know the external ones by
 abbrev pub StaticsKeep : (K : Type 0) → Type 0
 StaticsKeep K =
-    (equal : K → K → Bool) → (unit number : ℕ) (gs : List (Option (GlobalVariable K)))
+    (equal : K → K → Bool) → (unit number : ℕ) (gs : List (Option (ProgramVariable K)))
     (shared : List (K × Standing)) → Keeps (statics_made equal unit number gs shared)
+
+-- ALLOCATE of a CONTROLLED variable is such an operation
+abbrev pub StackingKeeps : Type 0
+StackingKeeps = (number : ℕ) → Keeps (generation_stacked number)
+
+-- FREE of one is such an operation
+abbrev pub UnstackingKeeps : Type 0
+UnstackingKeeps = (number : ℕ) → Keeps (generation_unstacked number)
+
+-- ALLOCATION is such an operation
+abbrev pub CountingKeeps : Type 0
+CountingKeeps = (number : ℕ) → Keeps (generations_counted number)
 
 -- entering a block adds an activation, also where there is no room for its variables
 abbrev pub EnteringAdds : Type 0

@@ -1,8 +1,7 @@
 use Rattle.std.proofs.Common.{◌≡◌, ◌++◌, map, replicate}
 use Rattle.pli_code.specs.CodeTables as plain
 use Rattle.pli_code.specs.views.CodeView.{global_view}
-use Rattle.pli_code.specs.declared.code.VariableKind.TheVariants.{Static}
 use Rattle.pli_gen.proofs.globals.put_own.Given as goal
 
 abbrev pub invariant-loop : goal.invariant-loop
-invariant-loop l = map global_view l.globals.items ≡ map global_view l.initial.globals.items ++ replicate l.counter (plain.OwnVariable Static l.template)
+invariant-loop l = map global_view l.globals.items ≡ map global_view l.initial.globals.items ++ replicate l.counter (plain.OwnVariable l.kind l.template)

@@ -10,17 +10,8 @@ returns-clause-dead c = proof.ended_is_dead
 pub returns-clause-freed : goal.returns-clause-freed
 returns-clause-freed c = proof.freed_is_dead
 
-pub returns-clause-making : goal.returns-clause-making
-returns-clause-making c = proof.ended_behind_making
-
 pub returns-clause-allocating : goal.returns-clause-allocating
 returns-clause-allocating c = proof.ended_behind_allocating
 
 pub returns-clause-freeing : goal.returns-clause-freeing
 returns-clause-freeing c = proof.ended_behind_freeing
-
-pub returns-clause-stacking : goal.returns-clause-stacking
-returns-clause-stacking c = proof.ended_behind_stacking
-
-pub returns-clause-unstacking : goal.returns-clause-unstacking
-returns-clause-unstacking c = proof.ended_behind_unstacking

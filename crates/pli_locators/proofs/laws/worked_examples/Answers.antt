@@ -1,13 +1,12 @@
 use Rattle.std.specs.Prelude.{refl}
+use Rattle.pli_world.specs.Stacks.{newest, stacked}
 use Rattle.pli_world.specs.World.{nothing, made_of, held, stored, parts_held, parts_stored}
 use Rattle.pli_locators.specs.Locating.{located, based, allocated, freed, addressed}
-use Rattle.pli_locators.specs.Stacks.{newest, stacked, unstacked, counted}
 use Rattle.pli_locators.proofs.laws.worked_examples.Goals as goal
 
 -- each by computing it
 pub returns : goal.returns
 unfolding nothing made_of held stored parts_held parts_stored located based allocated freed addressed newest stacked
-    unstacked counted
 returns c = record {
   allocated_begins = (refl, refl);
   allocated_again = (refl, refl);
@@ -21,10 +20,5 @@ returns c = record {
   address_is_not_freed = refl;
   address_of_based = refl;
   address_of_part = (refl, refl);
-  newest_is_meant = (refl, refl);
-  older_is_left = (refl, refl, refl);
-  place_stays = refl;
-  none_is_left = (refl, refl, refl, refl);
   controlled_is_not_freed = refl;
-  no_stack = (refl, refl, refl);
 }

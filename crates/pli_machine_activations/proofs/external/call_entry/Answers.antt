@@ -2,7 +2,7 @@ use Rattle.std.proofs.Common.{◌≡◌, ℕ, Option, Some, None, List, ap, ◌�
 use Rattle.std.specs.Prelude.{slice_get}
 use Rattle.std.proofs.lemmas.Result.{IfOk-weaker}
 use Rattle.pli_world.specs.World.{World}
-use Rattle.pli_program.specs.Program.{GlobalCode, OwnVariable, ExternalVariable, ControlledVariable, EntryPoint, UnitCode}
+use Rattle.pli_program.specs.Program.{GlobalCode, OwnVariable, ExternalVariable, EntryPoint, UnitCode}
 use Rattle.pli_machine_step.specs.Machine.{Frame, called_entry, called_unit}
 use Rattle.pli_code.specs.Modules.{unit_of, program_of}
 use Rattle.pli_code.specs.views.CodeView.{member_view}
@@ -19,13 +19,10 @@ entry_called : (units : List UnitCode) (arguments number : ℕ) (o : Option Glob
 entry_called units arguments number None here frames w is =
     let none : None ≡ Some number = is in
     cc
-entry_called units arguments number (Some (OwnVariable v)) here frames w is =
+entry_called units arguments number (Some (OwnVariable kind v)) here frames w is =
     let none : None ≡ Some number = is in
     cc
-entry_called units arguments number (Some (ExternalVariable name v)) here frames w is =
-    let none : None ≡ Some number = is in
-    cc
-entry_called units arguments number (Some ControlledVariable) here frames w is =
+entry_called units arguments number (Some (ExternalVariable name kind v)) here frames w is =
     let none : None ≡ Some number = is in
     cc
 entry_called units arguments number (Some (EntryPoint unit)) here frames w is =

@@ -19,7 +19,7 @@ returns-in-Some c =
     IfOk-weaker c.begin_first.result _ _
     (λ b begins statics.
     begins_as (image_with (module_view md) statics) _ _ b
-    (ap (λ o. resume (main_unit md.main o (first_world c.args.storage statics)) c.args.limit) (code_there md md.main u there))
+    (ap (λ o. resume (main_unit md.main o (first_world c.args.storage c.args.stacks statics)) c.args.limit) (code_there md md.main u there))
     (begins (image_with (module_view md) statics) (named_there md md.main u there)))
     c.begin_first.ensures
 
@@ -30,7 +30,7 @@ returns c = λ statics.
     record {
       end = MachineFault;
       over =
-          ap (λ o. shown (resume (main_unit md.main o (first_world c.args.storage statics)) c.args.limit))
+          ap (λ o. shown (resume (main_unit md.main o (first_world c.args.storage c.args.stacks statics)) c.args.limit))
           (none_there md md.main there);
       is = refl;
     }

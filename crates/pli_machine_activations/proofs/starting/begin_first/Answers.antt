@@ -20,7 +20,7 @@ returns-then-is_main c =
     IfOk-weaker c.begin_main.result _ _
     (λ beginning begins image named.
     begins_as image _ _ beginning
-    (ap (λ o. resume (main_block c.args.number o (first_world c.args.storage image.statics)) c.args.limit)
+    (ap (λ o. resume (main_block c.args.number o (first_world c.args.storage c.args.stacks image.statics)) c.args.limit)
     (block_there (code_view c.args.unit.now.deck.code) 0 (Some (block_view c.in-Some.block.now)) there))
     (begins image named))
     c.begin_main.ensures
@@ -32,9 +32,9 @@ returns-in-Some c = λ image named.
     record {
       end = MachineFault;
       over =
-          ap (λ o. shown (resume (main_block c.args.number o (first_world c.args.storage image.statics)) c.args.limit))
+          ap (λ o. shown (resume (main_block c.args.number o (first_world c.args.storage c.args.stacks image.statics)) c.args.limit))
           (block_there code 0 (Some (block_view c.in-Some.block.now)) there)
-          ∙ not_main c.args.number (block_looked_up code (block_view c.in-Some.block.now)) c.args.storage image.statics
+          ∙ not_main c.args.number (block_looked_up code (block_view c.in-Some.block.now)) c.args.storage c.args.stacks image.statics
           c.args.limit (sym (c.is_main.ensures code) ∙ c.if-is_main.false);
       is = refl;
     }
@@ -45,7 +45,7 @@ returns c = λ image named.
     record {
       end = MachineFault;
       over =
-          ap (λ o. shown (resume (main_block c.args.number o (first_world c.args.storage image.statics)) c.args.limit))
+          ap (λ o. shown (resume (main_block c.args.number o (first_world c.args.storage c.args.stacks image.statics)) c.args.limit))
           (block_there (code_view c.args.unit.now.deck.code) 0 None there);
       is = refl;
     }

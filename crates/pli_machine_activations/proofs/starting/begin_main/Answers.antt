@@ -20,7 +20,7 @@ returns-then-limit-eq0 c = λ image named. record {
   end = OutOfSteps;
   over =
       no_step c.args.number (block_looked_up (code_view c.args.unit.now.deck.code) (block_view c.args.block.now))
-      c.args.storage image.statics c.args.limit c.requires c.if-limit-eq0.true;
+      c.args.storage c.args.stacks image.statics c.args.limit c.requires c.if-limit-eq0.true;
   is = refl;
 }
 
@@ -28,15 +28,15 @@ pub returns-in-Ok : goal.returns-in-Ok
 returns-in-Ok c = λ image named.
     let code = code_view c.args.unit.now.deck.code in
     let b = block_looked_up code (block_view c.args.block.now) in
-    let is = begun_main image c.args.storage c.in_ok-here.here c.new-3.result.items c.new-4.result.items c.args.number b
+    let is = begun_main image c.args.storage c.args.stacks c.in_ok-here.here c.new-3.result.items c.new-4.result.items c.args.number b
     c.new.result.items c.new-2.result.items
     c.in_ok-here.ensures.1 c.new.ensures.items c.new-2.ensures.items c.new-3.ensures.items
     c.new-4.ensures.items in
     let same = c.in-Ok.ensures.same in
-    let mid = main_begun image c.args.storage c.in_ok-here.here c.new-3.result.items c.new-4.result.items in
-    one_step c.args.number b c.args.storage image.statics c.args.limit (c.args.limit - 1) c.requires (omega arith)
+    let mid = main_begun image c.args.storage c.args.stacks c.in_ok-here.here c.new-3.result.items c.new-4.result.items in
+    one_step c.args.number b c.args.storage c.args.stacks image.statics c.args.limit (c.args.limit - 1) c.requires (omega arith)
     ∙ goes_on _ _
-    (enters_goes c.args.number 0 b 0 [] (stepped (first_world c.args.storage image.statics)) mid is
+    (enters_goes c.args.number 0 b 0 [] (stepped (first_world c.args.storage c.args.stacks image.statics)) mid is
     [] (c.args.limit - 1)
     (frame_view c.make_variables.new.machine.here) (frames_of c.make_variables.new.machine.waiting.items) (world_of image c.make_variables.new.machine []) (left_of c.make_variables.new.machine)
     (ap (λ ns. made_all (variables_at code ns) mid) (sym c.deref.ensures.value) ∙ c.in-Ok.ensures.made image [])
@@ -46,19 +46,19 @@ pub returns : goal.returns
 returns c = λ image named.
     let code = code_view c.args.unit.now.deck.code in
     let b = block_looked_up code (block_view c.args.block.now) in
-    let is = begun_main image c.args.storage c.in_ok-here.here c.new-3.result.items c.new-4.result.items c.args.number b
+    let is = begun_main image c.args.storage c.args.stacks c.in_ok-here.here c.new-3.result.items c.new-4.result.items c.args.number b
     c.new.result.items c.new-2.result.items
     c.in_ok-here.ensures.1 c.new.ensures.items c.new-2.ensures.items c.new-3.ensures.items
     c.new-4.ensures.items in
     let last = c.make_variables.new.machine in
     let same = c.in-Err.ensures.same in
-    let mid = main_begun image c.args.storage c.in_ok-here.here c.new-3.result.items c.new-4.result.items in
+    let mid = main_begun image c.args.storage c.args.stacks c.in_ok-here.here c.new-3.result.items c.new-4.result.items in
     let v = world_of image last [] in
     let ends = subst (λ ns. EndsAs c.in-Err.fault (made_all (variables_at code ns) mid) v) c.deref.ensures.value (c.in-Err.ensures.made image []) in
     let begun =
-    one_step c.args.number b c.args.storage image.statics c.args.limit (c.args.limit - 1) c.requires (omega arith) in
+    one_step c.args.number b c.args.storage c.args.stacks image.statics c.args.limit (c.args.limit - 1) c.requires (omega arith) in
     ends_main c.in-Err.fault image last c.args.unit.now.name c.args.block.now.statement c.in_ok-ending-in-Err.ending _ (frame_view last.here) []
-    (λ s stops. ap shown begun ∙ enters_stops c.args.number 0 b 0 [] (stepped (first_world c.args.storage image.statics)) mid is
+    (λ s stops. ap shown begun ∙ enters_stops c.args.number 0 b 0 [] (stepped (first_world c.args.storage c.args.stacks image.statics)) mid is
     [] (c.args.limit - 1) c.in-Err.fault s (frame_view last.here) [] v 0 ends stops same.output same.column)
     c.in_ok-ending-in-Err.ensures
     (ap (λ (f : Frame). slice_get (names_of (program_of image.linked)) f.unit) (same.here ∙ c.in_ok-here.ensures.0) ∙ named)

@@ -1,7 +1,7 @@
 use Rattle.std.proofs.Common.{length, refl, sym, subst}
 use Rattle.std.specs.Prelude.{IfSome}
 use Rattle.std.proofs.lemmas.Option.{slice_get_read}
-use Rattle.pli_machine_activations.specs.answers.LaidTemplates.{IsLaid}
+use Rattle.pli_stacks.specs.answers.LaidBytes.{IsLaid}
 use Rattle.pli_machine_activations.proofs.variables.laid_for.Goals as goal
 
 pub returns-in-Some-Some : goal.returns-in-Some-Some

@@ -3,7 +3,7 @@ use Rattle.std.proofs.lemmas.Option.{same_Some}
 use Rattle.pli_map.specs.views.DescriptionView.{description_view}
 use Rattle.pli_type_tree.specs.Templates.{Template}
 use Rattle.pli_type_tree.specs.views.TemplateView.{initial_view}
-use Rattle.pli_machine_activations.specs.answers.LaidTemplates.{IsLaid}
+use Rattle.pli_stacks.specs.answers.LaidBytes.{IsLaid}
 use Rattle.pli_machine_loading.proofs.laying.lay_template.Goals as goal
 
 pub returns-in_ok-bytes-in-Some : goal.returns-in_ok-bytes-in-Some

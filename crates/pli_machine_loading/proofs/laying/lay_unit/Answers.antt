@@ -3,7 +3,8 @@ use Rattle.std.specs.Prelude.{IfSome}
 use Rattle.pli_type_tree.specs.Templates.{Template}
 use Rattle.pli_code.specs.CodeTables.{template_at}
 use Rattle.pli_code.specs.views.CodeView.{code_view}
-use Rattle.pli_machine_activations.specs.answers.LaidTemplates.{IsLaid, AreLaid}
+use Rattle.pli_machine_activations.specs.answers.LaidTemplates.{AreLaid}
+use Rattle.pli_stacks.specs.answers.LaidBytes.{IsLaid}
 use Rattle.pli_machine_loading.proofs.LaidTables.{each_more}
 use Rattle.pli_machine_loading.proofs.laying.lay_unit.Goals as goal
 

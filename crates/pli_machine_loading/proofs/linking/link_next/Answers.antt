@@ -1,9 +1,6 @@
-use Rattle.std.proofs.Common.{◌≡◌, ℕ, List, [], ◌∷◌, drop, refl, sym, subst, ap, ◌∙◌}
-use Rattle.pli_base.specs.Name.{Name}
+use Rattle.std.proofs.Common.{◌∷◌, drop, sym, subst, ap, ◌∙◌}
 use Rattle.pli_code.specs.CodeTables as plain
 use Rattle.pli_code.specs.CodeTables.{globals_linked}
-use Rattle.pli_code.specs.declared.code.VariableKind.{VariableKind}
-use Rattle.pli_code.specs.declared.code.VariableKind.TheVariants as kinds
 use Rattle.pli_code.specs.views.CodeView.{code_view}
 use Rattle.pli_machine_loading.specs.answers.MadeGlobals.{Links}
 use Rattle.pli_machine_loading.proofs.LinkedGlobals.{none_links}
@@ -19,12 +16,6 @@ returns-in-Some c = λ name more own number statics externals known.
     c.args.shared.now c.link_external.new.shared c.link_external.result)
     (sym taken) (c.link_external.ensures name more links own number statics externals known)
 
--- without a link there is no external variable
-unlinked : (c : plain.Code) (name : Name) (kind : VariableKind) (t : ℕ) (more : List plain.CodedGlobal)
-    → globals_linked c (plain.ExternalVariable name kind t ∷ more) [] ≡ globals_linked c more []
-unlinked c name kinds.Static t more = refl
-unlinked c name kinds.Controlled t more = refl
-
 pub returns-in-None : goal.returns-in-None
 returns-in-None c = λ name more own number statics externals known.
     let none = rw c.deref.ensures.value at c.in-None.ensures in
@@ -32,5 +23,4 @@ returns-in-None c = λ name more own number statics externals known.
     let links = c.args.unit.now.links.items in
     let g = plain.ExternalVariable name c.args.kind c.args.template in
     none_links own number statics externals (globals_linked code (g ∷ more) (drop c.args.taken.now links)) (globals_linked code more (drop c.next_link.new.taken links)) c.args.shared.now known
-    (ap (globals_linked code (g ∷ more)) none.0 ∙ unlinked code name c.args.kind c.args.template more
-    ∙ ap (globals_linked code more) (sym none.0 ∙ ap (λ n. drop n links) (sym none.1)))
+    (ap (globals_linked code (g ∷ more)) none.0 ∙ ap (globals_linked code more) (sym none.0 ∙ ap (λ n. drop n links) (sym none.1)))

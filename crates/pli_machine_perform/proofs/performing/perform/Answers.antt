@@ -120,3 +120,18 @@ returns-in-SetTemporary c =
 pub returns-in-TakeTemporary : goal.returns-in-TakeTemporary
 returns-in-TakeTemporary c =
     does_performs (image_of c.args.unit.now.loaded.now) (member_view c.args.unit.now.linked.now) c.args.instruction (coded.TakeTemporary c.in-TakeTemporary.number) c.args.machine.now c.take_temporary.new.machine c.take_temporary.result c.in-TakeTemporary.is c.take_temporary.ensures
+
+pub returns-in-AllocateControlled : goal.returns-in-AllocateControlled
+returns-in-AllocateControlled c =
+    same_performs (image_of c.args.unit.now.loaded.now) (member_view c.args.unit.now.linked.now) c.args.instruction (coded.AllocateControlled c.in-AllocateControlled.global) c.args.machine.now c.allocate_controlled.new.machine c.allocate_controlled.result c.in-AllocateControlled.is
+    (IfOk-weaker c.allocate_controlled.result _ _ (λ s moves. moves (unit_of (member_view c.args.unit.now.linked.now))) c.allocate_controlled.ensures)
+
+pub returns-in-FreeControlled : goal.returns-in-FreeControlled
+returns-in-FreeControlled c =
+    same_performs (image_of c.args.unit.now.loaded.now) (member_view c.args.unit.now.linked.now) c.args.instruction (coded.FreeControlled c.in-FreeControlled.global) c.args.machine.now c.free_controlled.new.machine c.free_controlled.result c.in-FreeControlled.is
+    (IfOk-weaker c.free_controlled.result _ _ (λ s moves. moves (unit_of (member_view c.args.unit.now.linked.now))) c.free_controlled.ensures)
+
+pub returns-in-CountGenerations : goal.returns-in-CountGenerations
+returns-in-CountGenerations c =
+    same_performs (image_of c.args.unit.now.loaded.now) (member_view c.args.unit.now.linked.now) c.args.instruction (coded.CountGenerations c.in-CountGenerations.global) c.args.machine.now c.count_generations.new.machine c.count_generations.result c.in-CountGenerations.is
+    (IfOk-weaker c.count_generations.result _ _ (λ s moves. moves (unit_of (member_view c.args.unit.now.linked.now))) c.count_generations.ensures)

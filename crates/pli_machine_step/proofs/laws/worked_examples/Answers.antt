@@ -105,3 +105,12 @@ returns-clause-unit_fails c = run.unit_fails
 
 pub returns-clause-no_unit_faults : goal.returns-clause-no_unit_faults
 returns-clause-no_unit_faults c = run.no_unit_faults
+
+pub returns-clause-generations_print : goal.returns-clause-generations_print
+returns-clause-generations_print c = run.generations_print
+
+pub returns-clause-none_is_error : goal.returns-clause-none_is_error
+returns-clause-none_is_error c = run.none_is_error
+
+pub returns-clause-others_fault : goal.returns-clause-others_fault
+returns-clause-others_fault c = run.others_fault

@@ -75,3 +75,9 @@ returns-clause-units_share c = holds.units_share
 
 pub returns-clause-unit_fails : goal.returns-clause-unit_fails
 returns-clause-unit_fails c = holds.unit_fails
+
+pub returns-clause-newest_is_meant : goal.returns-clause-newest_is_meant
+returns-clause-newest_is_meant c = holds.newest_is_meant
+
+pub returns-clause-none_is_left : goal.returns-clause-none_is_left
+returns-clause-none_is_left c = holds.none_is_left

@@ -7,5 +7,8 @@ returns-clause-program c = law.example_is
 pub returns-clause-groups : goal.returns-clause-groups
 returns-clause-groups c = law.groups_are
 
+pub returns-clause-stack : goal.returns-clause-stack
+returns-clause-stack c = law.stack_is
+
 pub returns-clause-units : goal.returns-clause-units
 returns-clause-units c = law.units_are

@@ -10,16 +10,17 @@ use Rattle.pli_type_templates.proofs.global_groups.group_of.Goals as goal
 
 pub returns-in_ok-variables-in-OwnVariable : goal.returns-in_ok-variables-in-OwnVariable
 returns-in_ok-variables-in-OwnVariable c =
-    ap (map OwnVariable) c.in_ok-variables-in-OwnVariable.ensures
-    ∙ own_group global_view (global_view c.args.first.now) c.args.more.now c.requires (made_template c.in-OwnVariable.made) (ap unit_global_view c.in-OwnVariable.is)
+    let v = c.in-OwnVariable in
+    ap (map (OwnVariable v.kind)) c.in_ok-variables-in-OwnVariable.ensures
+    ∙ own_group global_view (global_view c.args.first.now) c.args.more.now c.requires v.kind (made_template v.made) (ap unit_global_view v.is)
 
 pub returns-in_ok-template-in-ExternalVariable : goal.returns-in_ok-template-in-ExternalVariable
 returns-in_ok-template-in-ExternalVariable c =
     let e = c.in-ExternalVariable in
-    let made : Template → List Name → List Global = λ t ns. map (λ n. ExternalVariable n t) ns in
+    let made : Template → List Name → List Global = λ t ns. map (λ n. ExternalVariable n e.kind t) ns in
     ap (made _) c.in_ok-names-in-ExternalVariable.ensures
     ∙ ap (λ t. made t (e.name ∷ names_in (map global_view c.args.more.now))) c.in_ok-template-in-ExternalVariable.ensures
-    ∙ external_group global_view (global_view c.args.first.now) c.args.more.now c.requires e.name (made_template e.made) (ap unit_global_view e.is)
+    ∙ external_group global_view (global_view c.args.first.now) c.args.more.now c.requires e.name e.kind (made_template e.made) (ap unit_global_view e.is)
 
 pub returns-in_ok-signature-in-EntryPoint : goal.returns-in_ok-signature-in-EntryPoint
 returns-in_ok-signature-in-EntryPoint c =

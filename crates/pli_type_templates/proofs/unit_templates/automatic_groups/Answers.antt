@@ -8,8 +8,8 @@ use Rattle.pli_type_templates.specs.views.NumberView.{marks_of}
 use Rattle.pli_type_templates.proofs.UnitsMade.{all_mapped}
 use Rattle.pli_type_templates.proofs.unit_templates.automatic_groups.Goals as goal
 
-pub class_groups-requires-clause-items : goal.class_groups-requires-clause-items
-class_groups-requires-clause-items c =
+pub lifetime_groups-requires-clause-items : goal.lifetime_groups-requires-clause-items
+lifetime_groups-requires-clause-items c =
     let are = AreOfItems (marks_of c.args.items.now) in
     subst (λ (ss : List Symbol). All are (map symbol_view ss)) (sym c.deref.ensures.value)
     (all_mapped (All are) block_symbols c.args.blocks.now c.loop-block.block-index c.block-item.result c.loop-block-test.true c.block-item.is c.requires.items)

@@ -64,5 +64,14 @@ returns-clause-statics_by_number c = law.statics_keep _
 pub returns-clause-statics_by_name : goal.returns-clause-statics_by_name
 returns-clause-statics_by_name c = law.statics_keep _
 
+pub returns-clause-stacking : goal.returns-clause-stacking
+returns-clause-stacking c = law.stacking_keeps
+
+pub returns-clause-unstacking : goal.returns-clause-unstacking
+returns-clause-unstacking c = law.unstacking_keeps
+
+pub returns-clause-counting : goal.returns-clause-counting
+returns-clause-counting c = law.counting_keeps
+
 pub returns-clause-line : goal.returns-clause-line
 returns-clause-line c = law.line_keeps

@@ -1,11 +1,13 @@
 use Rattle.std.specs.Prelude.{refl}
 use Rattle.pli_world.specs.World.{nothing, made_of, parts_held, parts_stored, held, stored, copied, entered, cleared, left_by, height_of, slot_place, dummy_of, static_place}
+use Rattle.pli_world.specs.Stacks.{stacked, unstacked, counted, stack_named, generation_stacked, generation_unstacked, generations_counted}
 use Rattle.pli_world.proofs.laws.worked_examples.Goals as goal
 
 -- each by computing it
 pub returns : goal.returns
 unfolding nothing made_of held stored copied parts_held parts_stored entered cleared left_by height_of
-    slot_place dummy_of static_place
+    slot_place dummy_of static_place stacked unstacked counted stack_named generation_stacked
+    generation_unstacked generations_counted
 returns c = record {
   outer_variable = refl;
   dummy_number = refl;
@@ -21,6 +23,9 @@ returns c = record {
   no_part = refl;
   static_stays = refl;
   static_of_other = refl;
-  newest_of_list = (refl, refl);
+  newest_of_stack = (refl, refl);
+  none_at_first = (refl, refl, refl, refl);
+  newest_first = (refl, refl, refl);
+  static_is_not_allocated = (refl, refl, refl);
   external_is_shared = refl;
 }

@@ -1,0 +1,103 @@
+//! Generations of CONTROLLED variables.
+ghost use Rattle.std.specs.Prelude.{◌≡◌, ℕ, pos, List, Some, IfOk, MatchOption};
+ghost use Rattle.pli_value.specs.Value.{Number, value_view};
+ghost use Rattle.pli_world.specs.Stacks.{stack_named};
+ghost use Rattle.pli_world.specs.World.{Yields, Wrong};
+ghost use Rattle.pli_machine_step.specs.Machine.{act};
+ghost use Rattle.pli_program.specs.Program.{UnitCode, AllocateControlled, FreeControlled, CountGenerations};
+ghost use Rattle.pli_code.specs.Modules.{program_of};
+ghost use Rattle.pli_machine_activations.specs.views.ImageView.{image_of};
+ghost use Rattle.pli_machine_activations.specs.views.MachineView.{Moves, world_of};
+
+use pli_machine_activations::{ActiveUnit, Machine, Stop, static_stack, stop_at};
+use pli_machine_operate::{Operand, push};
+use pli_value::Value;
+use std::alloc::{AllocError, Global};
+
+/// The stack of a CONTROLLED variable, by its number among the globals of the newest activation's unit.
+fn named_stack<'m>(
+    unit: &ActiveUnit<'_, 'm>,
+    _machine: &Machine<'m>,
+    global: usize,
+) -> Option<usize>
+    requires { _machine.now.here.unit ≡ unit.now.number }
+    ensures { (put : List ℕ) → let w = world_of (image_of unit.now.loaded.now) _machine.now put in
+        MatchOption result (stack_named global w ≡ Wrong) (λ stack. stack_named global w ≡ Yields stack w) }
+{
+    static_stack(unit, global)
+}
+
+/// ALLOCATE of a CONTROLLED variable, by its number among the globals of the newest activation's unit.
+pub fn allocate_controlled<'m>(
+    alloc: Global,
+    unit: &ActiveUnit<'_, 'm>,
+    machine: &mut Machine<'m>,
+    global: usize,
+) -> Result<Option<Stop>, AllocError>
+    requires { machine.old.here.unit ≡ unit.now.number }
+    ensures { IfOk result (λ stop. (u : UnitCode) → Moves (image_of unit.now.loaded.now)
+        (act (program_of (image_of unit.now.loaded.now).linked) u (Some (AllocateControlled global))) machine.old machine.new stop) }
+{
+    let Some(stack) = named_stack(unit, machine, global) else {
+        return Ok(Some(Stop::Fault));
+    };
+    match machine
+        .stacks
+        .allocate_controlled(alloc, &mut machine.storage, stack)
+    {
+        Ok(()) => Ok(None),
+        Err(fault) => Ok(Some(stop_at(fault)?)),
+    }
+}
+
+/// FREE of a CONTROLLED variable, by its number among the globals of the newest activation's unit.
+pub fn free_controlled<'m>(
+    unit: &ActiveUnit<'_, 'm>,
+    machine: &mut Machine<'m>,
+    global: usize,
+) -> Result<Option<Stop>, AllocError>
+    requires { machine.old.here.unit ≡ unit.now.number }
+    ensures { IfOk result (λ stop. (u : UnitCode) → Moves (image_of unit.now.loaded.now)
+        (act (program_of (image_of unit.now.loaded.now).linked) u (Some (FreeControlled global))) machine.old machine.new stop) }
+{
+    let Some(stack) = named_stack(unit, machine, global) else {
+        return Ok(Some(Stop::Fault));
+    };
+    match machine.stacks.free_controlled(&mut machine.storage, stack) {
+        Ok(()) => Ok(None),
+        Err(fault) => Ok(Some(stop_at(fault)?)),
+    }
+}
+
+/// How many there are, as a value.
+fn count_value(count: u16) -> Value
+    ensures { value_view result ≡ Number (pos count) }
+{
+    Value::Number(i64::from(count))
+}
+
+/// Puts upon the operands how many generations a CONTROLLED variable has, by its number among the globals of the newest
+/// activation's unit.
+pub fn count_generations<'m>(
+    unit: &ActiveUnit<'_, 'm>,
+    machine: &mut Machine<'m>,
+    global: usize,
+) -> Result<Option<Stop>, AllocError>
+    requires { machine.old.here.unit ≡ unit.now.number }
+    ensures { IfOk result (λ stop. (u : UnitCode) → Moves (image_of unit.now.loaded.now)
+        (act (program_of (image_of unit.now.loaded.now).linked) u (Some (CountGenerations global))) machine.old machine.new stop) }
+{
+    let Some(stack) = named_stack(unit, machine, global) else {
+        return Ok(Some(Stop::Fault));
+    };
+    match machine.stacks.generations(stack) {
+        Ok(count) => {
+            push(
+                &mut machine.here.operands,
+                Operand::OfValue(count_value(count)),
+            )?;
+            Ok(None)
+        }
+        Err(fault) => Ok(Some(stop_at(fault)?)),
+    }
+}

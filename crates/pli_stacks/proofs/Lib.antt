@@ -1,0 +1,9 @@
+pub mod AnsweredCalls
+pub mod GenerationsFound
+pub mod InitialValues
+pub mod LivingBeside
+pub mod NumbersGiven
+pub mod RoomFor
+pub mod StacksSaid
+pub mod StorageAlone
+pub mod YieldedAnswers

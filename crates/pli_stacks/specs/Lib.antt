@@ -1,0 +1,4 @@
+pub mod answers
+pub mod examples
+pub mod laws
+pub mod views

@@ -1,0 +1,2 @@
+pub mod StackView
+pub mod StacksView

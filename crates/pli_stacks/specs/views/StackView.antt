@@ -1,0 +1,23 @@
+-- What a stack of the program says.
+use Rattle.std.specs.Prelude.{List, map, reverse}
+use Rattle.pli_map.specs.views.DescriptionView.{description_view}
+use Rattle.pli_type_tree.specs.Templates.{Template, variable_of}
+use Rattle.pli_type_tree.specs.views.TemplateView.{initial_view}
+use Rattle.pli_world.specs.Storage as plain
+use Rattle.pli_world.specs.World as world
+use Rattle.pli_store.specs.declared.place.Place.{Place}
+use Rattle.pli_store.specs.views.StorageView.{place_view}
+use Rattle.pli_stacks.specs.declared.stack.Stack.{Stack}
+
+-- the places of a stack, the newest first; the program keeps the newest last
+abbrev pub places_view : List Place → List plain.Place
+places_view places = map place_view (reverse places)
+
+-- what its generations are made from
+abbrev pub template_of : Stack → Template
+template_of s =
+    record { description = description_view s.description.now; initial = map initial_view s.initial.now }
+
+-- a stack
+abbrev pub stack_view : Stack → world.Stack
+stack_view s = record { variable = variable_of (template_of s); places = places_view s.places.items }

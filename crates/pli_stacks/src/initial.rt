@@ -1,0 +1,100 @@
+//! Generations of variables, and the bytes with which they begin.
+ghost use Rattle.std.specs.Prelude.{◌≡◌, ◌≤◌, length, map, IfOk, IfSome, OnErr};
+ghost use Rattle.pli_bytes.specs.Contents.{scalars_at, values_of};
+ghost use Rattle.pli_map.specs.Sizes.{size_of};
+ghost use Rattle.pli_map.specs.Values.{first_values};
+ghost use Rattle.pli_map.specs.views.DescriptionView.{description_view};
+ghost use Rattle.pli_store.specs.answers.Answered.{Answered};
+ghost use Rattle.pli_store.specs.views.GenerationView.{made_view};
+ghost use Rattle.pli_store.specs.views.StorageView.{SameStorage, place_view, with_storage};
+ghost use Rattle.pli_type_tree.specs.Templates.{with_initial};
+ghost use Rattle.pli_type_tree.specs.views.TemplateView.{initial_view};
+ghost use Rattle.pli_stacks.specs.answers.LaidBytes.{IsLaid};
+ghost use Rattle.pli_world.specs.World.{World, made_of};
+
+use pli_bytes::{lay_first, put_on};
+use pli_map::{Description, far_size};
+use pli_run::RunError;
+use pli_store::{Made, Place, Storage, StoreFault};
+use pli_type_tree::InitialScalar;
+use std::alloc::{AllocError, Global};
+
+/// Puts initial values in the place of those of their scalars, one after another. One that its scalar may not hold is left
+/// out.
+fn put_all(bytes: &mut [u8], description: &Description, scalars: &[InitialScalar])
+    requires size { length bytes.old ≡ size_of (description_view description.now) }
+    requires limit { size_of (description_view description.now) ≤ 16777216 }
+    ensures put { let d = description_view description.now in
+        values_of d bytes.new ≡ with_initial (scalars_at d) (map initial_view scalars.now) (values_of d bytes.old) }
+    ensures size { length bytes.new ≡ length bytes.old }
+{
+    for scalar in scalars {
+        put_on(bytes, description, scalar.offset, &scalar.value);
+    }
+}
+
+/// Lays down what a variable begins with: for each scalar its initial value, or the one of its type.
+fn lay_initial(bytes: &mut [u8], description: &Description, scalars: &[InitialScalar])
+    requires size { length bytes.old ≡ size_of (description_view description.now) }
+    requires limit { size_of (description_view description.now) ≤ 16777216 }
+    ensures { IsLaid (record { description = description_view description.now; initial = map initial_view scalars.now }) bytes.new }
+{
+    lay_first(description, bytes);
+    put_all(bytes, description, scalars);
+}
+
+/// The bytes with which a variable begins: each scalar with its initial value, or with the one of its type. The description
+/// takes no more bytes than may live.
+pub fn initial_bytes(
+    alloc: Global,
+    description: &Description,
+    scalars: &[InitialScalar],
+) -> Result<Vec<u8>, AllocError>
+    requires { size_of (description_view description.now) ≤ 16777216 }
+    ensures { IfOk result (λ bytes. IsLaid (record { description = description_view description.now; initial = map initial_view scalars.now }) bytes.items) }
+{
+    let mut bytes = vec![in alloc; 0; far_size(description) as usize]?;
+    lay_initial(&mut bytes, description, scalars);
+    Ok(bytes)
+}
+
+/// The same, copied where they are laid.
+fn first_bytes(
+    alloc: Global,
+    description: &Description,
+    scalars: &[InitialScalar],
+    laid: Option<&[u8]>,
+) -> Result<Vec<u8>, AllocError>
+    requires limit { size_of (description_view description.now) ≤ 16777216 }
+    requires laid { IfSome laid (λ bytes. IsLaid (record { description = description_view description.now; initial = map initial_view scalars.now }) bytes.now) }
+    ensures { IfOk result (λ bytes. IsLaid (record { description = description_view description.now; initial = map initial_view scalars.now }) bytes.items) }
+{
+    match laid {
+        Some(bytes) => Vec::from_slice(alloc, bytes),
+        None => initial_bytes(alloc, description, scalars),
+    }
+}
+
+/// A new generation, which begins as a template of this description and of these initial values has it; so do these bytes,
+/// where they are laid. `StorageLimit` where there is no room for it.
+pub fn make_initial<'m>(
+    alloc: Global,
+    storage: &mut Storage<'m>,
+    description: &'m Description,
+    made: Made,
+    scalars: &[InitialScalar],
+    laid: Option<&[u8]>,
+) -> Result<Place<'m>, StoreFault>
+    requires { IfSome laid (λ bytes. IsLaid (record { description = description_view description.now; initial = map initial_view scalars.now }) bytes.now) }
+    ensures answer { (w : World) → Answered place_view result (with_storage storage.old w) (with_storage storage.new w)
+        (made_of (description_view description.now) (made_view made)
+        (with_initial (scalars_at (description_view description.now)) (map initial_view scalars.now) (first_values (description_view description.now)))
+        (with_storage storage.old w)) }
+    ensures err { OnErr result (SameStorage storage.old storage.new) }
+{
+    if !storage.has_room(description) {
+        return Err(StoreFault::Raised(RunError::StorageLimit));
+    }
+    let initial = first_bytes(alloc, description, scalars, laid)?;
+    storage.make(description, made, Some(initial))
+}

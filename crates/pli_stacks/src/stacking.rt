@@ -1,0 +1,72 @@
+//! The generations of one CONTROLLED variable.
+ghost use Rattle.std.specs.Prelude.{◌≡◌, ◌∷◌, [], IfOk, OnErr, MatchOption};
+ghost use Rattle.pli_world.specs.Stacks.{counted_in};
+ghost use Rattle.pli_world.specs.Storage.{Controlled};
+ghost use Rattle.pli_world.specs.World.{World, made_of, newest_in};
+ghost use Rattle.pli_store.specs.answers.Answered.{Answered};
+ghost use Rattle.pli_store.specs.views.StorageView.{SameStorage, place_view, with_storage};
+ghost use Rattle.pli_stacks.specs.views.StackView.{stack_view};
+
+use crate::initial::make_initial;
+use crate::stack::Stack;
+use pli_run::RunError;
+use pli_store::{Made, Place, Storage, StoreFault};
+use std::alloc::Global;
+
+/// The greatest number of FIXED BINARY(15).
+const COUNT_LIMIT: usize = 32_767;
+
+/// The newest place of a stack; `NoGeneration` where there is none.
+pub fn newest_in<'m>(stack: &Stack<'m>) -> Result<Place<'m>, StoreFault>
+    ensures { (w : World) → Answered place_view result w w (newest_in (stack_view stack.now).places w) }
+{
+    match stack.places.last() {
+        Some(place) => Ok(*place),
+        None => Err(StoreFault::Raised(RunError::NoGeneration)),
+    }
+}
+
+/// How many places a stack has; `FixedOverflow` where that is no number of FIXED BINARY(15).
+pub fn count_of(stack: &Stack<'_>) -> Result<u16, StoreFault>
+    ensures { (w : World) → Answered (λ count. count) result w w (counted_in (stack_view stack.now).places w) }
+{
+    if stack.places.len() <= COUNT_LIMIT {
+        Ok(stack.places.len() as u16)
+    } else {
+        Err(StoreFault::Raised(RunError::FixedOverflow))
+    }
+}
+
+/// Makes a generation of the stack's variable, which is the newest from then on. After an error nothing has changed.
+pub fn push_made<'m>(
+    alloc: Global,
+    stack: &mut Stack<'m>,
+    storage: &mut Storage<'m>,
+) -> Result<Place<'m>, StoreFault>
+    ensures answer { (w : World) → Answered place_view result (with_storage storage.old w) (with_storage storage.new w)
+        (made_of (stack_view stack.old).variable.description Controlled (stack_view stack.old).variable.initial (with_storage storage.old w)) }
+    ensures ok { IfOk result (λ place. stack_view stack.new
+        ≡ record (stack_view stack.old) { places = place_view place ∷ (stack_view stack.old).places }) }
+    ensures same { OnErr result (stack_view stack.new ≡ stack_view stack.old) }
+    ensures storage { OnErr result (SameStorage storage.old storage.new) }
+{
+    stack.places.reserve(1)?;
+    let place = make_initial(
+        alloc,
+        storage,
+        stack.description,
+        Made::Controlled,
+        stack.initial,
+        None,
+    )?;
+    stack.places.push_reserved(place);
+    Ok(place)
+}
+
+/// Takes the newest place off a stack, if it has one.
+pub fn pop_newest<'m>(stack: &mut Stack<'m>) -> Option<Place<'m>>
+    ensures { MatchOption result (((stack_view stack.old).places ≡ []) × (stack_view stack.new ≡ stack_view stack.old))
+        (λ place. stack_view stack.old ≡ record (stack_view stack.new) { places = place_view place ∷ (stack_view stack.new).places }) }
+{
+    stack.places.pop()
+}

@@ -1,0 +1,53 @@
+use Rattle.std.proofs.Common.{◌<◌, length, map, ap, ◌∙◌, arith}
+use Rattle.std.proofs.lemmas.List.{map_push}
+use Rattle.pli_base.specs.views.StatementView.{allocation_view}
+use Rattle.pli_type.specs.AllocationTyping.{allocated, in_turn}
+use Rattle.pli_type.specs.Unbuilt.{later_allocation}
+use Rattle.pli_type_expression.proofs.BindLemmas.{exits}
+use Rattle.pli_type_names.specs.UnitNaming.{compiled_in, naming_in}
+use Rattle.pli_type_tree.specs.views.TypedView.{allocated_view}
+use Rattle.pli_type_allocation.proofs.InTurn.{behind, each_built, each_stops, each_typed, all_typed, none_behind}
+use Rattle.pli_type_allocation.proofs.allocating.all_allocated.Goals as goal
+
+pub loop-item-init : goal.loop-item-init
+loop-item-init c =
+    let whole = in_turn (allocated (naming_in c.args.naming.now)) (map allocation_view c.args.items.now) in
+    record {
+      typed = ap (λ xs. behind (map allocated_view xs) whole) c.new-made.ensures.items ∙ none_behind whole;
+      built = c.requires;
+    }
+
+pub allocated-requires : goal.allocated-requires
+allocated-requires c =
+    let l = c.loop-item in
+    (each_built (later_allocation (compiled_in c.args.naming.now)) allocation_view c.args.items.now l.item-index c.item-item.result c.item-item.is
+    (omega arith) l.invariant.built).0
+
+pub loop-item-preserved : goal.loop-item-preserved
+loop-item-preserved c =
+    let es = c.args.items.now in
+    let l = c.loop-item in
+    let inside : l.item-index < length es = omega arith in
+    record {
+      typed = each_typed allocation_view (allocated (naming_in c.args.naming.now)) es l.item-index c.item-item.result
+          (map allocated_view l.made.items) (map allocated_view c.push.new.self.items) (allocated_view c.in_ok-next.next) _
+          c.item-item.is inside c.in_ok-next.ensures
+          (ap (map allocated_view) c.in_ok-push.ensures.items ∙ map_push allocated_view l.made.items c.in_ok-next.next)
+          l.invariant.typed;
+      built = (each_built (later_allocation (compiled_in c.args.naming.now)) allocation_view es l.item-index c.item-item.result c.item-item.is
+          inside l.invariant.built).1;
+    }
+
+pub returns-in_err-next : goal.returns-in_err-next
+returns-in_err-next c =
+    let l = c.loop-item in
+    exits _ c.from_residual.result c.in_err-next.field-0.0 _ c.from_residual.ensures.1
+    (each_stops allocation_view (allocated (naming_in c.args.naming.now)) c.args.items.now l.item-index c.item-item.result
+    (map allocated_view l.made.items) c.in_err-next.field-0.0 _ c.item-item.is (omega arith) c.in_err-next.ensures
+    l.invariant.typed)
+
+pub returns : goal.returns
+returns c =
+    let l = c.loop-item in
+    all_typed allocation_view (allocated (naming_in c.args.naming.now)) c.args.items.now l.item-index (map allocated_view l.made.items) _
+    (omega arith) l.invariant.typed

@@ -1,0 +1,73 @@
+//! FREE.
+ghost use Rattle.std.specs.Prelude.{◌≡◌, false, map, option_map};
+ghost use Rattle.std.specs.List.{list_any};
+ghost use Rattle.pli_base.specs.answers.FailureAnswers.{Gives};
+ghost use Rattle.pli_base.specs.views.SyntaxView.{reference_view};
+ghost use Rattle.pli_type.specs.AllocationTyping as spec;
+ghost use Rattle.pli_type.specs.AllocationTyping.{in_turn};
+ghost use Rattle.pli_type.specs.StatementTyping.{free_typed};
+ghost use Rattle.pli_type.specs.Unbuilt.{later_reference};
+ghost use Rattle.pli_type_names.specs.UnitNaming.{compiled_in, naming_in};
+ghost use Rattle.pli_type_tree.specs.views.TypedView as typed;
+ghost use Rattle.pli_type_tree.specs.views.TypedView.{form_view, freed_view};
+
+use crate::variables::{first_token, only_variable};
+use pli_base::syntax::Reference;
+use pli_base::{Code, fault};
+use pli_type_expression::{Role, TypeError, referred};
+use pli_type_names::Naming;
+use pli_type_tree::{Form, FreedItem, Root, TypedReference};
+use std::alloc::Global;
+
+/// What is freed: the newest generation of a CONTROLLED variable as a whole.
+fn released(reference: &TypedReference) -> Option<FreedItem>
+    ensures { option_map freed_view result ≡ spec.released (typed.reference_view reference.now) }
+{
+    match reference {
+        TypedReference::Whole(Root::NewestOf { number }) => Some(FreedItem::Controlled {
+            number: *number,
+        }),
+        _ => None,
+    }
+}
+
+/// An item of FREE: the faults of its reference, then T11 at its first token where it can't be freed (X3.74).
+fn freed(alloc: Global, naming: &Naming<'_>, reference: &Reference) -> Result<FreedItem, TypeError>
+    requires { later_reference (compiled_in naming.now) (reference_view reference.now) ≡ false }
+    ensures { Gives freed_view result (spec.freed (naming_in naming.now) (reference_view reference.now)) }
+{
+    let at = first_token(reference);
+    let denoted = referred(alloc, naming, Role::Target, reference)?;
+    let referent = only_variable(denoted, at)?;
+    match released(&referent.reference) {
+        Some(item) => Ok(item),
+        None => Err(fault(Code::CannotAllocateOrFree, at)),
+    }
+}
+
+/// The items of FREE, or the first fault of them.
+fn all_freed(
+    alloc: Global,
+    naming: &Naming<'_>,
+    references: &[Reference],
+) -> Result<Vec<FreedItem>, TypeError>
+    requires { list_any (later_reference (compiled_in naming.now)) (map reference_view references.now) ≡ false }
+    ensures { Gives (λ made. map freed_view made.items) result
+        (in_turn (spec.freed (naming_in naming.now)) (map reference_view references.now)) }
+{
+    let mut made = Vec::new(alloc);
+    for reference in references {
+        let next = freed(alloc, naming, reference)?;
+        made.push(next)?;
+    }
+    Ok(made)
+}
+
+/// A FREE, or the first fault of its items, which are looked at one after the other (X3.74).
+pub fn free(alloc: Global, naming: &Naming<'_>, references: &[Reference]) -> Result<Form, TypeError>
+    requires { list_any (later_reference (compiled_in naming.now)) (map reference_view references.now) ≡ false }
+    ensures { Gives form_view result (free_typed (naming_in naming.now) (map reference_view references.now)) }
+{
+    let items = all_freed(alloc, naming, references)?;
+    Ok(Form::Free(items))
+}
