@@ -15,8 +15,12 @@ use Rattle.pli_members.specs.declared.refusal.EditError.TheVariants.{Refused, Ou
 use Rattle.pli_members.specs.declared.refusal.Refusal.{Refusal}
 use Rattle.pli_members.specs.declared.refusal.Refusal.TheVariants.{NoSuchMember}
 use Rattle.pli_code.specs.Modules.{Module, program_of}
-use Rattle.pli_bench.specs.answers.Standing.{IsOfMembers, IsStanding}
-use Rattle.pli_bench.specs.declared.stored.StoredModule.{StoredModule}
+use Rattle.pli_ledger.specs.answers.Built.{IsStanding}
+use Rattle.pli_ledger.specs.answers.Built.{IsOfMembers}
+use Rattle.pli_ledger.specs.Kept.{Ledger}
+use Rattle.pli_ledger.specs.Refused.{IsRefused}
+use Rattle.pli_ledger.specs.Work.{ledger_after}
+use Rattle.pli_ledger.specs.declared.stored.StoredModule.{StoredModule}
 use Rattle.pli_deck_write.specs.ModuleSpelling.{SpellsModule}
 use Rattle.pli_code.specs.declared.fault.DeckFault.{DeckFault}
 use Rattle.pli_run.specs.declared.ending.Ending.{Ending}
@@ -35,27 +39,27 @@ use Rattle.pli_bench.specs.declared.serving.WriteFailed.{WriteFailed}
 use Rattle.pli_machine_step.proofs.OutcomesAreOne.{one_outcome}
 use Rattle.pli_bench.specs.Session.{State, Lists, numbered_lines, EditsInMemory, Edits, ending_line, refused, okay, no_memory, not_built, Builds, is_made, Runs, run_answer, build_answer, Breaks, Obeys, Step, quits, is_quit}
 
-abbrev pub state : Store → Bool → ℕ → State
-state store stands steps = record { store = store; stands = stands; steps = steps }
+abbrev pub state : Store → Ledger → Bool → ℕ → State
+state store ledger stands steps = record { store = store; ledger = ledger; stands = stands; steps = steps }
 
 -- an edit of the store, and what it leaves standing, are cases of the session, whatever came of the edit
-module _ {M : Type 0} (refusal_of : Store → Option Refusal) (target_of : Store → Store) (s : State) (store : Store) (standing : Option M) (steps : ℕ) (is : state store (is_some standing) steps ≡ s) (new : Store) (after : Option M) where
-  left_alone : after ≡ standing → new ≡ store → state new (is_some after) steps ≡ state store (is_some standing) steps
-  left_alone a h = ap (λ m. state m (is_some after) steps) h ∙ ap (λ m. state store (is_some m) steps) a
+module _ {M : Type 0} (refusal_of : Store → Option Refusal) (target_of : Store → Store) (s : State) (store : Store) (ledger : Ledger) (standing : Option M) (steps : ℕ) (is : state store ledger (is_some standing) steps ≡ s) (new : Store) (after : Option M) where
+  left_alone : after ≡ standing → new ≡ store → state new ledger (is_some after) steps ≡ state store ledger (is_some standing) steps
+  left_alone a h = ap (λ m. state m ledger (is_some after) steps) h ∙ ap (λ m. state store ledger (is_some m) steps) a
 
-  left_edited : after ≡ None → new ≡ target_of store → state new (is_some after) steps ≡ state (target_of store) false steps
-  left_edited a h = ap (λ m. state m (is_some after) steps) h ∙ ap (λ (m : Option M). state (target_of store) (is_some m) steps) a
+  left_edited : after ≡ None → new ≡ target_of store → state new ledger (is_some after) steps ≡ state (target_of store) ledger false steps
+  left_edited a h = ap (λ m. state m ledger (is_some after) steps) h ∙ ap (λ (m : Option M). state (target_of store) ledger (is_some m) steps) a
 
   -- one that may want memory
   pub edits_in_memory : {A : Type 0} (edit : Result A EditError) → after ≡ standing_after edit standing → refusal_in edit ≡ refusal_of store
       → OnOk edit (new ≡ target_of store) → OnErr edit (new ≡ store)
-      → EditsInMemory (refusal_of s.store) (target_of s.store) (exchange s (edit_answer edit) (state new (is_some after) steps))
+      → EditsInMemory (refusal_of s.store) (target_of s.store) (exchange s (edit_answer edit) (state new ledger (is_some after) steps))
   edits_in_memory {A} edit a r ok err =
-      subst (λ t. EditsInMemory (refusal_of t.store) (target_of t.store) (exchange t (edit_answer edit) (state new (is_some after) steps))) is
-      (subst (λ f. EditsInMemory f (target_of store) (exchange (state store (is_some standing) steps) (edit_answer edit) (state new (is_some after) steps))) r (by edit a ok err))
+      subst (λ t. EditsInMemory (refusal_of t.store) (target_of t.store) (exchange t (edit_answer edit) (state new ledger (is_some after) steps))) is
+      (subst (λ f. EditsInMemory f (target_of store) (exchange (state store ledger (is_some standing) steps) (edit_answer edit) (state new ledger (is_some after) steps))) r (by edit a ok err))
     where
       by : (edit : Result A EditError) → after ≡ standing_after edit standing → OnOk edit (new ≡ target_of store) → OnErr edit (new ≡ store)
-          → EditsInMemory (refusal_in edit) (target_of store) (exchange (state store (is_some standing) steps) (edit_answer edit) (state new (is_some after) steps))
+          → EditsInMemory (refusal_in edit) (target_of store) (exchange (state store ledger (is_some standing) steps) (edit_answer edit) (state new ledger (is_some after) steps))
       by (Ok x) a ok err = inl (refl, left_edited a ok)
       by (Err (Refused q)) a ok err = (refl, left_alone a err)
       by (Err OutOfMemory) a ok err = inr (refl, left_alone a err)
@@ -63,30 +67,30 @@ module _ {M : Type 0} (refusal_of : Store → Option Refusal) (target_of : Store
   -- one that wants none
   pub edits : {A : Type 0} (edit : Result A Refusal) (given : Result A EditError) → given ≡ as_edit edit → after ≡ standing_after given standing → result_err edit ≡ refusal_of store
       → OnOk edit (new ≡ target_of store) → OnErr edit (new ≡ store)
-      → Edits (refusal_of s.store) (target_of s.store) (exchange s (edit_answer given) (state new (is_some after) steps))
+      → Edits (refusal_of s.store) (target_of s.store) (exchange s (edit_answer given) (state new ledger (is_some after) steps))
   edits {A} edit given g a r ok err =
-      subst (λ t. Edits (refusal_of t.store) (target_of t.store) (exchange t (edit_answer given) (state new (is_some after) steps))) is
-      (subst (λ f. Edits f (target_of store) (exchange (state store (is_some standing) steps) (edit_answer given) (state new (is_some after) steps))) r
-      (subst (λ e. Edits (result_err edit) (target_of store) (exchange (state store (is_some standing) steps) (edit_answer e) (state new (is_some after) steps))) (sym g)
+      subst (λ t. Edits (refusal_of t.store) (target_of t.store) (exchange t (edit_answer given) (state new ledger (is_some after) steps))) is
+      (subst (λ f. Edits f (target_of store) (exchange (state store ledger (is_some standing) steps) (edit_answer given) (state new ledger (is_some after) steps))) r
+      (subst (λ e. Edits (result_err edit) (target_of store) (exchange (state store ledger (is_some standing) steps) (edit_answer e) (state new ledger (is_some after) steps))) (sym g)
       (by edit (a ∙ ap (λ e. standing_after e standing) g) ok err)))
     where
       by : (edit : Result A Refusal) → after ≡ standing_after (as_edit edit) standing → OnOk edit (new ≡ target_of store) → OnErr edit (new ≡ store)
-          → Edits (result_err edit) (target_of store) (exchange (state store (is_some standing) steps) (edit_answer (as_edit edit)) (state new (is_some after) steps))
+          → Edits (result_err edit) (target_of store) (exchange (state store ledger (is_some standing) steps) (edit_answer (as_edit edit)) (state new ledger (is_some after) steps))
       by (Ok x) a ok err = (refl, left_edited a ok)
       by (Err q) a ok err = (refl, left_alone a err)
 
-module _ (s : State) (store : Store) (stands : Bool) (steps : ℕ) (is : state store stands steps ≡ s) where
+module _ (s : State) (store : Store) (ledger new : Ledger) (stands : Bool) (steps : ℕ) (is : state store ledger stands steps ≡ s) where
   -- a build answers what a build from scratch gives
-  pub builds : (b : Built) → b ≡ scratch store.entries → Builds (exchange s (build_answer b) (state store (is_made b) steps))
-  builds b e =
-      subst (λ t. Builds (exchange t (build_answer b) (state store (is_made b) steps))) is
-      (inl (ap build_answer e, ap (λ x. state store (is_made x) steps) e))
+  pub builds : (b : Built) → b ≡ scratch store.entries → new ≡ ledger_after ledger store → Builds (exchange s (build_answer b) (state store new (is_made b) steps))
+  builds b e after =
+      subst (λ t. Builds (exchange t (build_answer b) (state store new (is_made b) steps))) is
+      (inl (ap build_answer e, ap (λ l. state store l (is_made b) steps) after ∙ ap (λ x. state store (ledger_after ledger store) (is_made x) steps) e))
 
   -- or memory was refused
-  pub builds_not : Builds (exchange s no_memory (state store false steps))
-  builds_not = subst (λ t. Builds (exchange t no_memory (state store false steps))) is (inr (refl, refl))
+  pub builds_not : IsRefused store ledger new → Builds (exchange s no_memory (state store new false steps))
+  builds_not kept = subst (λ t. Builds (exchange t no_memory (state store new false steps))) is (inr (refl, (new, kept, refl)))
 
-module _ (s : State) (store : Store) (stands : Bool) (steps : ℕ) (is : state store stands steps ≡ s) (name : Name) where
+module _ (s : State) (store : Store) (ledger : Ledger) (stands : Bool) (steps : ℕ) (is : state store ledger stands steps ≡ s) (name : Name) where
   -- there is no member to list
   pub lists_none : lines_of store name ≡ None → Lists (lines_of s.store name) (exchange s (refused NoSuchMember) s)
   lists_none e = subst (λ o. Lists o (exchange s (refused NoSuchMember) s)) (sym e ∙ ap (λ t. lines_of t.store name) is) (refl, refl)
@@ -168,9 +172,9 @@ pub record Stands (s : State) (bytes : List ℕ) : Type 0 where
   pub stands : s.stands ≡ true
   pub of : IsOfMembers s.store.entries bytes
 
-pub standing_built : (s : State) (store : Store) (standing : Option StoredModule) (steps : ℕ) (m : StoredModule) → state store (is_some standing) steps ≡ s
+pub standing_built : (s : State) (store : Store) (ledger : Ledger) (standing : Option StoredModule) (steps : ℕ) (m : StoredModule) → state store ledger (is_some standing) steps ≡ s
     → standing ≡ Some m → IsStanding store.entries standing → Stands s m.bytes.items
-standing_built s store standing steps m is some h = record {
+standing_built s store ledger standing steps m is some h = record {
   stands = ap (λ t. t.stands) (sym is) ∙ ap is_some some;
   of = subst (λ t. IsOfMembers t.store.entries m.bytes.items) is (subst (IsStanding store.entries) some h);
 }

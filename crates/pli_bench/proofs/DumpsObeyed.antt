@@ -4,7 +4,7 @@ use Rattle.std.proofs.Common.{sym, subst, ap}
 use Rattle.pli_bench.specs.Dumps.{hex_from}
 use Rattle.pli_bench.specs.Exchanges.{exchange}
 use Rattle.pli_bench.specs.Session.{State, Dumps, okay, not_built}
-use Rattle.pli_bench.specs.answers.Standing.{IsOfMembers}
+use Rattle.pli_ledger.specs.answers.Built.{IsOfMembers}
 use Rattle.pli_deck_write.specs.ModuleSpelling.{SpellsModule}
 
 -- no module stands

@@ -6,6 +6,4 @@ pub mod HexLines
 pub mod LinesAnswered
 pub mod LinesListed
 pub mod LinesOfBytes
-pub mod ModulesStored
 pub mod PartsPut
-pub mod UnitsTold

@@ -28,6 +28,8 @@ pub data Command : Type 0 where
   ListMembers : Command
   -- the source members are built
   Build : Command
+  -- how many units the last build has expanded and compiled
+  ListWork : Command
   -- the bytes of the module that stands are shown
   Dump : Command
   -- the module that stands is run, with so many steps, or the bench's own number
@@ -150,10 +152,11 @@ command_with word rest =
     else (if is_word (codes "LIST") word then option_and_then list_of rest
     else (if is_word (codes "MEMBERS") word then alone ListMembers rest
     else (if is_word (codes "BUILD") word then alone Build rest
+    else (if is_word (codes "LEDGER") word then alone ListWork rest
     else (if is_word (codes "DUMP") word then alone Dump rest
     else (if is_word (codes "RUN") word then run_of rest
     else (if is_word (codes "QUIT") word then alone Quit rest
-    else None))))))))))
+    else None)))))))))))
 
 -- the command that a line spells
 abbrev pub command_of : List ℕ → Option Command
@@ -210,6 +213,12 @@ unspelt_members = refl
 
 unspelt_name : command_of (codes "DELETE 1M") ≡ None
 unspelt_name = refl
+
+spelt_ledger : command_of (codes "Ledger") ≡ Some ListWork
+spelt_ledger = refl
+
+unspelt_ledger : command_of (codes "LEDGER M") ≡ None
+unspelt_ledger = refl
 
 spelt_dump : command_of (codes "Dump") ≡ Some Dump
 spelt_dump = refl

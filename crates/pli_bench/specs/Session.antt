@@ -15,17 +15,21 @@ use Rattle.pli_run.specs.Errors.{error_label, error_text}
 use Rattle.pli_machine_step.specs.Runs.{Outcome}
 use Rattle.pli_run.specs.declared.ending.Ending.{Ending}
 use Rattle.pli_run.specs.declared.ending.Ending.TheVariants.{Ended, OutOfSteps, Error, MachineFault}
+use Rattle.pli_ledger.specs.Kept.{Ledger, empty_ledger}
+use Rattle.pli_ledger.specs.Refused.{IsRefused}
+use Rattle.pli_ledger.specs.Work.{ledger_after}
 use Rattle.pli_meaning.specs.Scratch.{Built, Diagnosed, Made, scratch, Means}
 use Rattle.pli_code.specs.Modules.{Module}
 use Rattle.pli_bench.specs.Exchanges.{Exchange}
 use Rattle.pli_bench.specs.Commands.{Command, Add, Delete, Insert, Replace, Remove, ListLines, ListMembers}
-use Rattle.pli_bench.specs.Commands.{Build, Dump, Run, Quit, command_of}
+use Rattle.pli_bench.specs.Commands.{Build, ListWork, Dump, Run, Quit, command_of}
 use Rattle.pli_bench.specs.Dumps.{hex_from}
 use Rattle.pli_deck_write.specs.ModuleSpelling.{module_bytes, SpellsModule}
 
--- the members, whether a module of them stands, and the steps of a bare RUN
+-- the members, what is kept of their units, whether a module of them stands, and the steps of a bare RUN
 pub record State : Type 0 where
   pub store : Store
+  pub ledger : Ledger
   pub stands : Bool
   pub steps : ℕ
 
@@ -81,11 +85,11 @@ Says words e = (e.answer ≡ words) × (e.after ≡ e.before)
 
 -- the members were edited, and no module of them stands
 abbrev pub edited : State → Store → State
-edited s store = record { store = store; stands = false; steps = s.steps }
+edited s store = record { store = store; ledger = s.ledger; stands = false; steps = s.steps }
 
--- no module of the members stands
-abbrev pub without_module : State → State
-without_module s = record { store = s.store; stands = false; steps = s.steps }
+-- no module of the members stands, and this is kept of their units
+abbrev pub without_module : State → Ledger → State
+without_module s ledger = record { store = s.store; ledger = ledger; stands = false; steps = s.steps }
 
 -- an edit is refused, and nothing changes, or is made
 abbrev pub Edits : Option Refusal → Store → Exchange State → Type 0
@@ -97,17 +101,25 @@ abbrev pub EditsInMemory : Option Refusal → Store → Exchange State → Type 
 EditsInMemory (Some r) store e = Says (refused r) e
 EditsInMemory None store e = Edits None store e ⊎ Says no_memory e
 
--- what a build leaves: a module stands where it gave one
+-- what a build leaves: of each unit its expansion and its result are kept, and a module stands where it gave
+-- one
 abbrev pub left_by : Built → State → State
-left_by b s = record { store = s.store; stands = is_made b; steps = s.steps }
+left_by b s =
+    record { store = s.store; ledger = ledger_after s.ledger s.store; stands = is_made b; steps = s.steps }
 
--- a build answers what a build from scratch of the members gives; where memory is refused, the members stay
--- and no module stands
+-- a build answers what a build from scratch of the members gives; where memory is refused, the members stay,
+-- no module stands, and each thing that is kept is as before or as after the build
 abbrev pub Builds : Exchange State → Type 0
 Builds e =
     ((e.answer ≡ build_answer (scratch e.before.store.entries))
     × (e.after ≡ left_by (scratch e.before.store.entries) e.before))
-    ⊎ ((e.answer ≡ no_memory) × (e.after ≡ without_module e.before))
+    ⊎ ((e.answer ≡ no_memory)
+    × ((ledger : Ledger) × IsRefused e.before.store e.before.ledger ledger
+    × (e.after ≡ without_module e.before ledger)))
+
+-- how many units the last build that was not refused has expanded and compiled
+abbrev pub work_line : Ledger → List ℕ
+work_line l = line (codes "EXPANDED " ++ decimal l.expanded ++ codes " COMPILED " ++ decimal l.compiled)
 
 -- the bytes of the members' module are shown, if a module of them stands; they spell that module, and no
 -- other
@@ -180,6 +192,8 @@ Obeys (Some (ListLines name)) e = Lists (lines_of e.before.store name) e
 Obeys (Some ListMembers) e = Says (flat_map member_line e.before.store.entries ++ okay) e
 -- BUILD answers the diagnostics, or makes a module
 Obeys (Some Build) e = Builds e
+-- LEDGER shows what the last build had to do
+Obeys (Some ListWork) e = Says (work_line e.before.ledger) e
 -- DUMP shows the bytes of the module
 Obeys (Some Dump) e = Dumps e.before.stands e
 -- RUN runs the module with so many steps, or as many as a bare RUN has
@@ -202,4 +216,4 @@ quits text = is_quit (command_of text)
 
 -- a workbench before its first command
 abbrev pub opened : (steps : ℕ) → State
-opened steps = record { store = empty_store 1; stands = false; steps = steps }
+opened steps = record { store = empty_store 1; ledger = empty_ledger; stands = false; steps = steps }

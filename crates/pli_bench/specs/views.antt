@@ -1,2 +1,1 @@
 pub mod CommandView
-pub mod KeptView

@@ -1,4 +1,4 @@
-//! The workbench: members, the module that stands, and the commands on them.
+//! The workbench: members, what is kept of their units, the module that stands, and the commands on them.
 ghost use Rattle.std.specs.Prelude.{◌≡◌, ◌≤◌, ◌+◌, ◌∷◌, Err};
 ghost use Rattle.pli_bench.specs.declared.serving.ServeFault.TheVariants.{TooManyReads};
 ghost use Rattle.pli_bench.specs.answers.Answering.{Writes};
@@ -9,15 +9,14 @@ ghost use Rattle.pli_bench.specs.Runs.{AnsweredOne, Marked, Served, Takes, Blame
 ghost use Rattle.pli_bench.specs.Session.{Obeys, Step, no_memory, quits, opened};
 
 use crate::answer::{put_ending, put_parts, put_refusal};
-use crate::build::{Built, build};
 use crate::command::{Command, read_command};
 use crate::dumping::put_dump;
-use crate::listing::{put_lines, put_members};
+use crate::listing::{put_lines, put_members, put_work};
 use crate::serving::{AfterCommand, Interpreter, ServeFault, WriteFailed, serve};
-use crate::stored::StoredModule;
 use pli_base::{Failed, Name, Sink, Source};
 use pli_deck::Compiler;
 use pli_include::Expander;
+use pli_ledger::{Ledger, Outcome, StoredModule, edits_keep_fits};
 use pli_machine::{load, run};
 use pli_members::{EditError, MemberKind, Members, Refusal};
 use pli_print::RunFault;
@@ -28,12 +27,13 @@ use std::marker::Model;
 /// The version that a new workbench gives first (own).
 const FIRST_VERSION: u64 = 1;
 
-/// A workbench. Contracts see its members with their versions, whether a module of them stands, and the steps of a bare
-/// RUN.
+/// A workbench. Contracts see its members with their versions, what is kept of their units, whether a module of them
+/// stands, and the steps of a bare RUN.
 #[derive(Drop)]
 pub struct Bench {
     alloc: Global,
     members: Members,
+    ledger: Ledger,
     expander: Expander,
     compiler: Compiler,
     standing: Option<StoredModule>,
@@ -46,11 +46,12 @@ impl Model for Bench {
 
     ghost Value = { State };
 
-    ghost use Rattle.pli_bench.specs.answers.Standing.{IsStanding};
+    ghost use Rattle.pli_ledger.specs.answers.Built.{IsStanding};
+    ghost use Rattle.pli_ledger.specs.Fits.{Fits};
 
-    ghost view = { λ b. record { store = b.members; stands = is_some b.standing; steps = b.steps } };
+    ghost view = { λ b. record { store = b.members; ledger = b.ledger; stands = is_some b.standing; steps = b.steps } };
 
-    ghost invariant = { λ b. IsStanding b.members.entries b.standing };
+    ghost invariant = { λ b. IsStanding b.members.entries b.standing × Fits b.ledger.units b.members };
 }
 
 impl Bench {
@@ -58,9 +59,11 @@ impl Bench {
     pub fn new(alloc: Global, steps: u64) -> Bench
         ensures { result ≡ opened steps }
     {
+        edits_keep_fits();
         Bench {
             alloc,
             members: Members::new(alloc, FIRST_VERSION),
+            ledger: Ledger::new(alloc),
             expander: Expander::new(alloc),
             compiler: Compiler::new(alloc),
             standing: None,
@@ -106,6 +109,7 @@ impl Bench {
             Some(Command::ListLines(member)) => going_on(self.list_lines(member.name, writer)),
             Some(Command::ListMembers) => going_on(self.list_members(writer)),
             Some(Command::Build) => going_on(self.rebuild(writer)),
+            Some(Command::ListWork) => going_on(put_work(writer, &self.ledger)),
             Some(Command::Dump) => going_on(self.dump(writer)),
             Some(Command::Run(steps)) => going_on(self.execute(steps, writer)),
             Some(Command::Quit) => match put_parts(writer, &[b"OK\n"]) {
@@ -145,6 +149,7 @@ impl Bench {
         ensures answered { Does (Obeys (Some (spelt.Add name kind))) self.old self.new (W.contents writer.old) (W.contents writer.new) result }
         ensures mark { Marked (W.failed writer.old) (W.failed writer.new) result }
     {
+        edits_keep_fits();
         let edited = self.members.add(name, kind);
         answer_edit(&mut self.standing, edited, writer)
     }
@@ -153,6 +158,8 @@ impl Bench {
         ensures answered { Does (Obeys (Some (spelt.Delete name))) self.old self.new (W.contents writer.old) (W.contents writer.new) result }
         ensures mark { Marked (W.failed writer.old) (W.failed writer.new) result }
     {
+        let _ = self.members.entries();
+        edits_keep_fits();
         let edited = as_edit(self.members.delete(name));
         answer_edit(&mut self.standing, edited, writer)
     }
@@ -167,6 +174,7 @@ impl Bench {
         ensures answered { Does (Obeys (Some (spelt.Insert name after text.now))) self.old self.new (W.contents writer.old) (W.contents writer.new) result }
         ensures mark { Marked (W.failed writer.old) (W.failed writer.new) result }
     {
+        edits_keep_fits();
         let edited = self.members.insert_line(name, after as usize, text);
         answer_edit(&mut self.standing, edited, writer)
     }
@@ -181,6 +189,7 @@ impl Bench {
         ensures answered { Does (Obeys (Some (spelt.Replace name number text.now))) self.old self.new (W.contents writer.old) (W.contents writer.new) result }
         ensures mark { Marked (W.failed writer.old) (W.failed writer.new) result }
     {
+        edits_keep_fits();
         let edited = self.members.replace_line(name, number as usize, text);
         answer_edit(&mut self.standing, edited, writer)
     }
@@ -195,6 +204,7 @@ impl Bench {
         ensures answered { Does (Obeys (Some (spelt.Remove name first last))) self.old self.new (W.contents writer.old) (W.contents writer.new) result }
         ensures mark { Marked (W.failed writer.old) (W.failed writer.new) result }
     {
+        edits_keep_fits();
         let removed = self
             .members
             .remove_lines(name, first as usize, last as usize);
@@ -224,24 +234,22 @@ impl Bench {
         ensures answered { Does (Obeys (Some spelt.Build)) self.old self.new (W.contents writer.old) (W.contents writer.new) result }
         ensures mark { Marked (W.failed writer.old) (W.failed writer.new) result }
     {
-        match build(
+        let standing = self.standing.take();
+        match self.ledger.build(
             self.alloc,
+            &self.members,
             &mut self.expander,
             &mut self.compiler,
-            &self.members,
+            standing,
         ) {
-            Ok(Built::Made(module)) => {
+            Ok(Outcome::Module(module)) => {
                 self.standing = Some(module);
                 put_parts(writer, &[b"BUILT\n"])
             }
-            Ok(Built::Diagnosed(text)) => {
-                self.standing = None;
+            Ok(Outcome::Diagnostics(text)) => {
                 put_parts(writer, &[text.as_bytes(), b"NOT BUILT\n"])
             }
-            Err(AllocError) => {
-                self.standing = None;
-                put_parts(writer, &[b"NO MEMORY\n"])
-            }
+            Err(AllocError) => put_parts(writer, &[b"NO MEMORY\n"]),
         }
     }
 

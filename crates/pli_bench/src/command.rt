@@ -57,6 +57,8 @@ pub enum Command<'a> {
     ListMembers,
     /// The source members are built.
     Build,
+    /// How many units the last build has expanded and compiled.
+    ListWork,
     /// The bytes of the module that stands are shown.
     Dump,
     /// The module that stands is run with so many steps, or with the bench's own number.
@@ -95,6 +97,8 @@ pub fn read_command(line: &[u8]) -> Option<Command<'_>>
         rest.is_none().then_some(Command::ListMembers)
     } else if is_word(b"BUILD", word) {
         rest.is_none().then_some(Command::Build)
+    } else if is_word(b"LEDGER", word) {
+        rest.is_none().then_some(Command::ListWork)
     } else if is_word(b"DUMP", word) {
         rest.is_none().then_some(Command::Dump)
     } else if is_word(b"RUN", word) {

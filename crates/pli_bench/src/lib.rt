@@ -4,14 +4,11 @@
 mod answer;
 mod batch;
 mod bench;
-mod build;
 mod command;
-mod compile;
 mod dumping;
 mod listing;
 mod pending;
 mod serving;
-mod stored;
 
 pub use bench::Bench;
 pub use serving::{AfterCommand, ServeFault, WriteFailed};

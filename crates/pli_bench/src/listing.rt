@@ -1,13 +1,15 @@
-//! What LIST and MEMBERS show.
+//! What LIST, MEMBERS and LEDGER show.
 ghost use Rattle.std.specs.Prelude.{◌≡◌};
 ghost use Rattle.std.specs.List.{flat_map};
 ghost use Rattle.pli_bench.specs.answers.Answering.{Writes};
 ghost use Rattle.pli_bench.specs.Runs.{Marked};
-ghost use Rattle.pli_bench.specs.Session.{numbered_lines, kind_word, member_line};
+ghost use Rattle.pli_bench.specs.Session.{numbered_lines, kind_word, member_line, work_line};
 
+use crate::answer::put_parts;
 use crate::batch::Batch;
 use itoa::Buffer;
 use pli_base::{Failed, Line, Sink};
+use pli_ledger::Ledger;
 use pli_members::{MemberKind, NamedMember};
 
 /// Puts lines behind their numbers, from 1 on.
@@ -63,4 +65,23 @@ fn kind_word(kind: MemberKind) -> &'static str
         MemberKind::Source => "SOURCE",
         MemberKind::Include => "INCLUDE",
     }
+}
+
+/// Puts how many units the last build that was not refused has expanded and compiled.
+pub fn put_work<W: Sink>(writer: &mut W, ledger: &Ledger) -> Result<(), Failed>
+    ensures written { Writes (W.contents writer.old) (W.contents writer.new) (work_line ledger.now) result }
+    ensures mark { Marked (W.failed writer.old) (W.failed writer.new) result }
+{
+    let mut expanded = Buffer::new();
+    let mut compiled = Buffer::new();
+    put_parts(
+        writer,
+        &[
+            b"EXPANDED ",
+            expanded.format(ledger.expanded_last()).as_bytes(),
+            b" COMPILED ",
+            compiled.format(ledger.compiled_last()).as_bytes(),
+            b"\n",
+        ],
+    )
 }

@@ -2,10 +2,11 @@
 ghost use Rattle.std.specs.Prelude.{◌≡◌, Ok, Err, option_map, IfOk};
 ghost use Rattle.std.specs.Result.{result_ok};
 ghost use Rattle.pli_code.specs.views.CodeView.{deck_view};
+ghost use Rattle.pli_deck_write.specs.Spelling.{deck_bytes};
 ghost use Rattle.pli_deck.specs.Faults.{faults_of};
 ghost use Rattle.pli_deck.specs.views.OutcomeView.{outcome_view};
 
-use crate::copying::copied_deck;
+use crate::spelled::SpelledDeck;
 use pli_base::Fault;
 use pli_code::Deck;
 use std::alloc::{AllocError, Global};
@@ -14,7 +15,7 @@ use std::alloc::{AllocError, Global};
 /// Contracts see the deck or the faults.
 #[derive(Drop)]
 pub struct Compiled {
-    deck: Option<Deck>,
+    deck: Option<SpelledDeck>,
     /// Told where there is no deck.
     faults: Vec<Fault>,
 }
@@ -22,7 +23,7 @@ pub struct Compiled {
 impl Compiled {
     /// The deck of a unit that was compiled.
     #[tactic(auto, unfolding(crate::specs::views::OutcomeView::outcome_view))]
-    pub(crate) fn whole(alloc: Global, deck: Deck) -> Compiled
+    pub(crate) fn whole(alloc: Global, deck: SpelledDeck) -> Compiled
         ensures { outcome_view result ≡ Ok (deck_view deck) }
     {
         Compiled {
@@ -44,7 +45,21 @@ impl Compiled {
     pub fn deck(&self) -> Option<&Deck>
         ensures { option_map (λ deck. deck_view deck.now) result ≡ result_ok (outcome_view self.now) }
     {
-        self.deck.as_ref()
+        match &self.deck {
+            Some(spelled) => Some(spelled.deck()),
+            None => None,
+        }
+    }
+
+    /// The bytes that the deck is written as, where there are no faults.
+    #[tactic(auto, unfolding(crate::specs::views::OutcomeView::outcome_view))]
+    pub fn bytes(&self) -> Option<&[u8]>
+        ensures { option_map (λ bytes. bytes.now) result ≡ option_map deck_bytes (result_ok (outcome_view self.now)) }
+    {
+        match &self.deck {
+            Some(spelled) => Some(spelled.bytes()),
+            None => None,
+        }
     }
 
     /// The faults, in the order in which the pass that has them tells them; none where there is a deck.
@@ -58,22 +73,13 @@ impl Compiled {
         }
     }
 
-    /// The deck, where there are no faults.
-    #[tactic(auto, unfolding(crate::specs::views::OutcomeView::outcome_view))]
-    pub fn into_deck(self) -> Option<Deck>
-        ensures { option_map deck_view result ≡ result_ok (outcome_view self) }
-    {
-        let Compiled { deck, .. } = self;
-        deck
-    }
-
     /// A copy, which equals the original. Takes time in proportion to the code. An error comes where memory runs out.
     #[tactic(auto, unfolding(crate::specs::views::OutcomeView::outcome_view))]
     pub fn copy(&self, alloc: Global) -> Result<Compiled, AllocError>
         ensures { IfOk result (λ copy. outcome_view copy ≡ outcome_view self.now) }
     {
         match &self.deck {
-            Some(deck) => Ok(Compiled::whole(alloc, copied_deck(alloc, deck)?)),
+            Some(spelled) => Ok(Compiled::whole(alloc, spelled.copy(alloc)?)),
             None => Ok(Compiled::faulty(Vec::from_slice(alloc, &self.faults)?)),
         }
     }

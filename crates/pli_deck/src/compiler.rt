@@ -6,6 +6,7 @@ ghost use Rattle.pli_meaning.specs.Scratch.{compiled_texts};
 
 use crate::compiled::Compiled;
 use crate::passes::{CompileError, compile_texts};
+use crate::spelled::SpelledDeck;
 use pli_base::TokenText;
 use std::alloc::{AllocError, Global};
 use std::marker::Model;
@@ -31,7 +32,7 @@ fn outcome_of(alloc: Global, texts: &[TokenText]) -> Result<Compiled, AllocError
     ensures { IfOk result (λ compiled. outcome_view compiled ≡ compiled_texts texts.now) }
 {
     match compile_texts(alloc, texts) {
-        Ok(deck) => Ok(Compiled::whole(alloc, deck)),
+        Ok(deck) => Ok(Compiled::whole(alloc, SpelledDeck::new(alloc, deck)?)),
         Err(CompileError::Fault(fault)) => {
             Ok(Compiled::faulty(Vec::from_slice(alloc, &[fault])?))
         }

@@ -5,6 +5,7 @@ mod compiled;
 mod compiler;
 mod copying;
 mod passes;
+mod spelled;
 
 pub use compiled::Compiled;
 pub use compiler::Compiler;

@@ -26,7 +26,7 @@ use Rattle.pli_code.proofs.InstructionLaws.{instruction_law}
 use Rattle.pli_code.proofs.NumberedLaws.{over}
 use Rattle.pli_program.specs.Program.{BlockKind, Procedure, BeginBlock, OnUnit}
 use Rattle.pli_code.specs.CodeTables.{CodedGlobal, OwnVariable, ExternalVariable, EntryPoint}
-use Rattle.pli_code.specs.declared.code.VariableKind.TheVariants.{Static, Controlled}
+use Rattle.pli_program.specs.declared.kind.VariableKind.TheVariants.{Static, Controlled}
 
 -- ---- names, flags and numbers that may be absent
 

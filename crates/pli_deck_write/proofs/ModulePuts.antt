@@ -1,8 +1,11 @@
--- The bytes of externals, which do not depend on those before them.
-use Rattle.std.proofs.Common.{◌≡◌, ℕ, List, [], ◌∷◌, ◌++◌, Option, Some, None, refl, ap, ◌∙◌}
+-- The bytes of externals, which do not depend on those before them; those of a module, behind its head; and decks whose
+-- bytes are there.
+use Rattle.std.proofs.Common.{◌≡◌, ℕ, zero, suc, ◌<◌, List, [], ◌∷◌, ◌++◌, Option, Some, None, drop, get_or, length, map, refl, sym, ap, ◌∙◌, arith}
 use Rattle.std.specs.List.{flat_map}
-use Rattle.pli_code.specs.Modules.{External}
-use Rattle.pli_deck_write.specs.ModuleFields.{external_behind, bytes_behind}
+use Rattle.pli_code.specs.Modules.{External, Module}
+use Rattle.pli_deck_write.specs.ModuleFields.{external_behind, bytes_behind, member, module_field}
+use Rattle.pli_deck_write.specs.ModuleSpelling.{module_bytes}
+use Rattle.pli_deck_write.specs.answers.ModuleHead.{head_bytes}
 
 abbrev pub external_bytes : External → List ℕ
 external_bytes = (external_behind None).bytes_of
@@ -15,3 +18,16 @@ pub behind_bytes : (before : Option External) (es : List External) → bytes_beh
 behind_bytes before [] = refl
 behind_bytes before (e ∷ es) =
     ap (λ bs. bs ++ bytes_behind external_behind (Some e) es) (same_bytes before e) ∙ ap (λ bs. external_bytes e ++ bs) (behind_bytes (Some e) es)
+
+-- the bytes of a module are its head, and its units
+pub behind_head : (m : Module) → module_bytes m ≡ head_bytes m ++ flat_map member.bytes_of m.units
+unfolding module_field
+behind_head m = refl
+
+-- lists that are the same by what is said of them say the same at each place
+module _ {X Y Z : Type 0} (f : X → Z) (g : Y → Z) where
+  pub same_at : (xs : List X) (ys : List Y) (i : ℕ) (x : X) (y : Y) → map f xs ≡ map g ys → i < length ys → y ≡ get_or ys i y → f (get_or xs i x) ≡ g y
+  same_at xs [] i x y same low is = absurd (omega arith)
+  same_at [] (w ∷ ws) i x y same low is = absurd (omega (arith, ap length same))
+  same_at (v ∷ vs) (w ∷ ws) zero x y same low is = ap (λ zs. get_or zs 0 (g w)) same ∙ sym (ap g is)
+  same_at (v ∷ vs) (w ∷ ws) (suc i) x y same low is = same_at vs ws i x y (ap (drop 1) same) (omega arith) is

@@ -24,7 +24,7 @@ use Rattle.pli_code.specs.Fields.{shaped, list_of, form, made, unknown, tagged, 
 use Rattle.pli_code.specs.Fields.{from_to, count_of_one, list}
 use Rattle.pli_deck_write.specs.Descriptions.{description}
 use Rattle.pli_code.specs.Instructions.{instruction}
-use Rattle.pli_code.specs.declared.code.VariableKind.TheVariants.{Static, Controlled}
+use Rattle.pli_program.specs.declared.kind.VariableKind.TheVariants.{Static, Controlled}
 
 -- a text is this name, as it is written in upper case
 abbrev pub is_written : Option Name → List ℕ → Bool

@@ -5,4 +5,5 @@ pub mod ModuleFields
 pub mod ModuleSpelling
 pub mod Spelling
 pub mod Whole
+pub mod answers
 pub mod examples

@@ -18,7 +18,7 @@ use Rattle.pli_deck_write.specs.DeckFields.{name, after_magic, after_version, de
 use Rattle.pli_deck_write.specs.DeckFaults.{fault_of}
 use Rattle.pli_deck_write.specs.Spelling.{deck_bytes, deck_read}
 use Rattle.pli_code.specs.CodeTables.{Deck, CodedGlobal, OwnVariable, ExternalVariable, EntryPoint}
-use Rattle.pli_code.specs.declared.code.VariableKind.TheVariants.{Static, Controlled}
+use Rattle.pli_program.specs.declared.kind.VariableKind.TheVariants.{Static, Controlled}
 
 -- ---- externals, in the order of their names
 

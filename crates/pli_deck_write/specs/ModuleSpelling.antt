@@ -13,7 +13,7 @@ use Rattle.pli_deck_write.specs.Whole.{whole_read}
 use Rattle.pli_code.specs.Modules.{External, Member, Module}
 use Rattle.pli_code.specs.CodeTables.{Code, CodedTemplate}
 use Rattle.pli_code.specs.CodeTables.{CodedGlobal, OwnVariable, ExternalVariable, EntryPoint}
-use Rattle.pli_code.specs.declared.code.VariableKind.TheVariants.{Static}
+use Rattle.pli_program.specs.declared.kind.VariableKind.TheVariants.{Static}
 
 -- ---- what externals and entries stand for
 

@@ -5,6 +5,7 @@ mod describing;
 mod laws;
 mod modules;
 mod putting;
+mod spelled;
 mod write;
 mod writing;
 
@@ -13,4 +14,5 @@ pub use laws::{
     decks_both_ways, descriptions_both_ways, modules_both_ways, worked_decks, worked_modules,
 };
 pub use modules::write_module;
+pub use spelled::write_spelled_module;
 pub use write::write_deck;

@@ -6,12 +6,14 @@ ghost use Rattle.pli_code.specs.Modules as modules;
 ghost use Rattle.pli_code.specs.views.CodeView.{kind_number, external_view, lent_member_view, lent_module_view};
 ghost use Rattle.pli_deck_write.specs.ModuleFields as module_fields;
 ghost use Rattle.pli_deck_write.specs.ModuleSpelling.{module_bytes, module_fault, SpellsModule};
+ghost use Rattle.pli_deck_write.specs.answers.ModuleHead.{head_bytes};
 
-use crate::putting::put_numbers;
+use crate::spelled::put_spelled;
 use crate::write::write_deck;
-use crate::writing::{PutsOne, put_bytes, put_count, put_large_count, put_list, put_name};
+use crate::writing::{PutsOne, put_bytes, put_count, put_list, put_name};
 use pli_code::fields::{put_byte, put_short};
-use pli_code::{External, LentMember, LentModule, VariableKind};
+use pli_code::{External, LentMember, LentModule};
+use pli_program::VariableKind;
 use std::alloc::{AllocError, Global};
 
 /// The number of a kind.
@@ -46,15 +48,11 @@ impl PutsOne for Externals {
 }
 
 /// Puts a unit, whose deck is written apart first, since its length stands before it.
-#[tactic(auto, unfolding(crate::specs::ModuleFields::member))]
 fn put_member(alloc: Global, out: &mut Vec<u8>, unit: &LentMember<'_>) -> Result<(), AllocError>
     ensures { OnOk result (out.new.items ≡ out.old.items ++ module_fields.member.bytes_of (lent_member_view unit.now)) }
 {
     let deck = write_deck(alloc, unit.deck)?;
-    put_name(out, &unit.name)?;
-    put_large_count(out, deck.len())?;
-    put_bytes(out, &deck)?;
-    put_numbers(out, &unit.links)
+    put_spelled(out, unit, &deck)
 }
 
 /// Puts units one behind another.
@@ -67,16 +65,23 @@ fn put_members(alloc: Global, out: &mut Vec<u8>, units: &[LentMember<'_>]) -> Re
     Ok(())
 }
 
-/// Puts a module: PLIM, the version, how many units there are, the main one, externals, and the units.
-#[tactic(auto, unfolding(crate::specs::ModuleFields::module_field), using(crate::proofs::ModulePuts::behind_bytes, crate::proofs::PutLemmas::mapped_length))]
-fn put_module(alloc: Global, out: &mut Vec<u8>, program: &LentModule<'_>) -> Result<(), AllocError>
-    ensures { OnOk result (out.new.items ≡ out.old.items ++ module_bytes (lent_module_view program.now)) }
+/// Puts what stands before the units of a module: PLIM, the version, how many units there are, the main one, and
+/// externals.
+pub(crate) fn put_head(out: &mut Vec<u8>, program: &LentModule<'_>) -> Result<(), AllocError>
+    ensures { OnOk result (out.new.items ≡ out.old.items ++ head_bytes (lent_module_view program.now)) }
 {
     put_bytes(out, b"PLIM")?;
     put_byte(out, 1)?;
     put_count(out, program.units.len())?;
     put_short(out, program.main)?;
-    put_list(out, &Externals, &program.externals)?;
+    put_list(out, &Externals, &program.externals)
+}
+
+/// Puts a module: what stands before its units, and the units.
+fn put_module(alloc: Global, out: &mut Vec<u8>, program: &LentModule<'_>) -> Result<(), AllocError>
+    ensures { OnOk result (out.new.items ≡ out.old.items ++ module_bytes (lent_module_view program.now)) }
+{
+    put_head(out, program)?;
     put_members(alloc, out, &program.units)
 }
 

@@ -17,9 +17,8 @@ use crate::writing::{
 };
 use pli_base::Name;
 use pli_code::fields::{put_byte, put_short, put_with_short, put_word};
-use pli_code::{
-    Block, BlockKind, CodedGlobal, CodedSignature, CodedTemplate, Instruction, VariableKind, encode,
-};
+use pli_code::{Block, BlockKind, CodedGlobal, CodedSignature, CodedTemplate, Instruction, encode};
+use pli_program::VariableKind;
 use pli_type_tree::InitialScalar;
 use pli_value::{Locator, Value};
 use std::alloc::AllocError;

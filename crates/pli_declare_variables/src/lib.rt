@@ -1,7 +1,6 @@
 //! The items of a block as variables: where each stands, its least fault, its size, and what it is declared as.
 #![tactic(auto)]
 
-mod attribute_names;
 mod codes;
 mod declaration;
 mod declared;
@@ -15,7 +14,6 @@ mod returned;
 mod sizes;
 mod words;
 
-pub use attribute_names::{area_of, locator_of, returned_area};
 pub use declaration::{Declaration, DeclaredKind};
 pub use declared::declare;
 pub use judged::{Judged, judge};

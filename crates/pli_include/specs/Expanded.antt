@@ -1,7 +1,8 @@
 -- The expansion of a member of a store, with its trace (own).
-use Rattle.std.specs.Prelude.{List, [], map, Option, None, Some, Ok, Err}
+use Rattle.std.specs.Prelude.{nat_eq, Bool, List, [], map, Option, None, Some, Ok, Err}
+use Rattle.std.specs.List.{list_all}
 use Rattle.std.specs.Map.{lookup}
-use Rattle.std.specs.Option.{option_map}
+use Rattle.std.specs.Option.{option_eq, option_map}
 use Rattle.pli_base.specs.Name.{Name}
 use Rattle.pli_base.specs.declared.token.Origin.{Origin}
 use Rattle.pli_base.specs.declared.token.TokenText.{TokenText}
@@ -41,3 +42,11 @@ told s (Err stop) =
 -- the expansion of a member of a store
 unfoldable pub expansion_of : Store → Name → Expanded
 expansion_of s u = told s (outcome_of s.entries u)
+
+-- the store answers a name as an entry of a trace says: with the version there, or with no member
+abbrev pub answers : Store → TraceEntry → Bool
+answers s e = option_eq nat_eq (version_of s e.name) e.version
+
+-- and so it answers each name of a trace
+abbrev pub holds : Store → List TraceEntry → Bool
+holds s trace = list_all (answers s) trace

@@ -3,6 +3,7 @@ ghost use Rattle.std.specs.Prelude.{◌≡◌, ◌≤◌, [], length, Some, None
 
 use crate::progress::Texts;
 use pli_base::{Code, Name, Origin, TokenText};
+use pli_members::Members;
 use std::alloc::Global;
 use std::marker::Model;
 
@@ -42,6 +43,8 @@ impl Model for Expansion {
 }
 
 impl Expansion {
+    ghost use Rattle.pli_include.specs.Expanded.{holds};
+
     /// An expansion without a fault.
     pub(crate) fn whole(trace: Vec<TraceEntry>, texts: Texts) -> Expansion
         requires origins { length texts.origins.items ≡ length texts.texts.items }
@@ -89,6 +92,16 @@ impl Expansion {
         ensures each { length result.now ≡ length self.now.texts }
     {
         self.origins.as_slice()
+    }
+
+    /// Whether the members answer each name that was looked up as they did then: with the same version, or with no
+    /// member. Where they do, the expansion of the unit is still this one.
+    pub fn holds(&self, members: &Members) -> bool
+        ensures { result ≡ holds members.now self.now.trace }
+    {
+        self.trace
+            .iter()
+            .all(|entry| members.version(entry.name) == entry.version)
     }
 
     /// The fault, if there is one.

@@ -4,10 +4,10 @@ use Rattle.pli_map.specs.Description.{Bit}
 use Rattle.pli_code.specs.declared.fault.DeckFault.TheVariants.{BadMagic, Truncated, Trailing}
 use Rattle.pli_program.specs.Program.{Procedure}
 use Rattle.pli_code.specs.CodeTables.{CodedTemplate, CodedBlock, CodedSignature, Code, Deck}
-use Rattle.pli_code.specs.CodeTables.{ExternalVariable, EntryPoint}
+use Rattle.pli_code.specs.CodeTables.{OwnVariable, ExternalVariable, EntryPoint}
 use Rattle.pli_code.specs.declared.instruction.Instruction.TheVariants as op
 use Rattle.pli_deck_write.specs.Spelling.{deck_bytes, deck_read}
-use Rattle.pli_code.specs.declared.code.VariableKind.TheVariants.{Static}
+use Rattle.pli_program.specs.declared.kind.VariableKind.TheVariants.{Static, Controlled}
 
 -- no parameters and no result
 abbrev pub without_parameters : CodedSignature
@@ -104,17 +104,44 @@ called_bytes =
     0 ∷ 0 ∷ 0 ∷ 1 ∷ 0 ∷ 7 ∷ 1 ∷ 0 ∷ 0 ∷ 0 ∷ 3 ∷ 14 ∷ 0 ∷ 0 ∷ 13 ∷ 0 ∷ 0 ∷ 0 ∷ 19 ∷ 23 ∷ 0 ∷ 0 ∷ 20 ∷ 9 ∷
     0 ∷ []
 
+-- M: PROC OPTIONS(MAIN); DCL C BIT CTL, X BIT CTL EXT; ALLOCATE C, X; FREE C; END;
+abbrev pub stacking_code : Code
+stacking_code = record {
+  signature = without_parameters;
+  descriptions = Bit 1 ∷ [];
+  templates = bit_template ∷ [];
+  values = [];
+  globals = OwnVariable Controlled 0 ∷ ExternalVariable (88 ∷ []) Controlled 0 ∷ [];
+  blocks = outermost 0 ∷ [];
+  instructions =
+      op.Step 3 ∷ op.AllocateControlled 0 ∷ op.AllocateControlled 1 ∷ op.Step 4 ∷ op.FreeControlled 0
+      ∷ op.Return 0 ∷ [];
+}
+
+-- its deck
+abbrev pub stacking : Deck
+stacking = record { name = 77 ∷ []; is_main = true; code = stacking_code }
+
+-- its bytes
+abbrev pub stacking_bytes : List ℕ
+stacking_bytes =
+    80 ∷ 76 ∷ 73 ∷ 68 ∷ 1 ∷ 1 ∷ 77 ∷ 1 ∷ 0 ∷ 255 ∷ 255 ∷ 0 ∷ 1 ∷ 4 ∷ 0 ∷ 1 ∷ 0 ∷ 1 ∷ 0 ∷ 0 ∷ 0 ∷ 0 ∷ 0 ∷
+    0 ∷ 0 ∷ 0 ∷ 0 ∷ 2 ∷ 1 ∷ 0 ∷ 0 ∷ 3 ∷ 1 ∷ 88 ∷ 0 ∷ 0 ∷ 0 ∷ 1 ∷ 0 ∷ 255 ∷ 255 ∷ 0 ∷ 0 ∷ 0 ∷ 0 ∷ 0 ∷ 0 ∷
+    0 ∷ 0 ∷ 0 ∷ 0 ∷ 1 ∷ 0 ∷ 6 ∷ 1 ∷ 0 ∷ 0 ∷ 0 ∷ 3 ∷ 48 ∷ 0 ∷ 0 ∷ 48 ∷ 0 ∷ 1 ∷ 1 ∷ 0 ∷ 0 ∷ 0 ∷ 4 ∷ 49 ∷
+    0 ∷ 0 ∷ 9 ∷ 0 ∷ []
+
 -- how they are written
 abbrev pub WrittenSo : Type 0
 WrittenSo =
     (deck_bytes smallest ≡ smallest_bytes) × (deck_bytes calling ≡ calling_bytes)
-    × (deck_bytes called ≡ called_bytes)
+    × (deck_bytes called ≡ called_bytes) × (deck_bytes stacking ≡ stacking_bytes)
 
 -- how they are read, and what is wrong where a byte is missing or one stands behind
 abbrev pub ReadSo : Type 0
 ReadSo =
     (deck_read smallest_bytes ≡ Ok smallest) × (deck_read calling_bytes ≡ Ok calling)
-    × (deck_read called_bytes ≡ Ok called) × (deck_read [] ≡ Err BadMagic)
+    × (deck_read called_bytes ≡ Ok called) × (deck_read stacking_bytes ≡ Ok stacking)
+    × (deck_read [] ≡ Err BadMagic)
     × (deck_read (take 3 smallest_bytes) ≡ Err BadMagic)
     × (deck_read (take 4 smallest_bytes) ≡ Err Truncated)
     × (deck_read (take 38 smallest_bytes) ≡ Err Truncated)

@@ -13,7 +13,7 @@ returns-in_default-clause-answered g c =
 
 pub returns-clause-answered : goal.returns-clause-answered
 returns-clause-answered g c =
-    let at = standing_built c.args.self.now c.self.inside.members c.self.inside.standing c.self.inside.steps c.in-Some.«module» c.self.view_is c.in-Some.is c.self.invariant in
+    let at = standing_built c.args.self.now c.self.inside.members c.self.inside.ledger c.self.inside.standing c.self.inside.steps c.in-Some.«module» c.self.view_is c.in-Some.is c.self.invariant.0 in
     let s = c.args.self.now in (
       hex_from 0 c.as_slice.result.now ++ okay,
       subst (λ bs. Dumps s.stands (exchange s (hex_from 0 bs ++ okay) s)) (sym c.as_slice.ensures.value) (dumps s c.in-Some.«module».bytes.items at.stands at.of),

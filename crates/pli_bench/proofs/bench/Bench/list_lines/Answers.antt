@@ -10,14 +10,14 @@ use Rattle.pli_bench.proofs.bench.Bench.list_lines.Goals as goal
 
 pub returns-in_default-clause-answered : goal.returns-in_default-clause-answered
 returns-in_default-clause-answered g c =
-    (refused NoSuchMember, lists_none c.args.self.now c.self.inside.members _ c.self.inside.steps c.self.view_is c.args.name (sym c.lines.ensures ∙ ap option_copied c.in_default.is), c.put_refusal.ensures.written)
+    (refused NoSuchMember, lists_none c.args.self.now c.self.inside.members c.self.inside.ledger _ c.self.inside.steps c.self.view_is c.args.name (sym c.lines.ensures ∙ ap option_copied c.in_default.is), c.put_refusal.ensures.written)
 
 pub returns-in_err-put_lines-clause-answered : goal.returns-in_err-put_lines-clause-answered
 returns-in_err-put_lines-clause-answered g c =
     let p = err_from_is_err_and c.from_residual.result c.from_residual.ensures.1 in
     let lines = c.in-Some.lines.now in (
       numbered_lines 1 lines ++ okay,
-      lists c.args.self.now c.self.inside.members _ c.self.inside.steps c.self.view_is c.args.name lines (sym c.lines.ensures ∙ ap option_copied c.in-Some.is),
+      lists c.args.self.now c.self.inside.members c.self.inside.ledger _ c.self.inside.steps c.self.view_is c.args.name lines (sym c.lines.ensures ∙ ap option_copied c.in-Some.is),
       rw p.1 (AppendsPrefix-more _ _ (numbered_lines 1 lines) okay c.in_err-put_lines.ensures.written),
     )
 
@@ -25,6 +25,6 @@ pub returns-clause-answered : goal.returns-clause-answered
 returns-clause-answered g c =
     let lines = c.in-Some.lines.now in (
       numbered_lines 1 lines ++ okay,
-      lists c.args.self.now c.self.inside.members _ c.self.inside.steps c.self.view_is c.args.name lines (sym c.lines.ensures ∙ ap option_copied c.in-Some.is),
+      lists c.args.self.now c.self.inside.members c.self.inside.ledger _ c.self.inside.steps c.self.view_is c.args.name lines (sym c.lines.ensures ∙ ap option_copied c.in-Some.is),
       writes_then _ _ _ (numbered_lines 1 lines) okay _ c.in_ok-put_lines.ensures.written c.put_parts.ensures.written,
     )

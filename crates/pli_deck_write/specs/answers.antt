@@ -1,0 +1,2 @@
+pub mod ModuleHead
+pub mod SpelledUnits

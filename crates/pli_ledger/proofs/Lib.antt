@@ -1,0 +1,15 @@
+pub mod AlreadyAligned
+pub mod BuildsStand
+pub mod FitsThroughBuilds
+pub mod FitsThroughEdits
+pub mod HeldIsFresh
+pub mod KeptMoved
+pub mod ModulesStored
+pub mod NamesApart
+pub mod NamesInOrder
+pub mod PassesGoOn
+pub mod StagesMixed
+pub mod TextsSame
+pub mod UnitKept
+pub mod UnitTold
+pub mod UnitsTold

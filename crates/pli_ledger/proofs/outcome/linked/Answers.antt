@@ -1,0 +1,13 @@
+use Rattle.std.proofs.Common.{ap, map, sym, ◌∙◌}
+use Rattle.pli_code.specs.views.CodeView.{lent_module_view}
+use Rattle.pli_link.specs.views.UnitView.{compiled_view}
+use Rattle.pli_ledger.specs.answers.Lending.{decks_of}
+use Rattle.pli_ledger.proofs.ModulesStored.{decks_linked}
+use Rattle.pli_ledger.proofs.outcome.linked.Goals as goal
+
+pub stored-requires : goal.stored-requires
+stored-requires c =
+    let units = map compiled_view c.deref.result.now in
+    let program = lent_module_view c.in-Ok.linked.program in
+    let decks = ap (map (λ d. d.now)) c.deref-in-Ok.ensures.value ∙ c.in_ok-decks.ensures ∙ ap decks_of (sym (ap (map compiled_view) c.deref.ensures.value ∙ c.in_ok-lent.ensures)) in
+    decks_linked units program _ (c.linking_keeps_decks.ensures units program c.in-Ok.ensures) decks

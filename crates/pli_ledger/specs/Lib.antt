@@ -1,0 +1,9 @@
+pub mod Fits
+pub mod Kept
+pub mod Refused
+pub mod SameTexts
+pub mod Told
+pub mod Work
+pub mod answers
+pub mod laws
+pub mod views

@@ -1,0 +1,6 @@
+pub mod Aligning
+pub mod Built
+pub mod Compiling
+pub mod Lending
+pub mod Passing
+pub mod Storing
