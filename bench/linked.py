@@ -5,7 +5,7 @@ It is written from the rules of linking alone, over what faults.py and typed.py 
 and the name and the unit where the code has them.
 
 Names of external procedures, and of variables and entries that are EXTERNAL, mean the same in all units. A variable of that kind agrees with
-another where both have one description and the same values written in INITIAL; an entry agrees with a procedure where parameters and results
+another where both are CONTROLLED or neither, and have one description and the same values written in INITIAL; an entry agrees with a procedure where parameters and results
 do; a variable agrees with no procedure. Of N6 the bytes of STATIC variables are counted, and nothing else.
 """
 from typed import signature_of_entry, signature_of_procedure, size_of, whole_of
@@ -37,9 +37,13 @@ def is_main(unit):
     return ("OPTIONS", "MAIN") in unit.tree[2]
 
 
+def is_controlled(item):
+    return "CONTROLLED" in item.description.has
+
+
 def template(item):
     """What two declarations of a variable must have alike."""
-    return whole_of(item), list(given_values(item))
+    return is_controlled(item), whole_of(item), list(given_values(item))
 
 
 def signature(unit):
@@ -65,7 +69,7 @@ def first_of_each(units):
 
 def static_bytes(units, variables):
     counted = [item for unit in units for item in own_items(unit) if is_internal_static(item)]
-    return sum(size_of(whole_of(item))[0] for item in [*counted, *variables.values()])
+    return sum(size_of(whole_of(item))[0] for item in [*counted, *variables.values()] if not is_controlled(item))
 
 
 def faults_of(units):

@@ -106,10 +106,16 @@ def filled(count):
     yield from ["PUT LIST("] + listed([f"A({k})" for k in range(1, count + 1)]) + [");"]
 
 
+def rebuilt(name, line, times):
+    """So many BUILDs, each behind an edit: the first line of a member gets a null statement, or loses it again, so that its unit is compiled."""
+    return [command for turn in range(times) for command in (f"REPLACE {name} 1 {line}{';' * (turn % 2)}", "BUILD")]
+
+
 def sessions():
+    heading = "M: PROC OPTIONS(MAIN);"
     one = list(member("M", procedure("M", 9999)))
     yield "one member of 9,999 lines, built and run", one + ["BUILD", "RUN"]
-    yield "the same, built ten times", one + ["BUILD"] * 10
+    yield "the same, built ten times", one + rebuilt("M", heading, 10)
     many = [command for k in range(30) for command in member(f"M{k}", procedure(f"M{k}", 2000))]
     yield "thirty members of 2,000 lines, built", many + ["BUILD"]
     common = list(included("K", ["X = Y;"] * 1000))
@@ -117,19 +123,19 @@ def sessions():
     yield "100 units that include one member of 1,000 lines", common + units + ["BUILD"]
     nested = [command for k in range(1, 998) for command in included(f"K{k}", [f"%INCLUDE K{k + 1};"])]
     chain = nested + list(included("K998", ["END;"])) + list(member("M", ["M: PROC OPTIONS(MAIN); %INCLUDE K1;"]))
-    yield "a chain of 999 members, built ten times", chain + ["BUILD"] * 10
+    yield "a chain of 999 members, built ten times", chain + rebuilt("M", "M: PROC OPTIONS(MAIN); %INCLUDE K1;", 10)
     comments = list(included("K", ["/* NOTHING */"] * 9999))
     hollow = list(member("M", ["M: PROC OPTIONS(MAIN);"] + ["%INCLUDE K; " * 10] * 4990 + ["END;"]))
     yield "9,999 lines of comments included 49,900 times", comments + hollow + ["BUILD"]
     lexed = [command for k in range(9) for command in member(f"L{k}", wide(9300))]
     yield "ten megabytes of tokens, typed", lexed
     yield "the same, built: each text is lexed", lexed + ["BUILD"]
-    yield "a unit of 65,000 statements, built ten times", list(member("M", unit("M", [";"] * 65000))) + ["BUILD"] * 10
-    yield "a unit of 190,000 tokens in every form, built ten times", list(member("M", unit("M", forms(190000)))) + ["BUILD"] * 10
+    yield "a unit of 65,000 statements, built ten times", list(member("M", unit("M", [";"] * 65000))) + rebuilt("M", heading, 10)
+    yield "a unit of 190,000 tokens in every form, built ten times", list(member("M", unit("M", forms(190000)))) + rebuilt("M", heading, 10)
     chained = ["X=" + "+".join(["Y"] * 58)] + ["+" + "+".join(["Y"] * 59)] * 1650 + [";"]
-    yield "one statement of 195,000 tokens, built ten times", list(member("M", ["M: PROC;"] + chained + ["END;"])) + ["BUILD"] * 10
-    yield "a unit of 60,000 names and 39,000 uses, built ten times", list(member("M", unit("M", names(60000, 39000)))) + ["BUILD"] * 10
-    yield "a structure of 25,000 members and 12,000 uses, built ten times", list(member("M", unit("M", structure(25000, 12000)))) + ["BUILD"] * 10
+    yield "one statement of 195,000 tokens, built ten times", list(member("M", ["M: PROC;"] + chained + ["END;"])) + rebuilt("M", "M: PROC;", 10)
+    yield "a unit of 60,000 names and 39,000 uses, built ten times", list(member("M", unit("M", names(60000, 39000)))) + rebuilt("M", heading, 10)
+    yield "a structure of 25,000 members and 12,000 uses, built ten times", list(member("M", unit("M", structure(25000, 12000)))) + rebuilt("M", heading, 10)
     printing = ["M: PROC OPTIONS(MAIN);", "DCL X FIXED BIN(31);"] + ["PUT LIST(X, X, X, X, X, X, X, X, X, X);"] * 1500 + ["END;"]
     yield "3,000 statements of arithmetic, strings and subscripts, 67 times", list(member("M", unit("M", straight(3000)))) + ["BUILD"] + ["RUN"] * 67
     yield "an array of 2,500 elements filled and printed, ten times", list(member("M", unit("M", filled(2500)))) + ["BUILD"] + ["RUN"] * 10

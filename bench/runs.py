@@ -4,7 +4,9 @@
 It prints how many units agreed, and of those that did not the ten shortest, each with what was expected and what was answered:
   the answers to each session of the examples and of several units (crates/pli_sessions), as they stand beside it, with those of meaning.py;
   300 programs grown at random, at each number of steps from 0 to 40, and at 5,000;
-  3,000 units whose expressions have operands, arguments and targets of wrong types now and then: all their diagnostics.
+  300 programs grown so of which some variables are CONTROLLED, which ALLOCATE and FREE change, at the same numbers of steps;
+  3,000 units whose expressions have operands, arguments and targets of wrong types now and then: all their diagnostics; and 500 with
+  CONTROLLED variables.
 Each token of a unit is typed on a line of its own, so that the line of a diagnostic tells the token. All is the same every time.
 Without PROGRAM meaning.py is run alone.
 """
@@ -16,7 +18,7 @@ import mutations
 from compared import compare
 
 PROGRAMS = 300
-FAULTY = 3000
+FAULTY, FAULTY_STACKS = 3000, 500
 SEED = 19741130
 FEW_STEPS, MANY_STEPS = 40, 5000
 SESSIONS = Path(__file__).resolve().parent.parent / "crates" / "pli_sessions" / "data"
@@ -30,6 +32,14 @@ VARIABLES = """
     DCL A ( 3 ) FIXED BIN ( 15 ) INIT ( 1 , - 2 , 3 ) , M ( 0 : 1 , 2 ) CHAR ( 2 ) INIT ( 'P' , 'QR' , 'QR' ) , A2 ( 3 ) FIXED BIN ( 15 ) ;
     DCL 1 S , 2 X FIXED BIN ( 31 ) INIT ( 7 ) , 2 Y ( 2 ) BIT ( 3 ) , 1 S2 , 2 X1 FIXED BIN ( 31 ) , 2 Y1 ( 2 ) BIT ( 3 ) INIT ( '11'B ) ;
     DCL 1 T ( 2 ) STATIC , 2 P FIXED BIN ( 7 ) INIT ( 1 , 2 ) , 2 Q ( 2 ) CHAR ( 1 ) INIT ( 'A' , 'B' , 'C' ) ;
+""".split()
+STACKED = """
+    DCL G FIXED BIN ( 15 ) CTL INIT ( 4 ) , H ( 2 ) CTL CHAR ( 3 ) INIT ( 'X' , 'YZ' ) ;
+    DCL 1 R CTL , 2 R1 BIT ( 2 ) INIT ( '1'B ) , 2 R2 FIXED BIN ( 31 ) , 1 R3 , 2 R4 BIT ( 2 ) , 2 R5 FIXED BIN ( 31 ) , W CHAR ( 2 ) VAR CTL ;
+""".split()
+PUSH = """
+    PUSH : PROC ( Z ) ; DCL Z FIXED BIN ( 15 ) , W FIXED BIN ( 15 ) CTL ; ALLOCATE W ; W = Z ; IF ALLOCATION ( W ) < 3 THEN CALL PUSH ( Z + 1 ) ;
+        FREE G ; ALLOCATE G ; PUT LIST ( W , G ) ; IF Z = 3 THEN Z = 2 ; FREE W ; END PUSH ;
 """.split()
 ROUTINES = """
     ADD1 : PROC ( Z ) ; DCL Z FIXED BIN ( 15 ) ; Z = Z + 1 ; PUT LIST ( Z ) ; END ADD1 ;
@@ -268,14 +278,63 @@ class Grower:
         return [*"M : PROC OPTIONS ( MAIN ) ;".split(), *VARIABLES, *self.list(6), *"AWAY : PUT LIST ( 'AWAY' , N , I , V ) ;".split(), *ROUTINES, *"END M ;".split()]
 
 
+class StackGrower(Grower):
+    """Programs with CONTROLLED variables."""
+
+    def variable(self, kind):
+        if self.below(4):
+            return super().variable(kind)
+        if kind == "number":
+            return self.chosen(["G"], ["G"], ["R", ".", "R2"])
+        return self.chosen(["H", "(", *self.subscript(2), ")"]) if kind == "characters" else ["R1"]
+
+    def leaf(self, kind):
+        if self.slip():
+            return self.chosen(["ALLOCATION", "(", *self.chosen(["A"], ["H", "(", "1", ")"], ["R1"], ["1"], ["G", ",", "G"], ["FACT"], ["(", "G", ")"], ["B", "->", "G"]), ")"], ["R"], ["H"], ["B", "->", "G"])
+        if kind == "number" and self.below(8) == 0:
+            return ["ALLOCATION", "(", self.chosen("G", "H", "R", "W"), ")"]
+        return super().leaf(kind)
+
+    def statement(self, label):
+        return self.chosen(self.allocate, self.allocate, self.free)() if self.below(6) == 0 else super().statement(label)
+
+    def several(self):
+        names = [self.chosen("G", "H", "R", "W") for _ in range(1 + self.below(2))]
+        return [word for name in names for word in (",", name)][1:]
+
+    def allocate(self):
+        if self.slip():
+            return ["ALLOCATE", *self.chosen(["A"], ["R1"], ["FACT"], ["G", "IN", "(", "C", ")"], ["G", "SET", "(", "A", ")"], ["G", "SET", "(", "B", ")", "IN", "(", "S", ")"], ["NOWHERE"], ["AWAY"]), ";"]
+        return ["ALLOCATE", *self.several(), ";"]
+
+    def free(self):
+        if self.slip():
+            return ["FREE", *self.chosen(["A"], ["R1"], ["FACT"], ["H", "(", "1", ")"], ["B", "->", "G"], ["G", "(", "1", ")"], ["AWAY"]), ";"]
+        return ["FREE", *self.several(), ";"]
+
+    def aggregate(self):
+        return self.chosen(["R", "=", "R3", ";"], ["R3", "=", "R", ";"]) if self.below(4) == 0 else super().aggregate()
+
+    def unit(self):
+        self.labels = 0
+        first = ["ALLOCATE", "G", ",", "H", ",", "R", ",", "R", ";"] if self.below(6) else []
+        words = [*"M : PROC OPTIONS ( MAIN ) ;".split(), *VARIABLES, *STACKED, *first, *self.list(6)]
+        return [*words, *"AWAY : PUT LIST ( 'AWAY' , N , ALLOCATION ( G ) , ALLOCATION ( R ) ) ;".split(), *ROUTINES, *PUSH, *"END M ;".split()]
+
+    def call(self):
+        return ["CALL", "PUSH", "(", *self.chosen(["G"], ["I"], ["2"]), ")", ";"] if self.below(4) == 0 else super().call()
+
+
 def as_program(words):
     return [("M", words)]
 
 
 def shown(program):
     """What is not the same in all programs."""
-    words = program[0][1]
-    return " ".join(words[len(VARIABLES) + 7 : -len(ROUTINES) - 3] if len(words) > len(VARIABLES) else words)
+    text = " ".join(program[0][1])
+    for part in (VARIABLES, STACKED, ROUTINES, PUSH):
+        text = text.replace(" ".join(part), "..")
+    return text
 
 
 def compare_sessions():
@@ -301,6 +360,10 @@ def main():
     sound, faulty = Grower(mutations.Numbers(SEED), False), Grower(mutations.Numbers(SEED + 1), True)
     agree &= compare("programs grown", workbench, [as_program(sound.unit()) for _ in range(PROGRAMS)], steps, shown)
     agree &= compare("units with wrong types", workbench, [as_program(faulty.unit()) for _ in range(FAULTY)], steps[:3] + [MANY_STEPS], shown)
+    sound, faulty = StackGrower(mutations.Numbers(SEED + 2), False), StackGrower(mutations.Numbers(SEED + 3), True)
+    agree &= compare("programs with controlled storage", workbench, [as_program(sound.unit()) for _ in range(PROGRAMS)], steps, shown)
+    faulted = [as_program(faulty.unit()) for _ in range(FAULTY_STACKS)]
+    agree &= compare("units with wrong types and controlled storage", workbench, faulted, [MANY_STEPS], shown)
     sys.exit(not agree)
 
 

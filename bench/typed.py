@@ -10,7 +10,7 @@ import faults
 import reader
 
 MOST_DIGITS = 31
-FUNCTIONS = {"ABS": 1, "MAX": 2, "MIN": 2, "MOD": 2, "DIVIDE": 3, "SIGN": 1, "LENGTH": 1, "INDEX": 2, "LBOUND": 2, "HBOUND": 2, "SUBSTR": (2, 3)}
+FUNCTIONS = {"ABS": 1, "MAX": 2, "MIN": 2, "MOD": 2, "DIVIDE": 3, "SIGN": 1, "LENGTH": 1, "INDEX": 2, "ALLOCATION": 1, "LBOUND": 2, "HBOUND": 2, "SUBSTR": (2, 3)}
 NUMBER, CHARACTERS, VARYING, BITS = "number", "characters", "varying", "bits"
 
 
@@ -143,6 +143,11 @@ def signature_of_entry(description):
 def is_variable(meant):
     """Whether a name means a variable."""
     return isinstance(meant, faults.Item) and "ENTRY" not in meant.description.has
+
+
+def is_stacked(meant):
+    """Whether a name means a whole CONTROLLED variable."""
+    return is_variable(meant) and not meant.above and "CONTROLLED" in meant.description.has
 
 
 def is_procedure(meant):
@@ -313,7 +318,7 @@ class Types:
         """The item that a reference names, with its subscripts and its description."""
         if reference.locator is not None:
             tree = reference.locator[0] if len(reference.locator) == 1 else ("reference", *reference.locator)
-            self.argument(tree, block)
+            self.variable(Reference(tree), block, aggregates=False)
         item = self.meaning(reference, block)
         if not is_variable(item):
             self.arguments_of_no_variable(reference, block)
@@ -447,6 +452,8 @@ class Types:
             raise Fault(6, at)
         if name in ("LBOUND", "HBOUND"):
             return self.bound_of(at, arguments, block)
+        if name == "ALLOCATION":
+            return self.generations_of(at, arguments[0], block)
         kinds = [self.constant_in(argument, block) if (name, place) == ("DIVIDE", 2) else self.value(argument, block) for place, argument in enumerate(arguments)]
         if name == "DIVIDE":
             if kinds[2] is None or not 1 <= kinds[2] <= MOST_DIGITS or any(kind.kind != NUMBER for kind in kinds[:2]):
@@ -485,6 +492,16 @@ class Types:
         if bounds is None or place is None or not 1 <= place <= len(bounds):
             raise Fault(13, at)
         return Value((NUMBER, 15))
+
+    def generations_of(self, at, tree, block):
+        """ALLOCATION takes a whole CONTROLLED variable."""
+        if is_reference(tree) and not self.is_call(tree, block):
+            item, written, _ = self.variable(Reference(tree), block)
+            if is_stacked(item) and not written:
+                return Value((NUMBER, 15))
+        else:
+            self.value(tree, block)
+        raise Fault(13, at)
 
     def is_call(self, tree, block):
         reference = Reference(tree)
@@ -530,6 +547,25 @@ class Types:
             self.judged(self.call_statement, tree, block)
         elif kind == "return":
             self.judged(self.returned, tree, block, procedure)
+        elif kind == "allocate":
+            self.judged(self.allocate, parts, block)
+        elif kind == "free":
+            self.judged(self.free, parts, block)
+
+    def allocate(self, allocations, block):
+        for _, name, *given in allocations:
+            for word in ("IN", "SET"):
+                if word in dict(given):
+                    self.variable(Reference(dict(given)[word]), block, aggregates=False)
+            if given or not is_stacked(self.meaning(Reference(name), block)):
+                raise Fault(11, name.at)
+
+    def free(self, references, block):
+        for tree in references:
+            reference = Reference(tree)
+            item, written, _ = self.variable(reference, block)
+            if written or not is_stacked(item):
+                raise Fault(11, reference.at)
 
     def condition(self, tree, block):
         if self.value(tree, block).kind != BITS:

@@ -4,7 +4,8 @@
 It prints how many programs agreed, and of those that did not the ten shortest, each with what was expected and what was answered:
   150 programs of two to four units grown at random, at each number of steps from 0 to 40, and at 5,000;
   300 of which some have other descriptions, values, names or main procedures than they should: what linking finds, and a run;
-  200 whose expressions have operands, arguments and targets of wrong types now and then: all their diagnostics.
+  200 whose expressions have operands, arguments and targets of wrong types now and then: all their diagnostics;
+  150 with variables that are CONTROLLED in most units, and EXTERNAL in most of these.
 The units call each other, both ways, and the main procedure; each has variables of the same names, of which most are EXTERNAL and others
 STATIC or AUTOMATIC in some units. The routines of runs.py are external procedures, whose bodies are grown, or internal ones in every unit.
 All is the same every time. Without PROGRAM meaning.py is run alone.
@@ -329,6 +330,27 @@ class Changer(Grower):
                     self.put_behind(program, at, member, words, declared)
 
 
+class StackGrower(Grower):
+    """Programs of several units, with CONTROLLED variables that most units share."""
+
+    def variables(self):
+        shared = self.chosen(["CTL", "EXT"], ["EXTERNAL", "CTL"])
+        storage = shared if self.below(8) else self.chosen(["CTL"], ["CTL"], ["CTL"], ["EXT"])
+        initial = "4" if self.below(16) else "5"
+        return [*super().variables(), *"DCL G FIXED BIN ( 15 )".split(), *storage, "INIT", "(", initial, ")", ";"]
+
+    def variable(self, kind):
+        return ["G"] if kind == "number" and self.below(6) == 0 else super().variable(kind)
+
+    def leaf(self, kind):
+        return ["ALLOCATION", "(", "G", ")"] if kind == "number" and self.below(10) == 0 else super().leaf(kind)
+
+    def statement(self, label):
+        if self.below(6) == 0:
+            return [self.chosen("ALLOCATE", "ALLOCATE", "ALLOCATE", "FREE"), "G", *self.chosen([], [",", "G"]), ";"]
+        return super().statement(label)
+
+
 def shown(program):
     """The units, without the routines that are the same in all."""
     texts = []
@@ -348,6 +370,8 @@ def main():
     agree &= compare("programs grown", workbench, [sound.program() for _ in range(PROGRAMS)], [*range(FEW_STEPS + 1), MANY_STEPS], shown)
     agree &= compare("programs changed", workbench, [changed.linked() for _ in range(LINKED)], [MANY_STEPS], shown)
     agree &= compare("programs with wrong types", workbench, [faulty.program() for _ in range(FAULTY)], [MANY_STEPS], shown)
+    stacked = StackGrower(mutations.Numbers(SEED + 3), False)
+    agree &= compare("programs with shared stacks", workbench, [stacked.program() for _ in range(PROGRAMS)], [*range(FEW_STEPS + 1), MANY_STEPS], shown)
     sys.exit(not agree)
 
 

@@ -207,7 +207,7 @@ class Gallery(unittest.TestCase):
         for command in path.read_text().splitlines():
             word, _, *rest = command.split(" ", 3) if " " in command else (command, "")
             if word == "INSERT":
-                lines.insert(int(rest[0]), rest[1])
+                lines.insert(int(rest[0]), rest[1] if len(rest) > 1 else "")
             elif word == "REPLACE":
                 lines[int(rest[0]) - 1] = rest[1]
             elif word == "REMOVE":
