@@ -6,13 +6,13 @@ the order of its members and in row-major order.
 from math import prod
 
 import faults
-from typed import BITS, CHARACTERS, NUMBER, VARYING, constant_value, described, element_of, scalars_of, types_of, whole_of
+from typed import BITS, CHARACTERS, NUMBER, POINTER, VARYING, constant_value, described, element_of, scalars_of, types_of, whole_of
 
 
 def first_value(kind):
     """What a scalar begins with that is given nothing."""
-    if kind[0] == NUMBER:
-        return 0
+    if kind[0] in (NUMBER, POINTER):
+        return 0 if kind[0] == NUMBER else None
     return {CHARACTERS: " ", VARYING: "", BITS: "0"}[kind[0]] * (1 if kind[0] == VARYING else kind[1])
 
 
@@ -20,6 +20,13 @@ def fitted(text, kind):
     """Characters or bits as a scalar of a type holds them."""
     fill, length = ("0" if kind[0] == BITS else " "), kind[1]
     return text[:length] if kind[0] == VARYING else text[:length].ljust(length, fill)
+
+
+def given_value(constant, kind):
+    """The value of a constant in INITIAL; NULL is the null pointer."""
+    if kind[0] == POINTER:
+        return None
+    return faults.value(constant) if kind[0] == NUMBER else fitted(constant_value(faults.Word(constant))[1], kind)
 
 
 def has_initial(item):
@@ -52,7 +59,7 @@ def given_values(item):
             given += [constant] * times
         kind = described(each.description) if not each.members else None
         for number, constant in zip(numbers, given):
-            yield number, faults.value(constant) if kind[0] == NUMBER else fitted(constant_value(faults.Word(constant))[1], kind)
+            yield number, given_value(constant, kind)
 
 
 def first_values(item):

@@ -5,8 +5,9 @@ It prints how many units agreed, and of those that did not the ten shortest, eac
   the answers to each session of the examples and of several units (crates/pli_sessions), as they stand beside it, with those of meaning.py;
   300 programs grown at random, at each number of steps from 0 to 40, and at 5,000;
   300 programs grown so of which some variables are CONTROLLED, which ALLOCATE and FREE change, at the same numbers of steps;
-  3,000 units whose expressions have operands, arguments and targets of wrong types now and then: all their diagnostics; and 500 with
-  CONTROLLED variables.
+  300 programs grown so with pointers and BASED variables, at the same numbers of steps;
+  3,000 units whose expressions have operands, arguments and targets of wrong types now and then: all their diagnostics; 500 with
+  CONTROLLED variables, and 500 with pointers.
 Each token of a unit is typed on a line of its own, so that the line of a diagnostic tells the token. All is the same every time.
 Without PROGRAM meaning.py is run alone.
 """
@@ -18,7 +19,7 @@ import mutations
 from compared import compare
 
 PROGRAMS = 300
-FAULTY, FAULTY_STACKS = 3000, 500
+FAULTY, FAULTY_STACKS, FAULTY_POINTERS = 3000, 500, 500
 SEED = 19741130
 FEW_STEPS, MANY_STEPS = 40, 5000
 SESSIONS = Path(__file__).resolve().parent.parent / "crates" / "pli_sessions" / "data"
@@ -40,6 +41,14 @@ STACKED = """
 PUSH = """
     PUSH : PROC ( Z ) ; DCL Z FIXED BIN ( 15 ) , W FIXED BIN ( 15 ) CTL ; ALLOCATE W ; W = Z ; IF ALLOCATION ( W ) < 3 THEN CALL PUSH ( Z + 1 ) ;
         FREE G ; ALLOCATE G ; PUT LIST ( W , G ) ; IF Z = 3 THEN Z = 2 ; FREE W ; END PUSH ;
+""".split()
+POINTING = """
+    DCL ( P1 , P2 ) PTR , P3 ( 2 ) PTR STATIC , U1 FIXED BIN ( 15 ) BASED ( P1 ) INIT ( 6 ) , U2 ( 2 ) CHAR ( 3 ) BASED ( P2 ) INIT ( 'X' , 'YZ' ) ;
+    DCL U3 FIXED BIN ( 15 ) BASED , 1 U4 BASED ( P2 ) , 2 U5 FIXED BIN ( 15 ) INIT ( 2 ) , 2 U6 PTR , 1 U7 , 2 U8 FIXED BIN ( 15 ) , 2 U9 PTR ;
+""".split()
+HANG = """
+    HANG : PROC ( Z , W ) RETURNS ( PTR ) ; DCL Z PTR , W FIXED BIN ( 15 ) , E FIXED BIN ( 15 ) BASED ( Z ) , R PTR , G FIXED BIN ( 15 ) ; IF W > 2 THEN Z = ADDR ( G ) ;
+        IF Z = NULL THEN ALLOCATE E ; E = E + 1 ; PUT LIST ( E ) ; IF W = 2 THEN FREE E ; ALLOCATE U3 SET ( R ) ; R -> U3 = W ; RETURN ( R ) ; END HANG ;
 """.split()
 ROUTINES = """
     ADD1 : PROC ( Z ) ; DCL Z FIXED BIN ( 15 ) ; Z = Z + 1 ; PUT LIST ( Z ) ; END ADD1 ;
@@ -325,6 +334,61 @@ class StackGrower(Grower):
         return ["CALL", "PUSH", "(", *self.chosen(["G"], ["I"], ["2"]), ")", ";"] if self.below(4) == 0 else super().call()
 
 
+class PointerGrower(Grower):
+    """Programs with pointers and BASED variables."""
+
+    def pointer(self):
+        return self.chosen(["P1"], ["P1"], ["P2"], ["P3", "(", *self.subscript(2), ")"], ["U6"], ["P2", "->", "U4", ".", "U6"], ["U9"])
+
+    def pointed(self):
+        """The value of a pointer."""
+        if self.slip():
+            return self.chosen(["I"], ["P3"], ["ADDR", "(", "A", "(", "1", ")", ")"], ["ADDR", "(", "U5", ")"], ["ADDR", "(", "1", ")"], ["NULL", "(", "1", ")"], ["U3"], ["HANG"], ["'A'"])
+        address = ["ADDR", "(", self.chosen("I", "J", "K", "U1", "U4", "U7", "A"), ")"]
+        call = ["HANG", "(", *self.chosen(["P1"], ["NULL"], ["P3", "(", "1", ")"], ["(", "P2", ")"]), ",", *self.chosen(["I"], ["1"], ["2"], ["3"]), ")"]
+        return self.chosen(self.pointer(), self.pointer(), ["NULL"], ["NULL", "(", ")"], address, address, call)
+
+    def variable(self, kind):
+        if self.below(4):
+            return super().variable(kind)
+        if kind == "number":
+            return self.chosen(["U1"], ["U1"], [*self.pointer(), "->", "U3"], [*self.pointer(), "->", "U1"], ["U5"], ["U8"], ["P2", "->", "U5"])
+        return ["U2", "(", *self.subscript(2), ")"] if kind == "characters" else super().variable(kind)
+
+    def leaf(self, kind):
+        if self.slip():
+            return self.chosen(["P1"], ["U3"], ["I", "->", "U3"], ["P1", "->", "I"], ["P3", "->", "U3"], ["U4"], ["NULL"], ["S", ".", "X", "->", "U1"], ["FACT", "->", "U3"], ["ADDR", "(", "I", ")"])
+        if kind == "bits" and self.below(4) == 0:
+            return ["(", *self.pointed(), self.chosen("=", "^=") if not self.slip() else self.comparison(), *self.pointed(), ")"]
+        return super().leaf(kind)
+
+    def statement(self, label):
+        forms = [self.allocate, self.allocate, self.free, self.point, self.point]
+        return self.chosen(*forms)() if self.below(5) == 0 else super().statement(label)
+
+    def point(self):
+        return [*self.pointer(), "=", *self.pointed(), ";"]
+
+    def allocate(self):
+        if self.slip():
+            return ["ALLOCATE", *self.chosen(["U3"], ["U5"], ["P1"], ["U1", "SET", "(", "I", ")"], ["U3", "SET", "(", "P3", ")"], ["I", "SET", "(", "P1", ")"], ["U6", "SET", "(", "P1", ")"]), ";"]
+        return ["ALLOCATE", *self.chosen(["U1"], ["U2"], ["U4"], ["U4"], ["U1", ",", "U4"], [self.chosen("U1", "U3", "U4"), "SET", "(", *self.pointer(), ")"]), ";"]
+
+    def free(self):
+        if self.slip():
+            return ["FREE", *self.chosen(["U3"], ["U5"], ["P1"], ["I", "->", "U1"], ["P1", "->", "I"], ["U2", "(", "1", ")"], ["P2", "->", "U5"]), ";"]
+        return ["FREE", *self.chosen(["U1"], ["U2"], ["U4"], [*self.pointer(), "->", self.chosen("U1", "U3", "U4")]), ";"]
+
+    def aggregate(self):
+        return self.chosen(["U4", "=", "U7", ";"], ["U7", "=", "U4", ";"]) if self.below(3) == 0 else super().aggregate()
+
+    def unit(self):
+        self.labels = 0
+        first = "ALLOCATE U1 , U4 , U3 SET ( P3 ( 1 ) ) , U1 SET ( P3 ( 2 ) ) ; U6 = P1 ; U9 = P3 ( 1 ) ;".split() if self.below(6) else []
+        words = [*"M : PROC OPTIONS ( MAIN ) ;".split(), *VARIABLES, *POINTING, *first, *self.list(6)]
+        return [*words, *"AWAY : PUT LIST ( 'AWAY' , N , P1 = P2 , U9 = NULL ) ;".split(), *ROUTINES, *HANG, *"END M ;".split()]
+
+
 def as_program(words):
     return [("M", words)]
 
@@ -332,7 +396,7 @@ def as_program(words):
 def shown(program):
     """What is not the same in all programs."""
     text = " ".join(program[0][1])
-    for part in (VARIABLES, STACKED, ROUTINES, PUSH):
+    for part in (VARIABLES, STACKED, POINTING, ROUTINES, PUSH, HANG):
         text = text.replace(" ".join(part), "..")
     return text
 
@@ -364,6 +428,10 @@ def main():
     agree &= compare("programs with controlled storage", workbench, [as_program(sound.unit()) for _ in range(PROGRAMS)], steps, shown)
     faulted = [as_program(faulty.unit()) for _ in range(FAULTY_STACKS)]
     agree &= compare("units with wrong types and controlled storage", workbench, faulted, [MANY_STEPS], shown)
+    sound, faulty = PointerGrower(mutations.Numbers(SEED + 4), False), PointerGrower(mutations.Numbers(SEED + 5), True)
+    agree &= compare("programs with pointers", workbench, [as_program(sound.unit()) for _ in range(PROGRAMS)], steps, shown)
+    faulted = [as_program(faulty.unit()) for _ in range(FAULTY_POINTERS)]
+    agree &= compare("units with wrong types and pointers", workbench, faulted, [MANY_STEPS], shown)
     sys.exit(not agree)
 
 

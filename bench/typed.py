@@ -1,4 +1,4 @@
-"""typed.py: the faults of types T1 to T13 of a unit, for meaning.py.
+"""typed.py: the faults of types T1 to T14 of a unit, for meaning.py.
 
 It is written from the rules of types alone, over the trees of reader.py and the blocks of faults.py, and shares nothing with the compiler.
 `Types` walks a unit: `found` are its faults, each a token, counted from 0, and a code; `types` and `calls` keep the type of each expression
@@ -10,8 +10,8 @@ import faults
 import reader
 
 MOST_DIGITS = 31
-FUNCTIONS = {"ABS": 1, "MAX": 2, "MIN": 2, "MOD": 2, "DIVIDE": 3, "SIGN": 1, "LENGTH": 1, "INDEX": 2, "ALLOCATION": 1, "LBOUND": 2, "HBOUND": 2, "SUBSTR": (2, 3)}
-NUMBER, CHARACTERS, VARYING, BITS = "number", "characters", "varying", "bits"
+FUNCTIONS = {"ABS": 1, "MAX": 2, "MIN": 2, "MOD": 2, "DIVIDE": 3, "SIGN": 1, "LENGTH": 1, "INDEX": 2, "ALLOCATION": 1, "ADDR": 1, "NULL": 0, "LBOUND": 2, "HBOUND": 2, "SUBSTR": (2, 3)}
+NUMBER, CHARACTERS, VARYING, BITS, POINTER = "number", "characters", "varying", "bits", "pointer"
 
 
 class Node(tuple):
@@ -93,13 +93,15 @@ class Reader(faults.Placed):
         return tree
 
 
-# descriptions: (NUMBER, p), (CHARACTERS, n), (VARYING, n), (BITS, n), ("array", bounds, element), ("structure", members)
+# descriptions: (NUMBER, p), (CHARACTERS, n), (VARYING, n), (BITS, n), (POINTER, None), ("array", bounds, element), ("structure", members)
 
 
 def described(description):
     """One element of the attributes' type."""
     if description.data == {"number"}:
         return NUMBER, description.precision()
+    if description.data == {"locator"}:
+        return POINTER, None
     if description.data == {"characters"}:
         return (VARYING if "VARYING" in description.has else CHARACTERS), description.number("CHARACTER", 1)
     return BITS, description.number("BIT", 1)
@@ -150,6 +152,28 @@ def is_stacked(meant):
     return is_variable(meant) and not meant.above and "CONTROLLED" in meant.description.has
 
 
+def is_based(meant):
+    """Whether a name means a whole BASED variable."""
+    return is_variable(meant) and not meant.above and "BASED" in meant.description.has
+
+
+def root_of(item):
+    """The variable at level 1 to which an item belongs."""
+    return [*item.levels()][-1]
+
+
+def implied_names(root):
+    """The names in BASED, with the block in which they are looked up; None where it has none."""
+    given = root.description.given.get("BASED")
+    return given and given[0].split("."), root.description.block
+
+
+def has_implied(root):
+    """Whether BASED names a pointer."""
+    names, block = implied_names(root)
+    return bool(names) and "POINTER" in faults.variable(block, names).description.has
+
+
 def is_procedure(meant):
     """Whether a name means what is called: a procedure, or an entry."""
     if isinstance(meant, faults.Item):
@@ -158,7 +182,7 @@ def is_procedure(meant):
 
 
 def is_scalar(description):
-    return description[0] in (NUMBER, CHARACTERS, VARYING, BITS)
+    return description[0] in (NUMBER, CHARACTERS, VARYING, BITS, POINTER)
 
 
 def scalars_of(description):
@@ -193,6 +217,8 @@ def size_of(description):
         return (2, 2) if given <= 15 else (4, 4)
     if kind == VARYING:
         return 2 + given, 2
+    if kind == POINTER:
+        return 8, 4
     return (given, 1) if kind == CHARACTERS else (faults.rounded(given, 8) // 8, 1)
 
 
@@ -238,6 +264,10 @@ class Reference:
         self.at = self.parts[0].name.at
         self.names = [part.name for part in self.parts]
 
+    def before(self):
+        """The reference before the last arrow."""
+        return self.locator[0] if len(self.locator) == 1 else ("reference", *self.locator)
+
 
 def is_reference(tree):
     if isinstance(tree, str):
@@ -275,7 +305,7 @@ def constant_value(word):
 def converts(source, target):
     """Whether a value of a type is assigned to a scalar."""
     if target[0] in (CHARACTERS, VARYING):
-        return True
+        return source.kind != POINTER
     return source.kind == target[0]
 
 
@@ -317,8 +347,7 @@ class Types:
     def variable(self, reference, block, aggregates=True):
         """The item that a reference names, with its subscripts and its description."""
         if reference.locator is not None:
-            tree = reference.locator[0] if len(reference.locator) == 1 else ("reference", *reference.locator)
-            self.variable(Reference(tree), block, aggregates=False)
+            located = self.variable(Reference(reference.before()), block, aggregates=False)[2][0] == POINTER
         item = self.meaning(reference, block)
         if not is_variable(item):
             self.arguments_of_no_variable(reference, block)
@@ -337,7 +366,10 @@ class Types:
                 codes.add(3)
         if not codes and not aggregates and not is_scalar(description):
             codes.add(2)
-        if reference.locator is not None:
+        root = root_of(item)
+        if reference.locator is None:
+            located = is_based(root) and has_implied(root)
+        if is_based(root) and not located or not is_based(root) and reference.locator is not None:
             codes.add(10)
         if codes:
             raise Fault(min(codes), reference.at)
@@ -382,10 +414,10 @@ class Types:
                 raise Fault(4, sign.at)
             return Value((BITS, 1))
         if sign == "||":
-            if NUMBER in kinds:
+            if kinds & {NUMBER, POINTER}:
                 raise Fault(4, sign.at)
             return Value((BITS if kinds == {BITS} else CHARACTERS, 1))
-        if NUMBER in kinds and kinds != {NUMBER}:
+        if kinds & {NUMBER, POINTER} and len(kinds) > 1 or POINTER in kinds and sign not in ("=", "^="):
             raise Fault(4, sign.at)
         return Value((BITS, 1))
 
@@ -393,8 +425,8 @@ class Types:
         """A variable, or a call."""
         item = self.meaning(reference, block) if reference.locator is None else None
         arguments = reference.parts[0].arguments
-        if isinstance(item, str) and len(reference.parts) == 1 and arguments is not None:
-            return self.function(item, reference, arguments, block)
+        if isinstance(item, str) and len(reference.parts) == 1 and (arguments is not None or item == "NULL"):
+            return self.function(item, reference, arguments or [], block)
         if is_procedure(item) and arguments is not None:
             return self.call(item, reference.parts[0], tree, block, True)
         return Value(self.variable(reference, block, aggregates=False)[2])
@@ -452,19 +484,21 @@ class Types:
             raise Fault(6, at)
         if name in ("LBOUND", "HBOUND"):
             return self.bound_of(at, arguments, block)
-        if name == "ALLOCATION":
-            return self.generations_of(at, arguments[0], block)
+        if name in ("ALLOCATION", "ADDR"):
+            return self.whole_in(at, name, arguments[0], block)
+        if name == "NULL":
+            return Value((POINTER, None))
         kinds = [self.constant_in(argument, block) if (name, place) == ("DIVIDE", 2) else self.value(argument, block) for place, argument in enumerate(arguments)]
         if name == "DIVIDE":
             if kinds[2] is None or not 1 <= kinds[2] <= MOST_DIGITS or any(kind.kind != NUMBER for kind in kinds[:2]):
                 raise Fault(13, at)
             return Value((NUMBER, kinds[2]))
         if name == "SUBSTR":
-            if kinds[0].kind == NUMBER or any(kind.kind != NUMBER for kind in kinds[1:]):
+            if kinds[0].kind in (NUMBER, POINTER) or any(kind.kind != NUMBER for kind in kinds[1:]):
                 raise Fault(13, at)
             return Value((kinds[0].kind, 1))
         if name in ("LENGTH", "INDEX"):
-            if any(kind.kind == NUMBER for kind in kinds) or len({kind.kind for kind in kinds}) > 1:
+            if any(kind.kind in (NUMBER, POINTER) for kind in kinds) or len({kind.kind for kind in kinds}) > 1:
                 raise Fault(13, at)
             return Value((NUMBER, 15))
         if any(kind.kind != NUMBER for kind in kinds):
@@ -493,21 +527,24 @@ class Types:
             raise Fault(13, at)
         return Value((NUMBER, 15))
 
-    def generations_of(self, at, tree, block):
-        """ALLOCATION takes a whole CONTROLLED variable."""
+    def whole_in(self, at, name, tree, block):
+        """ALLOCATION takes a whole CONTROLLED variable, ADDR a whole one that is no parameter."""
         if is_reference(tree) and not self.is_call(tree, block):
             item, written, _ = self.variable(Reference(tree), block)
-            if is_stacked(item) and not written:
+            if name == "ALLOCATION" and is_stacked(item) and not written:
                 return Value((NUMBER, 15))
+            if name == "ADDR" and not (item.above or item.is_parameter or written):
+                return Value((POINTER, None))
         else:
             self.value(tree, block)
         raise Fault(13, at)
 
     def is_call(self, tree, block):
         reference = Reference(tree)
-        if reference.locator is not None or reference.parts[0].arguments is None:
+        if reference.locator is not None:
             return False
-        return not is_variable(self.meaning(reference, block))
+        meant = self.meaning(reference, block)
+        return meant == "NULL" or reference.parts[0].arguments is not None and not is_variable(meant)
 
     # statements
 
@@ -554,18 +591,21 @@ class Types:
 
     def allocate(self, allocations, block):
         for _, name, *given in allocations:
+            kinds = {}
             for word in ("IN", "SET"):
                 if word in dict(given):
-                    self.variable(Reference(dict(given)[word]), block, aggregates=False)
-            if given or not is_stacked(self.meaning(Reference(name), block)):
+                    kinds[word] = self.variable(Reference(dict(given)[word]), block, aggregates=False)[2][0]
+            meant = self.meaning(Reference(name), block)
+            is_set = kinds == {"SET": POINTER} or not kinds and is_based(meant) and has_implied(meant)
+            if not (is_stacked(meant) and not given or is_based(meant) and is_set):
                 raise Fault(11, name.at)
 
     def free(self, references, block):
         for tree in references:
             reference = Reference(tree)
             item, written, _ = self.variable(reference, block)
-            if written or not is_stacked(item):
-                raise Fault(11, reference.at)
+            if written or not (is_stacked(item) or is_based(item)):
+                raise Fault(11, first_token(tree))
 
     def condition(self, tree, block):
         if self.value(tree, block).kind != BITS:
@@ -577,7 +617,8 @@ class Types:
 
     def put(self, items, block):
         for item in items:
-            self.value(item, block)
+            if self.value(item, block).kind == POINTER:
+                raise Fault(14, first_token(item))
 
     def call_statement(self, tree, block):
         part = Part(tree[1])
@@ -618,7 +659,7 @@ class Types:
         reference = Reference(variable)
         _, written, description = self.variable(reference, block, aggregates=False)
         if written or reference.locator is not None or (("to" in rest or "by" in rest) and description[0] != NUMBER):
-            raise Fault(12, reference.at)
+            raise Fault(12, first_token(variable))
         if not converts(begins, description):
             raise Fault(5, tree.equals)
         if "while" in rest:

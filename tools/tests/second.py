@@ -30,7 +30,7 @@ COMMAND = re.compile(
     re.IGNORECASE,
 )
 LATER = {"ON", "REVERT", "SIGNAL"}
-LATER_ATTRIBUTES = {"POINTER", "PTR", "OFFSET", "AREA", "BASED"}
+LATER_ATTRIBUTES = {"OFFSET", "AREA"}
 
 
 class Fault(Exception):

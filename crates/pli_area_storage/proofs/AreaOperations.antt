@@ -12,7 +12,7 @@ use Rattle.pli_store.specs.declared.fault.StoreFault.{StoreFault}
 use Rattle.pli_value.specs.Value.{Value}
 use Rattle.pli_value.specs.declared.locator.Locator.{Locator}
 use Rattle.pli_value.specs.declared.locator.Locator.TheVariants.{Null, Pointer, Offset}
-use Rattle.pli_locators.specs.Locating.{based, freed}
+use Rattle.pli_world.specs.Locating.{based, based_freed}
 use Rattle.pli_world.specs.Storage.{Generation, Place, generation_in, values_from, with_values_at}
 use Rattle.pli_world.specs.World.{World, Yields, Raises, Wrong}
 use Rattle.pli_world.specs.Storage.{Block, block_at, with_block_values}
@@ -223,11 +223,11 @@ module _ (d : Description) (l : Locator) (areas : List Inhabited) (w : World) wh
     unfolding based_in
     based_outside p v found = rw (← outside) (rw found refl)
 
-    pub freed_outside_refused : (f : StoreFault) → Refused f w (freed d l w) → Refused f w (freed_in d l areas w)
+    pub freed_outside_refused : (f : StoreFault) → Refused f w (based_freed d l w) → Refused f w (freed_in d l areas w)
     unfolding freed_in
-    freed_outside_refused f refused = rw (← outside) (refused_further f w (freed d l w) _ refused)
+    freed_outside_refused f refused = rw (← outside) (refused_further f w (based_freed d l w) _ refused)
 
-    pub freed_outside : (v : World) → freed d l w ≡ Yields tt v → freed_in d l areas w ≡ Yields areas v
+    pub freed_outside : (v : World) → based_freed d l w ≡ Yields tt v → freed_in d l areas w ≡ Yields areas v
     unfolding freed_in
     freed_outside v done = rw (← outside) (rw done refl)
 

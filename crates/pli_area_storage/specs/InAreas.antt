@@ -19,7 +19,7 @@ use Rattle.pli_world.specs.Storage.{Block, Generation, Place, generation_in, blo
 use Rattle.pli_world.specs.Storage.{with_values_at, with_block_values}
 use Rattle.pli_world.specs.World.{World, Answer, Yields, Raises, Wrong, further, known, living, unless_dead}
 use Rattle.pli_world.specs.World.{unless_gone, unless_replaced, held, stored, single, led_on}
-use Rattle.pli_locators.specs.Locating.{based, freed, addressed}
+use Rattle.pli_world.specs.Locating.{based, based_freed, addressed}
 use Rattle.pli_area_storage.specs.Blocks.{Inhabited, place_in, end_of_blocks, with_block}
 use Rattle.pli_area_storage.specs.Blocks.{without_block, area_of, blocks_of, with_blocks}
 
@@ -114,7 +114,7 @@ based_in d l areas w = based_by (block_pointer l) d l areas w
 -- FREE of a BASED variable by a locator, in a block or outside areas
 abbrev pub freed_by : Option (ℕ × ℕ) → Description → Locator → List Inhabited → World
     → Answer (List Inhabited)
-freed_by None d l areas w = further (freed d l w) (λ _ w. Yields areas w)
+freed_by None d l areas w = further (based_freed d l w) (λ _ w. Yields areas w)
 freed_by (Some at) d l areas w =
     further (block_found areas at.0 at.1 d w)
     (λ b w. Yields (with_blocks at.0 (without_block (blocks_of areas at.0) at.1) areas) w)

@@ -2,7 +2,7 @@
 ghost use Rattle.std.specs.Prelude.{◌≡◌, map, IfOk};
 ghost use Rattle.pli_map.specs.Description as described;
 ghost use Rattle.pli_map.specs.views.DescriptionView.{description_view};
-ghost use Rattle.pli_type_tree.specs.Templates as templates;
+ghost use Rattle.pli_program.specs.Templates as templates;
 ghost use Rattle.pli_type_tree.specs.views.TemplateView.{initial_view};
 ghost use Rattle.pli_code.specs.CodeTables as plain;
 ghost use Rattle.pli_code.specs.views.CodeView.{block_view, code_view, coded_template_view, deck_view, global_view, signature_view};

@@ -89,7 +89,7 @@ module _ (globals blocks last : ℕ) (t : TypedUnit) (counted : length t.globals
     form_allowed number (ReturnValue outward value) parent used room p most n h apart inner end =
         joined globals blocks last (value_code value) (op.ReturnValue outward ∷ []) (value_allowed globals blocks last t counted named slotted value h.1) (h.0, tt)
     form_allowed number Stop parent used room p most n h apart inner end = (tt, tt)
-    form_allowed number (Allocate items) parent used room p most n h apart inner end = allocations_allowed globals blocks last t counted named slotted items h
+    form_allowed number (Allocate items) parent used room p most n h apart inner end = allocations_allowed globals blocks last t counted named slotted items used room most h apart
     form_allowed number (Free items) parent used room p most n h apart inner end = freeings_allowed globals blocks last t counted named slotted items h
 
     list_allowed : (ss : TypedStatements) (parent used room p : ℕ) → room ≤ 65535 → AreStatements t ss → KeepApart used room ss → AreBelow blocks (blocks_among parent ss)

@@ -1,17 +1,17 @@
 -- Instructions whose numbers are within limits, and the code of expressions and of groups with a control variable.
 use Rattle.std.proofs.Common.{◌≡◌, ℕ, suc, ◌+◌, ◌<◌, ◌≤◌, Bool, true, false, Option, Some, None, List, [], ◌∷◌, ◌++◌, length, arith}
 use Rattle.std.specs.List.{AllByRecursion}
-use Rattle.pli_gen_emit.specs.TreeTranslation.{argument_count, operation_code, root_code, call_instruction, value_code, place_code, operands_code, subscripts_code, arguments_code, call_code, skip_code, items_code, allocations_code, freeings_code}
+use Rattle.pli_gen_emit.specs.TreeTranslation.{argument_count, operation_code, root_code, call_instruction, value_code, place_code, operands_code, subscripts_code, arguments_code, call_code, skip_code, items_code, allocation_code, allocations_code, freeing_code, freeings_code}
 use Rattle.pli_gen_emit.specs.TreeTranslation.{keeps_code, conversion_code, sets_code, start_code, test_against, limit_test, while_test, guarded, tests_code, counted_code, advances_code, back_code}
 use Rattle.pli_gen.proofs.SimpleCode.{all_both}
-use Rattle.pli_gen.specs.WellNumbered.{next_temporary}
+use Rattle.pli_gen.specs.WellNumbered.{next_temporary, KeepsTemporary}
 use Rattle.pli_program.specs.Program as op
 use Rattle.pli_operation.specs.declared.operation.Operation.TheVariants as calculate
 use Rattle.pli_type_tree.specs.Iterations.{kept_by, limit_number, step_number, temporaries_of}
-use Rattle.pli_type_tree.specs.TypedTree.{Root, InSlot, OfProgram, NewestOf, Callee, OfBlock, OfEntry, TypedExpression, Literal, TypedOperation, Fit, Operate, Held, Calculated, Called, Generations, TypedReference, Whole, Part}
+use Rattle.pli_type_tree.specs.TypedTree.{Root, InSlot, OfProgram, NewestOf, Located, Callee, OfBlock, OfEntry, TypedExpression, Literal, TypedOperation, Fit, Operate, Held, Calculated, Called, Generations, Address, TypedReference, Whole, Part}
 use Rattle.pli_type_tree.specs.TypedTree.{Operands, NoOperand, OperandThen, Subscripts, NoSubscript, SubscriptThen, TypedArguments, NoArgument, ByPlace, ByDummy}
-use Rattle.pli_type_tree.specs.TypedTree.{TypedRange, Once, ToBy, ByTo, Repeated, Iteration, TypedUnit, AllocatedItem, AllocatesControlled, FreedItem, FreesControlled}
-use Rattle.pli_deck_laws.specs.Limits.{link_limit, parameter_limit, word_limit, IfThere, IsBound, IsDescription, IsConstant, IsMade, IsOperation}
+use Rattle.pli_type_tree.specs.TypedTree.{TypedRange, Once, ToBy, ByTo, Repeated, Iteration, TypedUnit, AllocatedItem, AllocatesControlled, AllocatesBased, FreedItem, FreesControlled, FreesBased}
+use Rattle.pli_deck_laws.specs.Limits.{link_limit, parameter_limit, word_limit, IfThere, IsBound, IsDescription, IsConstant, IsMade, IsTemplate, IsOperation}
 use Rattle.pli_deck_laws.specs.WellFormed.{HasBlock, HasSlot, IsRoot, IsCallee, IsExpression, IsReference, AreOperands, AreSubscripts, AreArguments, IsRange, IsIteration, IsAllocated, IsFreed}
 
 -- in a unit of so many globals and blocks, whose code has a last instruction
@@ -33,6 +33,7 @@ module _ (globals blocks last : ℕ) where
   Allowed (op.Global number) = number < globals
   Allowed (op.Field offset d) = (offset < word_limit) × IsDescription d
   Allowed (op.Subscript low high multiplier) = IsBound low × IsBound high × (multiplier < word_limit)
+  Allowed (op.Based d) = IsDescription d
   Allowed (op.Constant v) = IsConstant v
   Allowed op.Load = Unit {0}
   Allowed op.Store = Unit {0}
@@ -40,9 +41,12 @@ module _ (globals blocks last : ℕ) where
   Allowed (op.MakeDummy d) = IsMade d
   Allowed (op.Fit d) = IsDescription d
   Allowed (op.Operate operation) = IsOperation (Operate operation)
+  Allowed op.AddressOf = Unit {0}
   Allowed (op.AllocateControlled global) = global < globals
   Allowed (op.FreeControlled global) = global < globals
   Allowed (op.CountGenerations global) = global < globals
+  Allowed (op.AllocateBased template) = IsTemplate template
+  Allowed (op.FreeBased d) = IsDescription d
   Allowed op.Put = Unit {0}
   Allowed op.Skip = Unit {0}
   Allowed (op.SetTemporary number) = number ≤ 65535
@@ -58,11 +62,6 @@ module _ (globals blocks last : ℕ) where
   module _ (t : TypedUnit) (counted : length t.globals ≡ globals) (named : (n : ℕ) → HasBlock t n → n < blocks) (slotted : (n : ℕ) → HasSlot t n → n ≤ 65535) where
     there : (n : ℕ) → n < length t.globals → n < globals
     there n h = omega (arith, h, counted)
-
-    root_allowed : (r : Root) → IsRoot t r → AllAllowed (root_code r)
-    root_allowed (InSlot outward slot) h = ((h.0, slotted slot h.1), tt)
-    root_allowed (OfProgram number) h = (there number h, tt)
-    root_allowed (NewestOf number) h = (there number h, tt)
 
     call_allowed : (callee : Callee) (n : ℕ) → IsCallee t callee → n ≤ parameter_limit → Allowed (call_instruction callee n)
     call_allowed (OfBlock block) n h k = (named block h, k)
@@ -81,6 +80,13 @@ module _ (globals blocks last : ℕ) where
           joined (arguments_code arguments) (call_instruction callee (argument_count arguments) ∷ []) (arguments_allowed arguments h.2)
           (call_allowed callee (argument_count arguments) h.0 h.1, tt)
       value_allowed (Generations number) h = (there number h, tt)
+      value_allowed (Address r) h = joined (place_code r) (op.AddressOf ∷ []) (place_allowed r h) (tt, tt)
+
+      root_allowed : (r : Root) → IsRoot t r → AllAllowed (root_code r)
+      root_allowed (InSlot outward slot) h = ((h.0, slotted slot h.1), tt)
+      root_allowed (OfProgram number) h = (there number h, tt)
+      root_allowed (NewestOf number) h = (there number h, tt)
+      root_allowed (Located e d) h = joined (value_code e) (op.Based d ∷ []) (value_allowed e h.0) (h.1, tt)
 
       pub place_allowed : (r : TypedReference) → IsReference t r → AllAllowed (place_code r)
       place_allowed (Whole root) h = root_allowed root h
@@ -114,13 +120,25 @@ module _ (globals blocks last : ℕ) where
     items_allowed [] h = tt
     items_allowed (e ∷ es) h = joined (value_code e) (op.Put ∷ items_code es) (value_allowed e h.0) (tt, items_allowed es h.1)
 
-    pub allocations_allowed : (items : List AllocatedItem) → AllByRecursion (IsAllocated t) items → AllAllowed (allocations_code items)
-    allocations_allowed [] h = tt
-    allocations_allowed (AllocatesControlled number ∷ items) h = (there number h.0, allocations_allowed items h.1)
+    allocation_allowed : (item : AllocatedItem) (used room : ℕ) → room ≤ 65535 → IsAllocated t item → KeepsTemporary used room item → AllAllowed (allocation_code item)
+    allocation_allowed (AllocatesControlled number) used room most h apart = (there number h, tt)
+    allocation_allowed (AllocatesBased template temporary target) used room most h apart =
+        let enough : temporary ≤ 65535 = let k = apart.1 in omega (arith, k, most) in
+        (h.0, (enough, joined (place_code target) (op.TakeTemporary temporary ∷ op.Store ∷ []) (place_allowed target h.1) (enough, (tt, tt))))
+
+    pub allocations_allowed : (items : List AllocatedItem) (used room : ℕ) → room ≤ 65535 → AllByRecursion (IsAllocated t) items → AllByRecursion (KeepsTemporary used room) items
+        → AllAllowed (allocations_code items)
+    allocations_allowed [] used room most h apart = tt
+    allocations_allowed (item ∷ items) used room most h apart =
+        joined (allocation_code item) (allocations_code items) (allocation_allowed item used room most h.0 apart.0) (allocations_allowed items used room most h.1 apart.1)
+
+    freeing_allowed : (item : FreedItem) → IsFreed t item → AllAllowed (freeing_code item)
+    freeing_allowed (FreesControlled number) h = (there number h, tt)
+    freeing_allowed (FreesBased e d) h = joined (value_code e) (op.FreeBased d ∷ []) (value_allowed e h.0) (h.1, tt)
 
     pub freeings_allowed : (items : List FreedItem) → AllByRecursion (IsFreed t) items → AllAllowed (freeings_code items)
     freeings_allowed [] h = tt
-    freeings_allowed (FreesControlled number ∷ items) h = (there number h.0, freeings_allowed items h.1)
+    freeings_allowed (item ∷ items) h = joined (freeing_code item) (freeings_code items) (freeing_allowed item h.0) (freeings_allowed items h.1)
 
     -- groups with a control variable
     keeps_allowed : (temporary : ℕ) (es : List TypedExpression) → temporary + length es ≤ 65535 → AllByRecursion (IsExpression t) es → AllAllowed (keeps_code temporary es)

@@ -118,6 +118,7 @@ module _ (tables : NumberedTables) (globals blocks last : ℕ) where
           jumps = tt;
           names = tt;
         }
+    instruction_good (op.Based d) h to ds ts vs = record { fits = description_fits (description_number tables d) ds.0; jumps = tt; names = (ds.0, tt) }
     instruction_good (op.Constant v) h to ds ts vs =
         let has = vs.0 in
         record { fits = fits_short (number_in same_value tables.values v) (omega (arith, has, few_values)); jumps = tt; names = (has, tt) }
@@ -132,6 +133,11 @@ module _ (tables : NumberedTables) (globals blocks last : ℕ) where
     instruction_good (op.AllocateControlled number) h to ds ts vs = record { fits = global_fits number h; jumps = tt; names = (h, tt) }
     instruction_good (op.FreeControlled number) h to ds ts vs = record { fits = global_fits number h; jumps = tt; names = (h, tt) }
     instruction_good (op.CountGenerations number) h to ds ts vs = record { fits = global_fits number h; jumps = tt; names = (h, tt) }
+    instruction_good op.AddressOf h to ds ts vs = record { fits = refl; jumps = tt; names = tt }
+    instruction_good (op.AllocateBased t) h to ds ts vs =
+        let has = ts.0 in
+        record { fits = fits_short (template_number tables t) (omega (arith, has, few_templates)); jumps = tt; names = (has, tt) }
+    instruction_good (op.FreeBased d) h to ds ts vs = record { fits = description_fits (description_number tables d) ds.0; jumps = tt; names = (ds.0, tt) }
     instruction_good op.Put h to ds ts vs = record { fits = refl; jumps = tt; names = tt }
     instruction_good op.Skip h to ds ts vs = record { fits = refl; jumps = tt; names = tt }
     instruction_good (op.SetTemporary number) h to ds ts vs = record { fits = fits_short number h; jumps = tt; names = tt }

@@ -1,13 +1,14 @@
--- The temporaries that the iterations of a block keep are no more than its instructions.
-use Rattle.std.proofs.Common.{◌≡◌, ℕ, suc, ◌+◌, ◌≤◌, List, [], ◌∷◌, ◌++◌, length, arith}
-use Rattle.pli_gen_emit.specs.TreeTranslation.{BlockTree, value_code, behind, keeps_code, sets_code, tests_code, advances_code, back_code, turn_place, list_place, statement_code, form_code, list_code, end_code, block_code}
+-- The temporaries that the iterations of a block, and its items of ALLOCATE, keep are no more than its instructions.
+use Rattle.std.proofs.Common.{◌≡◌, ℕ, suc, ◌+◌, ◌≤◌, List, [], ◌∷◌, ◌++◌, length, refl, arith}
+use Rattle.pli_gen_emit.specs.TreeTranslation.{BlockTree, value_code, place_code, behind, keeps_code, sets_code, tests_code, advances_code, back_code, turn_place, list_place, allocation_code, allocations_code, statement_code, form_code, list_code, end_code, block_code}
 use Rattle.pli_gen.proofs.CodeEnds.{grows, one_way_ends, two_ways_ends, turns_ends}
 use Rattle.pli_gen.proofs.IterationCode.{iterate_ends}
 use Rattle.pli_gen.proofs.SimpleCode.{behind_both}
 use Rattle.pli_program.specs.Program as op
+use Rattle.pli_type_tree.specs.Allocations.{kept_for, all_kept_for}
 use Rattle.pli_type_tree.specs.Iterations.{kept_by, temporaries_of, is_iterated}
 use Rattle.pli_type_tree.specs.TypedTree.{TypedExpression, TypedStatement, Statement, TypedStatements, NoStatement, StatementThen, NoElse, Else, Iteration}
-use Rattle.pli_type_tree.specs.TypedTree.{Form, If, Group, While, Iterate}
+use Rattle.pli_type_tree.specs.TypedTree.{Form, If, Group, While, Iterate, Allocate, AllocatedItem, AllocatesControlled, AllocatesBased}
 use Rattle.pli_deck_laws.specs.WellFormed.{kept_in, kept_in_form, kept_among}
 
 keeps_long : (t : ℕ) (es : List TypedExpression) (p : ℕ) → p + length es ≤ behind (keeps_code t es) p
@@ -28,6 +29,24 @@ start_long i p =
     let g : behind keeps p ≤ behind sets (behind keeps p) = grows sets (behind keeps p) in
     let k = keeps_long i.temporary (i.start ∷ kept_by i.range) p in
     omega (arith, a, g, k)
+
+allocation_long : (item : AllocatedItem) (p : ℕ) → p + kept_for item ≤ behind (allocation_code item) p
+allocation_long (AllocatesControlled number) p = omega arith
+allocation_long (AllocatesBased template temporary target) p =
+    let rest = place_code target ++ op.TakeTemporary temporary ∷ op.Store ∷ [] in
+    let e : behind (allocation_code (AllocatesBased template temporary target)) p ≡ behind rest (suc (suc p)) = refl in
+    let g : suc (suc p) ≤ behind rest (suc (suc p)) = grows rest (suc (suc p)) in
+    omega (arith, e, g)
+
+allocations_long : (items : List AllocatedItem) (p : ℕ) → p + all_kept_for items ≤ behind (allocations_code items) p
+allocations_long [] p = omega arith
+allocations_long (item ∷ items) p =
+    let q = behind (allocation_code item) p in
+    let rest = allocations_code items in
+    let e : behind (allocation_code item ++ rest) p ≡ behind rest q = behind_both (allocation_code item) rest p in
+    let k : p + kept_for item ≤ q = allocation_long item p in
+    let l : q + all_kept_for items ≤ behind rest q = allocations_long items q in
+    omega (arith, e, k, l)
 
 mutual
   kept_in_statement : (s : TypedStatement) (p : ℕ) → p + kept_in s ≤ behind (statement_code s p) p
@@ -66,6 +85,7 @@ mutual
       let c : behind code q ≤ behind back (behind code q) = grows back (behind code q) in
       let k = kept_in_list statements q in
       omega (arith, e, s, a, c, k)
+  kept_in_this number (Allocate items) p = allocations_long items p
   kept_in_this number f p = let g = grows (form_code number f p) p in omega (arith, g)
 
   kept_in_list : (ss : TypedStatements) (p : ℕ) → p + kept_among ss ≤ behind (list_code ss p) p

@@ -3,9 +3,11 @@
 use Rattle.std.specs.Prelude.{ℕ, ◌+◌, ◌≤◌, ◌<◌, nat_lt, IsTrue, List, length}
 use Rattle.std.specs.List.{flat_map, list_any, AllByRecursion}
 use Rattle.pli_gen_emit.specs.TreeTranslation.{argument_count, BlockTree, has_number, blocks_of_procedure}
+use Rattle.pli_type_tree.specs.Allocations.{all_kept_for}
 use Rattle.pli_type_tree.specs.Iterations.{temporaries_of}
-use Rattle.pli_type_tree.specs.TypedTree.{Root, InSlot, OfProgram, NewestOf, Callee, OfBlock, OfEntry}
-use Rattle.pli_type_tree.specs.TypedTree.{TypedExpression, Literal, Held, Calculated, Called, Generations}
+use Rattle.pli_type_tree.specs.TypedTree.{Root, InSlot, OfProgram, NewestOf, Located, Callee, OfBlock}
+use Rattle.pli_type_tree.specs.TypedTree.{OfEntry, TypedExpression, Literal, Held, Calculated, Called}
+use Rattle.pli_type_tree.specs.TypedTree.{Generations, Address}
 use Rattle.pli_type_tree.specs.TypedTree.{TypedReference, Whole, Part, Operands, NoOperand, OperandThen}
 use Rattle.pli_type_tree.specs.TypedTree.{Subscripts, NoSubscript, SubscriptThen}
 use Rattle.pli_type_tree.specs.TypedTree.{TypedArguments, NoArgument, ByPlace, ByDummy}
@@ -14,7 +16,8 @@ use Rattle.pli_type_tree.specs.TypedTree.{TypedStatement, Statement, TypedStatem
 use Rattle.pli_type_tree.specs.TypedTree.{StatementThen, OtherWise, NoElse, Else}
 use Rattle.pli_type_tree.specs.TypedTree.{Form, Null, Assign, AssignAggregate, Put, If, Begin, Group, While}
 use Rattle.pli_type_tree.specs.TypedTree.{Iterate, Call, Goto, Return, ReturnValue, Stop, Allocate, Free}
-use Rattle.pli_type_tree.specs.TypedTree.{AllocatedItem, AllocatesControlled, FreedItem, FreesControlled}
+use Rattle.pli_type_tree.specs.TypedTree.{AllocatedItem, AllocatesControlled, AllocatesBased, FreedItem}
+use Rattle.pli_type_tree.specs.TypedTree.{FreesControlled, FreesBased}
 use Rattle.pli_type_tree.specs.TypedTree.{TypedProcedure, TypedUnit}
 use Rattle.pli_deck_laws.specs.Limits.{link_limit, parameter_limit, word_limit, IfThere}
 use Rattle.pli_deck_laws.specs.Limits.{IsDescription, IsConstant, IsMade, IsTemplate, IsOperation}
@@ -28,7 +31,8 @@ unit_blocks t = flat_map blocks_of_procedure t.procedures
 abbrev pub slots_of : BlockTree → ℕ
 slots_of b = b.parameters + length b.head.variables
 
--- how many temporaries the iterations of a block keep, those of BEGIN blocks in it apart
+-- how many temporaries the iterations of a block and its items of ALLOCATE keep, those of BEGIN blocks in it
+-- apart
 abbrev mutual
   pub kept_in : TypedStatement → ℕ
   kept_in (Statement number form) = kept_in_form form
@@ -39,6 +43,7 @@ abbrev mutual
   kept_in_form (Group statements) = kept_among statements
   kept_in_form (While condition statements) = kept_among statements
   kept_in_form (Iterate iteration statements) = temporaries_of iteration.range + kept_among statements
+  kept_in_form (Allocate items) = all_kept_for items
   kept_in_form form = 0
 
   -- how many those in an ELSE keep
@@ -51,7 +56,7 @@ abbrev mutual
   kept_among NoStatement = 0
   kept_among (StatementThen first more) = kept_in first + kept_among more
 
--- a block begins at a statement, with variables, and has no more temporaries than its iterations keep
+-- a block begins at a statement, with variables, and has no more temporaries than are kept in it
 abbrev pub IsHead : BlockHead → TypedStatements → Type 0
 IsHead h statements =
     (h.statement < word_limit) × AllByRecursion IsTemplate h.variables
@@ -71,12 +76,6 @@ module _ (t : TypedUnit) where
   abbrev pub HasGlobal : (number : ℕ) → Type 0
   HasGlobal number = number < length t.globals
 
-  -- a reference begins at what the unit has
-  abbrev pub IsRoot : Root → Type 0
-  IsRoot (InSlot outward slot) = (outward ≤ link_limit) × HasSlot slot
-  IsRoot (OfProgram number) = HasGlobal number
-  IsRoot (NewestOf number) = HasGlobal number
-
   -- what is called is the unit's
   abbrev pub IsCallee : Callee → Type 0
   IsCallee (OfBlock block) = HasBlock block
@@ -91,6 +90,14 @@ module _ (t : TypedUnit) where
     IsExpression (Called callee arguments) =
         IsCallee callee × (argument_count arguments ≤ parameter_limit) × AreArguments arguments
     IsExpression (Generations number) = HasGlobal number
+    IsExpression (Address r) = IsReference r
+
+    -- a reference begins at what the unit has, or at what a locator leads to
+    pub IsRoot : Root → Type 0
+    IsRoot (InSlot outward slot) = (outward ≤ link_limit) × HasSlot slot
+    IsRoot (OfProgram number) = HasGlobal number
+    IsRoot (NewestOf number) = HasGlobal number
+    IsRoot (Located e d) = IsExpression e × IsDescription d
 
     -- a reference
     pub IsReference : TypedReference → Type 0
@@ -127,13 +134,15 @@ module _ (t : TypedUnit) where
       IsReference i.control × AllByRecursion IsOperation i.conversion × IsExpression i.start
       × IsRange i.range × IfThere IsExpression i.condition
 
-  -- an item of ALLOCATE is of a global of the unit
+  -- an item of ALLOCATE is of a global of the unit, or of a BASED variable
   abbrev pub IsAllocated : AllocatedItem → Type 0
   IsAllocated (AllocatesControlled number) = HasGlobal number
+  IsAllocated (AllocatesBased template temporary target) = IsTemplate template × IsReference target
 
   -- an item of FREE is
   abbrev pub IsFreed : FreedItem → Type 0
   IsFreed (FreesControlled number) = HasGlobal number
+  IsFreed (FreesBased e d) = IsExpression e × IsDescription d
 
   -- statements
   abbrev mutual

@@ -3,7 +3,7 @@ ghost use Rattle.std.specs.Prelude.{◌≡◌, ◌≤◌, ◌<◌, ℕ, slice_in
 ghost use Rattle.std.specs.Str.{bytes_eq};
 ghost use Rattle.pli_code.specs.Fields.{made, list_of, u4};
 ghost use Rattle.pli_deck_write.specs.DeckFields as deck_fields;
-ghost use Rattle.pli_type_tree.specs.Templates as templates;
+ghost use Rattle.pli_program.specs.Templates as templates;
 ghost use Rattle.pli_type_tree.specs.views.TemplateView.{initial_view};
 ghost use Rattle.pli_code.specs.CodeTables as tables;
 ghost use Rattle.pli_code.specs.views.CodeView.{coded_template_view};

@@ -4,7 +4,7 @@ ghost use Rattle.std.specs.List.{flat_map};
 ghost use Rattle.byteorder.specs.Endian.{big_bytes};
 ghost use Rattle.pli_code.specs.Fields.{u2, ◌⊗◌};
 ghost use Rattle.pli_deck_write.specs.DeckFields as deck_fields;
-ghost use Rattle.pli_type_tree.specs.Templates as templates;
+ghost use Rattle.pli_program.specs.Templates as templates;
 ghost use Rattle.pli_type_tree.specs.views.TemplateView.{initial_view};
 ghost use Rattle.pli_code.specs.CodeTables as tables;
 ghost use Rattle.pli_code.specs.views.CodeView.{block_view, coded_template_view, global_view, kind_view, signature_view};

@@ -9,18 +9,19 @@ use Rattle.pli_base.specs.declared.code.Code.TheVariants.{WrongOperandType}
 use Rattle.pli_base.specs.declared.syntax.Joining.TheVariants.{Member, Located}
 use Rattle.pli_base.specs.declared.token.Fault.{Fault}
 use Rattle.pli_resolve.specs.declared.built_in.BuiltInFunction.{BuiltInFunction}
+use Rattle.pli_resolve.specs.declared.built_in.BuiltInFunction.TheVariants as functions
 use Rattle.pli_type.specs.ExpressionTypes.{TypedValue}
 use Rattle.pli_type.specs.FunctionCalls.{Denoted, Meant, OneValue, WholeAggregate}
 use Rattle.pli_type.specs.FunctionCalls.{Argument, function_called, or_bad_argument}
 use Rattle.pli_type.specs.Names.{NamedAs, AVariable, AFunction, AProcedure, ALabel, Untyped, NamedVariable}
 use Rattle.pli_type.specs.Names.{NamedProcedure, Naming}
 use Rattle.pli_type.specs.ProcedureCalls.{arguments_passed, or_wrong_argument, result_of}
-use Rattle.pli_type.specs.References.{Role, AsValue, AsArgument, AsLocator, StridedPart}
-use Rattle.pli_type.specs.References.{settled}
+use Rattle.pli_type.specs.References.{Role, AsValue, AsArgument, AsLocator, Referent, StridedPart}
+use Rattle.pli_type.specs.References.{settled, begins_somewhere, LocatorBefore, NotLocated}
 use Rattle.pli_type.specs.Typing as typing
 use Rattle.pli_type.specs.Typing.{Segment, OfVariable, OfFunction, OfNoVariable, or_fault, first_token, denoted}
 use Rattle.pli_type.specs.Typing.{referred, joined, begun, is_call, all_subscripts, subscripts_in, all_arguments}
-use Rattle.pli_type.specs.Typing.{as_value, one_value, ended, with_more}
+use Rattle.pli_type.specs.Typing.{as_value, one_value, ended, with_more, as_locator, named_alone}
 use Rattle.pli_type.specs.declared.expression_type.ExpressionType.{ExpressionType}
 use Rattle.pli_type_tree.specs.TypedTree.{Callee, TypedExpression, TypedArguments}
 use Rattle.pli_fault_laws.proofs.BelowLemmas.{Below, below_left, below_right}
@@ -89,24 +90,31 @@ first_below high (Infix operator at left right) h =
 
 -- what stands between arrows, so far, has its name before the bound
 abbrev Stands : (high : ℕ) → Segment → Type 0
-Stands high (OfVariable located at v xs) = at < high
+Stands high (OfVariable locator at v xs) = at < high
 Stands high (OfFunction value) = Unit {0}
 Stands high (OfNoVariable at) = at < high
 
 more_stands : (high : ℕ) (s : Segment) (xs : List TypedExpression) → Stands high s → Stands high (with_more s xs)
-more_stands high (OfVariable located at v ys) xs h = h
+more_stands high (OfVariable locator at v ys) xs h = h
 more_stands high (OfFunction value) xs h = h
 more_stands high (OfNoVariable at) xs h = h
 
-only_settled : (high : ℕ) (role : Role) (located : Bool) (at : ℕ) (v : NamedVariable) (xs : List TypedExpression)
-    (o : Option StridedPart) → at < high → Only high (settled role located at v xs o)
-only_settled high role located at v xs None h = told high _ _ h
-only_settled high role located at v xs (Some p) h =
-    only_if high _ _ _ (told high _ _ h) (only_if high located _ _ (told high _ _ h) (fine high _))
+alone_stands : (high at : ℕ) (function : BuiltInFunction) → at < high → Stands high (named_alone at function)
+alone_stands high at functions.Null h = tt
+alone_stands high at function h = h
+
+only_somewhere : (high at : ℕ) (o : Option Referent) → at < high → Only high (begins_somewhere at o)
+only_somewhere high at None h = told high _ _ h
+only_somewhere high at (Some r) h = fine high _
+
+only_settled : (high : ℕ) (role : Role) (locator : LocatorBefore) (at : ℕ) (v : NamedVariable) (xs : List TypedExpression)
+    (o : Option StridedPart) → at < high → Only high (settled role locator at v xs o)
+only_settled high role locator at v xs None h = told high _ _ h
+only_settled high role locator at v xs (Some p) h = only_if high _ _ _ (told high _ _ h) (only_somewhere high at _ h)
 
 only_ended : (high : ℕ) (role : Role) (s : Segment) → Stands high s → Only high (ended role s)
-only_ended high role (OfVariable located at v xs) h =
-    only_then high _ _ (only_settled high role located at v xs _ h) (λ r. fine high _)
+only_ended high role (OfVariable locator at v xs) h =
+    only_then high _ _ (only_settled high role locator at v xs _ h) (λ r. fine high _)
 only_ended high role (OfFunction value) h = fine high _
 only_ended high role (OfNoVariable at) h = told high _ _ h
 
@@ -172,7 +180,7 @@ mutual
       → Only high (referred n role r)
   only_referred high n role (Named name arguments more) h =
       gives_then high (Stands high) _ _
-      (begun_stands high n (n.meaning name.at) (is_call role false more) false name.at arguments h.0
+      (begun_stands high n (n.meaning name.at) (is_call role false more) NotLocated name.at arguments h.0
       (below_left high (argument_tokens arguments) (joined_tokens more) h.1))
       (λ s p. only_joined high n role s more p (below_right high (argument_tokens arguments) (joined_tokens more) h.1))
 
@@ -186,37 +194,37 @@ mutual
   only_joined high n role s (Joined Located name arguments more) p h =
       only_then high _ _ (only_ended high AsLocator s p)
       (λ l. gives_then high (Stands high) _ _
-      (begun_stands high n (n.meaning name.at) (is_call role true more) true name.at arguments h.0
+      (begun_stands high n (n.meaning name.at) (is_call role true more) (as_locator l) name.at arguments h.0
       (below_left high (argument_tokens arguments) (joined_tokens more) h.1))
       (λ t q. only_joined high n role t more q (below_right high (argument_tokens arguments) (joined_tokens more) h.1)))
 
-  begun_stands : (high : ℕ) (n : Naming) (name : NamedAs) (call located : Bool) (at : ℕ) (arguments : Arguments)
+  begun_stands : (high : ℕ) (n : Naming) (name : NamedAs) (call : Bool) (locator : LocatorBefore) (at : ℕ) (arguments : Arguments)
       → at < high → Below high (argument_tokens arguments)
-      → Gives high (Stands high) (begun n name call located at arguments)
-  begun_stands high n (AVariable v) call located at (Given list) p h =
+      → Gives high (Stands high) (begun n name call locator at arguments)
+  begun_stands high n (AVariable v) call locator at (Given list) p h =
       then_gives high (Stands high) _ _ (only_subscripts high n list h) (λ xs. gives high (Stands high) _ p)
-  begun_stands high n (AVariable v) call located at Absent p h = gives high (Stands high) _ p
-  begun_stands high n (AFunction function) true located at (Given list) p h =
+  begun_stands high n (AVariable v) call locator at Absent p h = gives high (Stands high) _ p
+  begun_stands high n (AFunction function) true locator at (Given list) p h =
       then_gives high (Stands high) _ _ (only_arguments high n _ list h)
       (λ gs. then_gives high (Stands high) _ _ (only_function high n.greatest function at _ gs p)
       (λ v. gives high (Stands high) _ tt))
-  begun_stands high n (AFunction function) false located at (Given list) p h =
+  begun_stands high n (AFunction function) false locator at (Given list) p h =
       then_gives high (Stands high) _ _ (only_arguments high n [] list h) (λ gs. gives high (Stands high) _ p)
-  begun_stands high n (AFunction function) true located at Absent p h = gives high (Stands high) _ p
-  begun_stands high n (AFunction function) false located at Absent p h = gives high (Stands high) _ p
-  begun_stands high n (AProcedure q) true located at (Given list) p h =
+  begun_stands high n (AFunction function) true locator at Absent p h = gives high (Stands high) _ (alone_stands high at function p)
+  begun_stands high n (AFunction function) false locator at Absent p h = gives high (Stands high) _ p
+  begun_stands high n (AProcedure q) true locator at (Given list) p h =
       then_gives high (Stands high) _ _ (only_arguments high n [] list h)
       (λ gs. procedure_stands high n.greatest q at gs p)
-  begun_stands high n (AProcedure q) false located at (Given list) p h =
+  begun_stands high n (AProcedure q) false locator at (Given list) p h =
       then_gives high (Stands high) _ _ (only_arguments high n [] list h) (λ gs. gives high (Stands high) _ p)
-  begun_stands high n (AProcedure q) true located at Absent p h = gives high (Stands high) _ p
-  begun_stands high n (AProcedure q) false located at Absent p h = gives high (Stands high) _ p
-  begun_stands high n (ALabel statement) call located at (Given list) p h =
+  begun_stands high n (AProcedure q) true locator at Absent p h = gives high (Stands high) _ p
+  begun_stands high n (AProcedure q) false locator at Absent p h = gives high (Stands high) _ p
+  begun_stands high n (ALabel statement) call locator at (Given list) p h =
       then_gives high (Stands high) _ _ (only_arguments high n [] list h) (λ gs. gives high (Stands high) _ p)
-  begun_stands high n (ALabel statement) call located at Absent p h = gives high (Stands high) _ p
-  begun_stands high n Untyped call located at (Given list) p h =
+  begun_stands high n (ALabel statement) call locator at Absent p h = gives high (Stands high) _ p
+  begun_stands high n Untyped call locator at (Given list) p h =
       then_gives high (Stands high) _ _ (only_arguments high n [] list h) (λ gs. gives high (Stands high) _ p)
-  begun_stands high n Untyped call located at Absent p h = gives high (Stands high) _ p
+  begun_stands high n Untyped call locator at Absent p h = gives high (Stands high) _ p
 
   only_in : (high : ℕ) (n : Naming) (arguments : Arguments) → Below high (argument_tokens arguments)
       → Only high (subscripts_in n arguments)

@@ -1,5 +1,5 @@
 -- The faults of types of a unit stand at tokens of its text.
-use Rattle.std.proofs.Common.{◌≡◌, ℕ, ◌<◌, nat_lt, if◌then◌else◌, Bool, true, false, Option, Some, None, List, [], ◌∷◌, ◌++◌, Result, Ok, Err, length, subst, arith}
+use Rattle.std.proofs.Common.{◌≡◌, ℕ, ◌+◌, ◌<◌, nat_lt, if◌then◌else◌, Bool, true, false, Option, Some, None, List, [], ◌∷◌, ◌++◌, Result, Ok, Err, length, subst, arith}
 use Rattle.pli_base.specs.Statements as tree
 use Rattle.pli_base.specs.Statements.{Allocation, Statement, Numbered, Body, Statements, Ended, Before, Alternative}
 use Rattle.pli_base.specs.Syntax as syntax
@@ -12,7 +12,7 @@ use Rattle.pli_base.specs.declared.syntax.Identifier.{Identifier}
 use Rattle.pli_base.specs.declared.token.Fault.{Fault}
 use Rattle.pli_map.specs.Description.{Description}
 use Rattle.pli_parse.proofs.StatementTokens.{unit_read_rises}
-use Rattle.pli_type.specs.AllocationTyping.{in_turn, only_variable, place_given, allocated, freed}
+use Rattle.pli_type.specs.AllocationTyping.{in_turn, only_variable, place_given, kept_for, allocated, all_allocated, freed}
 use Rattle.pli_type.specs.Checked.{checked, unless_unbuilt, typed_as}
 use Rattle.pli_type.specs.ExpressionTypes.{TypedValue}
 use Rattle.pli_type.specs.FunctionCalls.{Denoted, DenotesVariable, DenotesResult, Meant, OneValue, WholeAggregate, Argument}
@@ -131,9 +131,10 @@ only_suited : (high at : ℕ) (r : Referent) (b : Bool) → at < high → Only h
 only_suited high at r true h = fine high _
 only_suited high at r false h = told high _ _ h
 
-only_controls : (high at : ℕ) (range : TypedRange) (d : Denoted) → at < high → Only high (statements.controls at range d)
-only_controls high at range (DenotesResult value) h = told high _ _ h
-only_controls high at range (DenotesVariable r) h = only_if high _ _ _ (only_suited high at r _ h) (told high _ _ h)
+only_controls : (high at : ℕ) (is_located : Bool) (range : TypedRange) (d : Denoted) → at < high
+    → Only high (statements.controls at is_located range d)
+only_controls high at is_located range (DenotesResult value) h = told high _ _ h
+only_controls high at is_located range (DenotesVariable r) h = only_if high _ _ _ (only_suited high at r _ h) (told high _ _ h)
 
 only_possible_condition : (high : ℕ) (n : Naming) (o : Option Expression) → Below high (tokens_of_some expression_tokens o)
     → Only high (statements.possible_condition n o)
@@ -185,8 +186,9 @@ both_below high (Some area) (Some target) h = by (nat_lt (syntax.first_token are
     by true k = (below_left high (reference_tokens area) (reference_tokens target) k, below_right high (reference_tokens area) (reference_tokens target) k)
     by false k = (below_right high (reference_tokens target) (reference_tokens area) k, below_left high (reference_tokens target) (reference_tokens area) k)
 
-only_allocated : (high : ℕ) (n : Naming) (a : Allocation) → Below high (allocation_tokens a) → Only high (allocated n a)
-only_allocated high n a h =
+only_allocated : (high : ℕ) (n : Naming) (temporary : ℕ) (a : Allocation) → Below high (allocation_tokens a)
+    → Only high (allocated n temporary a)
+only_allocated high n temporary a h =
     let both = both_below high a.area a.target h.1 in
     only_then high _ _ (only_place high n a.area both.0)
     (λ area. only_then high _ _ (only_place high n a.target both.1) (λ target. only_or high CannotAllocateOrFree a.name.at _ h.0))
@@ -198,10 +200,18 @@ only_freed high n reference h =
     only_then high _ _ (only_referred high n AsTarget reference h)
     (λ d. only_then high _ _ (only_a_variable high _ d first) (λ r. only_or high CannotAllocateOrFree _ _ first))
 
-only_allocate : (high : ℕ) (n : Naming) (list : List Allocation) → Below high (tokens_of_each allocation_tokens list)
-    → Only high (statements.allocate_typed n list)
-only_allocate high n list h =
-    only_then high _ _ (in_turn_stands high allocation_tokens (allocated n) (only_allocated high n) list h) (λ xs. fine high _)
+only_all_allocated : (high : ℕ) (n : Naming) (temporary : ℕ) (list : List Allocation)
+    → Below high (tokens_of_each allocation_tokens list) → Only high (all_allocated n temporary list)
+only_all_allocated high n temporary [] h = fine high _
+only_all_allocated high n temporary (a ∷ others) h =
+    only_then high _ _ (only_allocated high n temporary a (below_left high (allocation_tokens a) (tokens_of_each allocation_tokens others) h))
+    (λ x. only_then high _ _
+    (only_all_allocated high n (temporary + kept_for x) others (below_right high (allocation_tokens a) (tokens_of_each allocation_tokens others) h))
+    (λ xs. fine high _))
+
+only_allocate : (high : ℕ) (n : Naming) (temporary : ℕ) (list : List Allocation)
+    → Below high (tokens_of_each allocation_tokens list) → Only high (statements.allocate_typed n temporary list)
+only_allocate high n temporary list h = only_then high _ _ (only_all_allocated high n temporary list h) (λ xs. fine high _)
 
 only_free : (high : ℕ) (n : Naming) (list : List Reference) → Below high (tokens_of_each reference_tokens list)
     → Only high (statements.free_typed n list)
@@ -227,7 +237,7 @@ only_iteration high n temporary variable equals first range tested h =
     only_then high _ _ (only_value_of high n first fs)
     (λ v. only_then high _ _ (only_limits high n range rs)
     (λ kept. only_then high _ _ (only_referred high n AsLocator variable vs)
-    (λ d. only_then high _ _ (only_controls high (first_token (Referred variable)) kept d (reference_below high variable vs))
+    (λ d. only_then high _ _ (only_controls high (first_token (Referred variable)) (statements.has_locator variable) kept d (reference_below high variable vs))
     (λ r. only_then high _ _ (only_or high CannotAssign equals _ es.0)
     (λ operations. only_then high _ _ (only_possible_condition high n tested cs)
     (λ x. only_then high _ _ (only_repeat high n r.description kept range rs) (λ turns. fine high _)))))))
@@ -331,7 +341,7 @@ mutual
   told_body high u s x number label at (tree.Put skip printed_items) b a h =
       told_made high _ _ (told_own high _ (only_items high (statements.naming_at u s) printed_items h.1))
   told_body high u s x number label at (tree.Allocate list) b a h =
-      told_own high _ (only_allocate high (statements.naming_at u s) list h.1)
+      told_own high _ (only_allocate high (statements.naming_at u s) x.temporary list h.1)
   told_body high u s x number label at (tree.Free list) b a h =
       told_own high _ (only_free high (statements.naming_at u s) list h.1)
   told_body high u s x number label at other b a h = told_own high _ (told high _ _ a)

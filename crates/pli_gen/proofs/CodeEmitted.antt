@@ -7,6 +7,7 @@ use Rattle.pli_map.specs.Description.{Description}
 use Rattle.pli_map.specs.Same.{same}
 use Rattle.pli_map.specs.laws.SameLaws.{same_decides}
 use Rattle.pli_program.specs.Program as op
+use Rattle.pli_type_tree.specs.Templates.{Template}
 use Rattle.pli_type_keys.specs.Same.{same_template, same_value}
 use Rattle.pli_type_keys.specs.laws.KeyLaws.{value_decides, template_decides}
 use Rattle.pli_code.specs.declared.instruction.Instruction.{Instruction}
@@ -66,6 +67,10 @@ kept t (op.MakeDummy d) is n h =
     ap (λ k. coded.MakeDummy (min k 65535)) (sym (first_number same_template template_decides t.templates (dummy d) (flat_map templates_named is)))
 kept t (op.Constant v) is n h =
     ap (λ k. coded.Constant (min k 65535)) (sym (first_number same_value value_decides t.values v (flat_map values_named is)))
+kept t (op.Based d) is n h = ap (λ k. coded.Based (min k 65535)) (sym (first_number same same_decides t.descriptions d (flat_map descriptions_named is)))
+kept t (op.FreeBased d) is n h = ap (λ k. coded.FreeBased (min k 65535)) (sym (first_number same same_decides t.descriptions d (flat_map descriptions_named is)))
+kept t (op.AllocateBased u) is n h =
+    ap (λ k. coded.AllocateBased (min k 65535)) (sym (first_number same_template template_decides t.templates u (flat_map templates_named is)))
 kept t op.Nothing is n h = absurd h
 kept t (op.Operate operation) is n h = refl
 kept t i is n h = refl
@@ -158,6 +163,9 @@ module _ (t : NumberedTables) (place : ℕ → ℕ) where
     description_cut : (d : Description) → min (number_in same t.descriptions d) 65535 ≡ number_in same t.descriptions d
     description_cut d = let h = number_within same t.descriptions d in cut _ (omega (arith, h, few_descriptions))
 
+    template_cut : (u : Template) → min (number_in same_template t.templates u) 65535 ≡ number_in same_template t.templates u
+    template_cut u = let h = number_within same_template t.templates u in cut _ (omega (arith, h, few_templates))
+
     whole : (i : op.Instruction) → Fits 65535 i → instruction_fits i ≡ true → targeted i ≡ instruction_code t (retargeted place i)
     whole (op.Jump target) h f = ap coded.Jump (cut target h)
     whole (op.JumpUnless target) h f = ap coded.JumpUnless (cut target h)
@@ -176,9 +184,11 @@ module _ (t : NumberedTables) (place : ℕ → ℕ) where
         ap (λ n. coded.Local n (min slot 65535)) (cut_byte outward b.0) ∙ ap (coded.Local outward) (cut_short slot b.1)
     whole (op.Global number) h f = ap coded.Global (cut_short number f)
     whole (op.Field offset d) h f = ap (coded.Field offset) (description_cut d)
+    whole (op.Based d) h f = ap coded.Based (description_cut d)
     whole (op.Fit d) h f = ap coded.Fit (description_cut d)
-    whole (op.MakeDummy d) h f =
-        let k = number_within same_template t.templates (dummy d) in ap coded.MakeDummy (cut _ (omega (arith, k, few_templates)))
+    whole (op.FreeBased d) h f = ap coded.FreeBased (description_cut d)
+    whole (op.AllocateBased u) h f = ap coded.AllocateBased (template_cut u)
+    whole (op.MakeDummy d) h f = ap coded.MakeDummy (template_cut (dummy d))
     whole (op.Constant v) h f = let k = number_within same_value t.values v in ap coded.Constant (cut _ (omega (arith, k, few_values)))
     whole (op.AllocateControlled global) h f = ap coded.AllocateControlled (cut_short global f)
     whole (op.FreeControlled global) h f = ap coded.FreeControlled (cut_short global f)

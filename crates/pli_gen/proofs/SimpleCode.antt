@@ -3,11 +3,11 @@ use Rattle.std.proofs.Common.{◌≡◌, ℕ, suc, nat_eq, if◌then◌else◌, 
 use Rattle.std.specs.List.{AllByRecursion}
 use Rattle.pli_program.specs.Program as op
 use Rattle.pli_type_tree.specs.TypedTree.{Callee, OfBlock, OfEntry}
-use Rattle.pli_type_tree.specs.TypedTree.{Root, InSlot, OfProgram, NewestOf, TypedOperation, Fit, Operate, TypedExpression, Literal, Held, Calculated, Called, Generations, TypedReference, Whole, Part}
+use Rattle.pli_type_tree.specs.TypedTree.{Root, InSlot, OfProgram, NewestOf, Located, TypedOperation, Fit, Operate, TypedExpression, Literal, Held, Calculated, Called, Generations, Address, TypedReference, Whole, Part}
 use Rattle.pli_type_tree.specs.TypedTree.{Operands, NoOperand, OperandThen, Subscripts, NoSubscript, SubscriptThen, TypedArguments, NoArgument, ByPlace, ByDummy}
 use Rattle.pli_type_tree.specs.TypedTree.{Form, Null, Assign, AssignAggregate, Put, If, Begin, Group, While, Iterate, Call, Goto, Return, ReturnValue, Stop, Allocate, Free}
-use Rattle.pli_type_tree.specs.TypedTree.{AllocatedItem, AllocatesControlled, FreedItem, FreesControlled}
-use Rattle.pli_gen_emit.specs.TreeTranslation.{argument_count, root_code, call_instruction, operation_code, value_code, place_code, operands_code, subscripts_code, arguments_code, skip_code, items_code, allocations_code, freeings_code, behind}
+use Rattle.pli_type_tree.specs.TypedTree.{AllocatedItem, AllocatesControlled, AllocatesBased, FreedItem, FreesControlled, FreesBased}
+use Rattle.pli_gen_emit.specs.TreeTranslation.{argument_count, root_code, call_instruction, operation_code, value_code, place_code, operands_code, subscripts_code, arguments_code, skip_code, items_code, allocation_code, allocations_code, freeing_code, freeings_code, behind}
 use Rattle.pli_gen_emit.specs.answers.Pieces.{simple_code}
 use Rattle.pli_gen_emit.specs.answers.Instructions.{step_place}
 use Rattle.pli_gen.specs.answers.Pieces.{Fits}
@@ -31,11 +31,6 @@ all_both P (x ∷ xs) ys h k = (h.0, all_both P xs ys h.1 k)
 pub simple_both : (xs ys : List op.Instruction) → AllSimple xs → AllSimple ys → AllSimple (xs ++ ys)
 simple_both xs ys h k = all_both IsSimple xs ys h k
 
-root_simple : (r : Root) → AllSimple (root_code r)
-root_simple (InSlot outward slot) = (tt, tt)
-root_simple (OfProgram number) = (tt, tt)
-root_simple (NewestOf number) = (tt, tt)
-
 call_simple : (callee : Callee) (arguments : ℕ) → IsSimple (call_instruction callee arguments)
 call_simple (OfBlock block) arguments = tt
 call_simple (OfEntry number) arguments = tt
@@ -53,6 +48,13 @@ mutual
       let count = argument_count arguments in
       simple_both (arguments_code arguments) (call_instruction callee count ∷ []) (arguments_simple arguments) (call_simple callee count, tt)
   value_simple (Generations number) = (tt, tt)
+  value_simple (Address variable) = simple_both (place_code variable) (op.AddressOf ∷ []) (place_simple variable) (tt, tt)
+
+  root_simple : (r : Root) → AllSimple (root_code r)
+  root_simple (InSlot outward slot) = (tt, tt)
+  root_simple (OfProgram number) = (tt, tt)
+  root_simple (NewestOf number) = (tt, tt)
+  root_simple (Located locator description) = simple_both (value_code locator) (op.Based description ∷ []) (value_simple locator) (tt, tt)
 
   pub place_simple : (r : TypedReference) → AllSimple (place_code r)
   place_simple (Whole root) = root_simple root
@@ -78,13 +80,22 @@ items_simple : (es : List TypedExpression) → AllSimple (items_code es)
 items_simple [] = tt
 items_simple (e ∷ es) = simple_both (value_code e) (op.Put ∷ items_code es) (value_simple e) (tt, items_simple es)
 
+allocation_simple : (item : AllocatedItem) → AllSimple (allocation_code item)
+allocation_simple (AllocatesControlled number) = (tt, tt)
+allocation_simple (AllocatesBased template temporary target) =
+    (tt, (tt, simple_both (place_code target) (op.TakeTemporary temporary ∷ op.Store ∷ []) (place_simple target) (tt, (tt, tt))))
+
 allocations_simple : (items : List AllocatedItem) → AllSimple (allocations_code items)
 allocations_simple [] = tt
-allocations_simple (AllocatesControlled number ∷ items) = (tt, allocations_simple items)
+allocations_simple (item ∷ items) = simple_both (allocation_code item) (allocations_code items) (allocation_simple item) (allocations_simple items)
+
+freeing_simple : (item : FreedItem) → AllSimple (freeing_code item)
+freeing_simple (FreesControlled number) = (tt, tt)
+freeing_simple (FreesBased locator description) = simple_both (value_code locator) (op.FreeBased description ∷ []) (value_simple locator) (tt, tt)
 
 freeings_simple : (items : List FreedItem) → AllSimple (freeings_code items)
 freeings_simple [] = tt
-freeings_simple (FreesControlled number ∷ items) = (tt, freeings_simple items)
+freeings_simple (item ∷ items) = simple_both (freeing_code item) (freeings_code items) (freeing_simple item) (freeings_simple items)
 
 skip_simple : (b : Bool) → AllSimple (skip_code b)
 skip_simple true = (tt, tt)

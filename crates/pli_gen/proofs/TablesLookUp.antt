@@ -81,6 +81,9 @@ module _ (tables : NumberedTables) (u : TypedUnit) (bs : List BlockTree) (code :
   instruction_there (op.Constant v) ds ts vs = ap (naming op.Constant) (number_stands same_value value_decides tables.values v vs.0)
   instruction_there (op.MakeDummy d) ds ts vs = ap (naming (λ t. op.MakeDummy t.description)) (template_there (dummy d) ts.0 ds.0)
   instruction_there (op.Fit d) ds ts vs = ap (naming op.Fit) (description_there d ds.0)
+  instruction_there (op.Based d) ds ts vs = ap (naming op.Based) (description_there d ds.0)
+  instruction_there (op.AllocateBased t) ds ts vs = ap (naming op.AllocateBased) (template_there t ts.0 ds.0)
+  instruction_there (op.FreeBased d) ds ts vs = ap (naming op.FreeBased) (description_there d ds.0)
   instruction_there op.Nothing ds ts vs = ap (naming op.Constant) (none_behind tables.values)
   instruction_there i ds ts vs = refl
 

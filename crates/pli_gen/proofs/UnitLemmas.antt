@@ -55,10 +55,11 @@ module _ (ds : List Description) where
   globals_described (EntryPoint name s ∷ gs) h =
       globals_described gs (all_back (Has same same_decides ds) (signature_descriptions s) (flat_map global_descriptions gs) h)
 
-  dummies_stand : (is : List op.Instruction) → AllByRecursion (Has same same_decides ds) (flat_map descriptions_named is) → AllByRecursion HasIts (flat_map templates_named is)
-  dummies_stand [] h = tt
-  dummies_stand (op.MakeDummy d ∷ is) h = (h.0, dummies_stand is h.1)
-  dummies_stand (i ∷ is) h = dummies_stand is (all_back (Has same same_decides ds) (descriptions_named i) (flat_map descriptions_named is) h)
+  templates_stand : (is : List op.Instruction) → AllByRecursion (Has same same_decides ds) (flat_map descriptions_named is) → AllByRecursion HasIts (flat_map templates_named is)
+  templates_stand [] h = tt
+  templates_stand (op.MakeDummy d ∷ is) h = (h.0, templates_stand is h.1)
+  templates_stand (op.AllocateBased t ∷ is) h = (h.0, templates_stand is h.1)
+  templates_stand (i ∷ is) h = templates_stand is (all_back (Has same same_decides ds) (descriptions_named i) (flat_map descriptions_named is) h)
 
 -- each template's description is in its table
 pub tables_stand : (u : TypedUnit) (bs : List BlockTree) (code : List op.Instruction) → HaveDescriptions (tables_for u bs code)
@@ -78,7 +79,7 @@ tables_stand u bs code =
     put_all (HasIts ds) same_template (outside ++ variables ++ flat_map templates_named code) [] tt
     (all_both (HasIts ds) (outside ++ variables) (flat_map templates_named code)
     (all_both (HasIts ds) outside variables (variables_stand ds outside (globals_described ds u.globals globals)) (variables_stand ds variables blocks))
-    (dummies_stand ds code (all_back has (from_signature ++ from_globals ++ from_blocks) from_code all)))
+    (templates_stand ds code (all_back has (from_signature ++ from_globals ++ from_blocks) from_code all)))
 
 -- what a GOTO names is the same wherever it leads
 module _ (places : List (ℕ × ℕ)) where

@@ -1,12 +1,13 @@
 -- What is asked of a unit for its code to stand: how blocks, statements and temporaries are numbered, and how
 -- deep loops nest.
-use Rattle.std.specs.Prelude.{◌≡◌, ℕ, ◌+◌, ◌≤◌, ◌-◌, nat_eq, Bool, true, false, Some, List, [], ◌∷◌, ◌++◌}
-use Rattle.std.specs.Prelude.{slice_get}
+use Rattle.std.specs.Prelude.{◌≡◌, ℕ, suc, ◌+◌, ◌≤◌, ◌-◌, nat_eq, Bool, true, false, Some, List, [], ◌∷◌}
+use Rattle.std.specs.Prelude.{◌++◌, slice_get}
 use Rattle.std.specs.List.{flat_map, list_any, AllByRecursion}
 use Rattle.pli_type_tree.specs.Iterations.{temporaries_of, is_iterated}
 use Rattle.pli_type_tree.specs.TypedTree.{TypedStatement, Statement, Form, If, Group, While, Iterate}
 use Rattle.pli_type_tree.specs.TypedTree.{Iteration, OtherWise, NoElse, Else, TypedStatements, NoStatement}
-use Rattle.pli_type_tree.specs.TypedTree.{StatementThen, TypedUnit}
+use Rattle.pli_type_tree.specs.TypedTree.{StatementThen, TypedUnit, Allocate, AllocatedItem}
+use Rattle.pli_type_tree.specs.TypedTree.{AllocatesControlled, AllocatesBased}
 use Rattle.pli_gen_emit.specs.TreeTranslation.{BlockTree, blocks_of_procedure, blocks_of}
 
 -- no number stands twice in a list
@@ -77,8 +78,15 @@ abbrev mutual
 abbrev pub next_temporary : Iteration → ℕ
 next_temporary i = i.temporary + temporaries_of i.range
 
--- where so many of a block's temporaries are in use, iterations have others, and the block has them; in the
--- list of an iteration its own are in use
+-- where so many of a block's temporaries are in use, an item of ALLOCATE that has one has another, and the
+-- block has it
+abbrev pub KeepsTemporary : (used size : ℕ) → AllocatedItem → Type 0
+KeepsTemporary used size (AllocatesControlled number) = Unit {0}
+KeepsTemporary used size (AllocatesBased template temporary target) =
+    (used ≤ temporary) × (suc temporary ≤ size)
+
+-- where so many of a block's temporaries are in use, iterations and items of ALLOCATE have others, and the
+-- block has them; in the list of an iteration its own are in use
 abbrev mutual
   pub KeepsApart : (used size : ℕ) → TypedStatement → Type 0
   KeepsApart used size (Statement number form) = KeepsApartForm used size form
@@ -92,6 +100,7 @@ abbrev mutual
   KeepsApartForm used size (Iterate iteration statements) =
       (used ≤ iteration.temporary) × (next_temporary iteration ≤ size)
       × KeepApart (next_temporary iteration) size statements
+  KeepsApartForm used size (Allocate items) = AllByRecursion (KeepsTemporary used size) items
   KeepsApartForm used size form = Unit {0}
 
   -- of an ELSE
@@ -105,7 +114,8 @@ abbrev mutual
   KeepApart used size (StatementThen first more) = KeepsApart used size first × KeepApart used size more
 
 -- the blocks of a unit are numbered from 0, each once; its statements have different numbers; loops nest less
--- than 64 deep in each block; and an iteration's temporaries are apart from those of the ones around it
+-- than 64 deep in each block; and an iteration's temporaries, and those of ALLOCATE's items, are apart from
+-- those of the ones around it
 pub record IsWellNumbered (t : TypedUnit) : Type 0 where
   pub blocks : AllByRecursion (λ b. slice_get (blocks_of t) b.head.number ≡ Some b)
       (flat_map blocks_of_procedure t.procedures)

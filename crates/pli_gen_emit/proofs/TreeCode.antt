@@ -1,5 +1,5 @@
 -- The code of trees that lie in vectors.
-use Rattle.std.proofs.Common.{◌≡◌, ◌++◌, ◌∷◌, [], ℕ, suc, List, length, refl, ap, ◌∙◌, sym, Vec, Global}
+use Rattle.std.proofs.Common.{◌≡◌, ◌++◌, ◌∷◌, [], ℕ, suc, List, length, refl, ap, ◌∙◌, sym, Vec, Box, Global}
 use Rattle.std.proofs.lemmas.List.{append-nil, append_assoc}
 use Rattle.pli_map.specs.declared.description.Description.{Description}
 use Rattle.pli_map.specs.views.DescriptionView.{description_view}
@@ -8,7 +8,7 @@ use Rattle.pli_type_tree.specs.TypedTree.{TypedArguments, NoArgument}
 use Rattle.pli_type_tree.specs.views.TypedView.{root_view, callee_view, operation_view, expression_view, reference_view, argument_before, operands_view, subscripts_view, arguments_view}
 use Rattle.pli_type_tree.specs.laws.TypedTreeLaws.{calculated_made, called_made, part_made}
 use Rattle.pli_type_tree.specs.declared.expression.Callee.{Callee}
-use Rattle.pli_type_tree.specs.declared.expression.Root.{Root}
+use Rattle.pli_type_tree.specs.declared.expression.Root.{Root, Located}
 use Rattle.pli_type_tree.specs.declared.expression.TypedExpression.{TypedExpression, Calculated, Called}
 use Rattle.pli_type_tree.specs.declared.expression.TypedOperation.{TypedOperation}
 use Rattle.pli_type_tree.specs.declared.expression.TypedReference.{Part}
@@ -33,6 +33,11 @@ pub call_code_made : (callee : Callee) (arguments : Vec TypedArgument Global)
 call_code_made callee arguments =
     ap value_code (called_made callee arguments)
     ∙ ap (λ n. arguments_code (arguments_view arguments.items) ++ call_instruction (callee_view callee) n ∷ []) (arguments_counted arguments.items)
+
+-- what is at the place to which a locator leads
+pub located_code_made : (locator : Box TypedExpression Global) (description : Description)
+    → root_code (root_view (Located locator description)) ≡ value_code (expression_view locator.value) ++ op.Based (description_view description) ∷ []
+located_code_made locator description = refl
 
 pub part_code_made : (root : Root) (offset : ℕ) (description : Description) (subscripts : Vec TypedSubscript Global)
     → place_code (reference_view (Part root offset description subscripts))

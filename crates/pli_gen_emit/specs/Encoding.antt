@@ -37,13 +37,17 @@ dummy d = record { description = d; initial = [] }
 -- the descriptions that an instruction names
 abbrev pub descriptions_named : op.Instruction → List Description
 descriptions_named (op.Field offset d) = d ∷ []
+descriptions_named (op.Based d) = d ∷ []
 descriptions_named (op.MakeDummy d) = d ∷ []
 descriptions_named (op.Fit d) = d ∷ []
+descriptions_named (op.AllocateBased t) = t.description ∷ []
+descriptions_named (op.FreeBased d) = d ∷ []
 descriptions_named i = []
 
 -- the templates that it names
 abbrev pub templates_named : op.Instruction → List Template
 templates_named (op.MakeDummy d) = dummy d ∷ []
+templates_named (op.AllocateBased t) = t ∷ []
 templates_named i = []
 
 -- the values that it names
@@ -119,6 +123,7 @@ module _ (tables : NumberedTables) where
   instruction_code (op.Global number) = coded.Global number
   instruction_code (op.Field offset d) = coded.Field offset (description_number d)
   instruction_code (op.Subscript low high multiplier) = coded.Subscript low high multiplier
+  instruction_code (op.Based d) = coded.Based (description_number d)
   instruction_code (op.Constant v) = coded.Constant (number_in same_value tables.values v)
   instruction_code op.Load = coded.Load
   instruction_code op.Store = coded.Store
@@ -126,9 +131,12 @@ module _ (tables : NumberedTables) where
   instruction_code (op.MakeDummy d) = coded.MakeDummy (template_number (dummy d))
   instruction_code (op.Fit d) = coded.Fit (description_number d)
   instruction_code (op.Operate operation) = coded.Operate operation
+  instruction_code op.AddressOf = coded.AddressOf
   instruction_code (op.AllocateControlled global) = coded.AllocateControlled global
   instruction_code (op.FreeControlled global) = coded.FreeControlled global
   instruction_code (op.CountGenerations global) = coded.CountGenerations global
+  instruction_code (op.AllocateBased t) = coded.AllocateBased (template_number t)
+  instruction_code (op.FreeBased d) = coded.FreeBased (description_number d)
   instruction_code op.Put = coded.Put
   instruction_code op.Skip = coded.Skip
   instruction_code (op.SetTemporary number) = coded.SetTemporary number

@@ -13,8 +13,9 @@ use Rattle.pli_program.specs.Program as op
 use Rattle.pli_operation.specs.declared.operation.Operation.TheVariants.{Add, Within}
 use Rattle.pli_type_tree.specs.Iterations.{kept_by, limit_number, step_number, is_iterated}
 use Rattle.pli_type_tree.specs.Templates.{variable_of}
-use Rattle.pli_type_tree.specs.TypedTree.{Root, InSlot, OfProgram, NewestOf, TypedExpression, Literal, Held}
-use Rattle.pli_type_tree.specs.TypedTree.{Calculated, Called, Generations, TypedReference, Whole, Part}
+use Rattle.pli_type_tree.specs.TypedTree.{Root, InSlot, OfProgram, NewestOf, Located, TypedExpression}
+use Rattle.pli_type_tree.specs.TypedTree.{Literal, Held, Calculated, Called, Generations, Address}
+use Rattle.pli_type_tree.specs.TypedTree.{TypedReference, Whole, Part}
 use Rattle.pli_type_tree.specs.TypedTree.{Operands, NoOperand}
 use Rattle.pli_type_tree.specs.TypedTree.{OperandThen, Subscripts, NoSubscript, SubscriptThen, TypedArguments}
 use Rattle.pli_type_tree.specs.TypedTree.{NoArgument, ByPlace, ByDummy, BlockHead, TypedStatement, Statement}
@@ -22,7 +23,8 @@ use Rattle.pli_type_tree.specs.TypedTree.{Form, Null, Assign, AssignAggregate, P
 use Rattle.pli_type_tree.specs.TypedTree.{Iterate, TypedRange, Once, ToBy, ByTo, Repeated, Iteration}
 use Rattle.pli_type_tree.specs.TypedTree.{Call, Goto, Return, ReturnValue, Stop, Allocate, Free, OtherWise}
 use Rattle.pli_type_tree.specs.TypedTree.{NoElse, Else}
-use Rattle.pli_type_tree.specs.TypedTree.{AllocatedItem, AllocatesControlled, FreedItem, FreesControlled}
+use Rattle.pli_type_tree.specs.TypedTree.{AllocatedItem, AllocatesControlled, AllocatesBased, FreedItem}
+use Rattle.pli_type_tree.specs.TypedTree.{FreesControlled, FreesBased}
 use Rattle.pli_type_tree.specs.TypedTree.{TypedStatements, NoStatement, StatementThen, TypedProcedure}
 use Rattle.pli_type_tree.specs.TypedTree.{Callee, OfBlock, OfEntry, Global, OwnVariable, ExternalVariable}
 use Rattle.pli_type_tree.specs.TypedTree.{EntryPoint, TypedUnit, TypedOperation}
@@ -36,13 +38,6 @@ argument_count (ByDummy description value more) = suc (argument_count more)
 
 -- references and expressions
 
--- the place at which a reference begins; the global of a CONTROLLED variable is the place of its newest
--- generation
-abbrev pub root_code : Root → List Instruction
-root_code (InSlot outward slot) = Local outward slot ∷ []
-root_code (OfProgram number) = op.Global number ∷ []
-root_code (NewestOf number) = op.Global number ∷ []
-
 -- the instruction of a call
 abbrev pub call_instruction : Callee → (arguments : ℕ) → Instruction
 call_instruction (OfBlock block) arguments = op.Call block arguments
@@ -55,7 +50,7 @@ operation_code (tree.Operate operation) = Operate operation
 
 abbrev mutual
   -- the value of an expression: a constant; a variable's place and what it holds; the operands and the
-  -- operation; the arguments and the call; the count of generations
+  -- operation; the arguments and the call; the count of generations; a variable's place and the pointer to it
   pub value_code : TypedExpression → List Instruction
   value_code (Literal value) = Constant value ∷ []
   value_code (Held variable) = place_code variable ++ Load ∷ []
@@ -63,6 +58,15 @@ abbrev mutual
   value_code (Called callee arguments) =
       arguments_code arguments ++ call_instruction callee (argument_count arguments) ∷ []
   value_code (Generations number) = op.CountGenerations number ∷ []
+  value_code (Address variable) = place_code variable ++ op.AddressOf ∷ []
+
+  -- the place at which a reference begins; the global of a CONTROLLED variable is the place of its newest
+  -- generation; a locator's value leads to that of a BASED one
+  pub root_code : Root → List Instruction
+  root_code (InSlot outward slot) = Local outward slot ∷ []
+  root_code (OfProgram number) = op.Global number ∷ []
+  root_code (NewestOf number) = op.Global number ∷ []
+  root_code (Located locator description) = value_code locator ++ op.Based description ∷ []
 
   -- a place: the variable's; for a part of one its field, and then its subscripts
   pub place_code : TypedReference → List Instruction
@@ -103,9 +107,12 @@ abbrev pub items_code : List TypedExpression → List Instruction
 items_code [] = []
 items_code (e ∷ es) = value_code e ++ op.Put ∷ items_code es
 
--- an item of ALLOCATE
+-- an item of ALLOCATE; the pointer to a BASED variable's generation is kept till its target's place is there
 abbrev pub allocation_code : AllocatedItem → List Instruction
 allocation_code (AllocatesControlled number) = op.AllocateControlled number ∷ []
+allocation_code (AllocatesBased template temporary target) =
+    op.AllocateBased template ∷ op.SetTemporary temporary
+    ∷ place_code target ++ op.TakeTemporary temporary ∷ Store ∷ []
 
 -- its items, one after the other
 abbrev pub allocations_code : List AllocatedItem → List Instruction
@@ -115,6 +122,7 @@ allocations_code (item ∷ items) = allocation_code item ++ allocations_code ite
 -- an item of FREE
 abbrev pub freeing_code : FreedItem → List Instruction
 freeing_code (FreesControlled number) = op.FreeControlled number ∷ []
+freeing_code (FreesBased locator description) = value_code locator ++ op.FreeBased description ∷ []
 
 -- its items, one after the other
 abbrev pub freeings_code : List FreedItem → List Instruction

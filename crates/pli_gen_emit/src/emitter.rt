@@ -4,21 +4,24 @@
 ghost use Rattle.std.specs.Prelude.{◌≡◌, ◌+◌, ◌∷◌, [], length, min, pos, true};
 ghost use Rattle.pli_map.specs.views.DescriptionView.{description_view};
 ghost use Rattle.pli_program.specs.Program as op;
-ghost use Rattle.pli_type_tree.specs.views.TypedView.{root_view, callee_view, operation_view, allocated_view, freed_view};
+ghost use Rattle.pli_type_tree.specs.views.TemplateView.{template_view};
+ghost use Rattle.pli_type_tree.specs.views.TypedView.{callee_view, operation_view};
 ghost use Rattle.pli_value.specs.Value.{Number, value_view};
 ghost use Rattle.pli_code.specs.CodeTables.{there};
 ghost use Rattle.pli_code.specs.declared.instruction.Instruction.TheVariants as coded;
-ghost use Rattle.pli_gen_emit.specs.TreeTranslation.{root_code, call_instruction, operation_code, allocation_code, freeing_code};
+ghost use Rattle.pli_gen_emit.specs.TreeTranslation.{call_instruction, operation_code};
 ghost use Rattle.pli_gen_emit.specs.answers.Emitting.{Puts, Emits, Lands, LandsGuard, shared, is_shared};
 
 use crate::fields::{BYTE_LIMIT, SHORT_LIMIT, byte, short, temporary, temporary_fits};
 use crate::one::One;
-use crate::table::{NumberedTables, number_description, number_template, number_value};
+use crate::table::{
+    NumberedTables, number_description, number_template, number_value, template_key,
+};
 use pli_code::Instruction;
 use pli_map::Description;
 use pli_operation::Operation;
 use pli_type_keys::TemplateKey;
-use pli_type_tree::{AllocatedItem, Callee, FreedItem, Root, Stride, TypedOperation};
+use pli_type_tree::{Callee, Stride, Template, TypedOperation};
 use pli_value::Value;
 
 /// A GOTO whose target is not known yet: its place, how many static links outward it leads, and its label's statement.
@@ -153,19 +156,8 @@ impl<'a> Emitter<'a> {
         self.put(fits, Instruction::ReturnValue { outward });
     }
 
-    /// Appends the place at which a reference begins.
-    pub(crate) fn root(&mut self, root: Root)
-        ensures { Emits self.old self.new (root_code (root_view root)) }
-    {
-        match root {
-            Root::InSlot { outward, slot } => self.local(outward, slot),
-            Root::OfProgram { number } => self.global(number),
-            Root::NewestOf { number } => self.global(number),
-        }
-    }
-
     /// Appends the place in a slot.
-    fn local(&mut self, outward: usize, slot: usize)
+    pub(crate) fn local(&mut self, outward: usize, slot: usize)
         ensures { Emits self.old self.new (op.Local outward slot ∷ []) }
     {
         let fits = outward <= BYTE_LIMIT && slot <= SHORT_LIMIT;
@@ -174,8 +166,8 @@ impl<'a> Emitter<'a> {
         self.put(fits, Instruction::Local { outward, slot });
     }
 
-    /// Appends the place of a global variable.
-    fn global(&mut self, number: usize)
+    /// Appends the place of a global variable; of a CONTROLLED one that of its newest generation.
+    pub(crate) fn global(&mut self, number: usize)
         ensures { Emits self.old self.new (op.Global number ∷ []) }
     {
         let fits = number <= SHORT_LIMIT;
@@ -192,17 +184,8 @@ impl<'a> Emitter<'a> {
         self.put(fits, Instruction::CountGenerations { global });
     }
 
-    /// Appends what makes a generation.
-    pub(crate) fn allocate(&mut self, item: AllocatedItem)
-        ensures { Emits self.old self.new (allocation_code (allocated_view item)) }
-    {
-        match item {
-            AllocatedItem::Controlled { number } => self.allocate_controlled(number),
-        }
-    }
-
     /// Appends what makes a generation of a CONTROLLED variable.
-    fn allocate_controlled(&mut self, global: usize)
+    pub(crate) fn allocate_controlled(&mut self, global: usize)
         ensures { Emits self.old self.new (op.AllocateControlled global ∷ []) }
     {
         let fits = global <= SHORT_LIMIT;
@@ -210,22 +193,38 @@ impl<'a> Emitter<'a> {
         self.put(fits, Instruction::AllocateControlled { global });
     }
 
-    /// Appends what ends a generation.
-    pub(crate) fn free(&mut self, item: FreedItem)
-        ensures { Emits self.old self.new (freeing_code (freed_view item)) }
-    {
-        match item {
-            FreedItem::Controlled { number } => self.free_controlled(number),
-        }
-    }
-
     /// Appends what ends the newest generation of a CONTROLLED variable.
-    fn free_controlled(&mut self, global: usize)
+    pub(crate) fn free_controlled(&mut self, global: usize)
         ensures { Emits self.old self.new (op.FreeControlled global ∷ []) }
     {
         let fits = global <= SHORT_LIMIT;
         let global = short(global);
         self.put(fits, Instruction::FreeControlled { global });
+    }
+
+    /// Appends the place to which a locator leads, of this whole description.
+    pub(crate) fn based(&mut self, description: &'a Description)
+        ensures { Emits self.old self.new (op.Based (description_view description.now) ∷ []) }
+    {
+        let description = number_description(&mut self.tables, description);
+        self.put(true, Instruction::Based { description });
+    }
+
+    /// Appends what makes a generation of a BASED variable.
+    pub(crate) fn allocate_based(&mut self, template: &'a Template)
+        ensures { Emits self.old self.new (op.AllocateBased (template_view template.now) ∷ []) }
+    {
+        number_description(&mut self.tables, &template.description);
+        let template = number_template(&mut self.tables, template_key(template));
+        self.put(true, Instruction::AllocateBased { template });
+    }
+
+    /// Appends what ends the generation to which a locator leads, of this whole description.
+    pub(crate) fn free_based(&mut self, description: &'a Description)
+        ensures { Emits self.old self.new (op.FreeBased (description_view description.now) ∷ []) }
+    {
+        let description = number_description(&mut self.tables, description);
+        self.put(true, Instruction::FreeBased { description });
     }
 
     /// Appends what leads a place on to a part of it.

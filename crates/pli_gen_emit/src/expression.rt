@@ -1,16 +1,16 @@
 //! The code of references and expressions.
 #![tactic(auto, using(crate::proofs::EmitLemmas::extended_both))]
 
-ghost use Rattle.pli_type_tree.specs.views.TypedView.{expression_view, reference_view};
+ghost use Rattle.pli_type_tree.specs.views.TypedView.{expression_view, reference_view, root_view};
 ghost use Rattle.pli_type_tree.specs.views.TypedView.{argument_before};
 ghost use Rattle.pli_type_tree.specs.views.TypedView.{operands_view, subscripts_view, arguments_view};
 ghost use Rattle.pli_type_tree.specs.TypedTree.{NoArgument};
-ghost use Rattle.pli_gen_emit.specs.TreeTranslation.{value_code, place_code, operands_code, subscripts_code, arguments_code};
+ghost use Rattle.pli_gen_emit.specs.TreeTranslation.{value_code, root_code, place_code, operands_code, subscripts_code, arguments_code};
 ghost use Rattle.pli_gen_emit.specs.answers.Emitting.{Emits};
 
 use crate::emitter::Emitter;
 use pli_code::Instruction;
-use pli_type_tree::{TypedArgument, TypedExpression, TypedReference, TypedSubscript};
+use pli_type_tree::{Root, TypedArgument, TypedExpression, TypedReference, TypedSubscript};
 
 /// Emits the code of an expression.
 #[cycle(emit)]
@@ -36,6 +36,10 @@ pub(crate) fn emit_value<'a>(expression: &'a TypedExpression, code: &mut Emitter
             code.call(*callee, arguments.len())
         }
         TypedExpression::Generations { number } => code.count_generations(*number),
+        TypedExpression::Address(variable) => {
+            emit_place(variable, code);
+            code.emit(Instruction::AddressOf)
+        }
     }
 }
 
@@ -49,20 +53,39 @@ fn emit_operands<'a>(operands: &'a [TypedExpression], code: &mut Emitter<'a>)
     }
 }
 
+/// Emits the code of where a reference begins.
+#[cycle(emit)]
+fn emit_root<'a>(root: &'a Root, code: &mut Emitter<'a>)
+    ensures { Emits code.old code.new (root_code (root_view root.now)) }
+{
+    match root {
+        Root::InSlot { outward, slot } => code.local(*outward, *slot),
+        Root::OfProgram { number } => code.global(*number),
+        Root::NewestOf { number } => code.global(*number),
+        Root::Located {
+            locator,
+            description,
+        } => {
+            emit_value(locator, code);
+            code.based(description)
+        }
+    }
+}
+
 /// Emits the code of a place.
 #[cycle(emit)]
 pub(crate) fn emit_place<'a>(reference: &'a TypedReference, code: &mut Emitter<'a>)
     ensures { Emits code.old code.new (place_code (reference_view reference.now)) }
 {
     match reference {
-        TypedReference::Whole(root) => { code.root(*root) }
+        TypedReference::Whole(root) => { emit_root(root, code) }
         TypedReference::Part {
             root,
             offset,
             description,
             subscripts,
         } => {
-            code.root(*root);
+            emit_root(root, code);
             code.field(*offset, description);
             emit_subscripts(subscripts.as_slice(), code)
         }

@@ -3,7 +3,7 @@
 
 ghost use Rattle.std.specs.Prelude.{map};
 ghost use Rattle.pli_type_tree.specs.views.TypedView.{expression_view, form_view, allocated_view, freed_view};
-ghost use Rattle.pli_gen_emit.specs.TreeTranslation.{items_code, allocations_code, freeings_code};
+ghost use Rattle.pli_gen_emit.specs.TreeTranslation.{items_code, allocation_code, allocations_code, freeing_code, freeings_code};
 ghost use Rattle.pli_gen_emit.specs.answers.Emitting.{Emits};
 ghost use Rattle.pli_gen_emit.specs.answers.Pieces.{simple_code};
 
@@ -22,21 +22,57 @@ fn emit_items<'a>(items: &'a [TypedExpression], code: &mut Emitter<'a>)
     }
 }
 
+/// Emits the code of an item of ALLOCATE.
+fn emit_allocation<'a>(item: &'a AllocatedItem, code: &mut Emitter<'a>)
+    ensures { Emits code.old code.new (allocation_code (allocated_view item.now)) }
+{
+    match item {
+        AllocatedItem::Controlled { number } => code.allocate_controlled(*number),
+        AllocatedItem::Based {
+            template,
+            temporary,
+            target,
+        } => {
+            code.allocate_based(template);
+            code.set_temporary(*temporary, 0);
+            emit_place(target, code);
+            code.take_temporary(*temporary, 0);
+            code.emit(Instruction::Store);
+        }
+    }
+}
+
 /// Emits the code of the items of ALLOCATE.
-fn emit_allocations(items: &[AllocatedItem], code: &mut Emitter<'_>)
+fn emit_allocations<'a>(items: &'a [AllocatedItem], code: &mut Emitter<'a>)
     ensures { Emits code.old code.new (allocations_code (map allocated_view items.now)) }
 {
     for item in items {
-        code.allocate(*item);
+        emit_allocation(item, code);
+    }
+}
+
+/// Emits the code of an item of FREE.
+fn emit_freeing<'a>(item: &'a FreedItem, code: &mut Emitter<'a>)
+    ensures { Emits code.old code.new (freeing_code (freed_view item.now)) }
+{
+    match item {
+        FreedItem::Controlled { number } => code.free_controlled(*number),
+        FreedItem::Based {
+            locator,
+            description,
+        } => {
+            emit_value(locator, code);
+            code.free_based(description);
+        }
     }
 }
 
 /// Emits the code of the items of FREE.
-fn emit_freeings(items: &[FreedItem], code: &mut Emitter<'_>)
+fn emit_freeings<'a>(items: &'a [FreedItem], code: &mut Emitter<'a>)
     ensures { Emits code.old code.new (freeings_code (map freed_view items.now)) }
 {
     for item in items {
-        code.free(*item);
+        emit_freeing(item, code);
     }
 }
 

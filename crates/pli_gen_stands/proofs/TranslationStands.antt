@@ -9,9 +9,9 @@ use Rattle.pli_program.specs.Program as op
 use Rattle.pli_base.specs.Name.{Name}
 use Rattle.pli_operation.specs.declared.operation.Operation.TheVariants.{Add, Within}
 use Rattle.pli_program.specs.Program.{Instruction, Block, UnitCode}
-use Rattle.pli_type_tree.specs.TypedTree.{TypedOperation, Fit, Operate, Root, InSlot, OfProgram, NewestOf, TypedExpression, Literal, Held, Calculated, Called, Generations, TypedReference, Whole, Part, Operands, NoOperand, OperandThen}
+use Rattle.pli_type_tree.specs.TypedTree.{TypedOperation, Fit, Operate, Root, InSlot, OfProgram, NewestOf, Located, TypedExpression, Literal, Held, Calculated, Called, Generations, Address, TypedReference, Whole, Part, Operands, NoOperand, OperandThen}
 use Rattle.pli_type_tree.specs.TypedTree.{Subscripts, NoSubscript, SubscriptThen, TypedArguments, NoArgument, ByPlace, ByDummy, TypedStatement, Statement}
-use Rattle.pli_type_tree.specs.TypedTree.{AllocatedItem, AllocatesControlled, FreedItem, FreesControlled, Form, Null, Assign, AssignAggregate, Put, Allocate, Free, If, Begin, Group, While, Iterate, Call, Goto, Return, ReturnValue, Stop}
+use Rattle.pli_type_tree.specs.TypedTree.{AllocatedItem, AllocatesControlled, AllocatesBased, FreedItem, FreesControlled, FreesBased, Form, Null, Assign, AssignAggregate, Put, Allocate, Free, If, Begin, Group, While, Iterate, Call, Goto, Return, ReturnValue, Stop}
 use Rattle.pli_type_tree.specs.Iterations.{kept_by, limit_number, step_number, is_iterated}
 use Rattle.pli_type_tree.specs.TypedTree.{Iteration, TypedRange, Once, ToBy, ByTo, Repeated}
 use Rattle.pli_type_tree.specs.TypedTree.{Callee, OfBlock, OfEntry, Global, OwnVariable, ExternalVariable, EntryPoint}
@@ -23,7 +23,7 @@ use Rattle.pli_gen_emit.specs.TreeTranslation.{keeps_code, conversion_code, sets
 use Rattle.pli_gen_emit.specs.TreeTranslation.{turn_place, list_place}
 use Rattle.pli_gen.proofs.IterationCode.{tests_length, iterate_ends}
 use Rattle.pli_gen.specs.laws.ListLaws.{all_front, all_back}
-use Rattle.pli_gen.specs.WellNumbered.{AreDistinct, HasTurns, HasRoom, HaveRoom, next_temporary, KeepsApart, KeepApart, IsWellNumbered}
+use Rattle.pli_gen.specs.WellNumbered.{AreDistinct, HasTurns, HasRoom, HaveRoom, next_temporary, KeepsTemporary, KeepsApart, KeepApart, IsWellNumbered}
 use Rattle.pli_gen.specs.WellNumbered.{numbers_in, numbers_in_form, numbers_in_else, numbers_among, numbers_of}
 use Rattle.std.proofs.lemmas.List.{map-append}
 use Rattle.pli_meaning_tree.specs.Effects.{Label}
@@ -100,11 +100,6 @@ module _ (u : UnitCode) (places : List (ℕ × ℕ)) (unit : ℕ) (at : Label �
   counts (ByPlace r more) = ap suc (counts more)
   counts (ByDummy d e more) = ap suc (counts more)
 
-  root_stands : (r : Root) → Made (root_code r) (stand.RootStands u r)
-  root_stands (InSlot outward slot) = one (op.Local outward slot)
-  root_stands (OfProgram number) = one (op.Global number)
-  root_stands (NewestOf number) = one (op.Global number)
-
   -- a call behind its arguments
   called : (callee : Callee) (args : TypedArguments) → Made (call_instruction callee (argument_count args) ∷ []) (stand.Is u (stand.call_of callee (arguments_in args)))
   called (OfBlock block) args p h = record { here = subst (λ n. slice_get u.instructions p ≡ Some (op.Call block n)) (counts args) h.0; ends = refl }
@@ -129,17 +124,26 @@ module _ (u : UnitCode) (places : List (ℕ × ℕ)) (unit : ℕ) (at : Label �
         (λ p h. operands_stand operands p h) (operation_stands operation) p h
     value_stands (Called callee args) p h = call_stands callee args (λ p h. arguments_stand args p h) p h
     value_stands (Generations number) p h = one (op.CountGenerations number) p h
+    value_stands (Address r) p h =
+        joined (place_code r) (op.AddressOf ∷ []) (stand.PlaceStands u r) (stand.Is u op.AddressOf) (λ p h. place_stands r p h) (one op.AddressOf) p h
 
     operands_stand : (es : Operands) → Made (operands_code es) (stand.OperandsStand u es)
     operands_stand NoOperand p h = refl
     operands_stand (OperandThen e more) p h =
         joined (value_code e) (operands_code more) (stand.ValueStands u e) (stand.OperandsStand u more) (λ p h. value_stands e p h) (λ p h. operands_stand more p h) p h
 
+    root_stands : (r : Root) → Made (root_code r) (stand.RootStands u r)
+    root_stands (InSlot outward slot) p h = one (op.Local outward slot) p h
+    root_stands (OfProgram number) p h = one (op.Global number) p h
+    root_stands (NewestOf number) p h = one (op.Global number) p h
+    root_stands (Located e d) p h =
+        joined (value_code e) (op.Based d ∷ []) (stand.ValueStands u e) (stand.Is u (op.Based d)) (λ p h. value_stands e p h) (one (op.Based d)) p h
+
     place_stands : (r : TypedReference) → Made (place_code r) (stand.PlaceStands u r)
     place_stands (Whole root) p h = root_stands root p h
     place_stands (Part root offset d subscripts) p h =
         joined (root_code root) (op.Field offset d ∷ subscripts_code subscripts) (stand.RootStands u root) (Then (stand.Is u (op.Field offset d)) (stand.SubscriptsStand u subscripts))
-        (root_stands root) (before (op.Field offset d) (subscripts_code subscripts) (stand.SubscriptsStand u subscripts) (λ p h. subscripts_stand subscripts p h)) p h
+        (λ p h. root_stands root p h) (before (op.Field offset d) (subscripts_code subscripts) (stand.SubscriptsStand u subscripts) (λ p h. subscripts_stand subscripts p h)) p h
 
     subscripts_stand : (ss : Subscripts) → Made (subscripts_code ss) (stand.SubscriptsStand u ss)
     subscripts_stand NoSubscript p h = refl
@@ -178,16 +182,28 @@ module _ (u : UnitCode) (places : List (ℕ × ℕ)) (unit : ℕ) (at : Label �
             (items_stand es (suc (behind (value_code e) p)) r.1.1);
       }
 
-  allocation_stands : (item : AllocatedItem) → Made (allocation_code item) (stand.AllocationStands u item)
-  allocation_stands (AllocatesControlled number) = one (op.AllocateControlled number)
+  allocation_stands : (item : AllocatedItem) (c : Context) → KeepsTemporary c.depth c.size item → Made (allocation_code item) (stand.AllocationStands u item c)
+  allocation_stands (AllocatesControlled number) c apart p h = one (op.AllocateControlled number) p h
+  allocation_stands (AllocatesBased template temporary target) c apart p h =
+      let take = op.TakeTemporary temporary in
+      let stores = Then (stand.Is u take) (stand.Is u op.Store) in
+      let placed = Then (stand.PlaceStands u target) stores in (
+        record { free = apart.0; room = apart.1 },
+        before (op.AllocateBased template) (op.SetTemporary temporary ∷ place_code target ++ take ∷ op.Store ∷ []) (Then (stand.Is u (op.SetTemporary temporary)) placed)
+            (before (op.SetTemporary temporary) (place_code target ++ take ∷ op.Store ∷ []) placed
+            (joined (place_code target) (take ∷ op.Store ∷ []) (stand.PlaceStands u target) stores (place_stands target) (before take (op.Store ∷ []) (stand.Is u op.Store) (one op.Store)))) p h,
+      )
 
-  allocations_stand : (items : List AllocatedItem) → Made (allocations_code items) (stand.AllocationsStand u items)
-  allocations_stand [] = nothing
-  allocations_stand (item ∷ items) =
-      joined (allocation_code item) (allocations_code items) (stand.AllocationStands u item) (stand.AllocationsStand u items) (allocation_stands item) (allocations_stand items)
+  allocations_stand : (items : List AllocatedItem) (c : Context) → AllByRecursion (KeepsTemporary c.depth c.size) items → Made (allocations_code items) (stand.AllocationsStand u items c)
+  allocations_stand [] c apart = nothing
+  allocations_stand (item ∷ items) c apart =
+      joined (allocation_code item) (allocations_code items) (stand.AllocationStands u item c) (stand.AllocationsStand u items c) (allocation_stands item c apart.0)
+      (allocations_stand items c apart.1)
 
   freeing_stands : (item : FreedItem) → Made (freeing_code item) (stand.FreeingStands u item)
   freeing_stands (FreesControlled number) = one (op.FreeControlled number)
+  freeing_stands (FreesBased e d) =
+      joined (value_code e) (op.FreeBased d ∷ []) (stand.ValueStands u e) (stand.Is u (op.FreeBased d)) (value_stands e) (one (op.FreeBased d))
 
   freeings_stand : (items : List FreedItem) → Made (freeings_code items) (stand.FreeingsStand u items)
   freeings_stand [] = nothing
@@ -395,7 +411,7 @@ module _ (u : UnitCode) (places : List (ℕ × ℕ)) (unit : ℕ) (at : Label �
         two_parts (place_code target) (place_code source) op.Copy (stand.PlaceStands u target) (stand.PlaceStands u source) (place_stands target) (place_stands source) p h
     form_stands (Put skip items) number block c fits room apart inner p known h =
         joined (skip_code skip) (items_code items) (stand.SkipStands u skip) (stand.ItemsStand u items) (skip_stands skip) (items_stand items) p h
-    form_stands (Allocate items) number block c fits room apart inner p known h = allocations_stand items p h
+    form_stands (Allocate items) number block c fits room apart inner p known h = allocations_stand items c apart p h
     form_stands (Free items) number block c fits room apart inner p known h = freeings_stand items p h
     form_stands (If e consequence NoElse) number block c fits room apart inner p known h =
         let q = suc (behind (value_code e) p) in

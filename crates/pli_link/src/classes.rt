@@ -5,6 +5,7 @@ ghost use Rattle.pli_type_keys.specs.views.KeyView.{templated};
 ghost use Rattle.pli_code.specs.views.CodeView.{code_view};
 
 use crate::alike::found_template;
+use crate::global_fault::GlobalFault;
 use indexmap::IndexSet;
 use pli_code::Code;
 use pli_type_keys::TemplateKey;
@@ -41,6 +42,22 @@ pub(crate) fn classes_of<'a>(
         classes.push(class_of(known, found_template(code, template))?)?;
     }
     Ok(classes)
+}
+
+/// The classes of the templates of a unit, where a mismatch is looked for; no other fault needs them.
+pub(crate) fn classes_for<'a>(
+    alloc: Global,
+    known: &mut IndexSet<TemplateKey<'a>>,
+    fault: GlobalFault,
+    code: &'a Code,
+) -> Result<Vec<Option<usize>>, AllocError>
+    ensures classes { IfOk result (λ classes. spec.AreClassesFor fault (spec.known_in known.new.keys) (code_view code.now) classes.items) }
+    ensures grows { spec.Grows known.old.keys known.new.keys }
+{
+    match fault {
+        GlobalFault::Unresolved => Ok(Vec::new(alloc)),
+        GlobalFault::Mismatch => classes_of(alloc, known, code),
+    }
 }
 
 /// The class of the template of this number, if the tables have it.

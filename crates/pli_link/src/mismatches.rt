@@ -4,7 +4,7 @@ ghost use Rattle.pli_type_tree.specs.Templates.{Template};
 ghost use Rattle.pli_link.specs.Mismatches as spec;
 ghost use Rattle.pli_link.specs.Alike.{signature_at};
 ghost use Rattle.pli_link.specs.Names as meaning;
-ghost use Rattle.pli_link.specs.answers.Classes.{AreClasses, Grows, IsClass, IsFirstClassed, known_in};
+ghost use Rattle.pli_link.specs.answers.Classes.{AreClasses, AreClassesFor, Grows, IsClass, IsFirstClassed, known_in};
 ghost use Rattle.pli_link.specs.answers.Tables.{AreNames, HaveClasses, units_in};
 ghost use Rattle.pli_type_keys.specs.declared.key.TemplateKey.{TemplateKey};
 ghost use Rattle.pli_link.specs.views.NameView.{declaration_view};
@@ -16,7 +16,7 @@ ghost use Rattle.pli_link.specs.declared.global_fault.GlobalFault.TheVariants as
 ghost use Rattle.pli_code.specs.views.CodeView.{code_view, global_view, signature_view};
 
 use crate::alike::{is_same_kind, is_same_signature};
-use crate::classes::{class_at, classes_of};
+use crate::classes::{class_at, classes_for};
 use crate::global_fault::GlobalFault;
 use crate::names::{KnownExternal, Names};
 use crate::units::{LinkedName, NamedUnit};
@@ -110,7 +110,7 @@ fn has_fault(
     global: &CodedGlobal,
 ) -> bool
     requires { AreNames names.now }
-    ensures { (known : List TemplateKey) → HaveClasses known names.now → AreClasses (known_in known) (code_view code.now) classes.now
+    ensures { (known : List TemplateKey) → HaveClasses known names.now → AreClassesFor fault (known_in known) (code_view code.now) classes.now
         → result ≡ spec.has_fault (units_in names.now) fault (code_view code.now) (global_view global.now) }
 {
     match (fault, global) {
@@ -153,7 +153,7 @@ fn faulty_name(
     global: &CodedGlobal,
 ) -> Option<Name>
     requires { AreNames names.now }
-    ensures { (known : List TemplateKey) → HaveClasses known names.now → AreClasses (known_in known) (code_view code.now) classes.now
+    ensures { (known : List TemplateKey) → HaveClasses known names.now → AreClassesFor fault (known_in known) (code_view code.now) classes.now
         → there result ≡ spec.faulty_in (units_in names.now) fault (code_view code.now) (global_view global.now) }
 {
     if has_fault(names, fault, classes, code, global) {
@@ -173,7 +173,7 @@ fn names_with_fault(
     globals: &[CodedGlobal],
 ) -> Result<IndexSet<Name>, AllocError>
     requires { AreNames names.now }
-    ensures { IfOk result (λ found. (known : List TemplateKey) → HaveClasses known names.now → AreClasses (known_in known) (code_view code.now) classes.now
+    ensures { IfOk result (λ found. (known : List TemplateKey) → HaveClasses known names.now → AreClassesFor fault (known_in known) (code_view code.now) classes.now
         → found.keys ≡ spec.each_once [] (spec.faulty_names (units_in names.now) fault (code_view code.now) (map global_view globals.now))) }
 {
     let mut found = IndexSet::new(alloc);
@@ -214,7 +214,7 @@ pub(crate) fn faulty_names<'a>(
 {
     let mut linked = Vec::new(alloc);
     for unit in units {
-        let classes = classes_of(alloc, known, &unit.deck.code)?;
+        let classes = classes_for(alloc, known, fault, &unit.deck.code)?;
         let found = names_with_fault(
             alloc,
             names,

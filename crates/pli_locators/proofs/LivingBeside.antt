@@ -8,12 +8,12 @@ use Rattle.pli_world.specs.World.{World, Yields, Raises, generation_ended, made_
 use Rattle.pli_stacks.proofs.GenerationsFound.{ended_other}
 use Rattle.pli_stacks.proofs.LivingBeside.{making_beside}
 use Rattle.pli_stacks.proofs.YieldedAnswers.{yields_further, yields_guarded, yields_made}
-use Rattle.pli_locators.specs.Locating.{located, allocated, is_allocated, freed}
+use Rattle.pli_world.specs.Locating.{located, based_allocated, is_allocated, based_freed}
 use Rattle.pli_locators.specs.laws.Operations as law
 use Rattle.pli_locators.proofs.YieldedAnswers.{IsTarget, yields_located}
 
 pub beside_allocated : law.BesideAllocated
-unfolding allocated
+unfolding based_allocated
 beside_allocated v w number g h =
     yields_further (made_of v.description Based v.initial w) _ (λ _ u. generation_in u.storage number ≡ Some g) _
     (making_beside v.description Based v.initial w number g h) (λ p u e. e)
@@ -23,7 +23,7 @@ number_of_pointer (Pointer number position) = number
 number_of_pointer other = 0
 
 pub beside_freed : law.BesideFreed
-unfolding freed
+unfolding based_freed
 beside_freed d number position other w apart =
     let l = Pointer number position in
     yields_further (located d l w) _ (IsTarget l w) _ (yields_located d l w)
@@ -34,7 +34,7 @@ beside_freed d number position other w apart =
 -- ---- stacks
 
 pub stacks_beside : law.StacksBeside
-unfolding allocated freed
+unfolding based_allocated based_freed
 stacks_beside v d l w = (
   yields_further (made_of v.description Based v.initial w) _ (λ _ u. u.stacks ≡ w.stacks) _
       (yields_made v.description Based v.initial w (λ _ u. u.stacks ≡ w.stacks) refl) (λ p u e. e),

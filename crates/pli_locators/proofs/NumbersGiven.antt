@@ -9,12 +9,12 @@ use Rattle.pli_stacks.specs.laws.Operations.{HasEnded}
 use Rattle.pli_stacks.proofs.GenerationsFound.{ended_none}
 use Rattle.pli_stacks.proofs.NumbersGiven.{ended_behind_making, still_ended}
 use Rattle.pli_stacks.proofs.YieldedAnswers.{yields_further, yields_guarded, yields_made}
-use Rattle.pli_locators.specs.Locating.{as_target, target_at, located, based, allocated, is_allocated, freed}
+use Rattle.pli_world.specs.Locating.{as_target, target_at, located, based, based_allocated, is_allocated, based_freed}
 use Rattle.pli_locators.specs.laws.Operations as law
 use Rattle.pli_locators.proofs.YieldedAnswers.{IsTarget, yields_located}
 
 pub number_is_new : law.NumberIsNew
-unfolding allocated
+unfolding based_allocated
 number_is_new v w =
     yields_further (made_of v.description Based v.initial w) _ (λ p u. (p.generation ≡ w.made) × (p.position ≡ 0) × (u.made ≡ suc w.made)) _
     (yields_made v.description Based v.initial w _ (refl, refl, refl))
@@ -37,7 +37,7 @@ pub ended_is_dead : law.EndedIsDead
 ended_is_dead number position d w e = gone_is_dead number position d w e.gone
 
 pub freed_is_dead : law.FreedIsDead
-unfolding freed
+unfolding based_freed
 freed_is_dead d e l w =
     yields_further (located d l w) _ (IsTarget l w) _ (yields_located d l w)
     (λ t v i. yields_guarded (is_allocated t.made) (Yields tt (generation_ended t.place.generation v)) (Raises DescriptionMismatch v) _
@@ -46,13 +46,13 @@ freed_is_dead d e l w =
     tt)
 
 pub ended_behind_allocating : law.EndedBehindAllocating
-unfolding allocated
+unfolding based_allocated
 ended_behind_allocating v w number e =
     yields_further (made_of v.description Based v.initial w) _ (λ _ u. HasEnded number u) _
     (ended_behind_making v.description Based v.initial w number e) (λ p u h. h)
 
 pub ended_behind_freeing : law.EndedBehindFreeing
-unfolding freed
+unfolding based_freed
 ended_behind_freeing d l w number e =
     yields_further (located d l w) _ (IsTarget l w) _ (yields_located d l w)
     (λ t v i. yields_guarded (is_allocated t.made) (Yields tt (generation_ended t.place.generation v)) (Raises DescriptionMismatch v) _

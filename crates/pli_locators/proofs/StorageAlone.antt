@@ -8,8 +8,8 @@ use Rattle.pli_world.specs.Storage.{Based}
 use Rattle.pli_world.specs.World.{World, Answer, Yields, Raises, Wrong, further, generation_ended, made_of}
 use Rattle.pli_stacks.specs.laws.Operations.{SameBeside, AnswerStays}
 use Rattle.pli_stacks.proofs.StorageAlone.{same_beside, Leaves, behind_leaves, making_stays, behind_made}
-use Rattle.pli_locators.specs.Locating.{Target, target_at, unless_ended, unless_other, located, is_allocated, is_whole_of, pointer_to}
-use Rattle.pli_locators.specs.Locating.{based, allocated, freed, addressed}
+use Rattle.pli_world.specs.Locating.{Target, target_at, unless_ended, unless_other, located, is_allocated, is_whole_of, pointer_to}
+use Rattle.pli_world.specs.Locating.{based, based_allocated, based_freed, addressed}
 use Rattle.pli_locators.specs.laws.Operations as law
 
 pub leaves_further : {A B : Type 0} (w : World) (a : Answer A) (go : A → World → Answer B) → Leaves w a
@@ -51,7 +51,7 @@ unfolding based
 based_stays d l w = behind_leaves w (located d l w) _ (located_leaves d l w) (λ t. same_beside w)
 
 pub freeing_stays : law.FreeingStays
-unfolding freed
+unfolding based_freed
 freeing_stays d l w = behind_leaves w (located d l w) _ (located_leaves d l w) (λ t. by t (is_allocated t.made))
   where
     by : (t : Target) (b : Bool) → AnswerStays w (if b then Yields (tt {0}) (generation_ended t.place.generation w) else Raises DescriptionMismatch w)
@@ -71,6 +71,6 @@ address_stays p w =
 -- ---- what makes generations
 
 pub allocating_stays : law.AllocatingStays
-unfolding allocated
+unfolding based_allocated
 allocating_stays v w =
     behind_made w (made_of v.description Based v.initial w) _ (making_stays v.description Based v.initial w) (λ p u f. f)

@@ -18,7 +18,7 @@ use Rattle.pli_value.specs.declared.locator.Locator.{Locator}
 use Rattle.pli_value.specs.declared.locator.Locator.TheVariants.{Pointer}
 use Rattle.pli_world.specs.Storage.{Generation, Based, Place, whole}
 use Rattle.pli_world.specs.World.{World, Answer, Yields, Raises, Wrong, further, generation_ended, made_of}
-use Rattle.pli_locators.specs.Locating.{Target, target_at, unless_ended, unless_other, located, based, pointer_to, allocated, is_allocated, freed, is_whole_of, addressed}
+use Rattle.pli_world.specs.Locating.{Target, target_at, unless_ended, unless_other, located, based, pointer_to, based_allocated, is_allocated, based_freed, is_whole_of, addressed}
 use Rattle.pli_locators.specs.views.TargetView.{target_view}
 use Rattle.pli_stacks.proofs.AnsweredCalls.{first_refused, second_decides}
 
@@ -77,30 +77,30 @@ module _ (d : Description) (l : Locator) (w : World) where
   based_there t answer = ap (λ a. further a (λ x w. Yields x.place w)) answer
 
   pub freed_refused : (f : StoreFault) (after : World) → Answered target_view (Err f) w w (located d l w)
-      → Answered {T = Unit {0}} (λ _. tt) (Err f) w after (freed d l w)
-  unfolding freed
+      → Answered {T = Unit {0}} (λ _. tt) (Err f) w after (based_freed d l w)
+  unfolding based_freed
   freed_refused f after answer = first_refused {U = Unit {0}} target_view (λ _. tt) f w w after (located d l w) free answer
 
   pub freed_there : (t : LivingGeneration) → Answered target_view (Ok t) w w (located d l w) → is_allocated (made_view t.made) ≡ true
-      → freed d l w ≡ Yields tt (generation_ended t.place.generation w)
-  unfolding freed
+      → based_freed d l w ≡ Yields tt (generation_ended t.place.generation w)
+  unfolding based_freed
   freed_there t answer made = ap (λ a. further a free) answer ∙ rw made refl
 
   pub freed_other : (t : LivingGeneration) → Answered target_view (Ok t) w w (located d l w) → is_allocated (made_view t.made) ≡ false
-      → freed d l w ≡ Raises DescriptionMismatch w
-  unfolding freed
+      → based_freed d l w ≡ Raises DescriptionMismatch w
+  unfolding based_freed
   freed_other t answer made = ap (λ a. further a free) answer ∙ rw made refl
 
 module _ (v : Variable) (before after : World) where
   pub allocated_refused : (f : StoreFault) → Answered place_view (Err f) before after (made_of v.description Based v.initial before)
-      → Answered {T = Locator} (λ l. l) (Err f) before after (allocated v before)
-  unfolding allocated
+      → Answered {T = Locator} (λ l. l) (Err f) before after (based_allocated v before)
+  unfolding based_allocated
   allocated_refused f answer =
       first_refused {U = Locator} place_view (λ l. l) f before after after (made_of v.description Based v.initial before) _ answer
 
   pub allocated_there : (p : code.Place) → Answered place_view (Ok p) before after (made_of v.description Based v.initial before)
-      → allocated v before ≡ Yields (pointer_to (place_view p)) after
-  unfolding allocated
+      → based_allocated v before ≡ Yields (pointer_to (place_view p)) after
+  unfolding based_allocated
   allocated_there p answer = ap (λ a. further a (λ q w. Yields (pointer_to q) w)) answer
 
 -- ---- ADDR

@@ -11,7 +11,7 @@ use Rattle.pli_world.specs.Storage.{Generation, generation_in}
 use Rattle.pli_world.specs.World.{World, Yields, Raises, further}
 use Rattle.pli_stacks.specs.laws.Operations.{IfYields}
 use Rattle.pli_stacks.proofs.YieldedAnswers.{yields_guarded}
-use Rattle.pli_locators.specs.Locating.{Target, as_target, target_at, unless_ended, unless_other, located}
+use Rattle.pli_world.specs.Locating.{Target, as_target, target_at, unless_ended, unless_other, located}
 
 -- a pointer leads to this, and the world stays
 pub record IsTarget (l : Locator) (w : World) (t : Target) (v : World) : Type 0 where

@@ -1,4 +1,3 @@
-pub mod Locating
 pub mod examples
 pub mod laws
 pub mod views

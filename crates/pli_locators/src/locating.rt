@@ -1,20 +1,23 @@
 //! BASED variables outside areas, and the pointers of ADDR.
-ghost use Rattle.std.specs.Prelude.{◌≡◌, List, length, IfSome, OnErr};
-ghost use Rattle.pli_map.specs.Sizes.{size_of};
+ghost use Rattle.std.specs.Prelude.{◌≡◌, map, IfSome, OnErr};
 ghost use Rattle.pli_map.specs.views.DescriptionView.{description_view};
-ghost use Rattle.pli_value.specs.Value.{Value};
 ghost use Rattle.pli_world.specs.World.{World};
+ghost use Rattle.pli_stacks.specs.answers.LaidBytes.{IsLaid};
 ghost use Rattle.pli_store.specs.answers.Answered.{Answered};
-ghost use Rattle.pli_store.specs.answers.Begins.{Begins};
 ghost use Rattle.pli_store.specs.views.StorageView.{SameStorage, place_view, storage_view, with_storage};
-ghost use Rattle.pli_locators.specs.Locating.{addressed, allocated, freed, located, pointer_to, target_at, unless_ended, unless_other};
-ghost use Rattle.pli_locators.specs.Locating as plain;
+ghost use Rattle.pli_world.specs.Locating.{addressed, based_allocated, based_freed, located, pointer_to, target_at, unless_ended, unless_other};
+ghost use Rattle.pli_world.specs.Locating as plain;
 ghost use Rattle.pli_locators.specs.views.TargetView.{target_view};
+ghost use Rattle.pli_type_tree.specs.Templates.{variable_of};
+ghost use Rattle.pli_type_tree.specs.views.TemplateView.{initial_view};
 
 use pli_map::Description;
 use pli_run::RunError;
+use pli_stacks::make_initial;
 use pli_store::{LivingGeneration, Made, Place, Storage, StoreFault};
+use pli_type_tree::InitialScalar;
 use pli_value::Locator;
+use std::alloc::Global;
 
 /// What lives at a position of a generation: at 0 the generation. `DeadLocator` where nothing does.
 fn living_at<'m>(
@@ -93,21 +96,23 @@ pub fn based<'m>(
     Ok(living.place)
 }
 
-/// ALLOCATE of a BASED variable, outside areas: a new generation, which begins with these bytes, and the pointer to it;
-/// without bytes where its scalars may not hold what they should begin with. `StorageLimit` where there is no room for it;
-/// else `NoRule` where there are no bytes, or `OutOfMemory`. After an error nothing has changed.
+/// ALLOCATE of a BASED variable, outside areas: a new generation, which begins as a template of this description and of these
+/// initial values has it, and the pointer to it; so do these bytes, where they are laid. `StorageLimit` where there is no room
+/// for it, or `OutOfMemory`. After an error nothing has changed.
 pub fn allocate_based<'m>(
+    alloc: Global,
     storage: &mut Storage<'m>,
     description: &'m Description,
-    initial: Option<Vec<u8>>,
+    scalars: &[InitialScalar],
+    laid: Option<&[u8]>,
 ) -> Result<Locator, StoreFault>
-    requires { IfSome initial (λ bytes. length bytes.items ≡ size_of (description_view description.now)) }
-    ensures answer { (w : World) (vs : List Value) → Begins (description_view description.now) initial vs
-        → Answered (λ locator. locator) result (with_storage storage.old w) (with_storage storage.new w)
-        (allocated (record { description = description_view description.now; initial = vs }) (with_storage storage.old w)) }
+    requires { IfSome laid (λ bytes. IsLaid (record { description = description_view description.now; initial = map initial_view scalars.now }) bytes.now) }
+    ensures answer { (w : World) → Answered (λ locator. locator) result (with_storage storage.old w) (with_storage storage.new w)
+        (based_allocated (variable_of (record { description = description_view description.now; initial = map initial_view scalars.now }))
+        (with_storage storage.old w)) }
     ensures err { OnErr result (SameStorage storage.old storage.new) }
 {
-    let place = storage.make(description, Made::Based, initial)?;
+    let place = make_initial(alloc, storage, description, Made::Based, scalars, laid)?;
     Ok(pointer_to(place))
 }
 
@@ -120,7 +125,7 @@ pub fn free_based(
     locator: Locator,
 ) -> Result<(), StoreFault>
     ensures answer { (w : World) → Answered (λ _. tt) result (with_storage storage.old w) (with_storage storage.new w)
-        (freed (description_view description.now) locator (with_storage storage.old w)) }
+        (based_freed (description_view description.now) locator (with_storage storage.old w)) }
     ensures err { OnErr result (SameStorage storage.old storage.new) }
 {
     let living = located(storage, description, locator)?;

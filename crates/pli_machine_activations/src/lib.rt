@@ -34,5 +34,5 @@ pub use numbered::linked_at;
 pub use starting::{Beginning, begin};
 pub use stops::stop_at;
 pub use unit::ActiveUnit;
-pub use variables::template_of;
+pub use variables::{laid_in, template_of};
 pub use walk::outer_place;

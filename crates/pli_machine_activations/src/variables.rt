@@ -16,6 +16,7 @@ ghost use Rattle.pli_machine_activations.specs.views.MachineView.{activation_vie
 
 use crate::machine::{Activation, Machine};
 use crate::ready::ReadyCode;
+use crate::unit::ActiveUnit;
 use pli_code::Code;
 use pli_map::Description;
 use pli_stacks::make_initial;
@@ -55,6 +56,18 @@ fn laid_for<'l>(ready: &ReadyCode<'l, '_>, number: u16) -> Option<&'l [u8]>
         Some(None) => None,
         None => None,
     }
+}
+
+/// The same of a unit's templates.
+#[inline]
+pub fn laid_in<'l>(unit: &ActiveUnit<'l, '_>, number: u16) -> Option<&'l [u8]>
+    ensures { (t : Template) → template_at (code_view unit.now.linked.now.deck.code) number ≡ Some t → IfSome result (λ bytes. IsLaid t bytes.now) }
+{
+    let ready = ReadyCode {
+        code: &unit.linked.deck.code,
+        laid: unit.laid,
+    };
+    laid_for(&ready, number)
 }
 
 /// Makes a variable that ends with the newest activation, from a description and initial values or from what is laid for

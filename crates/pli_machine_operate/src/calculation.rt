@@ -426,7 +426,7 @@ fn are_comparable(left: Locator, right: Locator) -> bool
 
 /// A comparison of two locators.
 #[tactic(auto, using(crate::proofs::LocatorLemmas::none_compared))]
-fn compare_locators(relation: Relation, left: Locator, right: Locator) -> Calculation
+pub fn compare_locators(relation: Relation, left: Locator, right: Locator) -> Calculation
     ensures { calculation_view result ≡ compared relation left right }
 {
     if !are_comparable(left, right) {

@@ -6,11 +6,11 @@ mod operand;
 mod texts;
 
 pub use calculation::{
-    Calculation, Immediate, calculate_by, calculate_from, calculate_numbers, calculate_with, fit,
-    fit_number, is_within,
+    Calculation, Immediate, calculate_by, calculate_from, calculate_numbers, calculate_with,
+    compare_locators, fit, fit_number, is_within,
 };
 pub use operand::{
-    Operand, Taken, pop_number, pop_place, pop_three, pop_truth, pop_two, pop_value, push,
-    take_three_numbers, take_two_numbers, take_value,
+    Operand, Taken, pop_locator, pop_number, pop_place, pop_three, pop_truth, pop_two, pop_value,
+    push, take_three_numbers, take_two_numbers, take_value,
 };
 pub use texts::{compare_texts, text_length, text_part};

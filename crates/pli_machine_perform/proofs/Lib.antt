@@ -1,4 +1,5 @@
 pub mod GenerationMoves
 pub mod InstructionsDo
 pub mod OperationLemmas
+pub mod PointerMoves
 pub mod WorldLemmas

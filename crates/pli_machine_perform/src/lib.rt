@@ -9,6 +9,8 @@ mod landing;
 mod operate;
 mod performing;
 mod places;
+mod pointers;
+mod pointing;
 mod printing;
 mod slots;
 mod stepping;

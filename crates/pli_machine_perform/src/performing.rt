@@ -10,6 +10,7 @@ use crate::instructions::{
 };
 use crate::keeping::{set_temporary, take_temporary};
 use crate::landing::go_to;
+use crate::pointers::{address_of, allocate_based, based, free_based};
 use crate::printing::{put, skip};
 use crate::slots::{global, local};
 use crate::stepping::{line, step};
@@ -49,6 +50,7 @@ pub fn perform<'m>(
         Instruction::Stop => Ok(Some(Stop::Ended)),
         Instruction::Local { outward, slot } => local(machine, outward, slot as usize),
         Instruction::Global { number } => global(unit, machine, number as usize),
+        Instruction::Based { description } => based(code, machine, description),
         Instruction::Field {
             offset,
             description,
@@ -65,6 +67,7 @@ pub fn perform<'m>(
         Instruction::MakeDummy { template } => make_dummy(alloc, code, machine, template),
         Instruction::Fit { description } => fit(alloc, code, machine, description),
         Instruction::Operate(operation) => calculate(alloc, machine, operation),
+        Instruction::AddressOf => address_of(machine),
         Instruction::Put => put(alloc, machine),
         Instruction::Skip => skip(machine),
         Instruction::SetTemporary { number } => set_temporary(alloc, machine, number as usize),
@@ -76,13 +79,11 @@ pub fn perform<'m>(
         Instruction::CountGenerations { global } => {
             count_generations(unit, machine, global as usize)
         }
-        Instruction::Based { .. }
-        | Instruction::AddressOf
-        | Instruction::ToPointer
+        Instruction::AllocateBased { template } => allocate_based(alloc, unit, machine, template),
+        Instruction::FreeBased { description } => free_based(code, machine, description),
+        Instruction::ToPointer
         | Instruction::ToOffset
-        | Instruction::AllocateBased { .. }
         | Instruction::AllocateInArea { .. }
-        | Instruction::FreeBased { .. }
         | Instruction::AssignArea
         | Instruction::EmptyArea
         | Instruction::On { .. }

@@ -3,6 +3,7 @@ use Rattle.std.specs.Prelude.{refl}
 use Rattle.std.specs.Fmt.{digits}
 use Rattle.pli_operation.specs.Operations.{calculated}
 use Rattle.pli_world.specs.World.{nothing, entered, made_of, left_by, parts_held, parts_stored, held, stored, cleared, at_statement, stepped, height_of, slot_place, static_place, printed, line_ended, error_at}
+use Rattle.pli_world.specs.Locating.{located, based, based_allocated, based_freed, addressed, place_by, freed_by, pointer_made, address_of}
 use Rattle.pli_world.specs.Stacks.{stacked, unstacked, counted, stack_named, generation_stacked, generation_unstacked, generations_counted}
 use Rattle.pli_machine_step.specs.examples.MachineExamples as example
 
@@ -157,3 +158,23 @@ none_is_error = (refl, refl)
 pub others_fault : example.OthersFault
 unfolding nothing entered made_of stepped stack_named generation_stacked
 others_fault = (refl, refl)
+
+pub based_prints : example.BasedPrints
+unfolding nothing entered made_of stepped left_by parts_held parts_stored held stored static_place located based based_allocated place_by pointer_made calculated printed digits
+based_prints = (refl, refl)
+
+pub address_prints : example.AddressPrints
+unfolding nothing entered made_of stepped left_by parts_held parts_stored held stored static_place located based addressed place_by address_of calculated printed digits
+address_prints = refl
+
+pub locators_fail : example.LocatorsFail
+unfolding nothing entered made_of stepped at_statement parts_held parts_stored held stored static_place located based based_allocated based_freed place_by freed_by pointer_made error_at
+locators_fail = (refl, refl, refl)
+
+pub address_is_not_freed : example.AddressIsNotFreed
+unfolding nothing entered made_of stepped at_statement static_place located based_freed addressed freed_by address_of error_at
+address_is_not_freed = refl
+
+pub numbers_fault : example.NumbersFault
+unfolding nothing entered made_of stepped place_by
+numbers_fault = (refl, refl)

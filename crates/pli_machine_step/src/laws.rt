@@ -12,6 +12,8 @@ ghost use Rattle.pli_machine_step.specs.examples.MachineExamples.{ComparisonPrin
 ghost use Rattle.pli_machine_step.specs.examples.MachineExamples.{StaticIsShared, UnitsShare, UnitsStop};
 ghost use Rattle.pli_machine_step.specs.examples.MachineExamples.{UnitFails, NoUnitFaults};
 ghost use Rattle.pli_machine_step.specs.examples.MachineExamples.{GenerationsPrint, NoneIsError, OthersFault};
+ghost use Rattle.pli_machine_step.specs.examples.MachineExamples.{BasedPrints, AddressPrints, LocatorsFail};
+ghost use Rattle.pli_machine_step.specs.examples.MachineExamples.{AddressIsNotFreed, NumbersFault};
 
 /// A law: a program's run gives one outcome.
 pub fn one_outcome()
@@ -36,7 +38,8 @@ pub fn every_run_ends()
 /// Worked examples: steps, a GOTO out of a call, jumps without a step, the limit of activations, the kinds of
 /// blocks, the code's end, an argument by place, a function's value, a loop, an element and a part of a string that are
 /// there and that are not, how far a place is led on, a comparison, bits printed, a line ended, a variable that is made
-/// once, a call of another unit's procedure and a variable that both units have, the generations of a CONTROLLED one.
+/// once, a call of another unit's procedure and a variable that both units have, the generations of a CONTROLLED one,
+/// BASED ones by their pointers.
 pub fn worked_examples()
     ensures smallest_stops { SmallestStops }
     ensures smallest_ends { SmallestEnds }
@@ -76,4 +79,9 @@ pub fn worked_examples()
     ensures generations_print { GenerationsPrint }
     ensures none_is_error { NoneIsError }
     ensures others_fault { OthersFault }
+    ensures based_prints { BasedPrints }
+    ensures address_prints { AddressPrints }
+    ensures locators_fail { LocatorsFail }
+    ensures address_is_not_freed { AddressIsNotFreed }
+    ensures numbers_fault { NumbersFault }
 {}

@@ -6,13 +6,14 @@ use Rattle.pli_map.specs.Description.{Description}
 use Rattle.pli_world.specs.Storage.{Place}
 use Rattle.pli_world.specs.World.{World, Answer, held, slot_place, static_place, subscripted, calculation}
 use Rattle.pli_world.specs.World.{dummy_of, led_on}
+use Rattle.pli_world.specs.Locating.{place_by, address_of}
 use Rattle.pli_world.specs.Stacks.{generations_counted}
-use Rattle.pli_value.specs.Value.{Value, Number, Characters, Bits, Located}
+use Rattle.pli_value.specs.Value.{Value, Number, Characters, Bits, Located as LocatorValue}
 use Rattle.pli_program.specs.Program as op
 use Rattle.pli_program.specs.Program.{UnitCode, Program}
 use Rattle.pli_machine_step.specs.Machine.{Operand, OfValue, AtPlace, Locals, Frame, At, values_off, places_off, operated, act, resume}
 use Rattle.pli_type_tree.specs.TypedOperations.{comes_to}
-use Rattle.pli_type_tree.specs.TypedTree.{TypedOperation, Fit, Operate, Root, InSlot, OfProgram, NewestOf, Callee, TypedExpression, Literal, Held, Calculated, Called, Generations, TypedReference, Whole, Part, Operands, NoOperand, OperandThen, Subscripts, NoSubscript, SubscriptThen, TypedArguments, NoArgument, ByPlace, ByDummy}
+use Rattle.pli_type_tree.specs.TypedTree.{TypedOperation, Fit, Operate, Root, InSlot, OfProgram, NewestOf, Located, Callee, TypedExpression, Literal, Held, Calculated, Called, Generations, Address, TypedReference, Whole, Part, Operands, NoOperand, OperandThen, Subscripts, NoSubscript, SubscriptThen, TypedArguments, NoArgument, ByPlace, ByDummy}
 use Rattle.pli_meaning_tree.specs.Effects.{Label, Doing, answered}
 use Rattle.pli_meaning_tree.specs.TreeMeaning as meaning
 use Rattle.pli_meaning_tree.specs.TreeMeaning.{Calls, a_value, in_order, root_place, element_of, value_of, place_of, element_at, called_with}
@@ -61,11 +62,6 @@ module _ (p : Program) (number : ℕ) (u : UnitCode) (at : Label → ℕ) where
         (ops : List Operand) (l : Locals) → Fine c l → (fs : List Frame) (w : World) (left : ℕ)
         → Reaches p number u at c (At (frame p number u a ops l) fs w left) l (pushes p number u f b ops fs) fs (go w left)
 
-    root_run : (r : Root) {a b : ℕ} → RootStands u r a b → Pushes AtPlace (root_place r) a b
-    root_run (InSlot outward slot) is ops l fine fs w left = answers p number u at there (λ x. AtPlace x ∷ ops) (slot_place outward slot w) is fine w left refl
-    root_run (OfProgram n) is ops l fine fs w left = answers p number u at there (λ x. AtPlace x ∷ ops) (static_place n w) is fine w left refl
-    root_run (NewestOf n) is ops l fine fs w left = answers p number u at there (λ x. AtPlace x ∷ ops) (static_place n w) is fine w left refl
-
     subscript_run : (low high : ℤ) (multiplier : ℕ) {a b : ℕ} → Is u (op.Subscript low high multiplier) a b → (q : Place) (v : Value) (ops : List Operand) (l : Locals) → Fine c l
         → (fs : List Frame) (w : World) (left : ℕ)
         → Reaches p number u at c (At (frame p number u a (OfValue v ∷ AtPlace q ∷ ops) l) fs w left) l (pushes p number u AtPlace b ops fs) fs (element_of low high multiplier q v w left)
@@ -73,7 +69,7 @@ module _ (p : Program) (number : ℕ) (u : UnitCode) (at : Label → ℕ) where
         answers p number u at there (λ x. AtPlace x ∷ ops) (subscripted low high multiplier x q w) is fine w left refl
     subscript_run low high multiplier is q (Characters text) ops l fine fs w left = record { by = tt }
     subscript_run low high multiplier is q (Bits bits) ops l fine fs w left = record { by = tt }
-    subscript_run low high multiplier is q (Located a) ops l fine fs w left = record { by = tt }
+    subscript_run low high multiplier is q (LocatorValue a) ops l fine fs w left = record { by = tt }
 
     -- an operation on what lies above
     pub operation_run : (operation : TypedOperation) {a b : ℕ} → Is u (operation_code operation) a b → (before : List Value) (ops : List Operand) (l : Locals) → Fine c l
@@ -117,6 +113,9 @@ module _ (p : Program) (number : ℕ) (u : UnitCode) (at : Label → ℕ) where
           (called_run arguments callee (arguments_in arguments) is [] (omega arith) ops l fine fs w left)
           (λ m k v w left. value_given v ops m k.fine fs w left)
       value_run (Generations n) is ops l fine fs w left = answers p number u at there (λ v. OfValue v ∷ ops) (generations_counted n w) is fine w left refl
+      value_run (Address r) is ops l fine fs w left =
+          bound p number u at (place_of p.greatest call r w left) _ (place_run r is.fst ops l fine fs w left)
+          (λ m k q w left. answers p number u at there (λ v. OfValue v ∷ ops) (address_of q w) is.snd k.fine w left refl)
 
       pub operated_run : (operands : Operands) (operation : TypedOperation) {a b : ℕ} → Then (OperandsStand u operands) (Is u (operation_code operation)) a b
           → (before : List Value) (ops : List Operand) (l : Locals) → Fine c l → (fs : List Frame) (w : World) (left : ℕ)
@@ -128,10 +127,18 @@ module _ (p : Program) (number : ℕ) (u : UnitCode) (at : Label → ℕ) where
           bound p number u at (value_of p.greatest call e w left) _ (value_run e is.fst.fst (values_above before ops) l fine fs w left)
           (λ m k v w left. operated_run more operation (record { middle = is.middle; fst = is.fst.snd; snd = is.snd }) (v ∷ before) ops m k.fine fs w left)
 
+      root_run : (r : Root) {a b : ℕ} → RootStands u r a b → Pushes AtPlace (root_place p.greatest call r) a b
+      root_run (InSlot outward slot) is ops l fine fs w left = answers p number u at there (λ x. AtPlace x ∷ ops) (slot_place outward slot w) is fine w left refl
+      root_run (OfProgram n) is ops l fine fs w left = answers p number u at there (λ x. AtPlace x ∷ ops) (static_place n w) is fine w left refl
+      root_run (NewestOf n) is ops l fine fs w left = answers p number u at there (λ x. AtPlace x ∷ ops) (static_place n w) is fine w left refl
+      root_run (Located e d) is ops l fine fs w left =
+          bound p number u at (value_of p.greatest call e w left) _ (value_run e is.fst ops l fine fs w left)
+          (λ m k v w left. answers p number u at there (λ x. AtPlace x ∷ ops) (place_by d v w) is.snd k.fine w left refl)
+
       pub place_run : (r : TypedReference) {a b : ℕ} → PlaceStands u r a b → Pushes AtPlace (place_of p.greatest call r) a b
       place_run (Whole root) is ops l fine fs w left = root_run root is ops l fine fs w left
       place_run (Part root offset d subscripts) is ops l fine fs w left =
-          bound p number u at (root_place root w left) _ (root_run root is.fst ops l fine fs w left)
+          bound p number u at (root_place p.greatest call root w left) _ (root_run root is.fst ops l fine fs w left)
           (λ m k q w left. bound p number u at (answered (led_on offset d q w) left) _
           (answers p number u at there (λ x. AtPlace x ∷ ops) (led_on offset d q w) is.snd.fst k.fine w left refl)
           (λ m k q w left. element_run subscripts is.snd.snd q ops m k.fine fs w left))

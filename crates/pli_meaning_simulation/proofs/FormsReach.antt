@@ -1,7 +1,6 @@
 -- The machine does what each form of a statement means, from what its parts do.
 use Rattle.std.specs.Prelude.{◌≡◌, ℕ, zero, suc, Bool, true, false, Option, Some, None, List, [], ◌∷◌, slice_get, if◌then◌else◌, refl}
 use Rattle.std.proofs.Common.{ap, ◌∙◌, sym, subst, arith}
-use Rattle.pli_world.specs.Stacks.{generation_stacked, generation_unstacked}
 use Rattle.pli_world.specs.World.{World, stored, copied, printed, line_ended, entered, left_by, at_statement}
 use Rattle.pli_value.specs.Value.{Value, Number, Characters, Bits, Located}
 use Rattle.pli_value.specs.Conversions.{bit_constant}
@@ -9,10 +8,10 @@ use Rattle.pli_program.specs.Program as op
 use Rattle.pli_program.specs.Program.{BeginBlock, Block, UnitCode, Program}
 use Rattle.pli_machine_step.specs.Machine as machine
 use Rattle.pli_machine_step.specs.Machine.{OfValue, AtPlace, Locals, Frame, State, At, calm, fresh, begun, enters, resume}
-use Rattle.pli_type_tree.specs.TypedTree.{Callee, TypedExpression, Called, TypedReference, TypedArguments, BlockHead, TypedStatements, AllocatedItem, AllocatesControlled, FreedItem, FreesControlled}
+use Rattle.pli_type_tree.specs.TypedTree.{Callee, TypedExpression, Called, TypedReference, TypedArguments, BlockHead, TypedStatements}
 use Rattle.pli_meaning_tree.specs.Effects.{Label, Effect, Gives, Jumps, Fails, Spent, Lost, Short, Flow, Next, Returned, Doing, and_then, nothing_done, answered, as_statement, back_at, truth, chosen, turns, leaving, block_end}
-use Rattle.pli_meaning_tree.specs.TreeMeaning.{Calls, no_value, printed_item, value_of, place_of, called_with, condition, assigns, assigns_aggregate, puts, skips, does_call, returns_value, allocates_item, allocates, frees_item, frees, labels_in, as_list, head_in, static_link, activation_of, in_block}
-use Rattle.pli_meaning_simulation.specs.CodeStands.{Span, Empty, Then, Context, deeper, Nests, arguments_in, block_of, Is, Guarded, Choice, Loop, BeginStands, ValueStands, PlaceStands, ConditionStands, ItemsStand, SkipStands, AllocationStands, AllocationsStand, FreeingStands, FreeingsStand}
+use Rattle.pli_meaning_tree.specs.TreeMeaning.{Calls, no_value, printed_item, value_of, place_of, called_with, condition, assigns, assigns_aggregate, puts, skips, does_call, returns_value, labels_in, as_list, head_in, static_link, activation_of, in_block}
+use Rattle.pli_meaning_simulation.specs.CodeStands.{Span, Empty, Then, Context, deeper, Nests, arguments_in, block_of, Is, Guarded, Choice, Loop, BeginStands, ValueStands, PlaceStands, ConditionStands, ItemsStand, SkipStands}
 use Rattle.pli_meaning_simulation.proofs.ReachesLemmas.{Fine, Target, Comes, stays, from, frame, flows, tested, returns, Reaches, gives, passes, then_reaches, bound, goes_on, goes, begins, answers}
 use Rattle.pli_meaning_simulation.proofs.ExpressionsReach.{CallsRun, value_run, place_run, called_run}
 use Rattle.pli_meaning_simulation.proofs.ControlReaches.{turn_kept, fresh_fine, jump_on, chosen_run, start_of, caught_run, leaves, full_run, enters_run, truth_run, turns_run}
@@ -61,28 +60,6 @@ module _ (p : Program) (number : ℕ) (u : UnitCode) (at : Label → ℕ) where
         → Reaches p number u at c (returns p number u b [] fs l v w left) l (flows p number u b fs) fs (no_value v w left)
     no_value_run None {b} l fine fs w left = gives p number u at Next w left fine (stays p (At (frame p number u b [] l) fs w left))
     no_value_run (Some v) l fine fs w left = record { by = tt }
-
-    -- the items of ALLOCATE
-    allocation_run : (item : AllocatedItem) {c : Context} {a b : ℕ} → AllocationStands u item a b → Runs c (allocates_item item) a b
-    allocation_run (AllocatesControlled n) is l fine fs w left =
-        bound p number u at (answered (generation_stacked n w) left) _ (answers p number u at there (λ _. []) (generation_stacked n w) is fine w left refl)
-        (λ m k _ w left. gives p number u at Next w left k.fine (stays p _))
-
-    pub allocations_run : (items : List AllocatedItem) {c : Context} {a b : ℕ} → AllocationsStand u items a b → Runs c (allocates items) a b
-    allocations_run [] is l fine fs w left = passes p number u at is fine w left
-    allocations_run (item ∷ items) is l fine fs w left =
-        goes_on p number u at (allocates_item item w left) _ (allocation_run item is.fst l fine fs w left) (λ m k w left. allocations_run items is.snd m k.fine fs w left)
-
-    -- those of FREE
-    freeing_run : (item : FreedItem) {c : Context} {a b : ℕ} → FreeingStands u item a b → Runs c (frees_item item) a b
-    freeing_run (FreesControlled n) is l fine fs w left =
-        bound p number u at (answered (generation_unstacked n w) left) _ (answers p number u at there (λ _. []) (generation_unstacked n w) is fine w left refl)
-        (λ m k _ w left. gives p number u at Next w left k.fine (stays p _))
-
-    pub freeings_run : (items : List FreedItem) {c : Context} {a b : ℕ} → FreeingsStand u items a b → Runs c (frees items) a b
-    freeings_run [] is l fine fs w left = passes p number u at is fine w left
-    freeings_run (item ∷ items) is l fine fs w left =
-        goes_on p number u at (frees_item item w left) _ (freeing_run item is.fst l fine fs w left) (λ m k w left. freeings_run items is.snd m k.fine fs w left)
 
     -- the end of a BEGIN block
     pub block_end_run : (x : Flow) {finish behind b : ℕ} → Is u (op.Return 0) finish behind → {c : Context} (n l : Locals) → Fine c l → (fs : List Frame) (w : World) (left : ℕ)

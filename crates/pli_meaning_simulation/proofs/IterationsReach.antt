@@ -1,45 +1,24 @@
 -- The machine does what iterations mean: what they keep stands in temporaries.
-use Rattle.std.specs.Prelude.{◌≡◌, ℕ, zero, suc, ◌+◌, ◌<◌, ◌≤◌, Bool, true, false, Option, Some, None, List, [], ◌∷◌, ◌++◌, length, slice_get, slice_set, if◌then◌else◌, refl}
+use Rattle.std.specs.Prelude.{◌≡◌, ℕ, zero, suc, ◌+◌, ◌<◌, ◌≤◌, Bool, true, false, Option, Some, None, List, [], ◌∷◌, ◌++◌, length, slice_get, refl}
 use Rattle.std.proofs.Common.{ap, ◌∙◌, sym, subst, arith}
-use Rattle.std.proofs.lemmas.Bool.{lt-ltb}
 use Rattle.pli_operation.specs.declared.operation.Operation.TheVariants.{Add, Within}
 use Rattle.pli_operation.specs.Operations.{calculated}
 use Rattle.pli_world.specs.World.{World, known, held, stored, calculation, at_statement}
 use Rattle.pli_value.specs.Value.{Value}
 use Rattle.pli_program.specs.Program as op
 use Rattle.pli_program.specs.Program.{UnitCode, Program}
-use Rattle.pli_machine_step.specs.Machine.{Operand, OfValue, AtPlace, Locals, Frame, At, Goes, faulty, taken, calm, resume}
+use Rattle.pli_machine_step.specs.Machine.{Operand, OfValue, AtPlace, Locals, Frame, At, calm}
 use Rattle.pli_type_tree.specs.Iterations.{kept_by, limit_number, step_number, is_iterated}
 use Rattle.pli_type_tree.specs.TypedOperations.{comes_to}
 use Rattle.pli_type_tree.specs.TypedTree.{TypedOperation, Operate, TypedExpression, TypedRange, Once, ToBy, ByTo, Repeated, Iteration}
 use Rattle.pli_meaning_tree.specs.Effects.{Label, Gives, Flow, Next, Doing, nothing_done, followed, answered, as_statement, back_at, truth, chosen}
 use Rattle.pli_meaning_tree.specs.TreeMeaning.{Calls, value_of, place_of, keeps, kept, converted, sets, advanced, within_limit, while_holds, may_turn, advances, turned, iterates}
 use Rattle.pli_meaning_simulation.specs.CodeStands.{Span, Then, Context, using, deeper, Is, KeepsStand, ConversionStands, SetsStand, AdvancedStands, LimitStands, WhileStands, TestStands, AdvancesStand, TurnsStand, IterateStands}
-use Rattle.pli_meaning_simulation.proofs.ReachesLemmas.{Fine, Kept, kept_on, calm_kept, WithinContext, Comes, stays, frame, pushes, flows, tested, Reaches, gives, passes, then_reaches, keeping, reach_out, bound, goes_on, goes, begins, answers}
+use Rattle.pli_meaning_simulation.proofs.ReachesLemmas.{Fine, Kept, kept_on, calm_kept, Comes, stays, frame, pushes, flows, tested, Reaches, gives, passes, then_reaches, reach_out, bound, goes_on, goes, begins, answers}
 use Rattle.pli_meaning_simulation.proofs.ExpressionsReach.{CallsRun, operation_run, value_run, place_run}
 use Rattle.pli_meaning_simulation.proofs.ControlReaches.{turn_kept, chosen_run, truth_run, turns_run}
 use Rattle.pli_meaning_simulation.proofs.FormsReach.{Runs, condition_run, assign_run}
-
--- what a list has after a change at a place
-set_here : (ts : List (Option Value)) (k : ℕ) (x : Option Value) → k < length ts → slice_get (slice_set ts k x) k ≡ Some x
-set_here [] k x less = absurd (omega arith)
-set_here (t ∷ ts) zero x less = refl
-set_here (t ∷ ts) (suc k) x less = set_here ts k x (omega arith)
-
-set_below : (ts : List (Option Value)) (k : ℕ) (x : Option Value) (j : ℕ) → j < k → slice_get (slice_set ts k x) j ≡ slice_get ts j
-set_below [] k x j less = refl
-set_below (t ∷ ts) zero x j less = absurd (omega arith)
-set_below (t ∷ ts) (suc k) x zero less = refl
-set_below (t ∷ ts) (suc k) x (suc j) less = set_below ts k x j (omega arith)
-
-set_long : (ts : List (Option Value)) (k : ℕ) (x : Option Value) → length (slice_set ts k x) ≡ length ts
-set_long [] k x = refl
-set_long (t ∷ ts) zero x = refl
-set_long (t ∷ ts) (suc k) x = ap suc (set_long ts k x)
-
--- a frame's own part with a temporary set
-abbrev with_set : (temporary : ℕ) → Value → Locals → Locals
-with_set k v l = record { temporaries = slice_set l.temporaries k (Some v); jumps = l.jumps; stamp = l.stamp }
+use Rattle.pli_meaning_simulation.proofs.TemporariesReach.{using_fine, set_run, taken_run}
 
 -- values stand in temporaries from one on
 abbrev Holds : (temporary : ℕ) → List Value → Locals → Type 0
@@ -71,12 +50,6 @@ long_more : (vs : List Value) (v : Value) → length (vs ++ v ∷ []) ≡ suc (l
 long_more [] v = refl
 long_more (x ∷ vs) v = ap suc (long_more vs v)
 
-using_within : (n m : ℕ) (c : Context) → 1 ≤ c.bound → m ≤ n → WithinContext (using n c) (using m c)
-using_within n m c some le = record { size = refl; depth = le; bound = omega arith; some = some }
-
-using_fine : (n : ℕ) (c : Context) (l : Locals) → Fine c l → Fine (using n c) l
-using_fine n c l fine = record { room = fine.room; few = fine.few; some = fine.some }
-
 module _ (p : Program) (number : ℕ) (u : UnitCode) (at : Label → ℕ) (there : slice_get p.units number ≡ Some u) (call : Calls) (calls_run : CallsRun p number u at call) (level : ℕ) where
   -- a temporary is taken
   kept_run : (t k : ℕ) (vs : List Value) {a b : ℕ} → Is u (op.TakeTemporary (t + k)) a b → {c : Context} (ops : List Operand) (l : Locals) → Fine c l → Holds t vs l → (fs : List Frame) (w : World) (left : ℕ)
@@ -86,7 +59,7 @@ module _ (p : Program) (number : ℕ) (u : UnitCode) (at : Label → ℕ) (there
       by : (o : Option Value) → slice_get vs k ≡ o
           → Reaches p number u at c (At (frame p number u a ops l) fs w left) l (pushes p number u OfValue b ops fs) fs (answered (known o w) left)
       by None e = record { by = tt }
-      by (Some v) e = gives p number u at v w left fine (goes p number u at there is (ap (λ o. resume (taken o (frame p number u b ops l) fs w) left) (holds_at t vs l h k v e)))
+      by (Some v) e = gives p number u at v w left fine (taken_run p number u at there (t + k) v is ops l (holds_at t vs l h k v e) fs w left)
 
   converted_run : (operations : List TypedOperation) {a b : ℕ} → ConversionStands u operations a b → {c : Context} (v : Value) (ops : List Operand) (l : Locals) → Fine c l → (fs : List Frame) (w : World) (left : ℕ)
       → Reaches p number u at c (At (frame p number u a (OfValue v ∷ ops) l) fs w left) l (pushes p number u OfValue b ops fs) fs (converted p.greatest call operations v w left)
@@ -190,14 +163,6 @@ module _ (p : Program) (number : ℕ) (u : UnitCode) (at : Label → ℕ) (there
         bound p number u at {to = tested p number u is.start b fs} {to2 = flows p number u b fs} (may_turn p.greatest call i vs w left) _ (may_turn_run b a is.start is.holds l fine h fs w left)
         (λ m k t w left. chosen_run p number u at t run nothing_done w left (list_runs c is.start b is.does m (calm_kept c m k.fine) fs w left) (gives p number u at Next w left k.fine (stays p _)))
 
-  -- a value is kept
-  set_kept : (t : ℕ) (c : Context) (v : Value) (m : Locals) → Fine (using t c) m → Kept (using t c) m (with_set t v m)
-  set_kept t c v m fine =
-      record {
-        agree = λ k less. set_below m.temporaries t (Some v) k less;
-        fine = record { room = set_long m.temporaries t (Some v) ∙ fine.room; few = fine.few; some = fine.some };
-      }
-
   keeps_run : (c : Context) (i : Iteration) (es : List TypedExpression) (before : List Value) (t : ℕ) → t ≡ i.temporary + length before → t + length es ≤ c.size
       → (fs : List Frame) (a b q : ℕ) → KeepsStand u t es a b → (go : List Value → Doing Flow)
       → ((vs : List Value) → length vs ≡ length before + length es → (l : Locals) → Fine (using (i.temporary + length vs) c) l → Holds i.temporary vs l → (w : World) (left : ℕ)
@@ -211,26 +176,11 @@ module _ (p : Program) (number : ℕ) (u : UnitCode) (at : Label → ℕ) (there
   keeps_run c i (x ∷ es) before t e room fs a b q is go rest l fine h w left =
       bound p number u at {to2 = flows p number u q fs} (value_of p.greatest call x w left) (λ v w left. keeps p.greatest call es (before ++ v ∷ []) go w left)
       (value_run p number u at there call calls_run (using t c) x is.fst [] l fine fs w left)
-      (λ m k v w left. next m k v w left (λ n fine h2. keeps_run c i es (before ++ v ∷ []) (suc t) (let z = long_more before v in omega arith) (omega arith) fs is.snd.middle b q is.snd.snd go
-      (λ vs e2. rest vs (let z = long_more before v in omega arith)) n fine h2 w left))
-    where
-      next : (m : Locals) → Kept (using t c) l m → (v : Value) (w : World) (left : ℕ)
-          → ((n : Locals) → Fine (using (suc t) c) n → Holds i.temporary (before ++ v ∷ []) n
-          → Reaches p number u at (using (suc t) c) (At (frame p number u is.snd.middle [] n) fs w left) n (flows p number u q fs) fs (keeps p.greatest call es (before ++ v ∷ []) go w left))
-          → Reaches p number u at (using t c) (At (frame p number u is.middle (OfValue v ∷ []) m) fs w left) m (flows p number u q fs) fs (keeps p.greatest call es (before ++ v ∷ []) go w left)
-      next m k v w left f =
-          let n = with_set t v m in
-          let less : t < length m.temporaries = let z = k.fine.room in omega arith in
-          let kept2 = set_kept t c v m k.fine in
-          let here : slice_get n.temporaries (i.temporary + length before) ≡ Some (Some v) = subst (λ y. slice_get n.temporaries y ≡ Some (Some v)) e (set_here m.temporaries t (Some v) less) in
-          let old : Holds i.temporary before n = holds_stay i.temporary before l n t (kept_on (using t c) l m n k kept2).agree (omega arith) h in
-          let r = f n (record { room = kept2.fine.room; few = kept2.fine.few; some = kept2.fine.some }) (holds_more i.temporary before v n old here) in
-          let inner : WithinContext (using (suc t) c) (using t c) = record { size = refl; depth = omega arith; bound = omega arith; some = k.fine.some } in
-          then_reaches p number u at
-          (goes p number u at there is.snd.fst
-          (ap (λ y. resume (if y then Goes (frame p number u is.snd.middle [] n) fs w else faulty w) left) (lt-ltb t (length m.temporaries) less)))
-          (keeping p number u at kept2
-          (record { by = reach_out p number u at (using (suc t) c) (using t c) (At (frame p number u is.snd.middle [] n) fs w left) n (flows p number u q fs) fs (keeps p.greatest call es (before ++ v ∷ []) go w left) inner r.by }))
+      (λ m k v w left. set_run p number u at there {to = flows p number u q fs} c t v is.snd.fst [] m k.fine (omega arith) fs w left (keeps p.greatest call es (before ++ v ∷ []) go w left)
+      (λ n kept here. keeps_run c i es (before ++ v ∷ []) (suc t) (let z = long_more before v in omega arith) (omega arith) fs is.snd.middle b q is.snd.snd go
+      (λ vs e2. rest vs (let z = long_more before v in omega arith)) n (using_fine (suc t) (using t c) n kept.fine)
+      (holds_more i.temporary before v n (holds_stay i.temporary before l n t (kept_on (using t c) l m n k kept).agree (omega arith) h)
+      (subst (λ y. slice_get n.temporaries y ≡ Some (Some v)) e here)) w left))
 
   -- an iteration, from the run of its list
   pub iterate_run : (number_of_group : ℕ) (i : Iteration) (part : Context → Span) (run : Doing Flow) {c : Context} {a b : ℕ}

@@ -9,3 +9,5 @@ pub mod ProgramsSimulate
 pub mod ReachesLemmas
 pub mod StatementsReach
 pub mod StaticsAreSame
+pub mod StorageReaches
+pub mod TemporariesReach

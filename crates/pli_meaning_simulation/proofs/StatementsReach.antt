@@ -12,8 +12,9 @@ use Rattle.pli_meaning_simulation.specs.CodeStands.{Context, deeper, ConditionSt
 use Rattle.pli_meaning_simulation.proofs.ReachesLemmas.{Fine, calm_kept, frame, flows, Reaches, gives, passes, goes_on, goes, begins}
 use Rattle.pli_meaning_simulation.proofs.ExpressionsReach.{CallsRun}
 use Rattle.pli_meaning_simulation.proofs.ControlReaches.{start_of, goto_run}
-use Rattle.pli_meaning_simulation.proofs.FormsReach.{either, Runs, RunsCalm, begin_run, assign_run, copy_run, put_run, allocations_run, freeings_run, call_run, return_run, guarded_run, choice_run, list_run, while_run}
+use Rattle.pli_meaning_simulation.proofs.FormsReach.{either, Runs, RunsCalm, begin_run, assign_run, copy_run, put_run, call_run, return_run, guarded_run, choice_run, list_run, while_run}
 use Rattle.pli_meaning_simulation.proofs.IterationsReach.{iterate_run}
+use Rattle.pli_meaning_simulation.proofs.StorageReaches.{allocations_run, freeings_run}
 
 -- a statement stands where the label that it bears leads
 borne : (at : Label → ℕ) (unit : ℕ) (s : TypedStatement) (k : Label) → bears unit s k ≡ true → at (record { unit = unit; number = number_of s }) ≡ at k
@@ -34,8 +35,8 @@ module _ (p : Program) (number : ℕ) (u : UnitCode) (at : Label → ℕ) (there
     form_run (Assign target e) block n c a b is l fine none fs w left = assign_run p number u at there call calls_run level target e is l fine fs w left
     form_run (AssignAggregate target source) block n c a b is l fine none fs w left = copy_run p number u at there call calls_run level target source is l fine fs w left
     form_run (Put skip items) block n c a b is l fine none fs w left = put_run p number u at there call calls_run level skip items is l fine fs w left
-    form_run (Allocate items) block n c a b is l fine none fs w left = allocations_run p number u at there items is l fine fs w left
-    form_run (Free items) block n c a b is l fine none fs w left = freeings_run p number u at there items is l fine fs w left
+    form_run (Allocate items) block n c a b is l fine none fs w left = allocations_run p number u at there call calls_run items is l fine fs w left
+    form_run (Free items) block n c a b is l fine none fs w left = freeings_run p number u at there call calls_run items is l fine fs w left
     form_run (If e consequence alternative) block n c a b is l fine none fs w left =
         if_run alternative block c a b e consequence is
         (λ x y is l fine fs w left. does_run consequence block c x y is l fine fs w left) l fine fs w left

@@ -13,9 +13,10 @@ use Rattle.pli_operation.specs.declared.operation.Operation.TheVariants.{Add, Wi
 use Rattle.pli_type_tree.specs.Iterations.{kept_by, temporaries_of, limit_number, step_number, is_iterated}
 use Rattle.pli_type_tree.specs.Templates.{Template, variable_of}
 use Rattle.pli_type_tree.specs.TypedTree.{TypedOperation, Fit, Operate, Root, InSlot, OfProgram, NewestOf}
-use Rattle.pli_type_tree.specs.TypedTree.{TypedExpression, Literal, Held, Calculated, Called, Generations}
-use Rattle.pli_type_tree.specs.TypedTree.{TypedReference, AllocatedItem, AllocatesControlled, FreedItem}
-use Rattle.pli_type_tree.specs.TypedTree.{FreesControlled, Allocate, Free}
+use Rattle.pli_type_tree.specs.TypedTree.{Located, TypedExpression, Literal, Held, Calculated, Called}
+use Rattle.pli_type_tree.specs.TypedTree.{Generations, Address, TypedReference, AllocatedItem}
+use Rattle.pli_type_tree.specs.TypedTree.{AllocatesControlled, AllocatesBased, FreedItem, FreesControlled}
+use Rattle.pli_type_tree.specs.TypedTree.{FreesBased, Allocate, Free}
 use Rattle.pli_type_tree.specs.TypedTree.{Whole, Part, Operands, NoOperand, OperandThen, Subscripts}
 use Rattle.pli_type_tree.specs.TypedTree.{NoSubscript, SubscriptThen, TypedArguments, NoArgument, ByPlace}
 use Rattle.pli_type_tree.specs.TypedTree.{ByDummy, BlockHead, TypedStatement, Statement, Form, Null, Assign}
@@ -67,6 +68,11 @@ pub record HasTemporaries (i : Iteration) (c : Context) : Type 0 where
   pub free : c.depth ≤ i.temporary
   pub room : i.temporary + temporaries_of i.range ≤ c.size
 
+-- a temporary is free, and there is room for it
+pub record HasTemporary (temporary : ℕ) (c : Context) : Type 0 where
+  pub free : c.depth ≤ temporary
+  pub room : suc temporary ≤ c.size
+
 -- how many arguments there are
 abbrev pub arguments_in : TypedArguments → ℕ
 arguments_in NoArgument = 0
@@ -109,12 +115,6 @@ module _ (u : UnitCode) where
 
   -- references and expressions
 
-  -- the place at which a reference begins
-  abbrev pub RootStands : Root → Span
-  RootStands (InSlot outward slot) = Is (op.Local outward slot)
-  RootStands (OfProgram number) = Is (op.Global number)
-  RootStands (NewestOf number) = Is (op.Global number)
-
   abbrev mutual
     -- the value of an expression
     pub ValueStands : TypedExpression → Span
@@ -125,11 +125,19 @@ module _ (u : UnitCode) where
     ValueStands (Called callee arguments) =
         Then (ArgumentsStand arguments) (Is (call_of callee (arguments_in arguments)))
     ValueStands (Generations number) = Is (op.CountGenerations number)
+    ValueStands (Address r) = Then (PlaceStands r) (Is op.AddressOf)
 
     -- the values of operands, from left to right
     pub OperandsStand : Operands → Span
     OperandsStand NoOperand = Empty
     OperandsStand (OperandThen e more) = Then (ValueStands e) (OperandsStand more)
+
+    -- the place at which a reference begins
+    pub RootStands : Root → Span
+    RootStands (InSlot outward slot) = Is (op.Local outward slot)
+    RootStands (OfProgram number) = Is (op.Global number)
+    RootStands (NewestOf number) = Is (op.Global number)
+    RootStands (Located e d) = Then (ValueStands e) (Is (op.Based d))
 
     -- the place of a reference
     pub PlaceStands : TypedReference → Span
@@ -164,18 +172,24 @@ module _ (u : UnitCode) where
   SkipStands true = Is op.Skip
   SkipStands false = Empty
 
-  -- an item of ALLOCATE
-  abbrev pub AllocationStands : AllocatedItem → Span
-  AllocationStands (AllocatesControlled number) = Is (op.AllocateControlled number)
+  -- an item of ALLOCATE; a pointer is kept in a temporary till the target's place is known
+  abbrev pub AllocationStands : AllocatedItem → Context → Span
+  AllocationStands (AllocatesControlled number) c = Is (op.AllocateControlled number)
+  AllocationStands (AllocatesBased template temporary target) c =
+      λ p q. HasTemporary temporary c
+      × Then (Is (op.AllocateBased template))
+      (Then (Is (op.SetTemporary temporary))
+      (Then (PlaceStands target) (Then (Is (op.TakeTemporary temporary)) (Is op.Store)))) p q
 
   -- its items
-  abbrev pub AllocationsStand : List AllocatedItem → Span
-  AllocationsStand [] = Empty
-  AllocationsStand (item ∷ items) = Then (AllocationStands item) (AllocationsStand items)
+  abbrev pub AllocationsStand : List AllocatedItem → Context → Span
+  AllocationsStand [] c = Empty
+  AllocationsStand (item ∷ items) c = Then (AllocationStands item c) (AllocationsStand items c)
 
   -- an item of FREE
   abbrev pub FreeingStands : FreedItem → Span
   FreeingStands (FreesControlled number) = Is (op.FreeControlled number)
+  FreeingStands (FreesBased e d) = Then (ValueStands e) (Is (op.FreeBased d))
 
   -- its items
   abbrev pub FreeingsStand : List FreedItem → Span
@@ -314,7 +328,7 @@ module _ (u : UnitCode) where
       FormStands block number (AssignAggregate target source) c =
           Then (PlaceStands target) (Then (PlaceStands source) (Is op.Copy))
       FormStands block number (Put skip items) c = Then (SkipStands skip) (ItemsStand items)
-      FormStands block number (Allocate items) c = AllocationsStand items
+      FormStands block number (Allocate items) c = AllocationsStand items c
       FormStands block number (Free items) c = FreeingsStand items
       FormStands block number (If e consequence alternative) c =
           IfStands block (ConditionStands e) (StatementStands block consequence c) alternative c

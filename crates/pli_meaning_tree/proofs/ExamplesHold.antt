@@ -3,6 +3,7 @@ use Rattle.std.specs.Prelude.{refl}
 use Rattle.std.specs.Fmt.{digits}
 use Rattle.pli_operation.specs.Operations.{calculated}
 use Rattle.pli_world.specs.World.{nothing, made_of, parts_held, parts_stored, held, stored, copied, entered, left_by, cleared, at_statement, stepped, height_of, slot_place, static_place, dummy_of, printed, line_ended, error_at}
+use Rattle.pli_world.specs.Locating.{located, based, based_allocated, based_freed, addressed, place_by, freed_by, pointer_made, address_of}
 use Rattle.pli_world.specs.Stacks.{stacked, unstacked, counted, stack_named, generation_stacked, generation_unstacked, generations_counted}
 use Rattle.pli_meaning_tree.specs.examples.TreeExamples as example
 
@@ -113,3 +114,19 @@ newest_is_meant = refl
 pub none_is_left : example.NoneIsLeft
 unfolding calculated nothing made_of parts_held parts_stored held stored entered left_by at_statement stepped static_place stacked unstacked counted stack_named generation_stacked generation_unstacked generations_counted printed line_ended error_at digits
 none_is_left = (refl, refl, refl)
+
+pub list_is_linked : example.ListIsLinked
+unfolding calculated nothing made_of parts_held parts_stored held stored entered left_by at_statement stepped height_of slot_place located based based_allocated based_freed addressed place_by freed_by pointer_made address_of printed error_at digits
+list_is_linked = refl
+
+pub address_is_meant : example.AddressIsMeant
+unfolding calculated nothing made_of parts_held parts_stored held stored entered left_by at_statement stepped height_of slot_place located based based_allocated based_freed addressed place_by freed_by pointer_made address_of printed error_at digits
+address_is_meant = refl
+
+pub leads_nowhere : example.LeadsNowhere
+unfolding calculated nothing made_of parts_held parts_stored held stored entered left_by at_statement stepped height_of slot_place located based based_allocated based_freed addressed place_by freed_by pointer_made address_of printed error_at digits
+leads_nowhere = (refl, refl, refl)
+
+pub is_not_freed : example.IsNotFreed
+unfolding calculated nothing made_of parts_held parts_stored held stored entered left_by at_statement stepped height_of slot_place located based based_allocated based_freed addressed place_by freed_by pointer_made address_of printed error_at digits
+is_not_freed = (refl, refl, refl)

@@ -15,18 +15,20 @@ use Rattle.pli_world.specs.Storage.{Place}
 use Rattle.pli_world.specs.World.{Standing, World, Answer, Yields, known, further, nothing, height, held}
 use Rattle.pli_world.specs.World.{stored, copied, led_on, subscripted, calculation, entered, height_of}
 use Rattle.pli_world.specs.World.{slot_place, static_place, dummy_of, printed, line_ended, statics_made}
+use Rattle.pli_world.specs.Locating.{place_by, freed_by, pointer_made, address_of}
 use Rattle.pli_world.specs.Stacks.{generation_stacked, generation_unstacked, generations_counted}
 use Rattle.pli_base.specs.Words.{same_name}
 use Rattle.pli_type_tree.specs.Globals.{global_variable}
 use Rattle.pli_type_tree.specs.Iterations.{kept_by, limit_number, step_number, is_iterated}
 use Rattle.pli_type_tree.specs.Templates.{variable_of}
 use Rattle.pli_type_tree.specs.TypedOperations.{comes_to}
-use Rattle.pli_type_tree.specs.TypedTree.{TypedOperation, Root, InSlot, OfProgram, NewestOf, TypedExpression}
-use Rattle.pli_type_tree.specs.TypedTree.{Literal, Held, Calculated, Called, Generations, TypedReference}
-use Rattle.pli_type_tree.specs.TypedTree.{Whole, Part, Operands}
+use Rattle.pli_type_tree.specs.TypedTree.{TypedOperation, Root, InSlot, OfProgram, NewestOf, Located}
+use Rattle.pli_type_tree.specs.TypedTree.{TypedExpression, Literal, Held, Calculated, Called, Generations}
+use Rattle.pli_type_tree.specs.TypedTree.{Address, TypedReference, Whole, Part, Operands}
 use Rattle.pli_type_tree.specs.TypedTree.{NoOperand, OperandThen, Subscripts, NoSubscript, SubscriptThen}
 use Rattle.pli_type_tree.specs.TypedTree.{TypedArguments, NoArgument, ByPlace, ByDummy, BlockHead}
-use Rattle.pli_type_tree.specs.TypedTree.{AllocatedItem, AllocatesControlled, FreedItem, FreesControlled}
+use Rattle.pli_type_tree.specs.TypedTree.{AllocatedItem, AllocatesControlled, AllocatesBased, FreedItem}
+use Rattle.pli_type_tree.specs.TypedTree.{FreesControlled, FreesBased}
 use Rattle.pli_type_tree.specs.TypedTree.{TypedStatement, Statement, Form, Null, Assign, AssignAggregate, Put}
 use Rattle.pli_type_tree.specs.TypedTree.{Allocate, Free, If, Begin, Group, While, Iterate, TypedRange}
 use Rattle.pli_type_tree.specs.TypedTree.{Once, ToBy, ByTo}
@@ -67,12 +69,6 @@ abbrev pub in_order : {A : Type 0} → (last_first behind : List A) → List A
 in_order [] behind = behind
 in_order (x ∷ xs) behind = in_order xs (x ∷ behind)
 
--- the place where a reference begins
-abbrev pub root_place : Root → Doing Place
-root_place (InSlot outward slot) w left = answered (slot_place outward slot w) left
-root_place (OfProgram number) w left = answered (static_place number w) left
-root_place (NewestOf number) w left = answered (static_place number w) left
-
 -- a subscript is a number, tested against its bounds
 abbrev pub element_of : (low high : ℤ) (multiplier : ℕ) → Place → Value → Doing Place
 element_of low high multiplier p (Number x) w left =
@@ -95,6 +91,8 @@ module _ (greatest : ℕ) (call : Calls) where
     value_of (Calculated operation operands) w left = operated operation operands [] w left
     value_of (Called callee arguments) w left = and_then (called_with callee arguments [] w left) a_value
     value_of (Generations number) w left = answered (generations_counted number w) left
+    value_of (Address r) w left =
+        and_then (place_of r w left) (λ p w left. answered (address_of p w) left)
 
     -- an operation on its operands, which are evaluated from left to right; those before, the last first
     pub operated : TypedOperation → Operands → (before : List Value) → Doing Value
@@ -102,6 +100,14 @@ module _ (greatest : ℕ) (call : Calls) where
         answered (calculation (comes_to greatest operation (in_order before [])) w) left
     operated operation (OperandThen e more) before w left =
         and_then (value_of e w left) (λ v w left. operated operation more (v ∷ before) w left)
+
+    -- the place where a reference begins; of a BASED variable its locator is evaluated for that
+    pub root_place : Root → Doing Place
+    root_place (InSlot outward slot) w left = answered (slot_place outward slot w) left
+    root_place (OfProgram number) w left = answered (static_place number w) left
+    root_place (NewestOf number) w left = answered (static_place number w) left
+    root_place (Located e description) w left =
+        and_then (value_of e w left) (λ v w left. answered (place_by description v w) left)
 
     -- the place of a reference: that of its variable, then the part, then a subscript after the other
     pub place_of : TypedReference → Doing Place
@@ -240,30 +246,39 @@ module _ (greatest : ℕ) (call : Calls) where
       (turned (is_iterated i.range) level (may_turn i vs) (as_statement number list)
       (back_at number (advances i.range i vs)))) w left
 
+  -- an item of ALLOCATE: a generation more of a CONTROLLED variable; or one of a BASED variable, and then the
+  -- pointer to it is put at the target's place
+  abbrev pub allocates_item : AllocatedItem → Doing Flow
+  allocates_item (AllocatesControlled number) w left =
+      and_then (answered (generation_stacked number w) left) (λ _ w left. Gives Next w left)
+  allocates_item (AllocatesBased template temporary target) w left =
+      and_then (answered (pointer_made (variable_of template) w) left)
+      (λ v w left. and_then (place_of target w left)
+      (λ p w left. and_then (answered (stored p v w) left) (λ _ w left. Gives Next w left)))
+
+  -- its items, one after the other
+  abbrev pub allocates : List AllocatedItem → Doing Flow
+  allocates [] w left = Gives Next w left
+  allocates (item ∷ items) w left = followed (allocates_item item w left) (allocates items)
+
+  -- an item of FREE: the newest generation of a CONTROLLED variable ends, or the one of a BASED variable to
+  -- which a locator leads
+  abbrev pub frees_item : FreedItem → Doing Flow
+  frees_item (FreesControlled number) w left =
+      and_then (answered (generation_unstacked number w) left) (λ _ w left. Gives Next w left)
+  frees_item (FreesBased e description) w left =
+      and_then (value_of e w left)
+      (λ v w left. and_then (answered (freed_by description v w) left) (λ _ w left. Gives Next w left))
+
+  -- its items, one after the other
+  abbrev pub frees : List FreedItem → Doing Flow
+  frees [] w left = Gives Next w left
+  frees (item ∷ items) w left = followed (frees_item item w left) (frees items)
+
   -- RETURN with a value
   abbrev pub returns_value : (outward : ℕ) → TypedExpression → Doing Flow
   returns_value outward e w left =
       and_then (value_of e w left) (λ v w left. Gives (Returned outward (Some v)) w left)
-
--- an item of ALLOCATE: a generation more of a CONTROLLED variable
-abbrev pub allocates_item : AllocatedItem → Doing Flow
-allocates_item (AllocatesControlled number) w left =
-    and_then (answered (generation_stacked number w) left) (λ _ w left. Gives Next w left)
-
--- its items, one after the other
-abbrev pub allocates : List AllocatedItem → Doing Flow
-allocates [] w left = Gives Next w left
-allocates (item ∷ items) w left = followed (allocates_item item w left) (allocates items)
-
--- an item of FREE: the newest generation of a CONTROLLED variable ends
-abbrev pub frees_item : FreedItem → Doing Flow
-frees_item (FreesControlled number) w left =
-    and_then (answered (generation_unstacked number w) left) (λ _ w left. Gives Next w left)
-
--- its items, one after the other
-abbrev pub frees : List FreedItem → Doing Flow
-frees [] w left = Gives Next w left
-frees (item ∷ items) w left = followed (frees_item item w left) (frees items)
 
 -- a jump to a label of the activation so many static links outward
 abbrev pub jumps_to : (outward : ℕ) → Label → Doing Flow
@@ -333,8 +348,8 @@ module _ (greatest : ℕ) (call : Calls) (unit level : ℕ) where
         assigns_aggregate greatest call target source w left
     does_form block number (Put skip items) w left =
         skips greatest call skip (puts greatest call items) w left
-    does_form block number (Allocate items) w left = allocates items w left
-    does_form block number (Free items) w left = frees items w left
+    does_form block number (Allocate items) w left = allocates greatest call items w left
+    does_form block number (Free items) w left = frees greatest call items w left
     does_form block number (If e consequence alternative) w left =
         and_then (condition greatest call e w left)
         (λ b w left. chosen b (does block consequence) (does_else block alternative) w left)

@@ -8,11 +8,12 @@ ghost use Rattle.pli_meaning_tree.specs.examples.TreeExamples.{TurnsAreSteps, No
 ghost use Rattle.pli_meaning_tree.specs.examples.TreeExamples.{StepMayBeNegative, StepOverflows};
 ghost use Rattle.pli_meaning_tree.specs.examples.TreeExamples.{VariableIsLookedAtAnew, RepeatGoesOn};
 ghost use Rattle.pli_meaning_tree.specs.examples.TreeExamples.{UnitsShare, UnitFails, NewestIsMeant, NoneIsLeft};
+ghost use Rattle.pli_meaning_tree.specs.examples.TreeExamples.{ListIsLinked, AddressIsMeant, LeadsNowhere, IsNotFreed};
 
 /// What programs give with so many steps: loops of all forms, IF, an element out of bounds, an aggregate copied, bits
 /// printed, functions that call themselves, an argument changed by the procedure, GOTO out of blocks and calls, labels of
 /// units, RETURN, STOP, a call of another unit's procedure and a variable that both units have, the generations of a
-/// CONTROLLED variable.
+/// CONTROLLED variable, a list linked by pointers, and pointers that lead nowhere.
 pub fn worked_examples()
     ensures loop_ends { LoopEnds }
     ensures loop_stops { LoopStops }
@@ -41,4 +42,8 @@ pub fn worked_examples()
     ensures unit_fails { UnitFails }
     ensures newest_is_meant { NewestIsMeant }
     ensures none_is_left { NoneIsLeft }
+    ensures list_is_linked { ListIsLinked }
+    ensures address_is_meant { AddressIsMeant }
+    ensures leads_nowhere { LeadsNowhere }
+    ensures is_not_freed { IsNotFreed }
 {}

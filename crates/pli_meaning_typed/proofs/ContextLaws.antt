@@ -16,7 +16,7 @@ use Rattle.pli_type_tree.specs.Globals.{described_as}
 use Rattle.pli_type_tree.specs.TypedTree.{Global, TypedUnit}
 use Rattle.pli_type_tree.specs.WellTyped.{BlockAround, AreAround, blocks_from, with_labels}
 use Rattle.pli_meaning_tree.specs.Effects.{Label}
-use Rattle.pli_meaning_typed.specs.SoundWorlds.{IsGood, AreGood, Shape, AreShaped, EachGood, StandsGood, IsSound, IsLater, Answers}
+use Rattle.pli_meaning_typed.specs.SoundWorlds.{IsGood, IsWhole, IsOwn, AreSlots, Shape, AreShaped, EachGood, StandsGood, IsSound, IsLater, Answers}
 use Rattle.pli_meaning_typed.proofs.WorldLaws.{later_same, error_named}
 
 -- which labels of which activations, by their height, a jump may lead to
@@ -35,7 +35,7 @@ Stand unit known [] h (b ∷ bs) = ⊥
 Stand unit known (s ∷ older) h [] = Unit {0}
 Stand unit known (s ∷ older) h (b ∷ bs) =
     ((h ≤ length older) × Stand unit known older h (b ∷ bs))
-    ⊎ ((h ≡ suc (length older)) × (s.block ≡ b.number) × (s.slots ≡ b.slots) × AreKnown unit known h b.labels
+    ⊎ ((h ≡ suc (length older)) × (s.block ≡ b.number) × ((s.parameters ≡ b.parameters) × (s.slots ≡ b.slots)) × AreKnown unit known h b.labels
     × Stand unit known older s.link bs × (s.unit ≡ unit))
 
 none_some : {A : Type 0} {x : A} → None ≡ Some x → ⊥
@@ -64,7 +64,7 @@ pub record Found (unit : ℕ) (known : Known) (w : World) (stack : List Activati
   pub activation : Activation
   pub walked : outward_from stack from outward ≡ Some height
   pub there : activation_at stack height ≡ Some activation
-  pub good : AreGood w b.slots activation.slots
+  pub good : AreSlots w b.slots activation.slots b.parameters
   pub labels : AreKnown unit known height b.labels
   pub below : height ≤ length stack
 
@@ -123,7 +123,8 @@ module _ (unit : ℕ) (known : Known) (w : World) where
         activation = a;
         walked = ap (λ t. if t then Some h else outward_from older h zero) (eq-eqb h (suc (length older)) top);
         there = ap (λ t. if t then Some a else activation_at older h) (eq-eqb h (suc (length older)) top);
-        good = subst (λ c. AreGood w c.slots a.slots) same (subst (λ ds. AreGood w ds a.slots) stand.2 shaped.3);
+        good = subst (λ c. AreSlots w c.slots a.slots c.parameters) same
+            (subst (λ n. AreSlots w c.slots a.slots n) stand.2.0 (subst (λ ds. AreSlots w ds a.slots s.parameters) stand.2.1 shaped.3));
         labels = subst (λ c. AreKnown unit known h c.labels) same stand.3;
         below = omega (arith, top);
       }
@@ -217,7 +218,7 @@ stand_around unit known (s ∷ ss) h (b ∷ bs) [] same stand = absurd same
 stand_around unit known (s ∷ ss) h (b ∷ bs) (c ∷ cs) same (inl stand) =
     inl (stand.0, stand_around unit known ss h (b ∷ bs) (c ∷ cs) same stand.1)
 stand_around unit known (s ∷ ss) h (b ∷ bs) (c ∷ cs) same (inr stand) =
-    inr (stand.0, stand.1 ∙ same.0, stand.2 ∙ same.1, λ l k. stand.3 l (same.2 l k), stand_around unit known ss s.link bs cs same.3 stand.4, stand.5)
+    inr (stand.0, stand.1 ∙ same.0, (stand.2.0 ∙ same.1.0, stand.2.1 ∙ same.1.1), λ l k. stand.3 l (same.2 l k), stand_around unit known ss s.link bs cs same.3 stand.4, stand.5)
 
 -- labels more
 abbrev pub Wider : Known → Known → Type 0
@@ -258,12 +259,19 @@ stand_labels unit known more labels (s ∷ ss) h (b ∷ bs) wide new (inr stand)
     by n (inr k) = wide h (record { unit = unit; number = n }) (stand.3 n k)
 
 -- the operations that walk
-good_at : (w : World) (ds : List Description) (ps : List Place) (n : ℕ) (d : Description) → AreGood w ds ps → slice_get ds n ≡ Some d
-    → (p : Place) × (slice_get ps n ≡ Some p) × IsGood w d p
-good_at w [] ps n d good e = absurd (none_some e)
-good_at w (c ∷ ds) [] n d good e = absurd good
-good_at w (c ∷ ds) (p ∷ ps) zero d good e = (p, refl, subst (λ c. IsGood w c p) (some_same e) good.0)
-good_at w (c ∷ ds) (p ∷ ps) (suc n) d good e = good_at w ds ps n d good.1 e
+abbrev AtSlot : World → List Place → (parameters slot : ℕ) → Description → Type 0
+AtSlot w ps k n d = (p : Place) × (slice_get ps n ≡ Some p) × IsGood w d p × (k ≤ n → IsWhole w p)
+
+good_at : (w : World) (ds : List Description) (ps : List Place) (k n : ℕ) (d : Description) → AreSlots w ds ps k → slice_get ds n ≡ Some d
+    → AtSlot w ps k n d
+good_at w [] ps k n d good e = absurd (none_some e)
+good_at w (c ∷ ds) [] k n d good e = absurd good
+good_at w (c ∷ ds) (p ∷ ps) zero zero d good e = (p, refl, subst (λ c. IsGood w c p) (some_same e) good.0.0, λ le. good.0.1)
+good_at w (c ∷ ds) (p ∷ ps) (suc k) zero d good e = (p, refl, subst (λ c. IsGood w c p) (some_same e) good.0, λ le. absurd (omega (arith, le)))
+good_at w (c ∷ ds) (p ∷ ps) zero (suc n) d good e =
+    let r = good_at w ds ps zero n d good.1 e in (r.0, r.1, r.2, λ le. r.3 (omega arith))
+good_at w (c ∷ ds) (p ∷ ps) (suc k) (suc n) d good e =
+    let r = good_at w ds ps k n d good.1 e in (r.0, r.1, r.2, λ le. r.3 (omega (arith, le)))
 
 module _ (unit : ℕ) (units : List TypedUnit) (known : Known) (ss : List Shape) (blocks : List BlockAround) where
   walked_to : (w : World) (outward : ℕ) (b : BlockAround) → IsSound units ss w → Stand unit known ss (length ss) blocks
@@ -280,15 +288,16 @@ module _ (unit : ℕ) (units : List TypedUnit) (known : Known) (ss : List Shape)
 
   pub slot_there : (w : World) (outward slot : ℕ) (b : BlockAround) (d : Description) → IsSound units ss w
       → Stand unit known ss (length ss) blocks → slice_get blocks outward ≡ Some b → slice_get b.slots slot ≡ Some d
-      → (p : Place) × (slot_place outward slot w ≡ Yields p w) × IsGood w d p
+      → (p : Place) × (slot_place outward slot w ≡ Yields p w) × IsGood w d p × (b.parameters ≤ slot → IsWhole w p)
   unfolding slot_place height_of
   slot_there w outward slot b d sound stand e g =
       let f = walked_to w outward b sound stand e in
-      let p = good_at w b.slots f.activation.slots slot d f.good g in (
+      let p = good_at w b.slots f.activation.slots b.parameters slot d f.good g in (
         p.0,
         ap (λ o. further (there_is o w) (λ h w. slot_in (activation_at w.activations h) slot w)) f.walked
             ∙ ap (λ o. slot_in o slot w) f.there ∙ ap (λ o. there_is o w) p.1,
         p.2,
+        p.3,
       )
 
 pub first_unit : (w : World) (s : Shape) (ss : List Shape) (stack : List Activation) → AreShaped w (s ∷ ss) stack
@@ -311,7 +320,7 @@ static_there units unit globals ss w number kind d own sound e =
 
 pub static_answers : (units : List TypedUnit) (unit : ℕ) (globals : List Global) (s : Shape) (ss : List Shape) (w : World) (number : ℕ) (kind : VariableKind) (d : Description)
     → IsUnit units unit globals → s.unit ≡ unit → IsSound units (s ∷ ss) w → described_as kind (slice_get globals number) ≡ Some d
-    → Answers units (λ p v. IsGood v d p × IsSound units (s ∷ ss) v × IsLater w v) (static_place number w)
+    → Answers units (λ p v. IsOwn v d p × IsSound units (s ∷ ss) v × IsLater w v) (static_place number w)
 unfolding static_place
 static_answers units unit globals s ss w number kind d own top sound e =
     let t = static_there units unit globals (s ∷ ss) w number kind d own sound e in
@@ -321,7 +330,7 @@ static_answers units unit globals s ss w number kind d own top sound e =
     (placed kind t.0 t.2)
   where
     Good : Place → World → Type 0
-    Good p v = IsGood v d p × IsSound units (s ∷ ss) v × IsLater w v
+    Good p v = IsOwn v d p × IsSound units (s ∷ ss) v × IsLater w v
 
     newest : (ps : List Place) → EachGood w d ps → Answers units Good (newest_in ps w)
     newest [] good = error_named units s ss w NoGeneration sound

@@ -3,15 +3,16 @@ use Rattle.std.specs.Prelude.{◌≡◌, ℕ, zero, suc, nat_eq, Bool, true, fal
 use Rattle.std.proofs.Common.{arith, sym, ap, ◌∙◌, subst, inl}
 use Rattle.std.proofs.lemmas.Bool.{eqb-true, leb-true}
 use Rattle.pli_base.specs.Name.{Name}
+use Rattle.pli_map.specs.Description.{Pointer}
 use Rattle.pli_type_tree.specs.Templates.{Template}
 use Rattle.pli_program.specs.declared.kind.VariableKind.{VariableKind}
 use Rattle.pli_program.specs.declared.kind.VariableKind.TheVariants.{Static}
 use Rattle.pli_type_tree.specs.TypedTree.{Fit, TypedProcedure, TypedUnit, Held, Signature, Global, ExternalVariable, EntryPoint}
-use Rattle.pli_type_tree.specs.ValueTypes.{OfCharacters, OfBits, Numbers}
-use Rattle.pli_type_tree.specs.WellTyped.{KnownProcedure, TypingContext, IsTyped, IsString, IsValueFor, Convert, AreTypedStatements}
+use Rattle.pli_type_tree.specs.ValueTypes.{OfCharacters, OfBits, Numbers, Pointers}
+use Rattle.pli_type_tree.specs.WellTyped.{KnownProcedure, TypingContext, IsTyped, IsPlaced, IsString, IsValueFor, Convert, AreTypedStatements}
 use Rattle.pli_meaning_tree.specs.TreeMeaning.{procedure_in, unit_named}
 use Rattle.pli_meaning_typed.specs.TypedPrograms.{context_in, IsTypedProcedure, IsTypedUnit}
-use Rattle.pli_meaning_typed.specs.examples.TypedExamples.{number, counter, one_more, few, counting, returning, caller, successor, of_caller, of_successor, signatures, ExampleIsWellTyped, GroupsAreWellTyped, plain, StackIsWellTyped, shared, numeric, asker, answerer, asking_unit, answering_unit, UnitsAreWellTyped}
+use Rattle.pli_meaning_typed.specs.examples.TypedExamples.{number, counter, one_more, few, counting, returning, caller, successor, of_caller, of_successor, signatures, ExampleIsWellTyped, GroupsAreWellTyped, plain, StackIsWellTyped, pointing, pointer, pointed, PointersAreWellTyped, shared, numeric, asker, answerer, asking_unit, answering_unit, UnitsAreWellTyped}
 
 abbrev in_caller : TypingContext
 in_caller = context_in [] signatures of_caller caller
@@ -77,7 +78,7 @@ caller_typed = (
       (
         number ∷ [],
         number,
-        (of_successor, refl, (of_successor.around, refl, (refl, refl, λ l h. h, tt)), refl, refl),
+        (of_successor, refl, (of_successor.around, refl, (refl, (refl, refl), λ l h. h, tt)), refl, refl),
         (number, [], refl, refl, refl),
         refl,
       ),
@@ -180,6 +181,25 @@ groups_are = (
 -- a CONTROLLED variable
 pub stack_is : StackIsWellTyped
 stack_is = ((refl, tt), ((number, refl, (Numbers 15, (refl, refl), (Numbers 31, refl, omega arith))), ((refl, tt), tt)))
+
+-- a BASED variable, where a POINTER leads
+pointer_held : IsTyped 31 (context_in (pointing ∷ []) signatures of_caller caller) (Held pointer) Pointers
+pointer_held = (Pointer, refl, refl)
+
+pointed_placed : IsPlaced 31 (context_in (pointing ∷ []) signatures of_caller caller) pointed number
+pointed_placed = (refl, pointer_held)
+
+pub pointers_are : PointersAreWellTyped
+pointers_are = (
+  (((leb-true 4 1000000 refl, (refl, tt)), refl), tt),
+  (
+    (number, pointed_placed, (Numbers 31, (number, pointed_placed, refl), (Numbers 31, refl, omega arith))),
+    (
+      (Pointer, refl, (Pointers, ((tt, (number, pointed_placed)), refl), (Pointers, refl, tt))),
+      ((pointer_held, tt), tt),
+    ),
+  ),
+)
 
 -- a program of two units
 abbrev known_asker : KnownProcedure

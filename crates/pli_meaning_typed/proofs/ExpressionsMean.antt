@@ -6,32 +6,34 @@ use Rattle.std.proofs.lemmas.Bool.{eqb-true, eq-eqb}
 use Rattle.std.proofs.lemmas.Int.{ints}
 use Rattle.std.proofs.Common.{pow_mono, lt_of_lt_of_le}
 use Rattle.pli_run.specs.declared.ending.RunError.TheVariants.{SubscriptRange, FixedOverflow, ZeroDivide, StringRange}
-use Rattle.pli_map.specs.Description.{Description, FixedBinary, Character, Varying, Bit}
+use Rattle.pli_map.specs.Description.{Description, FixedBinary, Character, Varying, Bit, Pointer}
 use Rattle.pli_map.specs.Scalars.{first_scalar, is_scalar}
 use Rattle.pli_operation.specs.Operations.{Calculation, Calculates, RaisesCondition, OutOfString, Misfits}
 use Rattle.pli_world.specs.Storage.{Generation, Place, field_of, generation_in, offset_limit}
 use Rattle.pli_map.specs.Values.{holds}
 use Rattle.pli_world.specs.World.{World, Answer, Yields, Raises, Wrong, held, led_on, slot_place, static_place, calculation, dummy_of}
+use Rattle.pli_world.specs.Locating.{place_by, address_of}
 use Rattle.pli_world.specs.Stacks.{generations_counted}
 use Rattle.pli_world.specs.laws.OperationLaws.{led_near}
-use Rattle.pli_value.specs.Value.{Value, Number, Characters, Bits}
+use Rattle.pli_value.specs.Value.{Value, Number, Characters, Bits, Located as Locates}
 use Rattle.pli_value.specs.declared.number.Raised.TheVariants as raised
 use Rattle.pli_program.specs.declared.kind.VariableKind.TheVariants.{Static, Controlled}
 use Rattle.pli_type_tree.specs.TypedOperations.{comes_to}
-use Rattle.pli_type_tree.specs.TypedTree.{TypedOperation, Root, InSlot, OfProgram, NewestOf, Callee, Global, TypedUnit, Stride, TypedExpression, Literal, Held, Calculated, Called, Generations, TypedReference}
+use Rattle.pli_type_tree.specs.TypedTree.{TypedOperation, Root, InSlot, OfProgram, NewestOf, Located, Callee, Global, TypedUnit, Stride, TypedExpression, Literal, Held, Calculated, Called, Generations, Address, TypedReference}
 use Rattle.pli_type_tree.specs.TypedTree.{Whole, Part, Operands, NoOperand, OperandThen, Subscripts, NoSubscript, SubscriptThen}
 use Rattle.pli_type_tree.specs.TypedTree.{TypedArguments, NoArgument, ByPlace, ByDummy}
-use Rattle.pli_type_tree.specs.ValueTypes.{OfCharacters, OfBits, ValueType, Numbers, Strings, type_held, count_precision, IsOf, AreOf, IsWithin, IsHeldBy, Operates}
-use Rattle.pli_type_tree.specs.WellTyped.{BlockAround, KnownProcedure, TypingContext, slot_of, root_of, LeadTo, IsCallee, IsTyped, IsPlaced, AreTyped}
+use Rattle.pli_type_tree.specs.ValueTypes.{OfCharacters, OfBits, ValueType, Numbers, Strings, Pointers, type_held, count_precision, IsOf, AreOf, IsWithin, IsHeldBy, Operates}
+use Rattle.pli_type_tree.specs.WellTyped.{BlockAround, KnownProcedure, TypingContext, slot_of, parameters_in, BeginsWhole, LeadTo, IsCallee, IsTyped, IsRooted, IsAddressed, IsPlaced, AreTyped}
 use Rattle.pli_map.specs.Scalars.{scalars_of}
 use Rattle.pli_type_tree.specs.WellTyped.{AreSubscripts, ArePassed}
 use Rattle.pli_meaning_tree.specs.Effects.{Effect, Doing, and_then, answered}
 use Rattle.pli_meaning_tree.specs.TreeMeaning.{Calls, a_value, in_order, root_place, element_of, value_of, operated, place_of, element_at, called_with}
-use Rattle.pli_meaning_typed.specs.SoundWorlds.{IsPartAt, IsNear, IsGood, AreGood, Shape, IsSound, IsLater, Answers}
-use Rattle.pli_meaning_typed.proofs.MeansLemmas.{IsBelow, Means, then_means, answer_means}
+use Rattle.pli_meaning_typed.specs.SoundWorlds.{IsPartAt, IsNear, IsGood, AreGood, IsWhole, IsOwn, Shape, IsSound, IsLater, Answers}
+use Rattle.pli_meaning_typed.proofs.MeansLemmas.{IsBelow, Means, means_as, then_means, answer_means}
 use Rattle.pli_meaning_typed.proofs.OperationsFit.{IsCalculated, operated_fits}
 use Rattle.pli_meaning_typed.proofs.PartsWithin.{parts_within}
 use Rattle.pli_meaning_typed.proofs.ContextLaws.{IsUnit, Known, Stand, slot_there, static_answers}
+use Rattle.pli_meaning_typed.proofs.PointerLaws.{place_answers, address_answers}
 use Rattle.pli_meaning_typed.proofs.StackLaws.{counted_answers}
 use Rattle.pli_meaning_typed.proofs.WorldLaws.{later_same, later_then, goods_later, error_named, held_answers, dummy_answers}
 
@@ -53,6 +55,7 @@ held_is_of (Varying n) t (Characters s) e h =
     subst (λ t. IsOf t (Characters s)) (some_same e) (s, refl, omega arith, leb-true (length s) n h)
 held_is_of (Bit n) t (Bits s) e h =
     let l = equal_lengths (length s) n h in subst (λ t. IsOf t (Bits s)) (some_same e) (s, refl, l.0, l.1)
+held_is_of Pointer t (Locates l) e h = subst (λ t. IsOf t (Locates l)) (some_same e) (l, refl, h)
 held_is_of d t v e h = absurd (cc)
 
 -- and a value of a narrower type is held
@@ -65,24 +68,34 @@ narrow_in (FixedBinary p) (Strings OfCharacters a b) wide v e le is =
     absurd (subst (λ u. IsWithin (Strings OfCharacters a b) u) (sym (some_same e)) le)
 narrow_in (FixedBinary p) (Strings OfBits a b) wide v e le is =
     absurd (subst (λ u. IsWithin (Strings OfBits a b) u) (sym (some_same e)) le)
+narrow_in (FixedBinary p) Pointers wide v e le is = absurd (subst (λ u. IsWithin Pointers u) (sym (some_same e)) le)
 narrow_in (Character n) (Numbers q) wide v e le is = absurd (subst (λ u. IsWithin (Numbers q) u) (sym (some_same e)) le)
 narrow_in (Character n) (Strings OfCharacters a b) wide v e le is =
     let l : (n ≤ a) × (b ≤ n) = subst (λ u. IsWithin (Strings OfCharacters a b) u) (sym (some_same e)) le in
     subst (λ v. IsTrue (holds (Character n) v)) (sym is.1) (eq-eqb (length is.0) n (omega (arith, is.2, is.3, l.0, l.1)))
 narrow_in (Character n) (Strings OfBits a b) wide v e le is =
     absurd (subst (λ u. IsWithin (Strings OfBits a b) u) (sym (some_same e)) le)
+narrow_in (Character n) Pointers wide v e le is = absurd (subst (λ u. IsWithin Pointers u) (sym (some_same e)) le)
 narrow_in (Varying n) (Numbers q) wide v e le is = absurd (subst (λ u. IsWithin (Numbers q) u) (sym (some_same e)) le)
 narrow_in (Varying n) (Strings OfCharacters a b) wide v e le is =
     let l : (0 ≤ a) × (b ≤ n) = subst (λ u. IsWithin (Strings OfCharacters a b) u) (sym (some_same e)) le in
     subst (λ v. IsTrue (holds (Varying n) v)) (sym is.1) (le-leb (length is.0) n (omega (arith, is.3, l.1)))
 narrow_in (Varying n) (Strings OfBits a b) wide v e le is =
     absurd (subst (λ u. IsWithin (Strings OfBits a b) u) (sym (some_same e)) le)
+narrow_in (Varying n) Pointers wide v e le is = absurd (subst (λ u. IsWithin Pointers u) (sym (some_same e)) le)
 narrow_in (Bit n) (Numbers q) wide v e le is = absurd (subst (λ u. IsWithin (Numbers q) u) (sym (some_same e)) le)
 narrow_in (Bit n) (Strings OfCharacters a b) wide v e le is =
     absurd (subst (λ u. IsWithin (Strings OfCharacters a b) u) (sym (some_same e)) le)
 narrow_in (Bit n) (Strings OfBits a b) wide v e le is =
     let l : (n ≤ a) × (b ≤ n) = subst (λ u. IsWithin (Strings OfBits a b) u) (sym (some_same e)) le in
     subst (λ v. IsTrue (holds (Bit n) v)) (sym is.1) (eq-eqb (length is.0) n (omega (arith, is.2, is.3, l.0, l.1)))
+narrow_in (Bit n) Pointers wide v e le is = absurd (subst (λ u. IsWithin Pointers u) (sym (some_same e)) le)
+narrow_in Pointer (Numbers q) wide v e le is = absurd (subst (λ u. IsWithin (Numbers q) u) (sym (some_same e)) le)
+narrow_in Pointer (Strings OfCharacters a b) wide v e le is =
+    absurd (subst (λ u. IsWithin (Strings OfCharacters a b) u) (sym (some_same e)) le)
+narrow_in Pointer (Strings OfBits a b) wide v e le is =
+    absurd (subst (λ u. IsWithin (Strings OfBits a b) u) (sym (some_same e)) le)
+narrow_in Pointer Pointers wide v e le is = subst (λ v. IsTrue (holds Pointer v)) (sym is.1) is.2
 narrow_in d t wide v e le is = absurd (none_some e)
 
 pub narrow_held : (d : Description) (t : ValueType) (v : Value) → IsHeldBy d t → IsOf t v → IsTrue (holds d v)
@@ -94,6 +107,7 @@ one_scalar (FixedBinary p) t e = (refl, refl)
 one_scalar (Character n) t e = (refl, refl)
 one_scalar (Varying n) t e = (refl, refl)
 one_scalar (Bit n) t e = (refl, refl)
+one_scalar Pointer t e = (refl, refl)
 one_scalar d t e = absurd (none_some e)
 
 -- the value of a function, or none
@@ -108,6 +122,12 @@ OfType t v w = IsOf t v
 
 abbrev pub AtPlace : Description → Place → World → Type 0
 AtPlace d p w = IsGood w d p
+
+abbrev OwnPlace : Description → Place → World → Type 0
+OwnPlace d p w = IsOwn w d p
+
+abbrev WholePlace : Place → World → Type 0
+WholePlace p w = (d : Description) × IsOwn w d p
 
 abbrev pub Gives : Option Description → Option Value → World → Type 0
 Gives d v w = IsReturned d v
@@ -230,20 +250,21 @@ module _ (units : List TypedUnit) (greatest level : ℕ) (call : Calls) (unit : 
   then_here P Q left u o go h f =
       then_means units P Q level left known (x ∷ ss) u o go h (λ y w l le is sound later. f y w l is sound later)
 
-  -- where a reference begins
-  root_means : (r : Root) (d : Description) → root_of s r ≡ Some d → (w : World) (left : ℕ) → Sound w → Here left w (AtPlace d) (root_place r w left)
-  root_means (InSlot outward slot) d e w left sound = by (slice_get s.blocks outward) refl e
-    where
-      by : (o : Option BlockAround) → slice_get s.blocks outward ≡ o → slot_of o slot ≡ Some d
-          → Here left w (AtPlace d) (answered (slot_place outward slot w) left)
-      by None f e = absurd (none_some e)
-      by (Some b) f e =
-          let p = slot_there unit units known (x ∷ ss) s.blocks w outward slot b d sound stand f e in
-          subst (λ a. Here left w (AtPlace d) (answered a left)) (sym p.1) (omega arith, p.2, sound, later_same w)
-  root_means (OfProgram number) d e w left sound =
-      answer_means units (AtPlace d) level left known (x ∷ ss) w (static_place number w) (static_answers units unit s.globals x ss w number Static d inside.own inside.top sound e)
-  root_means (NewestOf number) d e w left sound =
-      answer_means units (AtPlace d) level left known (x ∷ ss) w (static_place number w) (static_answers units unit s.globals x ss w number Controlled d inside.own inside.top sound e)
+  -- where a reference begins: at the place of a whole generation, but where it is a parameter
+  abbrev AtRoot : Root → Description → Place → World → Type 0
+  AtRoot r d p w = IsGood w d p × (BeginsWhole s r → IsWhole w p)
+
+  slot_means : (outward slot : ℕ) (d : Description) (w : World) (left : ℕ) → Sound w → (o : Option BlockAround) → slice_get s.blocks outward ≡ o → slot_of o slot ≡ Some d
+      → Here left w (AtRoot (InSlot outward slot) d) (answered (slot_place outward slot w) left)
+  slot_means outward slot d w left sound None f e = absurd (none_some e)
+  slot_means outward slot d w left sound (Some b) f e =
+      let p = slot_there unit units known (x ∷ ss) s.blocks w outward slot b d sound stand f e in
+      subst (λ a. Here left w (AtRoot (InSlot outward slot) d) (answered a left)) (sym p.1)
+      (omega arith, (p.2, λ le. p.3 (subst (λ o. parameters_in o ≤ slot) f le)), sound, later_same w)
+
+  own_means : (r : Root) (d : Description) (left : ℕ) (w : World) (o : Effect Place) → Here left w (OwnPlace d) o → Here left w (AtRoot r d) o
+  own_means r d left w o h =
+      means_as units (OwnPlace d) (AtRoot r d) level left known (x ∷ ss) w o (λ p v own. (own.0, λ is. own.1)) h
 
   -- what an operation comes to
   calculation_answers : (t : ValueType) (c : Calculation) (w : World) → Sound w → IsCalculated t c
@@ -312,6 +333,30 @@ module _ (units : List TypedUnit) (greatest level : ℕ) (call : Calls) (unit : 
       (omega arith, held_is_of d t v f (subst (λ c. IsTrue (holds c v)) (some_same e) is), sound, later_same w)
 
   mutual
+    -- the place where a reference begins
+    root_means : (r : Root) (d : Description) → IsRooted greatest s r d → (w : World) (left : ℕ) → Sound w
+        → Here left w (AtRoot r d) (root_place greatest call r w left)
+    root_means (InSlot outward slot) d rooted w left sound = slot_means outward slot d w left sound (slice_get s.blocks outward) refl rooted
+    root_means (OfProgram number) d rooted w left sound =
+        own_means (OfProgram number) d left w (answered (static_place number w) left)
+        (answer_means units (OwnPlace d) level left known (x ∷ ss) w (static_place number w) (static_answers units unit s.globals x ss w number Static d inside.own inside.top sound rooted))
+    root_means (NewestOf number) d rooted w left sound =
+        own_means (NewestOf number) d left w (answered (static_place number w) left)
+        (answer_means units (OwnPlace d) level left known (x ∷ ss) w (static_place number w) (static_answers units unit s.globals x ss w number Controlled d inside.own inside.top sound rooted))
+    root_means (Located locator whole) d rooted w left sound =
+        then_here (OfType Pointers) (AtRoot (Located locator whole) d) left w (value_of greatest call locator w left) _ (value_means locator Pointers rooted.1 w left sound)
+        (λ v u l is sound later. own_means (Located locator whole) d l u (answered (place_by whole v u) l)
+        (subst (λ c. Here l u (OwnPlace d) (answered (place_by c v u) l)) (sym rooted.0)
+        (answer_means units (OwnPlace d) level l known (x ∷ ss) u (place_by d v u) (place_answers units x ss d v u is sound))))
+
+    -- that of a whole variable to which a pointer leads
+    address_means : (r : TypedReference) → IsAddressed greatest s r → (w : World) (left : ℕ) → Sound w
+        → Here left w WholePlace (place_of greatest call r w left)
+    address_means (Whole root) addressed w left sound =
+        means_as units (AtRoot root addressed.1.0) WholePlace level left known (x ∷ ss) w (root_place greatest call root w left)
+        (λ p v h. (addressed.1.0, (h.0, h.1 addressed.0))) (root_means root addressed.1.0 addressed.1.1 w left sound)
+    address_means (Part root offset part subscripts) addressed w left sound = absurd addressed
+
     pub value_means : (e : TypedExpression) (t : ValueType) → IsTyped greatest s e t → (w : World) (left : ℕ) → Sound w
         → Here left w (OfType t) (value_of greatest call e w left)
     value_means (Literal v) t typed w left sound = (omega arith, typed, sound, later_same w)
@@ -329,6 +374,10 @@ module _ (units : List TypedUnit) (greatest level : ℕ) (call : Calls) (unit : 
         subst (λ t. Here left w (OfType t) (answered (generations_counted number w) left)) (sym typed.1)
         (answer_means units (OfType (Numbers count_precision)) level left known (x ∷ ss) w (generations_counted number w)
         (counted_answers units x ss unit s.globals number inside.own inside.top typed.0 w sound))
+    value_means (Address r) t typed w left sound =
+        subst (λ t. Here left w (OfType t) (value_of greatest call (Address r) w left)) (sym typed.1)
+        (then_here WholePlace (OfType Pointers) left w (place_of greatest call r w left) _ (address_means r typed.0 w left sound)
+        (λ p u l own sound later. answer_means units (OfType Pointers) level l known (x ∷ ss) u (address_of p u) (address_answers units x ss own.0 p u own.1 sound)))
 
     operated_means : (operands : Operands) (ts : List ValueType) (operation : TypedOperation) (before : List Value) (done : List ValueType) (t : ValueType)
         → AreTyped greatest s operands ts → AreOf done before → Operates greatest operation (in_order done ts) t
@@ -343,11 +392,13 @@ module _ (units : List TypedUnit) (greatest level : ℕ) (call : Calls) (unit : 
 
     pub place_means : (r : TypedReference) (d : Description) → IsPlaced greatest s r d → (w : World) (left : ℕ) → Sound w
         → Here left w (AtPlace d) (place_of greatest call r w left)
-    place_means (Whole root) d placed w left sound = root_means root d placed w left sound
+    place_means (Whole root) d placed w left sound =
+        means_as units (AtRoot root d) (AtPlace d) level left known (x ∷ ss) w (root_place greatest call root w left) (λ p v h. h.0) (root_means root d placed w left sound)
     place_means (Part root offset part subscripts) d placed w left sound =
         let whole = placed.1.0 in
-        then_here (AtPlace whole) (AtPlace d) left w (root_place root w left) _ (root_means root whole placed.1.1 w left sound)
-        (λ p w l good sound later.
+        then_here (AtRoot root whole) (AtPlace d) left w (root_place greatest call root w left) _ (root_means root whole placed.1.1 w left sound)
+        (λ p w l at sound later.
+        let good = at.0 in
         let first = reached subscripts whole offset d placed.1.2 in
         subst (λ a. Here l w (AtPlace d) (and_then (answered a l) (λ q w left. element_at greatest call subscripts q w left)))
         (sym (led_near offset part p w (good.near offset d first.0 first.1)))

@@ -2,24 +2,28 @@
 use Rattle.std.specs.Prelude.{◌≡◌, ℕ, suc, Bool, true, false, Option, Some, None}
 use Rattle.std.specs.Prelude.{List, [], ◌∷◌, length, slice_get, refl}
 use Rattle.std.proofs.Common.{arith, sym, subst}
-use Rattle.pli_map.specs.Description.{Description}
+use Rattle.pli_map.specs.Description.{Description, Pointer}
+use Rattle.pli_world.specs.Locating.{freed_by, pointer_made}
 use Rattle.pli_world.specs.Stacks.{generation_stacked, generation_unstacked}
+use Rattle.pli_world.specs.Storage.{Place}
 use Rattle.pli_world.specs.World.{World, stored, copied, line_ended}
 use Rattle.pli_value.specs.Conversions.{bit_constant}
 use Rattle.pli_value.specs.Value.{Value}
 use Rattle.pli_type_tree.specs.TypedTree.{Callee, TypedUnit, TypedExpression, TypedReference, TypedArguments, Assign}
-use Rattle.pli_type_tree.specs.TypedTree.{AssignAggregate, AllocatedItem, AllocatesControlled, FreedItem, FreesControlled, Call, ReturnValue}
-use Rattle.pli_type_tree.specs.ValueTypes.{StringKind, OfCharacters, OfBits, ValueType, Strings, IsOf}
-use Rattle.pli_type_tree.specs.WellTyped.{BlockAround, TypingContext, IsTyped, IsPlaced, IsString, AreItems, AreAllocated, AreFreed}
+use Rattle.pli_type_tree.specs.TypedTree.{AssignAggregate, AllocatedItem, AllocatesControlled, AllocatesBased, FreedItem, FreesControlled, FreesBased, Call, ReturnValue}
+use Rattle.pli_type_tree.specs.Templates.{variable_of}
+use Rattle.pli_type_tree.specs.ValueTypes.{StringKind, OfCharacters, OfBits, ValueType, Strings, Pointers, IsOf, IsHeldBy}
+use Rattle.pli_type_tree.specs.WellTyped.{BlockAround, TypingContext, IsTyped, IsPlaced, IsString, AreItems, IsAllocated, AreAllocated, IsFreed, AreFreed}
 use Rattle.pli_type_tree.specs.WellTyped.{knows_label, IsTypedForm}
 use Rattle.pli_meaning_tree.specs.Effects.{Effect, Gives, Jumps, Flow, Next, Returned, Doing, and_then, answered, truth}
 use Rattle.pli_meaning_tree.specs.TreeMeaning.{Calls, no_value, printed_item, value_of, place_of, called_with, condition, assigns, assigns_aggregate, puts, skips}
 use Rattle.pli_meaning_tree.specs.TreeMeaning.{allocates_item, allocates, frees_item, frees, does_call, returns_value, jumps_to}
-use Rattle.pli_meaning_typed.specs.SoundWorlds.{Shape, IsSound, IsLater}
-use Rattle.pli_meaning_typed.proofs.MeansLemmas.{IsBelow, Means, Anything, means_from, then_means, answer_kept}
+use Rattle.pli_meaning_typed.specs.SoundWorlds.{IsGood, Shape, IsSound, IsLater}
+use Rattle.pli_meaning_typed.proofs.MeansLemmas.{IsBelow, Means, Anything, means_from, then_means, answer_means, answer_kept}
 use Rattle.pli_meaning_typed.proofs.MeansLemmas.{followed_means}
 use Rattle.pli_meaning_typed.proofs.ExpressionsMean.{IsReturned, Gives as GivesBack, OfType, AtPlace, CallsMean, IsInside, narrow_held, one_scalar, value_means, place_means, called_means}
 use Rattle.pli_meaning_typed.proofs.ContextLaws.{Known, Stand, height_there}
+use Rattle.pli_meaning_typed.proofs.PointerLaws.{free_answers, pointer_answers}
 use Rattle.pli_meaning_typed.proofs.StackLaws.{allocated_answers, freed_answers}
 use Rattle.pli_meaning_typed.proofs.WorldLaws.{later_same, good_later, stored_answers, copied_answers, printed_sound, line_sound}
 
@@ -82,6 +86,15 @@ module _ (units : List TypedUnit) (greatest level : ℕ) (call : Calls) (unit : 
         then_here (OfType (Strings OfBits typed.0 typed.1)) Anything left w (value_of greatest call e w left) truth (value e (Strings OfBits typed.0 typed.1) typed.2 w left sound)
         (λ v w l is sound later. truth_means typed.0 typed.1 v w l is sound)
 
+    -- a value put at the place of a scalar that holds it
+    stores_means : (d : Description) (t : ValueType) (p : Place) (y : Value) → IsHeldBy d t → IsOf t y → (w : World) (left : ℕ) → Sound w → IsGood w d p
+        → Here s known x ss left w (Flows s) (and_then (answered (stored p y w) left) (λ _ w left. Gives Next w left))
+    stores_means d t p y held is w left sound good =
+        then_here Anything (Flows s) left w (answered (stored p y w) left) _
+        (answer_kept units level left known (x ∷ ss) w (stored p y w)
+        (stored_answers units x ss d p y w sound good (narrow_held d t y held is) (one_scalar d held.0 held.1).1))
+        (λ _ w l any sound later. ends w l sound)
+
     pub assigns_means : (target : TypedReference) (e : TypedExpression) → IsTypedForm greatest s (Assign target e) → (w : World) (left : ℕ) → Sound w
         → Here s known x ss left w (Flows s) (assigns greatest call target e w left)
     assigns_means target e typed w left sound =
@@ -90,10 +103,7 @@ module _ (units : List TypedUnit) (greatest level : ℕ) (call : Calls) (unit : 
         let held = typed.2.2 in
         then_here (AtPlace d) (Flows s) left w (place_of greatest call target w left) _ (place target d typed.1 w left sound)
         (λ p v l good sound later. then_here (OfType t) (Flows s) l v (value_of greatest call e v l) _ (value e t typed.2.1 v l sound)
-        (λ y u l is sound later. then_here Anything (Flows s) l u (answered (stored p y u) l) _
-        (answer_kept units level l known (x ∷ ss) u (stored p y u)
-        (stored_answers units x ss d p y u sound (good_later v u d p later good) (narrow_held d t y held is) (one_scalar d held.0 held.1).1))
-        (λ _ w l any sound later. ends w l sound)))
+        (λ y u l is sound later. stores_means d t p y held is u l sound (good_later v u d p later good)))
 
     pub aggregate_means : (target source : TypedReference) → IsTypedForm greatest s (AssignAggregate target source) → (w : World) (left : ℕ) → Sound w
         → Here s known x ss left w (Flows s) (assigns_aggregate greatest call target source w left)
@@ -134,27 +144,46 @@ module _ (units : List TypedUnit) (greatest level : ℕ) (call : Calls) (unit : 
         means_from units (Flows s) level left left known (x ∷ ss) w (line_ended w) (puts greatest call items (line_ended w) left) (omega arith) l.1
         (puts_means items typed (line_ended w) left l.0)
 
-    pub allocates_mean : (items : List AllocatedItem) → AreAllocated s items → (w : World) (left : ℕ) → Sound w
-        → Here s known x ss left w (Flows s) (allocates items w left)
-    allocates_mean [] typed w left sound = ends w left sound
-    allocates_mean (AllocatesControlled number ∷ items) typed w left sound =
-        followed_means units (Flows s) level left known (x ∷ ss) w (allocates_item (AllocatesControlled number) w left) (allocates items)
-        (then_here Anything (Flows s) left w (answered (generation_stacked number w) left) _
+    allocated_means : (item : AllocatedItem) → IsAllocated greatest s item → (w : World) (left : ℕ) → Sound w
+        → Here s known x ss left w (Flows s) (allocates_item greatest call item w left)
+    allocated_means (AllocatesControlled number) typed w left sound =
+        then_here Anything (Flows s) left w (answered (generation_stacked number w) left) _
         (answer_kept units level left known (x ∷ ss) w (generation_stacked number w)
-        (allocated_answers units x ss unit s.globals number fits.inside.own fits.inside.top typed.0 w sound))
-        (λ _ w l any sound later. ends w l sound))
-        (λ w l le sound. allocates_mean items typed.1 w l sound)
+        (allocated_answers units x ss unit s.globals number fits.inside.own fits.inside.top typed w sound))
+        (λ _ w l any sound later. ends w l sound)
+    allocated_means (AllocatesBased template temporary target) typed w left sound =
+        let v = variable_of template in
+        then_here (OfType Pointers) (Flows s) left w (answered (pointer_made v w) left) _
+        (answer_means units (OfType Pointers) level left known (x ∷ ss) w (pointer_made v w) (pointer_answers units x ss v w typed.0 sound))
+        (λ y u l is sound later. then_here (AtPlace Pointer) (Flows s) l u (place_of greatest call target u l) _ (place target Pointer typed.1 u l sound)
+        (λ p z l good sound later. stores_means Pointer Pointers p y (Pointers, refl, tt) is z l sound good))
 
-    pub frees_mean : (items : List FreedItem) → AreFreed s items → (w : World) (left : ℕ) → Sound w
-        → Here s known x ss left w (Flows s) (frees items w left)
-    frees_mean [] typed w left sound = ends w left sound
-    frees_mean (FreesControlled number ∷ items) typed w left sound =
-        followed_means units (Flows s) level left known (x ∷ ss) w (frees_item (FreesControlled number) w left) (frees items)
-        (then_here Anything (Flows s) left w (answered (generation_unstacked number w) left) _
+    pub allocates_mean : (items : List AllocatedItem) → AreAllocated greatest s items → (w : World) (left : ℕ) → Sound w
+        → Here s known x ss left w (Flows s) (allocates greatest call items w left)
+    allocates_mean [] typed w left sound = ends w left sound
+    allocates_mean (item ∷ items) typed w left sound =
+        followed_means units (Flows s) level left known (x ∷ ss) w (allocates_item greatest call item w left) (allocates greatest call items)
+        (allocated_means item typed.0 w left sound) (λ w l le sound. allocates_mean items typed.1 w l sound)
+
+    freed_means : (item : FreedItem) → IsFreed greatest s item → (w : World) (left : ℕ) → Sound w
+        → Here s known x ss left w (Flows s) (frees_item greatest call item w left)
+    freed_means (FreesControlled number) typed w left sound =
+        then_here Anything (Flows s) left w (answered (generation_unstacked number w) left) _
         (answer_kept units level left known (x ∷ ss) w (generation_unstacked number w)
-        (freed_answers units x ss unit s.globals number fits.inside.own fits.inside.top typed.0 w sound))
+        (freed_answers units x ss unit s.globals number fits.inside.own fits.inside.top typed w sound))
+        (λ _ w l any sound later. ends w l sound)
+    freed_means (FreesBased locator d) typed w left sound =
+        then_here (OfType Pointers) (Flows s) left w (value_of greatest call locator w left) _ (value locator Pointers typed w left sound)
+        (λ v u l is sound later. then_here Anything (Flows s) l u (answered (freed_by d v u) l) _
+        (answer_kept units level l known (x ∷ ss) u (freed_by d v u) (free_answers units x ss d v u is sound))
         (λ _ w l any sound later. ends w l sound))
-        (λ w l le sound. frees_mean items typed.1 w l sound)
+
+    pub frees_mean : (items : List FreedItem) → AreFreed greatest s items → (w : World) (left : ℕ) → Sound w
+        → Here s known x ss left w (Flows s) (frees greatest call items w left)
+    frees_mean [] typed w left sound = ends w left sound
+    frees_mean (item ∷ items) typed w left sound =
+        followed_means units (Flows s) level left known (x ∷ ss) w (frees_item greatest call item w left) (frees greatest call items)
+        (freed_means item typed.0 w left sound) (λ w l le sound. frees_mean items typed.1 w l sound)
 
     no_value_means : (o : Option Description) (v : Option Value) (w : World) (left : ℕ) → o ≡ None → IsReturned o v → Sound w
         → Here s known x ss left w (Flows s) (no_value v w left)

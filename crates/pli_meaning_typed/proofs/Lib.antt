@@ -7,6 +7,7 @@ pub mod MeansLemmas
 pub mod OperationsFit
 pub mod Parts
 pub mod PartsWithin
+pub mod PointerLaws
 pub mod ProgramsMean
 pub mod StackLaws
 pub mod StatementsMean

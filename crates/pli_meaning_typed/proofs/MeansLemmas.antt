@@ -48,6 +48,16 @@ module _ (units : List TypedUnit) where
   means_from P n m l known ss u v Lost le later h = h
   means_from P n m l known ss u v Short le later h = omega (arith, h, le)
 
+  -- what is so in one way is so in another
+  pub means_as : {A : Type 0} (P Q : A → World → Type 0) (n l : ℕ) (known : Known) (ss : List Shape) (u : World) (o : Effect A)
+      → ((x : A) (w : World) → P x w → Q x w) → Means n l known ss u P o → Means n l known ss u Q o
+  means_as P Q n l known ss u (Gives x w left) f h = (h.0, f x w h.1, h.2, h.3)
+  means_as P Q n l known ss u (Jumps i k w left) f h = h
+  means_as P Q n l known ss u (Fails e w) f h = h
+  means_as P Q n l known ss u (Spent w) f h = h
+  means_as P Q n l known ss u Lost f h = h
+  means_as P Q n l known ss u Short f h = h
+
   pub then_means : {A B : Type 0} (P : A → World → Type 0) (Q : B → World → Type 0) (n l : ℕ) (known : Known) (ss : List Shape) (u : World)
       (o : Effect A) (go : A → Doing B) → Means n l known ss u P o
       → ((x : A) (w : World) (left : ℕ) → left ≤ l → P x w → IsSound units ss w → IsLater u w → Means n left known ss w Q (go x w left))

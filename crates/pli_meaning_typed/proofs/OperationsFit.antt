@@ -19,16 +19,21 @@ use Rattle.std.specs.Prelude.{nat_eq, slice_index_or, ◌&&◌, ◌||◌}
 use Rattle.pli_map.specs.Description.{Description, FixedBinary, Character, Varying, Bit}
 use Rattle.pli_operation.specs.declared.operation.Operation.{Operation}
 use Rattle.pli_operation.specs.declared.operation.Operation.TheVariants.{Negate, Absolute, Sign, Not, LengthOf, FromBits, ToCharacters, Add, Subtract, Multiply, Modulo, Greatest, Least, Divide, Compare, Concatenate, And, Or, Index, Rest, Substring, Within}
-use Rattle.pli_operation.specs.Operations.{Calculation, Calculates, RaisesCondition, OutOfString, Misfits, as_number, as_characters, as_bits, calculated, in_columns, fitted_to, is_within_limit, widest}
+use Rattle.pli_operation.specs.Operations.{Calculation, Calculates, RaisesCondition, OutOfString, Misfits, as_number, as_characters, as_bits, calculated, in_columns, fitted_to, is_within_limit, widest, as_bit, are_comparable, compared}
+use Rattle.pli_operation.specs.declared.operation.Relation.{Relation}
+use Rattle.pli_operation.specs.declared.operation.Relation.TheVariants.{Equal, Unequal}
 use Rattle.pli_value.specs.Numbers.{has_digits, within, quotient, remainder, sign_of, greatest_of, least_of}
 use Rattle.pli_value.specs.Strings.{piece, concatenation, first_place, one_behind, index_of, fitted}
 use Rattle.pli_value.specs.Strings.{by_place, conjunction, disjunction, substring, substring_from, part_of, rest_of}
 use Rattle.pli_value.specs.Conversions.{number_characters, bit_character, bit_characters}
+use Rattle.pli_value.specs.Locators.{same_locator}
 use Rattle.pli_value.specs.declared.number.Raised.TheVariants as raised
-use Rattle.pli_value.specs.Value.{Value, Number, Characters, Bits}
+use Rattle.pli_value.specs.Value.{Value, Number, Characters, Bits, Located}
+use Rattle.pli_value.specs.declared.locator.Locator.{Locator}
+use Rattle.pli_value.specs.declared.locator.Locator.TheVariants as locators
 use Rattle.pli_type_tree.specs.TypedOperations.{comes_to}
 use Rattle.pli_type_tree.specs.TypedTree.{TypedOperation, Fit, Operate}
-use Rattle.pli_type_tree.specs.ValueTypes.{StringKind, OfCharacters, OfBits, ValueType, Numbers, Strings, IsOf, AreOf, Computes, Operates, longest, length_precision, HaveColumns, type_held, IsFitted, OnNumbers, OnStrings}
+use Rattle.pli_type_tree.specs.ValueTypes.{StringKind, OfCharacters, OfBits, ValueType, Numbers, Strings, Pointers, IsPointer, IsEquality, IsOf, AreOf, Computes, Operates, longest, length_precision, HaveColumns, type_held, IsFitted, OnNumbers, OnStrings}
 
 -- what an operation comes to is of a type
 abbrev pub IsCalculated : ValueType → Calculation → Type 0
@@ -39,6 +44,9 @@ IsCalculated t Misfits = ⊥
 
 some_same : {A : Type 0} {x y : A} → Some x ≡ Some y → x ≡ y
 some_same e = cc
+
+false_true : false ≡ true → ⊥
+false_true e = absurd (cc)
 
 -- operands, one by one
 one : (P : List Value → Type 0) (t : ValueType) (vs : List Value) → AreOf (t ∷ []) vs
@@ -66,6 +74,19 @@ string : (P : Value → Type 0) (k : StringKind) (a b : ℕ) (v : Value) → IsO
     → ((s : List Bool) → k ≡ OfBits → a ≤ length s → length s ≤ b → P (Bits s)) → P v
 string P OfCharacters a b v h f g = subst P (sym h.1) (f h.0 refl h.2 h.3)
 string P OfBits a b v h f g = subst P (sym h.1) (g h.0 refl h.2 h.3)
+
+pointer : (P : Value → Type 0) (v : Value) → IsOf Pointers v → ((l : Locator) → IsPointer l → P (Located l)) → P v
+pointer P v h f = subst P (sym h.1) (f h.0 h.2)
+
+-- a pointer is beside a pointer
+pointers_comparable : (l r : Locator) → IsPointer l → IsPointer r → are_comparable l r ≡ true
+pointers_comparable locators.Null locators.Null p q = refl
+pointers_comparable locators.Null (locators.Pointer h y) p q = refl
+pointers_comparable locators.Null (locators.Offset y) p q = absurd (false_true q)
+pointers_comparable (locators.Pointer g x) locators.Null p q = refl
+pointers_comparable (locators.Pointer g x) (locators.Pointer h y) p q = refl
+pointers_comparable (locators.Pointer g x) (locators.Offset y) p q = absurd (false_true q)
+pointers_comparable (locators.Offset x) r p q = absurd (false_true p)
 
 module _ (n : ℕ) where
   -- an operation on one number
@@ -413,11 +434,24 @@ module _ (n : ℕ) where
       bit : (c : Bool) → IsOf t (Bits (c ∷ []))
       bit c = subst (λ t. IsOf t (Bits (c ∷ []))) (sym h.1) (c ∷ [], refl, omega arith, omega arith)
 
-      by : (OnNumbers ts (λ p q. Unit {0}) ⊎ OnStrings ts (λ k b d. Unit {0})) → IsCalculated t (calculated n (Compare relation) vs)
+      equality : (l r : Locator) (relation : Relation) → IsPointer l → IsPointer r → IsEquality relation → IsCalculated t (compared relation l r)
+      equality l r Equal p q is =
+          subst (λ b. IsCalculated t (if b then as_bit (same_locator l r) else Misfits)) (sym (pointers_comparable l r p q)) (bit _)
+      equality l r Unequal p q is =
+          subst (λ b. IsCalculated t (if b then as_bit (not (same_locator l r)) else Misfits)) (sym (pointers_comparable l r p q)) (bit _)
+      equality l r other p q is = absurd is
+
+      by : (OnNumbers ts (λ p q. Unit {0}) ⊎ OnStrings ts (λ k b d. Unit {0}) ⊎ (IsEquality relation × (ts ≡ Pointers ∷ Pointers ∷ [])))
+          → IsCalculated t (calculated n (Compare relation) vs)
       by (inl g) = on_numbers n (Compare relation) t ts vs g.0 g.1 g.2 b (λ x y hx hy. bit _)
-      by (inr g) =
+      by (inr (inl g)) =
           on_strings (λ vs. IsCalculated t (calculated n (Compare relation) vs)) g.0 g.1 g.2 g.3 g.4 ts vs g.5 b
           (λ s r k le1 le2. bit _) (λ s r k le1 le2. bit _)
+      by (inr (inr g)) =
+          two (λ vs. IsCalculated t (calculated n (Compare relation) vs)) Pointers Pointers vs (subst (λ ts. AreOf ts vs) g.1 b)
+          (λ v w hv hw. pointer (λ v. IsCalculated t (calculated n (Compare relation) (v ∷ w ∷ []))) v hv
+          (λ l hl. pointer (λ w. IsCalculated t (calculated n (Compare relation) (Located l ∷ w ∷ []))) w hw
+          (λ r hr. equality l r relation hl hr g.0)))
   computed_fits Concatenate ts t vs h b =
       on_strings (λ vs. IsCalculated t (calculated n Concatenate vs)) h.0 h.1 h.2 h.3 h.4 ts vs h.5 b
       (λ s r k le1 le2. subst (λ t. IsCalculated t (as_characters (concatenation s r))) (sym (h.6 ∙ ap (λ k. Strings k 0 longest) k)) (joined_characters s r))

@@ -79,7 +79,7 @@ module _ (units : List TypedUnit) (greatest unit : ℕ) (u : TypedUnit) (own : I
       (λ x v l is sound. procedure_ends level known (inner link) ss p f.function_end typed.end x v l is sound)
     where
       inner : ℕ → Shape
-      inner link = record { unit = unit; block = f.head.number; link = link; slots = p.parameters ++ map (λ v. v.description) (map variable_of f.head.variables) }
+      inner link = record { unit = unit; block = f.head.number; link = link; parameters = length p.parameters; slots = p.parameters ++ map (λ v. v.description) (map variable_of f.head.variables) }
 
   -- with its step, at the level above
   procedure_means : (level : ℕ) (call : Calls) (f : TypedProcedure) (p : KnownProcedure) (known : Known) (ss : List Shape) (link : ℕ) (places : List Place)

@@ -18,7 +18,7 @@ use Rattle.pli_world.specs.World.{Standing, Lies, Stacked, Stack, World, Yields,
 use Rattle.pli_meaning_typed.specs.SoundWorlds.{EachGood, Shape, StandsGood, IsSound, IsLater, Answers}
 use Rattle.pli_meaning_typed.proofs.ContextLaws.{IsUnit, first_unit, static_there}
 use Rattle.pli_meaning_typed.proofs.StorageLemmas.{lived_before}
-use Rattle.pli_meaning_typed.proofs.WorldLaws.{later_same, later_then, eaches_later, statics_later, shaped_later, same_stack, error_named, further_answers, small_near, MadeAt, made_answers, ended_later}
+use Rattle.pli_meaning_typed.proofs.WorldLaws.{later_same, later_then, eaches_later, statics_later, shaped_later, same_stack, error_named, further_answers, small_near, MadeWhole, made_answers, ended_later}
 
 none_some : {A : Type 0} {x : A} → None ≡ Some x → ⊥
 none_some e = absurd (cc)
@@ -94,7 +94,7 @@ module _ (units : List TypedUnit) (ss : List Shape) where
             (subst (λ v. IsMade v) same (sound.stacks number t there).0, eaches_later w after s.variable.description places places_later good)
 
   -- a generation ended
-  ended_sound : (n : ℕ) (w : World) → IsSound units ss w → IsSound units ss (generation_ended n w) × IsLater w (generation_ended n w)
+  pub ended_sound : (n : ℕ) (w : World) → IsSound units ss w → IsSound units ss (generation_ended n w) × IsLater w (generation_ended n w)
   ended_sound n w sound =
       let later = ended_later units (n ∷ []) w (generation_ended n w) refl refl refl in (
         same_stack units ss w (generation_ended n w) sound later (λ m g h. sound.values m g (lived_before (n ∷ []) w.storage m g h)) refl refl refl,
@@ -115,7 +115,7 @@ module _ (units : List TypedUnit) (x : Shape) (ss : List Shape) where
       let d = t.variable.description in
       let good = sound.stacks number t there in
       subst (λ o. Answers units (Kept w) (further (known o w) (λ s w. further (made_of s.variable.description Controlled s.variable.initial w) (λ p w. Yields tt (with_places number s (p ∷ s.places) w))))) (sym there)
-      (further_answers units (MadeAt units x ss w d) (Kept w) (made_of d Controlled t.variable.initial w) (λ p w. Yields tt (with_places number t (p ∷ t.places) w))
+      (further_answers units (MadeWhole units x ss w d) (Kept w) (made_of d Controlled t.variable.initial w) (λ p w. Yields tt (with_places number t (p ∷ t.places) w))
       (made_answers units x ss d Controlled t.variable.initial w sound (small_near d good.0.0) good.0.1)
       (λ p v m. let old = m.2.stacks number t there in
       let r = places_sound units (x ∷ ss) number t old.0 (p ∷ t.places) v old.1 old.2 (m.0, eaches_later w v d t.places m.2 good.1) m.1 in

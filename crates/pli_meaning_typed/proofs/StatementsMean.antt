@@ -99,17 +99,17 @@ variables_described (t ∷ ts) = ap (λ ds. t.description ∷ ds) (variables_des
 pub in_own_block : (units : List TypedUnit) (unit : ℕ) (known : Known) (head : BlockHead) (parameters : List Description) (statements : TypedStatements) (link : ℕ) (ss : List Shape)
     (s : TypingContext) (around : List BlockAround) → s.blocks ≡ block_of head parameters statements ∷ around → IsUnit units unit s.globals → Stand unit known ss link around → IsBelow known (length ss)
     → Fits units unit (also (labels_in unit statements) (suc (length ss)) known)
-    (record { unit = unit; block = head.number; link = link; slots = parameters ++ map (λ v. v.description) (map variable_of head.variables) }) ss s head.number
+    (record { unit = unit; block = head.number; link = link; parameters = length parameters; slots = parameters ++ map (λ v. v.description) (map variable_of head.variables) }) ss s head.number
 in_own_block units unit known head parameters statements link ss s around e own stand below =
     let h = suc (length ss) in
     let more = also (labels_in unit statements) h known in
-    let y : Shape = record { unit = unit; block = head.number; link = link; slots = parameters ++ map (λ v. v.description) (map variable_of head.variables) } in record {
+    let y : Shape = record { unit = unit; block = head.number; link = link; parameters = length parameters; slots = parameters ++ map (λ v. v.description) (map variable_of head.variables) } in record {
       inside = record { own = own; top = refl };
       stand = subst (λ bs. Stand unit more (y ∷ ss) h bs) (sym e)
           (inr (
             refl,
             refl,
-            ap (λ ds. parameters ++ ds) (variables_described head.variables),
+            (refl, ap (λ ds. parameters ++ ds) (variables_described head.variables)),
             also_new unit statements h known,
             stand_wider unit known more ss link around (also_wide (labels_in unit statements) h known) stand,
             refl,
@@ -126,16 +126,16 @@ pub activation_means : {A : Type 0} (units : List TypedUnit) (P : Flow → World
     (ss : List Shape) (head : Head) (link : ℕ) (places : List Place) (parameters : List Description) (run : Doing Flow) (end : Flow → Doing A)
     (w : World) (left : ℕ) → IsBelow known (length ss) → IsSound units ss w → ((u : TypedUnit) × (slice_get units head.unit ≡ Some u)) → AreGood w parameters places
     → AreMade head.variables
-    → ((v : World) (l : ℕ) → IsSound units (record { unit = head.unit; block = head.block; link = link; slots = parameters ++ map (λ v. v.description) head.variables } ∷ ss) v
-    → Means units n l known (record { unit = head.unit; block = head.block; link = link; slots = parameters ++ map (λ v. v.description) head.variables } ∷ ss) v P (run v l))
-    → ((x : Flow) (v : World) (l : ℕ) → P x v → IsSound units (record { unit = head.unit; block = head.block; link = link; slots = parameters ++ map (λ v. v.description) head.variables } ∷ ss) v
+    → ((v : World) (l : ℕ) → IsSound units (record { unit = head.unit; block = head.block; link = link; parameters = length parameters; slots = parameters ++ map (λ v. v.description) head.variables } ∷ ss) v
+    → Means units n l known (record { unit = head.unit; block = head.block; link = link; parameters = length parameters; slots = parameters ++ map (λ v. v.description) head.variables } ∷ ss) v P (run v l))
+    → ((x : Flow) (v : World) (l : ℕ) → P x v → IsSound units (record { unit = head.unit; block = head.block; link = link; parameters = length parameters; slots = parameters ++ map (λ v. v.description) head.variables } ∷ ss) v
     → Means units n l known ss v Q (end x v l))
     → Means units n left known ss w Q (activation_of head link places run end w left)
 activation_means units P Q n known ss head link places parameters run end w left below sound own good made f g =
     by (entered head link places w) (entered_answers units head link places parameters ss w sound own good made)
   where
     y : Shape
-    y = record { unit = head.unit; block = head.block; link = link; slots = parameters ++ map (λ v. v.description) head.variables }
+    y = record { unit = head.unit; block = head.block; link = link; parameters = length parameters; slots = parameters ++ map (λ v. v.description) head.variables }
 
     by : (o : Answer (Unit {0})) → Answers units (λ _ v. IsSound units (y ∷ ss) v × IsLater w v) o
         → Means units n left known ss w Q (and_then (answered o left) (λ _ w left. leaving (run w left) end))
@@ -199,7 +199,7 @@ module _ (units : List TypedUnit) (greatest level : ℕ) (call : Calls) (unit : 
       (λ y v l is sound. ended (inner n.link) y v l is sound)))
     where
       inner : ℕ → Shape
-      inner link = record { unit = unit; block = head.number; link = link; slots = [] ++ map (λ v. v.description) (map variable_of head.variables) }
+      inner link = record { unit = unit; block = head.number; link = link; parameters = 0; slots = [] ++ map (λ v. v.description) (map variable_of head.variables) }
 
       first_block : (blocks : List BlockAround) (b : BlockAround) (bs : List BlockAround) → blocks ≡ b ∷ bs → b.number ≡ block
           → blocks_from block blocks ≡ Some blocks
@@ -248,9 +248,9 @@ module _ (units : List TypedUnit) (greatest level : ℕ) (call : Calls) (unit : 
         grown s known x ss w left (skips greatest call skip (puts greatest call items) w left)
         (skips_means units greatest level call unit s known x ss block fits calls skip items typed w left sound)
     form_means (Allocate items) s known x ss block number typed fits calls w left sound =
-        grown s known x ss w left (allocates items w left) (allocates_mean units greatest level call unit s known x ss block fits calls items typed w left sound)
+        grown s known x ss w left (allocates greatest call items w left) (allocates_mean units greatest level call unit s known x ss block fits calls items typed w left sound)
     form_means (Free items) s known x ss block number typed fits calls w left sound =
-        grown s known x ss w left (frees items w left) (frees_mean units greatest level call unit s known x ss block fits calls items typed w left sound)
+        grown s known x ss w left (frees greatest call items w left) (frees_mean units greatest level call unit s known x ss block fits calls items typed w left sound)
     form_means (If e consequence alternative) s known x ss block number typed fits calls w left sound =
         grown s known x ss w left (does_form greatest call unit level block number (If e consequence alternative) w left)
         (then_means units Anything (Flows s) level left known (x ∷ ss) w (condition greatest call e w left) _

@@ -12,6 +12,16 @@ some_same e = cc
 none_some : {A : Type 0} {x : A} → None ≡ Some x → ⊥
 none_some e = absurd (cc)
 
+-- the generation of a number has it
+pub numbered : (gs : List Generation) (n : ℕ) (g : Generation) → generation_in gs n ≡ Some g → g.number ≡ n
+numbered [] n g h = absurd (none_some h)
+numbered (x ∷ xs) n g h = by (nat_eq x.number n) refl h (numbered xs n g)
+  where
+    by : (b : Bool) → nat_eq x.number n ≡ b → (if b then Some x else generation_in xs n) ≡ Some g
+        → (generation_in xs n ≡ Some g → g.number ≡ n) → g.number ≡ n
+    by true e h rest = ap (λ (g : Generation). g.number) (sym (some_same h)) ∙ eqb-true x.number n e
+    by false e h rest = rest h
+
 -- a generation more
 pub appended : (gs : List Generation) (x : Generation) (n : ℕ) (g : Generation) → generation_in (gs ++ x ∷ []) n ≡ Some g
     → (generation_in gs n ≡ Some g) ⊎ ((x.number ≡ n) × (x ≡ g))

@@ -1,8 +1,8 @@
 -- The operations keep worlds sound, and none is wrong where what it needs is there.
-use Rattle.std.specs.Prelude.{◌≡◌, ℕ, suc, ◌+◌, ◌≤◌, ◌<◌, nat_lt, nat_le, Bool, true, false, not}
-use Rattle.std.specs.Prelude.{◌&&◌, IsTrue, Option, Some, None, List, [], ◌∷◌, ◌++◌, ◌⊎◌, map, slice_get}
+use Rattle.std.specs.Prelude.{◌≡◌, ℕ, zero, suc, ◌+◌, ◌≤◌, ◌<◌, nat_lt, nat_le, Bool, true, false, not}
+use Rattle.std.specs.Prelude.{◌&&◌, IsTrue, Option, Some, None, List, [], ◌∷◌, ◌++◌, ◌⊎◌, length, map, slice_get}
 use Rattle.std.specs.Prelude.{if◌then◌else◌, refl, option_map}
-use Rattle.std.proofs.Common.{arith, sym, ap, ◌∙◌, subst, inl, inr, append_assoc, append-nil, lt-ltb, le-leb}
+use Rattle.std.proofs.Common.{arith, sym, ap, ◌∙◌, subst, inl, inr, append_assoc, append-nil, lt-ltb, ltb-true, le-leb}
 use Rattle.pli_base.specs.Name.{Name}
 use Rattle.pli_run.specs.declared.ending.Ending.TheVariants as message
 use Rattle.pli_run.specs.declared.ending.RunError.{RunError}
@@ -31,7 +31,7 @@ use Rattle.pli_world.specs.World.{static_in, printed, line_ended, error_in, erro
 use Rattle.pli_value.specs.Value.{Value}
 use Rattle.pli_type_tree.specs.TypedTree.{TypedUnit}
 use Rattle.pli_type_tree.specs.WellTyped.{AreHeld, AreMade}
-use Rattle.pli_meaning_typed.specs.SoundWorlds.{IsPartAt, IsNear, IsGood, AreGood, HoldsValues, Shape, AreShaped, AreOfUnits, EachGood, AreStacksGood, StandsGood, AreStatics}
+use Rattle.pli_meaning_typed.specs.SoundWorlds.{IsPartAt, IsNear, IsGood, AreGood, IsOwn, AreSlots, HoldsValues, Shape, AreShaped, AreOfUnits, EachGood, AreStacksGood, StandsGood, AreStatics}
 use Rattle.pli_meaning_typed.specs.SoundWorlds.{IsSound, IsLater, IsTold, Answers}
 use Rattle.pli_meaning_tree.specs.TreeMeaning.{unit_names}
 use Rattle.pli_meaning_typed.proofs.Parts.{part_held, part_stored}
@@ -75,13 +75,29 @@ goods_later v w [] (p ∷ ps) later g = absurd g
 goods_later v w (d ∷ ds) [] later g = absurd g
 goods_later v w (d ∷ ds) (p ∷ ps) later g = (good_later v w d p later g.0, goods_later v w ds ps later g.1)
 
+pub own_later : (v w : World) (d : Description) (p : Place) → IsLater v w → IsOwn v d p → IsOwn w d p
+own_later v w d p later h = (
+  good_later v w d p later h.0,
+  record {
+    begins = h.1.begins;
+    all = λ g e. let old = later.lived p.generation g h.0.was_made e in sym old.2 ∙ h.1.all old.0 old.1;
+  },
+)
+
+slots_later : (v w : World) (ds : List Description) (ps : List Place) (n : ℕ) → IsLater v w → AreSlots v ds ps n → AreSlots w ds ps n
+slots_later v w [] [] n later h = tt
+slots_later v w [] (p ∷ ps) n later h = absurd h
+slots_later v w (d ∷ ds) [] n later h = absurd h
+slots_later v w (d ∷ ds) (p ∷ ps) zero later h = (own_later v w d p later h.0, slots_later v w ds ps zero later h.1)
+slots_later v w (d ∷ ds) (p ∷ ps) (suc n) later h = (good_later v w d p later h.0, slots_later v w ds ps n later h.1)
+
 pub eaches_later : (v w : World) (d : Description) (ps : List Place) → IsLater v w → EachGood v d ps → EachGood w d ps
 eaches_later v w d [] later h = tt
-eaches_later v w d (p ∷ ps) later h = (good_later v w d p later h.0, eaches_later v w d ps later h.1)
+eaches_later v w d (p ∷ ps) later h = (own_later v w d p later h.0, eaches_later v w d ps later h.1)
 
 -- so do what stands, and stacks that are as they were
 pub stands_later : (v w : World) (kind : VariableKind) (d : Description) (s : Standing) → IsLater v w → StandsGood v kind d s → StandsGood w kind d s
-stands_later v w kinds.Static d (Lies p) later h = good_later v w d p later h
+stands_later v w kinds.Static d (Lies p) later h = own_later v w d p later h
 stands_later v w kinds.Static d (Stacked number) later h = absurd h
 stands_later v w kinds.Controlled d (Lies p) later h = absurd h
 stands_later v w kinds.Controlled d (Stacked number) later h =
@@ -99,7 +115,7 @@ module _ (units : List TypedUnit) where
   shaped_later v w [] (a ∷ older) later h = absurd h
   shaped_later v w (s ∷ ss) [] later h = absurd h
   shaped_later v w (s ∷ ss) (a ∷ older) later h =
-      (h.0, h.1, h.2, goods_later v w s.slots a.slots later h.3, shaped_later v w ss older later h.4)
+      (h.0, h.1, h.2, slots_later v w s.slots a.slots s.parameters later h.3, shaped_later v w ss older later h.4)
 
   abbrev AllStatics : World → Type 0
   AllStatics w = (i : ℕ) (u : TypedUnit) → slice_get units i ≡ Some u → AreStatics i u.globals w
@@ -172,7 +188,7 @@ small_near d small more part k found =
 pub scalar_near : (d : Description) → is_scalar d ≡ true → IsNear 0 d
 scalar_near d one more part k found = let first = scalar_first d more part k one found in omega (arith, first)
 
-new_part : (d : Description) → IsPartAt d 0 d
+pub new_part : (d : Description) → IsPartAt d 0 d
 new_part d more e k h = let z : more ≡ 0 + more = omega arith in (k, subst (λ n. first_scalar d n e ≡ Some k) z h)
 
 abbrev pub new_generation : Description → Made → List Value → World → Generation
@@ -193,19 +209,32 @@ module _ (d : Description) (how : Made) (vs : List Value) (w : World) (old : Hol
       before n x lt (inl e) = (x, e, refl)
       before n x lt (inr e) = absurd (omega (arith, lt, e.0))
 
-  pub new_values : HoldsValues (with_new d how vs w)
-  new_values n x e = by (appended w.storage g n x e)
+  pub new_values : IsNear 0 d → w.made < generation_limit → HoldsValues (with_new d how vs w)
+  new_values near few n x e = by (appended w.storage g n x e)
     where
-      by : (generation_in w.storage n ≡ Some x) ⊎ ((w.made ≡ n) × (g ≡ x)) → (n < suc w.made) × AreHeld (scalars_of x.description) x.values
-      by (inl e) = let o = old n x e in (omega (arith, o.0), o.1)
-      by (inr e) = (omega (arith, e.0), subst (λ x. AreHeld (scalars_of x.description) x.values) e.1 h)
+      by : (generation_in w.storage n ≡ Some x) ⊎ ((w.made ≡ n) × (g ≡ x))
+          → (n < suc w.made) × AreHeld (scalars_of x.description) x.values × IsNear 0 x.description × (n < generation_limit)
+      by (inl e) = let o = old n x e in (omega (arith, o.0), o.1, o.2, o.3)
+      by (inr e) = (
+        omega (arith, e.0),
+        subst (λ x. AreHeld (scalars_of x.description) x.values) e.1 h,
+        subst (λ x. IsNear 0 x.description) e.1 near,
+        subst (λ n. n < generation_limit) e.0 few,
+      )
 
-  pub new_good : IsNear 0 d → IsGood (with_new d how vs w) d (whole w.made d)
-  new_good near = record { was_made = omega arith; outside = refl; described = refl; near = near; part = λ x e. by x (appended w.storage g w.made x e) }
+  pub new_own : IsNear 0 d → IsOwn (with_new d how vs w) d (whole w.made d)
+  new_own near = (
+    record { was_made = omega arith; outside = refl; described = refl; near = near; part = λ x e. by x (appended w.storage g w.made x e) },
+    record { begins = refl; all = λ x e. all x (appended w.storage g w.made x e) },
+  )
     where
       by : (x : Generation) → (generation_in w.storage w.made ≡ Some x) ⊎ ((w.made ≡ w.made) × (g ≡ x)) → IsPartAt x.description 0 d
       by x (inl e) = absurd (omega (arith, (old w.made x e).0))
       by x (inr e) = subst (λ x. IsPartAt x.description 0 d) e.1 (new_part d)
+
+      all : (x : Generation) → (generation_in w.storage w.made ≡ Some x) ⊎ ((w.made ≡ w.made) × (g ≡ x)) → x.description ≡ d
+      all x (inl e) = absurd (omega (arith, (old w.made x e).0))
+      all x (inr e) = ap (λ (x : Generation). x.description) (sym e.1)
 
   pub room_gives : w.made < generation_limit → live_bytes w.storage + size_of d ≤ byte_limit
       → made_of d how vs w ≡ Yields (whole w.made d) (with_new d how vs w)
@@ -220,24 +249,32 @@ module _ (units : List TypedUnit) (s : Shape) (ss : List Shape) where
   abbrev Sound : World → Type 0
   Sound w = IsSound units (s ∷ ss) w
 
+  -- a place, and the same of a whole generation, which the limit of generations leaves a number to
   abbrev pub MadeAt : World → Description → Place → World → Type 0
   MadeAt w d p v = IsGood v d p × Sound v × IsLater w v
 
+  abbrev pub MadeWhole : World → Description → Place → World → Type 0
+  MadeWhole w d p v = IsOwn v d p × Sound v × IsLater w v × (p.generation < generation_limit)
+
   pub made_answers : (d : Description) (how : Made) (vs : List Value) (w : World) → Sound w → IsNear 0 d → AreHeld (scalars_of d) vs
-      → Answers units (MadeAt w d) (made_of d how vs w)
+      → Answers units (MadeWhole w d) (made_of d how vs w)
   unfolding made_of
   made_answers d how vs w sound near h =
-      by (nat_lt w.made generation_limit && nat_le (live_bytes w.storage + size_of d) byte_limit)
+      by (nat_lt w.made generation_limit) (nat_le (live_bytes w.storage + size_of d) byte_limit) refl
     where
-      by : (b : Bool) → Answers units (MadeAt w d) (if b then (if are_held (scalars_of d) vs then Yields (whole w.made d) (with_new d how vs w) else Wrong) else Raises StorageLimit w)
-      by true =
+      by : (b c : Bool) → nat_lt w.made generation_limit ≡ b
+          → Answers units (MadeWhole w d) (if b && c then (if are_held (scalars_of d) vs then Yields (whole w.made d) (with_new d how vs w) else Wrong) else Raises StorageLimit w)
+      by true true few =
           let later = new_later d how vs w sound.values h in
-          subst (λ b. Answers units (MadeAt w d) (if b then Yields (whole w.made d) (with_new d how vs w) else Wrong)) (sym (values_held (scalars_of d) vs h)) (
-            new_good d how vs w sound.values h near,
-            same_stack units (s ∷ ss) w (with_new d how vs w) sound later (new_values d how vs w sound.values h) refl refl refl,
+          let room = ltb-true w.made generation_limit few in
+          subst (λ b. Answers units (MadeWhole w d) (if b then Yields (whole w.made d) (with_new d how vs w) else Wrong)) (sym (values_held (scalars_of d) vs h)) (
+            new_own d how vs w sound.values h near,
+            same_stack units (s ∷ ss) w (with_new d how vs w) sound later (new_values d how vs w sound.values h near room) refl refl refl,
             later,
+            room,
           )
-      by false = error_named units s ss w StorageLimit sound
+      by true false few = error_named units s ss w StorageLimit sound
+      by false c few = error_named units s ss w StorageLimit sound
 
   -- what a place holds
   first_there : (d : Description) (p : Place) (w : World) (g : Generation) → IsGood w d p → generation_in w.storage p.generation ≡ Some g
@@ -303,7 +340,12 @@ module _ (units : List TypedUnit) (s : Shape) (ss : List Shape) where
               → HoldsValues (record w { storage = with_values w.storage p.generation (with_values_at k vs g.values) })
           values g e k f n x c =
               let r = replaced w.storage p.generation (with_values_at k vs g.values) n x c in
-              ((sound.values n r.old r.there).0, found r.old r.there r.described r.held)
+              let old = sound.values n r.old r.there in (
+                old.0,
+                found r.old r.there r.described r.held,
+                subst (λ d. IsNear 0 d) r.described old.2,
+                old.3,
+              )
             where
               found : (old : Generation) → generation_in w.storage n ≡ Some old → old.description ≡ x.description
                   → (old.values ≡ x.values) ⊎ ((p.generation ≡ n) × (with_values_at k vs g.values ≡ x.values))
@@ -380,9 +422,9 @@ module _ (units : List TypedUnit) (s : Shape) (ss : List Shape) where
   unfolding dummy_of
   dummy_answers d x w sound h scalar one =
       subst (λ b. Answers units (MadeAt w d) (if b then further (made_of d Dummy (x ∷ []) w) (λ p w. Yields p (in_newest (λ a. record a { pending = a.pending ++ p.generation ∷ [] }) w)) else Wrong)) (sym h)
-      (further_answers units (MadeAt w d) (MadeAt w d) (made_of d Dummy (x ∷ []) w) (λ p w. Yields p (in_newest (λ a. record a { pending = a.pending ++ p.generation ∷ [] }) w))
+      (further_answers units (MadeWhole w d) (MadeAt w d) (made_of d Dummy (x ∷ []) w) (λ p w. Yields p (in_newest (λ a. record a { pending = a.pending ++ p.generation ∷ [] }) w))
       (made_answers d Dummy (x ∷ []) w sound (scalar_near d scalar) (subst (λ ds. AreHeld ds (x ∷ [])) (sym one) (h, tt)))
-      (λ p v m. pending p v m.0 m.1 m.2))
+      (λ p v m. pending p v m.0.0 m.1 m.2))
     where
       change : Place → Activation → Activation
       change p a = record a { pending = a.pending ++ p.generation ∷ [] }
@@ -404,22 +446,32 @@ module _ (units : List TypedUnit) (s : Shape) (ss : List Shape) where
 -- activations
 
 module _ (units : List TypedUnit) where
-  -- a slot more
-  goods_more : (w : World) (ds : List Description) (ps : List Place) (d : Description) (p : Place) → AreGood w ds ps → IsGood w d p
-      → AreGood w (ds ++ d ∷ []) (ps ++ p ∷ [])
-  goods_more w [] [] d p h g = (g, tt)
-  goods_more w [] (q ∷ qs) d p h g = absurd h
-  goods_more w (e ∷ es) [] d p h g = absurd h
-  goods_more w (e ∷ es) (q ∷ qs) d p h g = (h.0, goods_more w es qs d p h.1 g)
+  -- a slot more, behind the parameters
+  slots_more : (w : World) (ds : List Description) (ps : List Place) (n : ℕ) (d : Description) (p : Place) → AreSlots w ds ps n → IsOwn w d p
+      → AreSlots w (ds ++ d ∷ []) (ps ++ p ∷ []) n
+  slots_more w [] [] zero d p h g = (g, tt)
+  slots_more w [] [] (suc n) d p h g = (g.0, tt)
+  slots_more w [] (q ∷ qs) n d p h g = absurd h
+  slots_more w (e ∷ es) [] n d p h g = absurd h
+  slots_more w (e ∷ es) (q ∷ qs) zero d p h g = (h.0, slots_more w es qs zero d p h.1 g)
+  slots_more w (e ∷ es) (q ∷ qs) (suc n) d p h g = (h.0, slots_more w es qs n d p h.1 g)
 
-  abbrev shape : (unit block link : ℕ) → List Description → Shape
-  shape unit block link slots = record { unit = unit; block = block; link = link; slots = slots }
+  -- at first there are parameters alone
+  slots_passed : (w : World) (ds : List Description) (ps : List Place) → AreGood w ds ps → AreSlots w ds ps (length ds)
+  slots_passed w [] [] h = tt
+  slots_passed w [] (p ∷ ps) h = absurd h
+  slots_passed w (d ∷ ds) [] h = absurd h
+  slots_passed w (d ∷ ds) (p ∷ ps) h = (h.0, slots_passed w ds ps h.1)
 
-  slotted : (unit block link : ℕ) (slots : List Description) (ss : List Shape) (w : World) (d : Description) (p : Place) (stack : List Activation)
-      → AreShaped w (shape unit block link slots ∷ ss) stack → IsGood w d p
-      → AreShaped w (shape unit block link (slots ++ d ∷ []) ∷ ss) (with_newest (with_slot p) stack)
-  slotted unit block link slots ss w d p [] h g = absurd h
-  slotted unit block link slots ss w d p (a ∷ older) h g = (h.0, h.1, h.2, goods_more w slots a.slots d p h.3 g, h.4)
+  abbrev shape : (unit block link parameters : ℕ) → List Description → Shape
+  shape unit block link parameters slots =
+      record { unit = unit; block = block; link = link; parameters = parameters; slots = slots }
+
+  slotted : (unit block link n : ℕ) (slots : List Description) (ss : List Shape) (w : World) (d : Description) (p : Place) (stack : List Activation)
+      → AreShaped w (shape unit block link n slots ∷ ss) stack → IsOwn w d p
+      → AreShaped w (shape unit block link n (slots ++ d ∷ []) ∷ ss) (with_newest (with_slot p) stack)
+  slotted unit block link n slots ss w d p [] h g = absurd h
+  slotted unit block link n slots ss w d p (a ∷ older) h g = (h.0, h.1, h.2, slots_more w slots a.slots n d p h.3 g, h.4)
 
   abbrev Entered : World → List Shape → Unit {0} → World → Type 0
   Entered w ss _ v = IsSound units ss v × IsLater w v
@@ -429,25 +481,25 @@ module _ (units : List TypedUnit) where
   weaken ss w v (Raises e u) later h = h
   weaken ss w v Wrong later h = h
 
-  made_all_answers : (vs : List Variable) (unit block link : ℕ) (slots : List Description) (ss : List Shape) (w : World)
-      → IsSound units (shape unit block link slots ∷ ss) w → AreMade vs
-      → Answers units (Entered w (shape unit block link (slots ++ map (λ v. v.description) vs) ∷ ss)) (made_all vs w)
-  made_all_answers [] unit block link slots ss w sound h =
-      (subst (λ ds. IsSound units (shape unit block link ds ∷ ss) w) (sym (append-nil slots)) sound, later_same w)
-  made_all_answers (x ∷ vs) unit block link slots ss w sound h =
-      let top = shape unit block link slots in
+  made_all_answers : (vs : List Variable) (unit block link n : ℕ) (slots : List Description) (ss : List Shape) (w : World)
+      → IsSound units (shape unit block link n slots ∷ ss) w → AreMade vs
+      → Answers units (Entered w (shape unit block link n (slots ++ map (λ v. v.description) vs) ∷ ss)) (made_all vs w)
+  made_all_answers [] unit block link n slots ss w sound h =
+      (subst (λ ds. IsSound units (shape unit block link n ds ∷ ss) w) (sym (append-nil slots)) sound, later_same w)
+  made_all_answers (x ∷ vs) unit block link n slots ss w sound h =
+      let top = shape unit block link n slots in
       let rest = map (λ v. v.description) vs in
-      further_answers units (MadeAt units top ss w x.description)
-      (Entered w (shape unit block link (slots ++ map (λ v. v.description) (x ∷ vs)) ∷ ss))
+      further_answers units (MadeWhole units top ss w x.description)
+      (Entered w (shape unit block link n (slots ++ map (λ v. v.description) (x ∷ vs)) ∷ ss))
       (made_of x.description Automatic x.initial w) (λ p w. made_all vs (in_newest (with_slot p) w))
       (made_answers units top ss x.description Automatic x.initial w sound (small_near x.description h.0.0) h.0.1)
       (λ p v m. let u = in_newest (with_slot p) v in
-      subst (λ ds. Answers units (Entered w (shape unit block link ds ∷ ss)) (made_all vs u)) (append_assoc slots (x.description ∷ []) rest)
-      (weaken (shape unit block link ((slots ++ x.description ∷ []) ++ rest) ∷ ss) w u (made_all vs u)
+      subst (λ ds. Answers units (Entered w (shape unit block link n ds ∷ ss)) (made_all vs u)) (append_assoc slots (x.description ∷ []) rest)
+      (weaken (shape unit block link n ((slots ++ x.description ∷ []) ++ rest) ∷ ss) w u (made_all vs u)
       (later_then w v u m.2 (newest_later units (with_slot p) v))
-      (made_all_answers vs unit block link (slots ++ x.description ∷ []) ss u
-      (newest_sound units (with_slot p) (top ∷ ss) (shape unit block link (slots ++ x.description ∷ []) ∷ ss) v m.1 m.1.of_units
-      (slotted unit block link slots ss v x.description p v.activations m.1.stack m.0)) h.1)))
+      (made_all_answers vs unit block link n (slots ++ x.description ∷ []) ss u
+      (newest_sound units (with_slot p) (top ∷ ss) (shape unit block link n (slots ++ x.description ∷ []) ∷ ss) v m.1 m.1.of_units
+      (slotted unit block link n slots ss v x.description p v.activations m.1.stack m.0)) h.1)))
 
   handed_shaped : (ss : List Shape) (w : World) (given : List Place) (stack : List Activation) → AreShaped w ss stack
       → AreShaped w ss (with_newest (without_handed given) stack)
@@ -458,20 +510,20 @@ module _ (units : List TypedUnit) where
 
   pub entered_answers : (head : Head) (link : ℕ) (given : List Place) (parameters : List Description) (ss : List Shape) (w : World)
       → IsSound units ss w → ((u : TypedUnit) × (slice_get units head.unit ≡ Some u)) → AreGood w parameters given → AreMade head.variables
-      → Answers units (Entered w (shape head.unit head.block link (parameters ++ map (λ v. v.description) head.variables) ∷ ss)) (entered head link given w)
+      → Answers units (Entered w (shape head.unit head.block link (length parameters) (parameters ++ map (λ v. v.description) head.variables) ∷ ss)) (entered head link given w)
   unfolding entered
   entered_answers head link given parameters ss w sound own good h =
       let u = begun_in head link given w in
       let later : IsLater w u = record { more = omega arith; lived = λ n g lt h. (g, h, refl); stacks = λ n s h. (s, h, refl) } in
-      weaken (shape head.unit head.block link (parameters ++ map (λ v. v.description) head.variables) ∷ ss) w u (made_all head.variables u) later
-      (made_all_answers head.variables head.unit head.block link parameters ss u (record {
+      weaken (shape head.unit head.block link (length parameters) (parameters ++ map (λ v. v.description) head.variables) ∷ ss) w u (made_all head.variables u) later
+      (made_all_answers head.variables head.unit head.block link (length parameters) parameters ss u (record {
         values = sound.values;
         stacks = stacks_later w u later refl sound.stacks;
         stack = (
           refl,
           refl,
           refl,
-          goods_later w u parameters given later good,
+          slots_passed u parameters given (goods_later w u parameters given later good),
           shaped_later units w u ss _ later (handed_shaped ss w given w.activations sound.stack),
         );
         of_units = (own, sound.of_units);

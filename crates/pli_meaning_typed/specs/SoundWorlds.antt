@@ -1,11 +1,11 @@
 -- Sound worlds (own): what the operations keep, and what they need so that none asks for what is not there.
-use Rattle.std.specs.Prelude.{◌≡◌, ◌≢◌, ℕ, ◌+◌, ◌≤◌, ◌<◌, Some, List, [], ◌∷◌, slice_get}
+use Rattle.std.specs.Prelude.{◌≡◌, ◌≢◌, ℕ, zero, suc, ◌+◌, ◌≤◌, ◌<◌, Some, List, [], ◌∷◌, slice_get}
 use Rattle.pli_run.specs.declared.ending.Ending.TheVariants as message
 use Rattle.pli_map.specs.Description.{Description}
 use Rattle.pli_map.specs.Scalars.{first_scalar}
 use Rattle.pli_world.specs.Activations.{Activation}
 use Rattle.pli_world.specs.Ends.{RunEnd, told}
-use Rattle.pli_world.specs.Storage.{Generation, Place, generation_in, offset_limit}
+use Rattle.pli_world.specs.Storage.{Generation, Place, generation_in, generation_limit, offset_limit}
 use Rattle.pli_program.specs.declared.kind.VariableKind.{VariableKind}
 use Rattle.pli_program.specs.declared.kind.VariableKind.TheVariants.{Static, Controlled}
 use Rattle.pli_world.specs.World.{Standing, Lies, Stacked, Stack, World, Answer, Yields, Raises, Wrong}
@@ -44,25 +44,45 @@ AreGood w [] [] = Unit {0}
 AreGood w (d ∷ ds) (p ∷ ps) = IsGood w d p × AreGood w ds ps
 AreGood w ds ps = ⊥
 
--- what lives was made, and holds a value for each of its scalars
+-- a place is that of a whole generation, if that lives
+pub record IsWhole (w : World) (p : Place) : Type 0 where
+  pub begins : p.offset ≡ 0
+  pub all :
+      (g : Generation) → generation_in w.storage p.generation ≡ Some g → g.description ≡ p.description
+
+-- a place of a description, which is that of a whole generation
+abbrev pub IsOwn : World → Description → Place → Type 0
+IsOwn w d p = IsGood w d p × IsWhole w p
+
+-- places of these descriptions, one for one; those behind so many parameters are those of whole generations
+abbrev pub AreSlots : World → List Description → List Place → (parameters : ℕ) → Type 0
+AreSlots w [] [] n = Unit {0}
+AreSlots w (d ∷ ds) (p ∷ ps) zero = IsOwn w d p × AreSlots w ds ps zero
+AreSlots w (d ∷ ds) (p ∷ ps) (suc n) = IsGood w d p × AreSlots w ds ps n
+AreSlots w ds ps n = ⊥
+
+-- what lives was made, and holds a value for each of its scalars; each of its parts begins within the limit
+-- of offsets, and its number is within that of generations
 abbrev pub HoldsValues : World → Type 0
 HoldsValues w =
     (number : ℕ) (g : Generation) → generation_in w.storage number ≡ Some g
-    → (number < w.made) × AreHeld (scalars_of g.description) g.values
+    → (number < w.made) × AreHeld (scalars_of g.description) g.values × IsNear 0 g.description
+    × (number < generation_limit)
 
--- what stays of an activation while it runs: its unit and block, its static link, and the descriptions of its
--- slots
+-- what stays of an activation while it runs: its unit and block, its static link, how many parameters it has,
+-- and the descriptions of its slots
 pub record Shape : Type 0 where
   pub unit : ℕ
   pub block : ℕ
   pub link : ℕ
+  pub parameters : ℕ
   pub slots : List Description
 
 -- activations are of these shapes
 abbrev pub AreShaped : World → List Shape → List Activation → Type 0
 AreShaped w [] [] = Unit {0}
 AreShaped w (s ∷ ss) (a ∷ older) =
-    (a.unit ≡ s.unit) × (a.block ≡ s.block) × (a.link ≡ s.link) × AreGood w s.slots a.slots
+    (a.unit ≡ s.unit) × (a.block ≡ s.block) × (a.link ≡ s.link) × AreSlots w s.slots a.slots s.parameters
     × AreShaped w ss older
 AreShaped w ss stack = ⊥
 
@@ -71,10 +91,10 @@ abbrev pub AreOfUnits : List TypedUnit → List Shape → Type 0
 AreOfUnits units [] = Unit {0}
 AreOfUnits units (s ∷ ss) = ((u : TypedUnit) × (slice_get units s.unit ≡ Some u)) × AreOfUnits units ss
 
--- places of one description
+-- places of one description, each that of a whole generation
 abbrev pub EachGood : World → Description → List Place → Type 0
 EachGood w d [] = Unit {0}
-EachGood w d (p ∷ ps) = IsGood w d p × EachGood w d ps
+EachGood w d (p ∷ ps) = IsOwn w d p × EachGood w d ps
 
 -- of each stack the variable is made well, and each place is one of its description
 abbrev pub AreStacksGood : World → Type 0
@@ -85,7 +105,7 @@ AreStacksGood w =
 -- a variable of a kind and of a description stands so: a STATIC one lies at a place of it, and a CONTROLLED
 -- one has a stack of a variable of it
 abbrev pub StandsGood : World → VariableKind → Description → Standing → Type 0
-StandsGood w Static d (Lies p) = IsGood w d p
+StandsGood w Static d (Lies p) = IsOwn w d p
 StandsGood w Static d (Stacked number) = ⊥
 StandsGood w Controlled d (Lies p) = ⊥
 StandsGood w Controlled d (Stacked number) =

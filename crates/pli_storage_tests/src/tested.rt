@@ -11,7 +11,7 @@ use pli_bytes::{lay, lay_first};
 use pli_locators::{allocate_based, based};
 use pli_map::{Description, is_area, size};
 use pli_stacks::Stacks;
-use pli_store::{Place, Storage, StoreFault};
+use pli_store::{Made, Place, Storage, StoreFault};
 use pli_value::Locator;
 use std::alloc::Global;
 use std::process::Abort;
@@ -140,11 +140,29 @@ impl<'m> Tested<'m> {
         }
     }
 
+    /// ALLOCATE of a BASED variable; with values of their own for its scalars as storage makes any.
+    fn made_based(
+        &mut self,
+        rt: &impl Abort,
+        alloc: Global,
+        shape: usize,
+        items: &[Item],
+    ) -> Result<Locator, StoreFault> {
+        let description = self.described(rt, shape);
+        if items.is_empty() {
+            return allocate_based(alloc, &mut self.storage, description, &[], None);
+        }
+        let bytes = initial(rt, alloc, description, items);
+        let place = self.storage.make(description, Made::Based, bytes)?;
+        Ok(Locator::Pointer {
+            generation: place.generation,
+            position: 0,
+        })
+    }
+
     /// ALLOCATE of a BASED variable, whose place is noted.
     fn allocate(&mut self, rt: &impl Abort, alloc: Global, shape: usize, items: &[Item]) -> Answer {
-        let description = self.described(rt, shape);
-        let bytes = initial(rt, alloc, description, items);
-        let result = allocate_based(&mut self.storage, description, bytes);
+        let result = self.made_based(rt, alloc, shape, items);
         if let Ok(locator) = &result {
             let place = based(&self.storage, self.twin(rt, shape), *locator);
             let _number = self.noted(rt, alloc, place);

@@ -2,9 +2,10 @@
 use Rattle.std.proofs.Common.{◌≡◌, ℕ, Bool, true, ℤ, List, [], ◌∷◌, get_or, Option, IfSome, Bor, sym, ap, ◌∙◌}
 use Rattle.std.proofs.lemmas.Option.{IfSome_then}
 use Rattle.pli_bytes.specs.Contents.{value_in}
-use Rattle.pli_map.specs.Description.{Description, Bit, FixedBinary}
+use Rattle.pli_map.specs.Description.{Description, Bit, FixedBinary, Pointer}
 use Rattle.pli_map.specs.Scalars.{is_scalar}
-use Rattle.pli_value.specs.Value.{Value, Bits, Number, Characters}
+use Rattle.pli_value.specs.Value.{Value, Bits, Number, Characters, Located}
+use Rattle.pli_value.specs.declared.locator.Locator.{Locator}
 use Rattle.pli_world.specs.Storage as plain
 use Rattle.pli_world.specs.World.{World, Yields, held}
 use Rattle.pli_store.specs.answers.Found.{LeadsTo}
@@ -40,6 +41,14 @@ module _ (s : Storage) (p : plain.Place) (part : GenerationPart) (l : LeadsTo (s
   bit_read is r found =
       IfSome_then r found
       (λ b value. value_read (Bits (b ∷ [])) (ap is_scalar is)
+      (ap (λ (d : Description). value_in bytes (record { offset = part.offset; description = d })) is ∙ value))
+
+  pub pointer_read : p.description ≡ Pointer → (r : Option Locator)
+      → IfSome r (λ l. value_in bytes (record { offset = part.offset; description = Pointer }) ≡ Located l)
+      → IfSome r (λ l. held p (with_storage s w) ≡ Yields (Located l) (with_storage s w))
+  pointer_read is r found =
+      IfSome_then r found
+      (λ l value. value_read (Located l) (ap is_scalar is)
       (ap (λ (d : Description). value_in bytes (record { offset = part.offset; description = d })) is ∙ value))
 
   pub text_read : (r : Option (Bor (List ℕ)))

@@ -3,8 +3,7 @@
 //!
 //! `place` says where references lead, `part` which bytes of a generation stand there, `living` what the number of a
 //! generation finds; `storage` reads, puts, copies, makes and ends, by `putting` and `copying`, which change bytes; `bits` tells a
-//! lone bit from its byte; `spare`
-//! keeps memory for generations to come.
+//! lone bit from its byte, `pointers` a pointer from its bytes; `spare` keeps memory for generations to come.
 #![tactic(auto)]
 
 mod bits;
@@ -14,6 +13,7 @@ mod generation;
 mod living;
 mod part;
 mod place;
+mod pointers;
 mod putting;
 mod spare;
 mod storage;

@@ -59,6 +59,17 @@ pub fn is_one_bit(description: &Description) -> bool
     }
 }
 
+/// Whether a description is of pointers.
+#[inline(always)]
+pub fn is_pointer(description: &Description) -> bool
+    ensures { result ≡ true → description_view description.now ≡ tree.Pointer }
+{
+    match description {
+        Description::Pointer => true,
+        _ => false,
+    }
+}
+
 /// Whether so many bytes are a multiple of the width of a number of so many binary digits.
 #[inline(always)]
 fn is_multiple(offset: usize, precision: u8) -> bool

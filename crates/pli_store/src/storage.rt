@@ -7,7 +7,7 @@ ghost use Rattle.pli_map.specs.Sizes.{size_of};
 ghost use Rattle.pli_map.specs.Values.{are_held};
 ghost use Rattle.pli_map.specs.views.DescriptionView.{description_view};
 ghost use Rattle.pli_value.specs.Value as plain;
-ghost use Rattle.pli_value.specs.Value.{value_view, Number, Characters, Bits};
+ghost use Rattle.pli_value.specs.Value.{value_view, Number, Characters, Bits, Located};
 ghost use Rattle.pli_world.specs.Storage.{generation_in, live_bytes, without};
 ghost use Rattle.pli_world.specs.World.{World, Yields, held, stored, copied, made_of, dummy_of, in_newest};
 ghost use Rattle.pli_store.specs.answers.Answered.{Answered};
@@ -22,16 +22,17 @@ use crate::fault::StoreFault;
 use crate::generation::{Generation, Made};
 use crate::living::LivingGeneration;
 use crate::part::{
-    GenerationPart, greatest_length, is_number_at, is_number_of, is_one_bit, is_part,
+    GenerationPart, greatest_length, is_number_at, is_number_of, is_one_bit, is_part, is_pointer,
     number_precision,
 };
 use crate::place::Place;
+use crate::pointers::pointer_at;
 use crate::putting::{holds_number, lengthen, put_bit, put_number, put_value};
 use crate::spare::SpareBytes;
 use pli_bytes::{number_at, put_value_at, text_at, value_at};
 use pli_map::{Description, far_size, holds, is_area, is_scalar};
 use pli_run::RunError;
-use pli_value::Value;
+use pli_value::{Locator, Value};
 use std::alloc::{AllocError, Global};
 
 /// How many bytes may live at once (own).
@@ -86,13 +87,29 @@ impl<'m> Storage<'m> {
             .ok()
     }
 
+    /// Where the generation of a number stands, if those that live are spread evenly over their numbers: a guess.
+    fn even_guess(&self, number: u32) -> usize {
+        let Some(first) = self.generations.first() else {
+            return 0;
+        };
+        let Some(last) = self.generations.last() else {
+            return 0;
+        };
+        let span = u64::from(last.number.saturating_sub(first.number));
+        if span == 0 {
+            return 0;
+        }
+        let ahead = u64::from(number.saturating_sub(first.number));
+        let steps = self.generations.len().saturating_sub(1) as u64;
+        (ahead.saturating_mul(steps) / span) as usize
+    }
+
     /// The generation of a number; `None` where it has ended, or none was ever made.
     pub fn living(&self, number: u32) -> Option<LivingGeneration<'m>>
         ensures { MatchOption result (generation_in (storage_view self.now) number ≡ None)
             (IsLiving (storage_view self.now) number) }
     {
-        let last = self.generations.len().saturating_sub(1);
-        let at = self.find(number, last)?;
+        let at = self.find(number, self.even_guess(number))?;
         let generation = &self.generations[at];
         let place = Place {
             generation: number,
@@ -239,6 +256,21 @@ impl<'m> Storage<'m> {
         }
         match self.part(place) {
             Ok(part) => bit_at(&self.generations[part.at].bytes, part.offset),
+            Err(_fault) => None,
+        }
+    }
+
+    /// The pointer that the place of a scalar of POINTER holds; `None` where it holds none, or nothing, of which `held` tells.
+    #[inline]
+    pub fn pointer_at(&self, place: Place<'_>) -> Option<Locator>
+        ensures { (w : World) → IfSome result (λ l. held (place_view place.entry) (with_storage self.now w)
+            ≡ Yields (Located l) (with_storage self.now w)) }
+    {
+        if !is_pointer(place.description) {
+            return None;
+        }
+        match self.part(place) {
+            Ok(part) => pointer_at(&self.generations[part.at].bytes, part.offset),
             Err(_fault) => None,
         }
     }

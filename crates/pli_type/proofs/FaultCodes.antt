@@ -1,5 +1,5 @@
 -- The faults of types have the codes of types.
-use Rattle.std.proofs.Common.{ℕ, Bool, true, false, IsTrue, Option, Some, None, List, [], ◌∷◌, ◌++◌, Result, Ok}
+use Rattle.std.proofs.Common.{ℕ, ◌+◌, Bool, true, false, IsTrue, Option, Some, None, List, [], ◌∷◌, ◌++◌, Result, Ok}
 use Rattle.std.proofs.Common.{Err, if◌then◌else◌, refl}
 use Rattle.pli_base.specs.Results.{◌>>=◌}
 use Rattle.pli_base.specs.Statements as tree
@@ -14,7 +14,7 @@ use Rattle.pli_base.specs.declared.syntax.Joining.TheVariants.{Member, Located}
 use Rattle.pli_base.specs.declared.token.Fault.{Fault}
 use Rattle.pli_map.specs.Description.{Description}
 use Rattle.pli_resolve.specs.declared.built_in.BuiltInFunction.{BuiltInFunction}
-use Rattle.pli_type.specs.AllocationTyping.{in_turn, only_variable, place_given, allocated, freed}
+use Rattle.pli_type.specs.AllocationTyping.{in_turn, only_variable, place_given, kept_for, allocated, all_allocated, freed}
 use Rattle.pli_type.specs.Checked.{checked, unless_unbuilt, typed_as}
 use Rattle.pli_type.specs.ExpressionTypes.{TypedValue}
 use Rattle.pli_type.specs.FunctionCalls.{Denoted, DenotesVariable, DenotesResult, Meant, OneValue, WholeAggregate}
@@ -23,14 +23,14 @@ use Rattle.pli_type.specs.Names.{NamedAs, AVariable, AFunction, AProcedure, ALab
 use Rattle.pli_type.specs.Names.{NamedProcedure, NamedUnit, Naming}
 use Rattle.pli_type.specs.ProcedureCalls.{arguments_passed, or_wrong_argument, result_of}
 use Rattle.pli_type.specs.References.{Role, AsValue, AsArgument, AsTarget, AsLocator, Referent, StridedPart}
-use Rattle.pli_type.specs.References.{settled}
+use Rattle.pli_type.specs.References.{settled, begins_somewhere, LocatorBefore, NotLocated}
 use Rattle.pli_type.specs.StatementTyping as statements
 use Rattle.pli_type.specs.StatementTyping.{WithProcedures}
 use Rattle.pli_type.specs.Temporaries.{Next}
 use Rattle.pli_type.specs.Typing as typing
 use Rattle.pli_type.specs.Typing.{Segment, OfVariable, OfFunction, OfNoVariable, or_fault, first_token, denoted}
 use Rattle.pli_type.specs.Typing.{referred, joined, begun, is_call, all_subscripts, subscripts_in, all_arguments}
-use Rattle.pli_type.specs.Typing.{as_value, one_value, ended, with_more}
+use Rattle.pli_type.specs.Typing.{as_value, one_value, ended, with_more, as_locator}
 use Rattle.pli_type.specs.declared.expression_type.ExpressionType.{ExpressionType}
 use Rattle.pli_type.specs.laws.Laws.{is_of_types, AreOfTypes, IsFault, IsToldOfTypes, FaultsAreOfTypes}
 use Rattle.pli_type_tree.specs.TypedTree.{Callee, TypedExpression, TypedArguments, TypedRange, TypedStatements}
@@ -68,13 +68,17 @@ only_if false r s p q = q
 
 -- references
 
-only_settled : (role : Role) (located : Bool) (at : ℕ) (v : NamedVariable) (xs : List TypedExpression)
-    (o : Option StridedPart) → Only (settled role located at v xs o)
-only_settled role located at v xs None = told _ _ refl
-only_settled role located at v xs (Some p) = only_if _ _ _ (told _ _ refl) (only_if located _ _ (told _ _ refl) (fine _))
+only_somewhere : (at : ℕ) (o : Option Referent) → Only (begins_somewhere at o)
+only_somewhere at None = told _ _ refl
+only_somewhere at (Some r) = fine _
+
+only_settled : (role : Role) (locator : LocatorBefore) (at : ℕ) (v : NamedVariable) (xs : List TypedExpression)
+    (o : Option StridedPart) → Only (settled role locator at v xs o)
+only_settled role locator at v xs None = told _ _ refl
+only_settled role locator at v xs (Some p) = only_if _ _ _ (told _ _ refl) (only_somewhere at _)
 
 only_ended : (role : Role) (s : Segment) → Only (ended role s)
-only_ended role (OfVariable located at v xs) = only_then _ _ (only_settled role located at v xs _) (λ r. fine _)
+only_ended role (OfVariable locator at v xs) = only_then _ _ (only_settled role locator at v xs _) (λ r. fine _)
 only_ended role (OfFunction value) = fine _
 only_ended role (OfNoVariable at) = told _ _ refl
 
@@ -131,7 +135,7 @@ mutual
 
   only_referred : (n : Naming) (role : Role) (r : Reference) → Only (referred n role r)
   only_referred n role (Named name arguments more) =
-      only_then _ _ (only_begun n (n.meaning name.at) (is_call role false more) false name.at arguments)
+      only_then _ _ (only_begun n (n.meaning name.at) (is_call role false more) NotLocated name.at arguments)
       (λ s. only_joined n role s more)
 
   only_joined : (n : Naming) (role : Role) (s : Segment) (more : JoinedParts) → Only (joined n role s more)
@@ -140,33 +144,33 @@ mutual
       only_then _ _ (only_in n arguments) (λ xs. only_joined n role (with_more s xs) more)
   only_joined n role s (Joined Located name arguments more) =
       only_then _ _ (only_ended AsLocator s)
-      (λ l. only_then _ _ (only_begun n (n.meaning name.at) (is_call role true more) true name.at arguments)
+      (λ l. only_then _ _ (only_begun n (n.meaning name.at) (is_call role true more) (as_locator l) name.at arguments)
       (λ t. only_joined n role t more))
 
-  only_begun : (n : Naming) (name : NamedAs) (call located : Bool) (at : ℕ) (arguments : Arguments)
-      → Only (begun n name call located at arguments)
-  only_begun n (AVariable v) call located at (Given list) =
+  only_begun : (n : Naming) (name : NamedAs) (call : Bool) (locator : LocatorBefore) (at : ℕ) (arguments : Arguments)
+      → Only (begun n name call locator at arguments)
+  only_begun n (AVariable v) call locator at (Given list) =
       only_then _ _ (only_subscripts n list) (λ xs. fine _)
-  only_begun n (AVariable v) call located at Absent = fine _
-  only_begun n (AFunction function) true located at (Given list) =
+  only_begun n (AVariable v) call locator at Absent = fine _
+  only_begun n (AFunction function) true locator at (Given list) =
       only_then _ _ (only_arguments n _ list)
       (λ gs. only_then _ _ (only_function n.greatest function at _ gs) (λ v. fine _))
-  only_begun n (AFunction function) false located at (Given list) =
+  only_begun n (AFunction function) false locator at (Given list) =
       only_then _ _ (only_arguments n [] list) (λ gs. fine _)
-  only_begun n (AFunction function) true located at Absent = fine _
-  only_begun n (AFunction function) false located at Absent = fine _
-  only_begun n (AProcedure p) true located at (Given list) =
+  only_begun n (AFunction function) true locator at Absent = fine _
+  only_begun n (AFunction function) false locator at Absent = fine _
+  only_begun n (AProcedure p) true locator at (Given list) =
       only_then _ _ (only_arguments n [] list) (λ gs. only_procedure n.greatest p at gs)
-  only_begun n (AProcedure p) false located at (Given list) =
+  only_begun n (AProcedure p) false locator at (Given list) =
       only_then _ _ (only_arguments n [] list) (λ gs. fine _)
-  only_begun n (AProcedure p) true located at Absent = fine _
-  only_begun n (AProcedure p) false located at Absent = fine _
-  only_begun n (ALabel statement) call located at (Given list) =
+  only_begun n (AProcedure p) true locator at Absent = fine _
+  only_begun n (AProcedure p) false locator at Absent = fine _
+  only_begun n (ALabel statement) call locator at (Given list) =
       only_then _ _ (only_arguments n [] list) (λ gs. fine _)
-  only_begun n (ALabel statement) call located at Absent = fine _
-  only_begun n Untyped call located at (Given list) =
+  only_begun n (ALabel statement) call locator at Absent = fine _
+  only_begun n Untyped call locator at (Given list) =
       only_then _ _ (only_arguments n [] list) (λ gs. fine _)
-  only_begun n Untyped call located at Absent = fine _
+  only_begun n Untyped call locator at Absent = fine _
 
   only_in : (n : Naming) (arguments : Arguments) → Only (subscripts_in n arguments)
   only_in n Absent = fine _
@@ -267,8 +271,8 @@ only_place n None = fine _
 only_place n (Some reference) =
     only_then _ _ (only_referred n AsLocator reference) (λ d. only_then _ _ (only_a_variable _ d) (λ r. fine _))
 
-only_allocated : (n : Naming) (a : Allocation) → Only (allocated n a)
-only_allocated n a =
+only_allocated : (n : Naming) (temporary : ℕ) (a : Allocation) → Only (allocated n temporary a)
+only_allocated n temporary a =
     only_then _ _ (only_place n a.area)
     (λ area. only_then _ _ (only_place n a.target) (λ target. only_or CannotAllocateOrFree a.name.at _ refl))
 
@@ -277,8 +281,14 @@ only_freed n reference =
     only_then _ _ (only_referred n AsTarget reference)
     (λ d. only_then _ _ (only_a_variable _ d) (λ r. only_or CannotAllocateOrFree _ _ refl))
 
-only_allocate : (n : Naming) (list : List Allocation) → Only (statements.allocate_typed n list)
-only_allocate n list = only_then _ _ (only_in_turn (allocated n) (only_allocated n) list) (λ xs. fine _)
+only_all_allocated : (n : Naming) (temporary : ℕ) (list : List Allocation) → Only (all_allocated n temporary list)
+only_all_allocated n temporary [] = fine _
+only_all_allocated n temporary (a ∷ others) =
+    only_then _ _ (only_allocated n temporary a)
+    (λ x. only_then _ _ (only_all_allocated n (temporary + kept_for x) others) (λ xs. fine _))
+
+only_allocate : (n : Naming) (temporary : ℕ) (list : List Allocation) → Only (statements.allocate_typed n temporary list)
+only_allocate n temporary list = only_then _ _ (only_all_allocated n temporary list) (λ xs. fine _)
 
 only_free : (n : Naming) (list : List Reference) → Only (statements.free_typed n list)
 only_free n list = only_then _ _ (only_in_turn (freed n) (only_freed n) list) (λ xs. fine _)
@@ -302,9 +312,9 @@ only_suited : (at : ℕ) (range : TypedRange) (r : Referent) (b : Bool) → Only
 only_suited at range r true = fine _
 only_suited at range r false = told _ _ refl
 
-only_controls : (at : ℕ) (range : TypedRange) (d : Denoted) → Only (statements.controls at range d)
-only_controls at range (DenotesResult value) = told _ _ refl
-only_controls at range (DenotesVariable r) = only_if _ _ _ (only_suited at range r _) (told _ _ refl)
+only_controls : (at : ℕ) (is_located : Bool) (range : TypedRange) (d : Denoted) → Only (statements.controls at is_located range d)
+only_controls at is_located range (DenotesResult value) = told _ _ refl
+only_controls at is_located range (DenotesVariable r) = only_if _ _ _ (only_suited at range r _) (told _ _ refl)
 
 only_possible_condition : (n : Naming) (o : Option Expression) → Only (statements.possible_condition n o)
 only_possible_condition n None = fine _
@@ -325,7 +335,7 @@ only_iteration n temporary variable equals first range tested =
     only_then _ _ (only_value_of n first)
     (λ v. only_then _ _ (only_limits n range)
     (λ kept. only_then _ _ (only_referred n AsLocator variable)
-    (λ d. only_then _ _ (only_controls (first_token (Referred variable)) kept d)
+    (λ d. only_then _ _ (only_controls (first_token (Referred variable)) (statements.has_locator variable) kept d)
     (λ r. only_then _ _ (only_or CannotAssign equals _ refl)
     (λ operations. only_then _ _ (only_possible_condition n tested)
     (λ x. only_then _ _ (only_repeat n r.description kept range) (λ turns. fine _)))))))
@@ -398,7 +408,7 @@ mutual
       told_together _ _ _ (told_own _ (only_condition (statements.naming_at u s) tested))
       (told_together _ _ _ (told_statement u s x consequence) (told_alternative u s _ alternative))
   told_body u s x number at tree.Stop = passed _
-  told_body u s x number at (tree.Allocate list) = told_own _ (only_allocate (statements.naming_at u s) list)
+  told_body u s x number at (tree.Allocate list) = told_own _ (only_allocate (statements.naming_at u s) x.temporary list)
   told_body u s x number at (tree.Free list) = told_own _ (only_free (statements.naming_at u s) list)
   told_body u s x number at (tree.Call name arguments) = told_own _ (only_call (statements.naming_at u s) name arguments)
   told_body u s x number at (tree.Goto label) = told_own _ (only_goto (statements.naming_at u s) s label)

@@ -1,3 +1,4 @@
+pub mod BasedNames
 pub mod FaultCodes
 pub mod Lists
 pub mod TextNumbers

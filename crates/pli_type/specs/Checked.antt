@@ -28,7 +28,7 @@ external_of u list = record {
     number = 0;
     statement = u.tree.heading.number;
     variables = u.automatic 0;
-    temporaries = temporaries_among u.tree.statements;
+    temporaries = temporaries_among u.compiled.is_based u.tree.statements;
   };
   parent = None;
   parameters = length (u.parameters 0);

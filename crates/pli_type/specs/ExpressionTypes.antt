@@ -1,7 +1,8 @@
 -- The types of expressions: how many digits the number of an operation has, which operands an operator takes,
 -- and which conversion a value goes through where it is assigned or printed. Precisions are own, the rest is
 -- X3.74.
-use Rattle.std.specs.Prelude.{ℕ, ◌+◌, ◌*◌, max, min, Option, Some, None, option_map, pos}
+use Rattle.std.specs.Prelude.{ℕ, ◌+◌, ◌*◌, max, min, Bool, true, false, ◌&&◌, Option, Some, None, option_map}
+use Rattle.std.specs.Prelude.{pos, if◌then◌else◌}
 use Rattle.std.specs.Prelude.{List, [], ◌∷◌, ◌++◌}
 use Rattle.std.specs.Int.{div_ceil}
 use Rattle.pli_base.specs.declared.syntax.ConstantValue.{ConstantValue}
@@ -23,7 +24,8 @@ use Rattle.pli_type.specs.declared.expression_type.ExpressionType.{ExpressionTyp
 use Rattle.pli_type.specs.declared.expression_type.ExpressionType.TheVariants as types
 use Rattle.pli_type_tree.specs.TypedTree.{TypedExpression, Literal, Calculated, Operands, NoOperand}
 use Rattle.pli_type_tree.specs.TypedTree.{OperandThen, TypedOperation, Fit, Operate}
-use Rattle.pli_value.specs.Value.{Number, Characters, Bits}
+use Rattle.pli_value.specs.Value.{Number, Characters, Bits, Located}
+use Rattle.pli_value.specs.declared.locator.Locator.TheVariants as locators
 
 -- an expression with its type
 pub record TypedValue : Type 0 where
@@ -89,6 +91,10 @@ constant (constants.Binary value digits) =
 constant (constants.Characters text) =
     record { expression = Literal (Characters text); kind = types.Characters }
 constant (constants.Bits bits) = record { expression = Literal (Bits bits); kind = types.Bits }
+
+-- NULL; beside a POINTER, and where one is wanted, it is the null pointer
+abbrev pub null_value : TypedValue
+null_value = record { expression = Literal (Located locators.Null); kind = types.Null }
 
 -- operations on typed expressions
 
@@ -179,10 +185,24 @@ compared greatest relation left right None =
     option_map (λ v. as_bits v.expression)
     (on_numbers greatest (Compare relation) (sum_precision greatest) left right)
 
--- a comparison takes two strings, or else two numbers
+-- a pointer, or NULL
+abbrev pub is_pointer : ExpressionType → Bool
+is_pointer types.Pointer = true
+is_pointer types.Null = true
+is_pointer other = false
+
+-- pointers are equal or not; none is less than another
+abbrev pub pointers_compared : Relation → (left right : TypedExpression) → Option TypedValue
+pointers_compared Equal left right = Some (as_bits (with_two (Compare Equal) left right))
+pointers_compared Unequal left right = Some (as_bits (with_two (Compare Unequal) left right))
+pointers_compared relation left right = None
+
+-- a comparison takes two pointers, two strings, or else two numbers
 abbrev pub comparison : (greatest : ℕ) → Relation → (left right : TypedValue) → Option TypedValue
 comparison greatest relation left right =
-    compared greatest relation left right (string_type left.kind right.kind)
+    if is_pointer left.kind && is_pointer right.kind
+    then pointers_compared relation left.expression right.expression
+    else compared greatest relation left right (string_type left.kind right.kind)
 
 -- `||` takes two strings
 abbrev pub concatenation : (left right : TypedValue) → Option TypedValue
@@ -238,6 +258,10 @@ abbrev pub only_bits : TypedExpression → ExpressionType → Option TypedExpres
 only_bits e types.Bits = Some e
 only_bits e other = None
 
+-- a pointer, or NULL, stands where a POINTER is assigned
+abbrev pub only_pointer : TypedExpression → ExpressionType → Option TypedExpression
+only_pointer e kind = if is_pointer kind then Some e else None
+
 -- a value of this type for a variable of this description: FIXED from FIXED, BIT from BIT, CHARACTER from
 -- CHARACTER, BIT and FIXED
 abbrev pub suited : (greatest : ℕ) → Description → TypedExpression → ExpressionType → Option TypedExpression
@@ -247,8 +271,10 @@ suited greatest (described.Varying n) e kind = as_characters e kind
 suited greatest (described.Bit n) e kind = only_bits e kind
 suited greatest other e kind = None
 
--- a value that suits a variable is fitted to its description, also where it has the type already
+-- a value that suits a variable is fitted to its description, also where it has the type already; a pointer
+-- needs no fitting
 abbrev pub converted : (greatest : ℕ) → Description → TypedValue → Option TypedExpression
+converted greatest described.Pointer v = only_pointer v.expression v.kind
 converted greatest d v = option_map (with_one (Fit d)) (suited greatest d v.expression v.kind)
 
 -- the operations that make characters of a value of this type, one after the other, where it needs any
@@ -270,8 +296,13 @@ suiting greatest (described.Varying n) kind = string_conversions kind
 suiting greatest (described.Bit n) kind = bit_conversions kind
 suiting greatest other kind = None
 
--- and behind them the one that fits to the variable's range or length
+-- those that make a pointer of it: none, and only of a pointer or NULL
+abbrev pub pointer_conversions : ExpressionType → Option (List TypedOperation)
+pointer_conversions kind = if is_pointer kind then Some [] else None
+
+-- and behind them the one that fits to the variable's range or length; a pointer needs none
 abbrev pub conversions : (greatest : ℕ) → Description → ExpressionType → Option (List TypedOperation)
+conversions greatest described.Pointer kind = pointer_conversions kind
 conversions greatest d kind = option_map (λ operations. operations ++ Fit d ∷ []) (suiting greatest d kind)
 
 -- what PUT prints of a value of this type: characters and bits as they stand, a number as characters; no

@@ -1,6 +1,7 @@
 -- Calls of built-in functions: what they take, and the type of what they give (X3.74; MOD and all precisions
 -- own). A built-in function converts nothing.
-use Rattle.std.specs.Prelude.{ℕ, ◌-◌, max, map, nat_eq, nat_le, ◌&&◌, Option, Some, None, option_map}
+use Rattle.std.specs.Prelude.{ℕ, ◌-◌, max, map, nat_eq, nat_le, Bool, false, ◌&&◌, Option, Some, None}
+use Rattle.std.specs.Prelude.{option_map}
 use Rattle.std.specs.Prelude.{option_and_then, List, [], ◌∷◌, length, Result, Ok, slice_get, ℤ, if◌then◌else◌}
 use Rattle.pli_base.specs.Reading.{at_fault}
 use Rattle.pli_base.specs.Syntax.{Expression, Constant}
@@ -17,10 +18,10 @@ use Rattle.pli_operation.specs.declared.operation.Operation.TheVariants.{Divide 
 use Rattle.pli_operation.specs.declared.operation.Operation.TheVariants.{Rest, Substring as SubstringOf}
 use Rattle.pli_type.specs.ExpressionTypes.{precisions}
 use Rattle.pli_type.specs.ExpressionTypes.{TypedValue, type_of}
-use Rattle.pli_type.specs.ExpressionTypes.{precision_of, count_precision, all_operands}
+use Rattle.pli_type.specs.ExpressionTypes.{precision_of, count_precision, all_operands, null_value}
 use Rattle.pli_type.specs.References.{Role, AsValue, AsArgument, Referent}
 use Rattle.pli_type_tree.specs.TypedTree.{NewestOf, Operate, TypedExpression, Literal, Held, Calculated}
-use Rattle.pli_type_tree.specs.TypedTree.{Generations, TypedReference, Whole}
+use Rattle.pli_type_tree.specs.TypedTree.{Generations, Address, TypedReference, Whole}
 use Rattle.pli_value.specs.Value.{Number}
 use Rattle.pli_type.specs.declared.expression_type.ExpressionType.{ExpressionType}
 use Rattle.pli_type.specs.declared.expression_type.ExpressionType.TheVariants as types
@@ -80,9 +81,9 @@ two = AsValue ∷ AsValue ∷ []
 abbrev pub three : List Role
 three = AsValue ∷ AsValue ∷ AsValue ∷ []
 
--- for what the arguments of a function stand, where it may have so many: SUBSTR has two or three. The
--- array of LBOUND and HBOUND and the variable of ALLOCATION are not evaluated, and the number of a dimension
--- and the precision of DIVIDE are constants
+-- for what the arguments of a function stand, where it may have so many: SUBSTR has two or three, NULL none.
+-- The array of LBOUND and HBOUND and the variable of ALLOCATION are not evaluated, and the number of a
+-- dimension and the precision of DIVIDE are constants
 abbrev pub roles_of : BuiltInFunction → (given : ℕ) → Option (List Role)
 roles_of functions.Abs given = exactly given one
 roles_of functions.Sign given = exactly given one
@@ -96,6 +97,8 @@ roles_of functions.Divide given = exactly given (AsValue ∷ AsValue ∷ AsArgum
 roles_of functions.LowBound given = exactly given (AsArgument ∷ AsArgument ∷ [])
 roles_of functions.HighBound given = exactly given (AsArgument ∷ AsArgument ∷ [])
 roles_of functions.Allocation given = exactly given (AsArgument ∷ [])
+roles_of functions.Address given = exactly given (AsArgument ∷ [])
+roles_of functions.Null given = exactly given []
 roles_of function given = None
 
 -- the type of what a function gives, by those of its arguments
@@ -210,6 +213,16 @@ abbrev pub generations_of : Denoted → Option TypedValue
 generations_of (DenotesVariable r) = generations_in r.reference
 generations_of (DenotesResult value) = None
 
+-- a pointer to a whole variable at level 1 that is no parameter
+abbrev pub address_in : (is_parameter : Bool) → TypedReference → Option TypedValue
+address_in false (Whole root) = Some (record { expression = Address (Whole root); kind = types.Pointer })
+address_in is_parameter reference = None
+
+-- ADDR of an argument
+abbrev pub address_of : Denoted → Option TypedValue
+address_of (DenotesVariable r) = address_in r.is_parameter r.reference
+address_of (DenotesResult value) = None
+
 -- the one value that an argument is
 abbrev pub value_in : Meant → Option TypedValue
 value_in (OneValue v) = Some v
@@ -235,6 +248,8 @@ of_arguments greatest functions.LowBound (a ∷ n ∷ []) =
 of_arguments greatest functions.HighBound (a ∷ n ∷ []) =
     the_bound (λ b. b.high) (meant_as a.denoted) n.written
 of_arguments greatest functions.Allocation (a ∷ []) = generations_of a.denoted
+of_arguments greatest functions.Address (a ∷ []) = address_of a.denoted
+of_arguments greatest functions.Null [] = Some null_value
 of_arguments greatest function arguments = option_and_then (of_values greatest function) (values_in arguments)
 
 -- T13 at the function's name where it does not take the arguments

@@ -28,12 +28,13 @@ use Rattle.pli_resolve.specs.declared.symbol.SymbolKey.{SymbolKey}
 use Rattle.pli_type.specs.Checked.{checked}
 use Rattle.pli_type.specs.InitialScalars.{InitialItem, template_of}
 use Rattle.pli_type.specs.Names.{NamedAs, AVariable, AFunction, AProcedure, ALabel, Untyped, NamedProcedure}
-use Rattle.pli_type.specs.Names.{Naming, Compiled, NamedUnit}
+use Rattle.pli_type.specs.Names.{Naming, Compiled, NamedUnit, NamedStorage, Begins, IsBased}
+use Rattle.pli_type.specs.References.{StridedPart, part_on, pointer_at, reference_to, whole_part}
 use Rattle.pli_type.specs.TextOrder.{in_order, text_places}
 use Rattle.pli_type.specs.Unbuilt.{is_later_function}
 use Rattle.pli_type_tree.specs.Templates.{Template}
 use Rattle.pli_type_tree.specs.TypedTree.{OfBlock, OfEntry, Global, OwnVariable, ExternalVariable, EntryPoint}
-use Rattle.pli_type_tree.specs.TypedTree.{Root, InSlot, OfProgram, NewestOf, TypedUnit}
+use Rattle.pli_type_tree.specs.TypedTree.{Root, InSlot, OfProgram, NewestOf, TypedReference, TypedUnit}
 
 -- which variables there are
 
@@ -48,14 +49,15 @@ are_bounds (b ∷ bs) =
     nat_le (unsigned_abs b.low) 32768 && nat_le (unsigned_abs b.high) 32768 && are_bounds bs
 
 abbrev mutual
-  -- a description of numbers and strings alone, within the language's limits, as all variables have that are
-  -- compiled: numbers of so many digits at most, strings of such lengths, arrays with elements and such
-  -- bounds, and structures with members
+  -- a description of numbers, strings and pointers alone, within the language's limits, as all variables have
+  -- that are compiled: numbers of so many digits at most, strings of such lengths, arrays with elements and
+  -- such bounds, and structures with members
   pub is_plain : (greatest : ℕ) → Description → Bool
   is_plain greatest (FixedBinary precision) = nat_le precision greatest
   is_plain greatest (Character n) = is_length n
   is_plain greatest (Varying n) = is_length n
   is_plain greatest (Bit n) = is_length n
+  is_plain greatest described.Pointer = true
   is_plain greatest (Array (b ∷ bs) element) =
       nat_lt 0 (count_of (b ∷ bs)) && are_bounds (b ∷ bs) && is_plain greatest element
   is_plain greatest (Structure (MemberThen d ds)) = is_plain greatest d && all_plain greatest ds
@@ -80,6 +82,11 @@ abbrev pub is_global : (greatest : ℕ) → StorageClass → Description → Boo
 is_global greatest classes.Static d = is_stored greatest d
 is_global greatest classes.Controlled d = is_stored greatest d
 is_global greatest class d = false
+
+-- a BASED variable of it
+abbrev pub is_based : (greatest : ℕ) → StorageClass → Description → Bool
+is_based greatest (classes.Based locator) d = is_stored greatest d
+is_based greatest class d = false
 
 -- how the generations of such a variable come
 abbrev pub kind_of_class : StorageClass → VariableKind
@@ -208,7 +215,7 @@ is_parameter numbers slot number = is_number (slice_get numbers slot)
 
 -- Parameters stand in slots, each in its own, and the AUTOMATIC variables of the block behind them, in the
 -- order of the text; STATIC and CONTROLLED variables are globals, which stand in the order of the text of the
--- whole unit. Other variables begin nowhere yet
+-- whole unit. BASED variables begin nowhere
 abbrev pub root_of : (greatest : ℕ) → ResolvedUnit → (blocks : List ℕ) → SymbolKey → StorageClass
     → Description → Option Root
 root_of greatest r blocks key classes.Automatic d =
@@ -226,12 +233,72 @@ root_of greatest r blocks key classes.Controlled d =
     if is_stored greatest d then Some (NewestOf (global_number greatest r key)) else None
 root_of greatest r blocks key class d = None
 
+-- where storage is
+
+-- a POINTER without dimensions, as a reference
+abbrev pub pointer_part : Root → (path : List ℕ) → Option StridedPart → Option TypedReference
+pointer_part root path None = None
+pointer_part root path (Some p) =
+    if nat_eq (length p.strides) 0 then pointer_at (reference_to root path p []) p.description else None
+
+-- the same, if the variable begins somewhere, of this description, or a member of it on this way
+abbrev pub pointer_on : Option Root → (whole : Description) → (path : List ℕ) → Option TypedReference
+pointer_on None whole path = None
+pointer_on (Some root) whole path = pointer_part root path (part_on (whole_part whole) path)
+
+-- the same of a variable of its own, or a member of it on this way; one that is BASED begins nowhere
+abbrev pub pointer_in : (greatest : ℕ) → ResolvedUnit → (blocks : List ℕ) → SymbolKey → (path : List ℕ)
+    → Option Symbol → Option TypedReference
+pointer_in greatest r blocks key path None = None
+pointer_in greatest r blocks key path (Some s) = of_kind s.kind
+  where
+    of_kind : SymbolKind → Option TypedReference
+    of_kind (Variable description class scope initial area) =
+        pointer_on (root_of greatest r blocks key class description) description path
+    of_kind other = None
+
+-- the POINTER that a symbol is
+abbrev pub pointer_meant : (greatest : ℕ) → ResolvedUnit → (blocks : List ℕ) → SymbolKey → Option Symbol
+    → Option TypedReference
+pointer_meant greatest r blocks key None = None
+pointer_meant greatest r blocks key (Some s) = of_kind s.kind
+  where
+    of_kind : SymbolKind → Option TypedReference
+    of_kind (Member root path initial area) =
+        pointer_in greatest r blocks (record { block = key.block; number = root }) path
+        (slice_get (block_symbols r key.block) root)
+    of_kind other = pointer_in greatest r blocks key [] (Some s)
+
+-- the POINTER that BASED names, seen from the blocks around; none where it names none, or what is no POINTER
+abbrev pub pointer_named : (greatest : ℕ) → ResolvedUnit → (blocks : List ℕ) → Option SymbolKey
+    → Option TypedReference
+pointer_named greatest r blocks None = None
+pointer_named greatest r blocks (Some key) = pointer_meant greatest r blocks key (symbol_at r key)
+
+-- its slot is a parameter's
+abbrev pub is_passed_class : StorageClass → Bool
+is_passed_class (classes.Parameter slot) = true
+is_passed_class class = false
+
+-- the storage of a variable, if there is one: a BASED variable has its number among those of its block
+abbrev pub storage_of : (greatest : ℕ) → ResolvedUnit → (blocks : List ℕ) → SymbolKey → StorageClass
+    → Description → Option NamedStorage
+storage_of greatest r blocks key (classes.Based locator) d =
+    if is_stored greatest d
+    then Some (IsBased key.block
+    (such_before (is_based greatest) (block_symbols r key.block) key.number)
+    (pointer_named greatest r blocks locator))
+    else None
+storage_of greatest r blocks key class d =
+    option_map (λ root. Begins root (is_passed_class class)) (root_of greatest r blocks key class d)
+
 -- what names mean
 
--- a variable, or a member of it, where it begins somewhere
-abbrev pub variable_from : Option Root → (whole : Description) → (path : List ℕ) → NamedAs
+-- a variable, or a member of it, where it has storage
+abbrev pub variable_from : Option NamedStorage → (whole : Description) → (path : List ℕ) → NamedAs
 variable_from None whole path = Untyped
-variable_from (Some root) whole path = AVariable (record { root = root; whole = whole; path = path })
+variable_from (Some storage) whole path =
+    AVariable (record { storage = storage; whole = whole; path = path })
 
 -- a variable of its own, or its member on this way
 abbrev pub variable_at : (greatest : ℕ) → ResolvedUnit → (blocks : List ℕ) → SymbolKey → (path : List ℕ)
@@ -241,7 +308,7 @@ variable_at greatest r blocks key path (Some s) = of_kind s.kind
   where
     of_kind : SymbolKind → NamedAs
     of_kind (Variable description class scope initial area) =
-        variable_from (root_of greatest r blocks key class description) description path
+        variable_from (storage_of greatest r blocks key class description) description path
     of_kind other = Untyped
 
 -- what stands directly in a block around, or in none
@@ -284,7 +351,7 @@ entry_named greatest number parameters returned =
 -- what a name means, by what its symbol is
 abbrev pub symbol_meant : (greatest : ℕ) → ResolvedUnit → (blocks : List ℕ) → SymbolKey → SymbolKind → NamedAs
 symbol_meant greatest r blocks key (Variable description class scope initial area) =
-    variable_from (root_of greatest r blocks key class description) description []
+    variable_from (storage_of greatest r blocks key class description) description []
 symbol_meant greatest r blocks key (Member root path initial area) =
     variable_at greatest r blocks (record { block = key.block; number = root }) path
     (slice_get (block_symbols r key.block) root)
@@ -308,20 +375,30 @@ named_as greatest r blocks None = Untyped
 named_as greatest r blocks (Some (meanings.BuiltIn function)) = AFunction function
 named_as greatest r blocks (Some (meanings.Symbol key)) = declared_as greatest r blocks key
 
--- what names mean, seen from the blocks around
-abbrev pub naming_of : (greatest : ℕ) → ResolvedUnit → (blocks : List ℕ) → Naming
-naming_of greatest r blocks =
-    record { greatest = greatest; meaning = λ at. named_as greatest r blocks (meaning_at r at) }
-
 -- the name of a function that is not compiled yet
 abbrev pub means_later : Option NameMeaning → Bool
 means_later None = false
 means_later (Some (meanings.BuiltIn function)) = is_later_function function
 means_later (Some (meanings.Symbol key)) = false
 
--- which names are those of functions that are not compiled yet
+-- storage is that of a BASED variable, and no member stands on the way
+abbrev pub is_based_whole : NamedStorage → (path : List ℕ) → Bool
+is_based_whole (IsBased block number implied) [] = true
+is_based_whole storage path = false
+
+-- a name is that of a BASED variable, and of no member
+abbrev pub names_based : NamedAs → Bool
+names_based (AVariable v) = is_based_whole v.storage v.path
+names_based meant = false
+
+-- which names are those of functions that are not compiled yet, and which those of BASED variables; the
+-- blocks around say nothing of that
 abbrev pub compiled_of : (greatest : ℕ) → ResolvedUnit → Compiled
-compiled_of greatest r = record { greatest = greatest; is_later = λ at. means_later (meaning_at r at) }
+compiled_of greatest r = record {
+  greatest = greatest;
+  is_later = λ at. means_later (meaning_at r at);
+  is_based = λ at. names_based (named_as greatest r [] (meaning_at r at));
+}
 
 -- what variables are made from
 
@@ -354,6 +431,14 @@ templates_from is_such all number (s ∷ ss) =
 -- what the variables of such a class among the symbols of a block are made from
 abbrev pub templates_of : (StorageClass → Description → Bool) → List Symbol → List Template
 templates_of is_such symbols = templates_from is_such symbols 0 symbols
+
+-- what names mean, seen from the blocks around
+abbrev pub naming_of : (greatest : ℕ) → ResolvedUnit → (blocks : List ℕ) → Naming
+naming_of greatest r blocks = record {
+  greatest = greatest;
+  based = λ block. templates_of (is_based greatest) (block_symbols r block);
+  meaning = λ at. named_as greatest r blocks (meaning_at r at);
+}
 
 -- the unit
 

@@ -4,12 +4,19 @@ use Rattle.pli_base.specs.Statements.{ExternalProcedure}
 use Rattle.pli_map.specs.Description.{Description}
 use Rattle.pli_resolve.specs.declared.built_in.BuiltInFunction.{BuiltInFunction}
 use Rattle.pli_type_tree.specs.Templates.{Template}
-use Rattle.pli_type_tree.specs.TypedTree.{Callee, Global, Root}
+use Rattle.pli_type_tree.specs.TypedTree.{Callee, Global, Root, TypedReference}
 
--- a variable of its own, or a member of one: where the variable begins, the description of the whole
+-- where the storage of a variable is, seen from where its name is used: where it begins, and whether it is a
+-- parameter; or, of the BASED variable of a number among those of a block, wherever a locator leads, which is
+-- the POINTER that BASED names where no other is written, if it names one
+pub data NamedStorage : Type 0 where
+  Begins : (root : Root) (is_parameter : Bool) → NamedStorage
+  IsBased : (block number : ℕ) (implied : Option TypedReference) → NamedStorage
+
+-- a variable of its own, or a member of one: where the variable's storage is, the description of the whole
 -- variable, and the members on the way, each counted from 0
 pub record NamedVariable : Type 0 where
-  pub root : Root
+  pub storage : NamedStorage
   pub whole : Description
   pub path : List ℕ
 
@@ -28,17 +35,21 @@ pub data NamedAs : Type 0 where
   ALabel : (statement : ℕ) → NamedAs
   Untyped : NamedAs
 
--- how many binary digits numbers have at most, and what the name at a token means: the first name of each
--- reference between arrows, the name in CALL, and the label in GOTO
+-- how many binary digits numbers have at most; what the BASED variables of a block are made from, in the
+-- order of the text; and what the name at a token means: the first name of each reference between arrows, the
+-- name in CALL and in ALLOCATE, and the label in GOTO
 pub record Naming : Type 0 where
   pub greatest : ℕ
+  pub based : (block : ℕ) → List Template
   pub meaning : (at : ℕ) → NamedAs
 
 -- what is compiled so far, as it shows in names and constants: how many binary digits numbers have at most,
--- and at which tokens stands the name of a function that is not compiled yet
+-- and at which tokens stands the name of a function that is not compiled yet; and at which stands that of a
+-- BASED variable, for which ALLOCATE has a temporary
 pub record Compiled : Type 0 where
   pub greatest : ℕ
   pub is_later : (at : ℕ) → Bool
+  pub is_based : (at : ℕ) → Bool
 
 -- a unit without faults of declarations: its tree; what is compiled; what its names mean where these blocks
 -- stand around, the innermost first; of each block what its parameters are, what it gives if it is that of a

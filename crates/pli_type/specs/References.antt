@@ -6,13 +6,15 @@ use Rattle.pli_base.specs.Reading.{at_fault}
 use Rattle.pli_base.specs.declared.code.Code.TheVariants.{AggregateNotAllowedHere, WrongNumberOfSubscripts}
 use Rattle.pli_base.specs.declared.code.Code.TheVariants.{LocatorMissingOrNotAllowed}
 use Rattle.pli_base.specs.declared.token.Fault.{Fault}
+use Rattle.pli_map.specs.Description as described
 use Rattle.pli_map.specs.Description.{Description, Array, Structure}
 use Rattle.pli_map.specs.Parts.{member_behind}
 use Rattle.pli_map.specs.Scalars.{is_aggregate}
 use Rattle.pli_map.specs.Sizes.{count_of, stride_of}
 use Rattle.pli_map.specs.declared.description.Bounds.{Bounds}
-use Rattle.pli_type.specs.Names.{NamedVariable}
-use Rattle.pli_type_tree.specs.TypedTree.{Root, Stride, TypedExpression, TypedReference, Whole, Part}
+use Rattle.pli_type.specs.Names.{NamedStorage, Begins, IsBased, NamedVariable}
+use Rattle.pli_type_tree.specs.TypedTree.{Root, Located, Stride, TypedExpression, Held, TypedReference}
+use Rattle.pli_type_tree.specs.TypedTree.{Whole, Part}
 use Rattle.pli_type_tree.specs.TypedTree.{Subscripts, NoSubscript, SubscriptThen}
 
 -- for what a reference stands: for one value; for an argument, or for what is assigned to an aggregate, which
@@ -71,9 +73,13 @@ abbrev pub part_on : StridedPart → (path : List ℕ) → Option StridedPart
 part_on p [] = Some p
 part_on p (i ∷ path) = option_and_then (λ m. part_on m path) (member_of p i)
 
+-- a variable as a whole
+abbrev pub whole_part : Description → StridedPart
+whole_part d = record { offset = 0; description = d; strides = [] }
+
 -- the part that a name leads to, all its subscripts being the lowest
 abbrev pub part_of : NamedVariable → Option StridedPart
-part_of v = part_on (record { offset = 0; description = v.whole; strides = [] }) v.path
+part_of v = part_on (whole_part v.whole) v.path
 
 -- what is meant with so many subscripts: with those of all its levels one element, without any the whole, but
 -- only where no level above it has subscripts; with another number nothing
@@ -93,30 +99,75 @@ abbrev pub reference_to : Root → (path : List ℕ) → StridedPart → List Ty
 reference_to root [] p [] = Whole root
 reference_to root path p xs = Part root p.offset p.description (subscripts_at p.strides xs)
 
--- a variable or a part of one, a scalar or an aggregate, with its description
+-- a variable or a part of one, a scalar or an aggregate, with its description; whether it is, or is in, a
+-- parameter
 pub record Referent : Type 0 where
   pub reference : TypedReference
   pub description : Description
+  pub is_parameter : Bool
 
--- T2 where no aggregate may stand, T10 behind a locator, since no variable is BASED so far
-abbrev pub permitted : Role → (located : Bool) → (at : ℕ) → Referent → Result Referent Fault
-permitted role located at r =
-    if wants_scalar role && is_aggregate r.description then at_fault AggregateNotAllowedHere at
-    else if located then at_fault LocatorMissingOrNotAllowed at
-    else Ok r
+-- where references begin
+
+-- a reference to what is a POINTER
+abbrev pub pointer_at : TypedReference → Description → Option TypedReference
+pointer_at reference described.Pointer = Some reference
+pointer_at reference d = None
+
+-- what stands in front of a name: no arrow, or an arrow behind a POINTER, which holds this, or behind what is
+-- no POINTER
+pub data LocatorBefore : Type 0 where
+  NotLocated : LocatorBefore
+  LocatedBy : (locator : TypedExpression) → LocatorBefore
+  LocatedWrongly : LocatorBefore
+
+-- a locator in front of an arrow
+abbrev pub locator_held : TypedReference → Description → LocatorBefore
+locator_held reference described.Pointer = LocatedBy (Held reference)
+locator_held reference d = LocatedWrongly
+
+-- where a reference begins that is in storage of this description: where that begins, if no locator stands in
+-- front of it; or where the locator of a BASED variable leads: a written one takes the place of the one that
+-- BASED names
+abbrev pub root_by : NamedStorage → (whole : Description) → LocatorBefore → Option Root
+root_by (Begins root is_parameter) whole NotLocated = Some root
+root_by (IsBased block number (Some implied)) whole NotLocated = Some (Located (Held implied) whole)
+root_by (IsBased block number implied) whole (LocatedBy locator) = Some (Located locator whole)
+root_by storage whole locator = None
+
+-- the storage is a parameter's
+abbrev pub is_passed : NamedStorage → Bool
+is_passed (Begins root is_parameter) = is_parameter
+is_passed (IsBased block number implied) = false
+
+-- T10 where a reference begins nowhere: without a locator that is a POINTER, where the variable is BASED, or
+-- with a locator, where it is not
+abbrev pub begins_somewhere : (at : ℕ) → Option Referent → Result Referent Fault
+begins_somewhere at None = at_fault LocatorMissingOrNotAllowed at
+begins_somewhere at (Some r) = Ok r
+
+-- T2 where no aggregate may stand, then T10
+abbrev pub permitted : Role → (at : ℕ) → Description → Option Referent → Result Referent Fault
+permitted role at d r =
+    if wants_scalar role && is_aggregate d then at_fault AggregateNotAllowedHere at
+    else begins_somewhere at r
+
+-- a reference to a part of a variable, with all its subscripts, from where it begins
+abbrev pub referent_from : NamedVariable → List TypedExpression → StridedPart → Root → Referent
+referent_from v xs p root = record {
+  reference = reference_to root v.path p xs;
+  description = p.description;
+  is_parameter = is_passed v.storage;
+}
 
 -- a reference to a variable, with all its subscripts; T3 where their number is wrong
-abbrev pub settled : Role → (located : Bool) → (at : ℕ) → NamedVariable → List TypedExpression
+abbrev pub settled : Role → LocatorBefore → (at : ℕ) → NamedVariable → List TypedExpression
     → Option StridedPart → Result Referent Fault
-settled role located at v xs None = at_fault WrongNumberOfSubscripts at
-settled role located at v xs (Some p) =
-    permitted role located at (record {
-      reference = reference_to v.root v.path p xs;
-      description = p.description;
-    })
+settled role locator at v xs None = at_fault WrongNumberOfSubscripts at
+settled role locator at v xs (Some p) =
+    permitted role at p.description (option_map (referent_from v xs p) (root_by v.storage v.whole locator))
 
 -- a reference to a variable or a part of one, with its subscripts
-abbrev pub variable_meant : Role → (located : Bool) → (at : ℕ) → NamedVariable → List TypedExpression
+abbrev pub variable_meant : Role → LocatorBefore → (at : ℕ) → NamedVariable → List TypedExpression
     → Result Referent Fault
-variable_meant role located at v xs =
-    settled role located at v xs (option_and_then (with_subscripts (length xs)) (part_of v))
+variable_meant role locator at v xs =
+    settled role locator at v xs (option_and_then (with_subscripts (length xs)) (part_of v))

@@ -1,6 +1,7 @@
 -- Typed statements: a statement gives a typed one, or its first fault of types and those of the statements in
 -- it. An IF and a DO have a fault of their own, and so has each statement in them (own).
-use Rattle.std.specs.Prelude.{ℕ, suc, ◌+◌, nat_eq, Bool, true, false, Option, Some, None, is_none, option_map}
+use Rattle.std.specs.Prelude.{ℕ, suc, ◌+◌, nat_eq, Bool, true, false, not, ◌&&◌, Option, Some, None}
+use Rattle.std.specs.Prelude.{is_none, option_map}
 use Rattle.std.specs.Prelude.{List, [], ◌∷◌, ◌++◌, length, map, Result, Ok, Err, if◌then◌else◌}
 use Rattle.std.specs.List.{list_any}
 use Rattle.pli_base.specs.Results.{◌>>=◌}
@@ -8,7 +9,9 @@ use Rattle.pli_base.specs.Reading.{at_fault}
 use Rattle.pli_base.specs.Statements as tree
 use Rattle.pli_base.specs.Statements.{Range, Statement, Numbered, Body, Assign, Declare, Statements}
 use Rattle.pli_base.specs.Statements.{Before, Ended, Allocation, Alternative}
-use Rattle.pli_base.specs.Syntax.{Expression, Referred, Reference, Arguments, Absent, Given}
+use Rattle.pli_base.specs.Syntax.{Expression, Referred, Reference, Named, JoinedParts, Alone, Joined}
+use Rattle.pli_base.specs.Syntax.{Arguments, Absent, Given}
+use Rattle.pli_base.specs.declared.syntax.Joining.TheVariants.{Member, Located}
 use Rattle.pli_base.specs.declared.code.Code.TheVariants.{NotAVariable, CannotAssign, NotCallableHere}
 use Rattle.pli_base.specs.declared.code.Code.TheVariants.{CannotPrint, WrongOperandType, WrongReturn}
 use Rattle.pli_base.specs.declared.code.Code.TheVariants.{BadControlVariable, NotYetBuilt}
@@ -17,7 +20,7 @@ use Rattle.pli_base.specs.declared.token.Fault.{Fault}
 use Rattle.pli_map.specs.Description.{Description, FixedBinary}
 use Rattle.pli_map.specs.Same.{same}
 use Rattle.pli_map.specs.Scalars.{is_aggregate}
-use Rattle.pli_type.specs.AllocationTyping.{in_turn, allocated, freed}
+use Rattle.pli_type.specs.AllocationTyping.{in_turn, all_allocated, freed}
 use Rattle.pli_type.specs.ExpressionTypes.{TypedValue, conversions, converted, precision_of, printed}
 use Rattle.pli_type.specs.FunctionCalls.{Denoted, DenotesVariable, DenotesResult, Meant, OneValue}
 use Rattle.pli_type.specs.FunctionCalls.{WholeAggregate, Argument}
@@ -236,9 +239,9 @@ return_typed n s at (Some e) = do
 
 -- ALLOCATE and FREE
 
--- ALLOCATE with its items, one after the other
-abbrev pub allocate_typed : Naming → List Allocation → Result Form Fault
-allocate_typed n list = in_turn (allocated n) list >>= λ xs. Ok (typed.Allocate xs)
+-- ALLOCATE with its items, one after the other, the first of whose temporaries is this one
+abbrev pub allocate_typed : Naming → (temporary : ℕ) → List Allocation → Result Form Fault
+allocate_typed n temporary list = all_allocated n temporary list >>= λ xs. Ok (typed.Allocate xs)
 
 -- FREE with its items, one after the other
 abbrev pub free_typed : Naming → List Reference → Result Form Fault
@@ -281,6 +284,16 @@ without_subscripts (Whole root) = true
 without_subscripts (Part root offset d NoSubscript) = true
 without_subscripts (Part root offset d (SubscriptThen stride value more)) = false
 
+-- an arrow stands among these parts
+abbrev pub has_arrow : JoinedParts → Bool
+has_arrow Alone = false
+has_arrow (Joined Member name arguments more) = has_arrow more
+has_arrow (Joined Located name arguments more) = true
+
+-- a locator stands in front of a name of the reference
+abbrev pub has_locator : Reference → Bool
+has_locator (Named name arguments more) = has_arrow more
+
 -- the variable is a number where TO or BY stands
 abbrev pub suits_range : Description → TypedRange → Bool
 suits_range d typed.Once = true
@@ -292,11 +305,12 @@ abbrev pub suited_control : (at : ℕ) → Referent → Bool → Result Referent
 suited_control at r true = Ok r
 suited_control at r false = at_fault BadControlVariable at
 
--- the variable that controls a group: T1 where it is none, T12 where it may not
-abbrev pub controls : (at : ℕ) → TypedRange → Denoted → Result Referent Fault
-controls at range (DenotesResult value) = at_fault NotAVariable at
-controls at range (DenotesVariable r) =
-    if without_subscripts r.reference then suited_control at r (suits_range r.description range)
+-- the variable that controls a group: T1 where it is none, T12 where it may not, as behind a locator
+abbrev pub controls : (at : ℕ) → (is_located : Bool) → TypedRange → Denoted → Result Referent Fault
+controls at is_located range (DenotesResult value) = at_fault NotAVariable at
+controls at is_located range (DenotesVariable r) =
+    if without_subscripts r.reference && not is_located
+    then suited_control at r (suits_range r.description range)
     else at_fault BadControlVariable at
 
 -- WHILE behind them, which may be left out
@@ -325,7 +339,7 @@ iteration n temporary variable equals first range tested = do
   v ← value_of n first
   kept ← limits n range
   d ← referred n AsLocator variable
-  r ← controls (first_token (Referred variable)) kept d
+  r ← controls (first_token (Referred variable)) (has_locator variable) kept d
   operations ← or_fault CannotAssign equals (conversions n.greatest r.description v.kind)
   x ← possible_condition n tested
   turns ← with_repeat n r.description kept range
@@ -398,7 +412,7 @@ head_of u number statement statements = record {
   number = number;
   statement = statement;
   variables = u.automatic number;
-  temporaries = temporaries_among statements;
+  temporaries = temporaries_among u.compiled.is_based statements;
 }
 
 -- the END of a function must not be reached
@@ -480,9 +494,10 @@ abbrev mutual
       (statements_typed u (in_group statements s) (behind_limits range x) statements)
   body_typed u s x number at (tree.If tested consequence alternative) =
       if_form (condition (naming_at u s) tested) (statement_typed u s x consequence)
-      (alternative_typed u s (behind x consequence) alternative)
+      (alternative_typed u s (behind u.compiled.is_based x consequence) alternative)
   body_typed u s x number at tree.Stop = Ok (alone typed.Stop)
-  body_typed u s x number at (tree.Allocate list) = of_own (allocate_typed (naming_at u s) list)
+  body_typed u s x number at (tree.Allocate list) =
+      of_own (allocate_typed (naming_at u s) x.temporary list)
   body_typed u s x number at (tree.Free list) = of_own (free_typed (naming_at u s) list)
   body_typed u s x number at (tree.Call name arguments) =
       of_own (call_typed (naming_at u s) name arguments)
@@ -503,4 +518,5 @@ abbrev mutual
       → Result (WithProcedures TypedStatements) (List Fault)
   statements_typed u s x Ended = Ok (alone NoStatement)
   statements_typed u s x (Before first more) =
-      listed first (statement_typed u s x first) (statements_typed u s (behind x first) more)
+      listed first (statement_typed u s x first)
+      (statements_typed u s (behind u.compiled.is_based x first) more)

@@ -15,14 +15,17 @@ use Rattle.pli_base.specs.declared.code.Code.TheVariants.{WrongOperandType}
 use Rattle.pli_base.specs.declared.syntax.Joining.TheVariants.{Member, Located}
 use Rattle.pli_base.specs.declared.token.Fault.{Fault}
 use Rattle.pli_type.specs.ExpressionTypes.{TypedValue, precision_of, constant}
-use Rattle.pli_type.specs.ExpressionTypes.{prefix_value, infix_value}
+use Rattle.pli_type.specs.ExpressionTypes.{prefix_value, infix_value, null_value}
 use Rattle.pli_type.specs.FunctionCalls.{Denoted, DenotesVariable, DenotesResult, Meant, OneValue}
 use Rattle.pli_type.specs.FunctionCalls.{WholeAggregate, meant_as, Argument, number_written, roles_of}
 use Rattle.pli_type.specs.FunctionCalls.{function_called}
 use Rattle.pli_type.specs.Names.{NamedVariable, NamedProcedure, NamedAs, AVariable, AFunction, AProcedure}
 use Rattle.pli_type.specs.Names.{Naming}
 use Rattle.pli_type.specs.ProcedureCalls.{arguments_passed, result_of, type_returned}
-use Rattle.pli_type.specs.References.{Role, AsValue, AsArgument, AsLocator, variable_meant}
+use Rattle.pli_type.specs.References.{Role, AsValue, AsArgument, AsLocator, variable_meant, LocatorBefore}
+use Rattle.pli_type.specs.References.{NotLocated, LocatedWrongly, locator_held}
+use Rattle.pli_resolve.specs.declared.built_in.BuiltInFunction.{BuiltInFunction}
+use Rattle.pli_resolve.specs.declared.built_in.BuiltInFunction.TheVariants as functions
 use Rattle.pli_type_tree.specs.TypedTree.{TypedExpression}
 
 -- the first token of an expression: a parenthesis, a sign, a constant or a name
@@ -53,11 +56,11 @@ abbrev pub subscript_value : (greatest : ℕ) → (at : ℕ) → TypedValue → 
 subscript_value greatest at v =
     or_fault WrongOperandType at (option_map (λ p. v.expression) (precision_of greatest v.kind))
 
--- what stands between arrows, so far: a name of a variable and the subscripts behind its names; what a
--- function gives; or a name of something else
+-- what stands between arrows, so far: a name of a variable, with what stands in front of it, and the
+-- subscripts behind its names; what a function gives; or a name of something else
 pub data Segment : Type 0 where
-  OfVariable : (located : Bool) (at : ℕ) (variable : NamedVariable) (subscripts : List TypedExpression)
-      → Segment
+  OfVariable : (locator : LocatorBefore) (at : ℕ) (variable : NamedVariable)
+      (subscripts : List TypedExpression) → Segment
   OfFunction : (value : TypedValue) → Segment
   OfNoVariable : (at : ℕ) → Segment
 
@@ -69,15 +72,25 @@ is_call role located more = false
 
 -- further subscripts; those behind what is no variable say nothing
 abbrev pub with_more : Segment → List TypedExpression → Segment
-with_more (OfVariable located at v xs) ys = OfVariable located at v (xs ++ ys)
+with_more (OfVariable locator at v xs) ys = OfVariable locator at v (xs ++ ys)
 with_more segment ys = segment
 
 -- where a segment ends: T1 where a variable must stand
 abbrev pub ended : Role → Segment → Result Denoted Fault
-ended role (OfVariable located at v xs) =
-    variable_meant role located at v xs >>= λ r. Ok (DenotesVariable r)
+ended role (OfVariable locator at v xs) =
+    variable_meant role locator at v xs >>= λ r. Ok (DenotesVariable r)
 ended role (OfFunction value) = Ok (DenotesResult value)
 ended role (OfNoVariable at) = at_fault NotAVariable at
+
+-- what is denoted in front of an arrow
+abbrev pub as_locator : Denoted → LocatorBefore
+as_locator (DenotesVariable r) = locator_held r.reference r.description
+as_locator (DenotesResult value) = LocatedWrongly
+
+-- a built-in function's name without parentheses: NULL is a value, any other is none
+abbrev pub named_alone : (at : ℕ) → BuiltInFunction → Segment
+named_alone at functions.Null = OfFunction null_value
+named_alone at function = OfNoVariable at
 
 -- a call of a function with its arguments: T6, T7 or T8 at its name, in this order
 abbrev pub procedure_called : (greatest : ℕ) → NamedProcedure → (at : ℕ) → List Argument
@@ -121,7 +134,7 @@ abbrev mutual
   -- a reference in its role: that of its last part, all before an arrow being a locator
   pub referred : Naming → Role → Reference → Result Denoted Fault
   referred n role (Named name arguments more) = do
-    s ← begun n (n.meaning name.at) (is_call role false more) false name.at arguments
+    s ← begun n (n.meaning name.at) (is_call role false more) NotLocated name.at arguments
     joined n role s more
 
   -- with what is joined to a segment
@@ -131,28 +144,30 @@ abbrev mutual
     xs ← subscripts_in n arguments
     joined n role (with_more s xs) more
   joined n role s (Joined Located name arguments more) = do
-    locator ← ended AsLocator s
-    t ← begun n (n.meaning name.at) (is_call role true more) true name.at arguments
+    l ← ended AsLocator s
+    t ← begun n (n.meaning name.at) (is_call role true more) (as_locator l) name.at arguments
     joined n role t more
 
   -- a segment by what its first name means, with the parentheses behind that: subscripts of a variable, else
   -- arguments
-  pub begun : Naming → NamedAs → (call located : Bool) → (at : ℕ) → Arguments → Result Segment Fault
-  begun n (AVariable v) call located at (Given list) = do
+  pub begun : Naming → NamedAs → (call : Bool) → LocatorBefore → (at : ℕ) → Arguments
+      → Result Segment Fault
+  begun n (AVariable v) call locator at (Given list) = do
     xs ← all_subscripts n list
-    Ok (OfVariable located at v xs)
-  begun n (AVariable v) call located at Absent = Ok (OfVariable located at v [])
-  begun n (AFunction function) true located at (Given list) = do
+    Ok (OfVariable locator at v xs)
+  begun n (AVariable v) call locator at Absent = Ok (OfVariable locator at v [])
+  begun n (AFunction function) true locator at Absent = Ok (named_alone at function)
+  begun n (AFunction function) true locator at (Given list) = do
     gs ← all_arguments n (roles_or_none (roles_of function (how_many list))) list
     v ← function_called n.greatest function at (roles_of function (how_many list)) gs
     Ok (OfFunction v)
-  begun n (AProcedure p) true located at (Given list) = do
+  begun n (AProcedure p) true locator at (Given list) = do
     gs ← all_arguments n [] list
     procedure_called n.greatest p at gs
-  begun n other call located at (Given list) = do
+  begun n other call locator at (Given list) = do
     gs ← all_arguments n [] list
     Ok (OfNoVariable at)
-  begun n other call located at Absent = Ok (OfNoVariable at)
+  begun n other call locator at Absent = Ok (OfNoVariable at)
 
   -- the subscripts behind a name, if parentheses stand there
   pub subscripts_in : Naming → Arguments → Result (List TypedExpression) Fault

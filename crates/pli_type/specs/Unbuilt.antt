@@ -27,10 +27,8 @@ use Rattle.pli_resolve.specs.declared.built_in.BuiltInFunction.TheVariants as fu
 
 -- what comes later
 
--- ADDR, NULL, EMPTY, POINTER and OFFSET
+-- EMPTY, POINTER and OFFSET
 abbrev pub is_later_function : BuiltInFunction → Bool
-is_later_function functions.Address = true
-is_later_function functions.Null = true
 is_later_function functions.Empty = true
 is_later_function functions.Pointer = true
 is_later_function functions.Offset = true
@@ -88,12 +86,10 @@ abbrev pub later_part : {A : Type 0} → (A → Bool) → Option A → Bool
 later_part is_later None = false
 later_part is_later (Some x) = is_later x
 
--- attributes of locators and areas, and BASED
+-- OFFSET and AREA
 abbrev pub later_simple : SimpleAttribute → Bool
-later_simple declared.Pointer = true
 later_simple (declared.Offset area) = true
 later_simple (declared.Area size) = true
-later_simple (declared.Based locator) = true
 later_simple attribute = false
 
 -- an attribute of a parameter or a result is such, or is ENTRY or RETURNS there

@@ -4,6 +4,7 @@ pub mod ExampleTrees
 pub mod FaultExamples
 pub mod NameExamples
 pub mod OrderExamples
+pub mod PointerExamples
 pub mod TypeExamples
 pub mod TypedExamples
 pub mod UnitExamples

@@ -1,8 +1,9 @@
 //! Which conversions a value goes through where it is assigned or printed.
-ghost use Rattle.std.specs.Prelude.{◌≡◌, IfOk, map, option_map};
+ghost use Rattle.std.specs.Prelude.{◌≡◌, ◌++◌, ◌∷◌, [], IfOk, map, option_map};
 ghost use Rattle.pli_map.specs.views.DescriptionView.{description_view};
 ghost use Rattle.pli_type.specs.ExpressionTypes as spec;
 ghost use Rattle.pli_type.specs.views.ValueView.{value_view};
+ghost use Rattle.pli_type_tree.specs.TypedTree.{Fit};
 ghost use Rattle.pli_type_tree.specs.views.TypedView.{expression_view, operation_view};
 
 use crate::expression_type::ExpressionType;
@@ -76,8 +77,43 @@ fn suited(
     }
 }
 
+/// A value fitted to a description, where it suits that.
+fn fitted(
+    alloc: Global,
+    description: &Description,
+    value: Option<TypedExpression>,
+) -> Result<Option<TypedExpression>, AllocError>
+    ensures { IfOk result (λ made. option_map expression_view made
+        ≡ option_map (spec.with_one (Fit (description_view description.now))) (option_map expression_view value)) }
+{
+    let Some(expression) = value else {
+        return Ok(None);
+    };
+    let description = match description.copy(alloc) {
+        Ok(description) => description,
+        Err(error) => {
+            drop(expression);
+            return Err(error);
+        }
+    };
+    let made = with_one(alloc, TypedOperation::Fit(description), expression)?;
+    Ok(Some(made))
+}
+
+/// A pointer, or NULL, where a POINTER is wanted; anything else does not suit.
+fn only_pointer(value: TypedValue) -> Option<TypedExpression>
+    ensures { option_map expression_view result ≡ spec.only_pointer (expression_view value.expression) value.kind }
+{
+    if value.kind.is_pointer() {
+        Some(value.expression)
+    } else {
+        drop(value);
+        None
+    }
+}
+
 /// A value as a variable of this description holds it, or none where it does not suit: FIXED is assigned from FIXED,
-/// BIT from BIT, CHARACTER from CHARACTER, BIT and FIXED (X3.74).
+/// BIT from BIT, CHARACTER from CHARACTER, BIT and FIXED, POINTER from POINTER and NULL (X3.74).
 pub fn converted(
     alloc: Global,
     greatest: u8,
@@ -87,19 +123,12 @@ pub fn converted(
     ensures { IfOk result (λ made. option_map expression_view made
         ≡ spec.converted greatest (description_view description.now) (value_view value)) }
 {
-    match suited(alloc, greatest, description, value)? {
-        Some(expression) => {
-            let description = match description.copy(alloc) {
-                Ok(description) => description,
-                Err(error) => {
-                    drop(expression);
-                    return Err(error);
-                }
-            };
-            let made = with_one(alloc, TypedOperation::Fit(description), expression)?;
-            Ok(Some(made))
+    match description {
+        Description::Pointer => Ok(only_pointer(value)),
+        _ => {
+            let suited = suited(alloc, greatest, description, value)?;
+            fitted(alloc, description, suited)
         }
-        None => Ok(None),
     }
 }
 
@@ -156,8 +185,38 @@ fn suiting(
     }
 }
 
+/// The conversions to a POINTER: none for a pointer or NULL; none at all for anything else.
+fn pointer_conversions(alloc: Global, kind: ExpressionType) -> Option<Vec<TypedOperation>>
+    ensures { option_map (λ v. map operation_view v.items) result ≡ spec.pointer_conversions kind }
+{
+    if kind.is_pointer() {
+        Some(Vec::new(alloc))
+    } else {
+        None
+    }
+}
+
+/// The conversions of a value of a type to a variable of this description, which is no POINTER, or none where it does
+/// not suit.
+fn fitting(
+    alloc: Global,
+    greatest: u8,
+    description: &Description,
+    kind: ExpressionType,
+) -> Result<Option<Vec<TypedOperation>>, AllocError>
+    ensures { IfOk result (λ made. option_map (λ v. map operation_view v.items) made
+        ≡ option_map (λ operations. operations ++ Fit (description_view description.now) ∷ [])
+        (spec.suiting greatest (description_view description.now) kind)) }
+{
+    let Some(mut made) = suiting(alloc, greatest, description, kind)? else {
+        return Ok(None);
+    };
+    made.push(TypedOperation::Fit(description.copy(alloc)?))?;
+    Ok(Some(made))
+}
+
 /// The operations that convert a value of a type to a variable of this description, one after the other, or none where
-/// it does not suit: what `converted` puts round an expression.
+/// it does not suit: what `converted` puts round an expression. A pointer needs none.
 pub fn conversions(
     alloc: Global,
     greatest: u8,
@@ -167,9 +226,8 @@ pub fn conversions(
     ensures { IfOk result (λ made. option_map (λ v. map operation_view v.items) made
         ≡ spec.conversions greatest (description_view description.now) kind) }
 {
-    let Some(mut made) = suiting(alloc, greatest, description, kind)? else {
-        return Ok(None);
-    };
-    made.push(TypedOperation::Fit(description.copy(alloc)?))?;
-    Ok(Some(made))
+    match description {
+        Description::Pointer => Ok(pointer_conversions(alloc, kind)),
+        _ => fitting(alloc, greatest, description, kind),
+    }
 }

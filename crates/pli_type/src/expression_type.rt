@@ -15,6 +15,8 @@ pub enum ExpressionType {
     Characters,
     Bits,
     Pointer,
+    /// NULL, which is a POINTER where one is wanted.
+    Null,
     Offset,
     Area,
 }
@@ -100,6 +102,13 @@ impl ExpressionType {
             Description::Area(_) => Some(ExpressionType::Area),
             Description::Array { .. } | Description::Structure(_) => None,
         }
+    }
+
+    /// Whether it is a POINTER, or NULL.
+    pub fn is_pointer(self) -> bool
+        ensures { result ≡ spec.is_pointer self }
+    {
+        matches!(self, ExpressionType::Pointer | ExpressionType::Null)
     }
 
     /// The type in which two strings stand beside one another: bits are read as characters beside characters (own).

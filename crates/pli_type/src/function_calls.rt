@@ -10,6 +10,7 @@ use crate::typed_value::{TypedValue, refused, with_two};
 use pli_operation::Operation;
 use pli_resolve::BuiltInFunction;
 use pli_type_tree::{Root, TypedExpression, TypedOperation, TypedReference};
+use pli_value::{Locator, Value};
 use std::alloc::{AllocError, Global};
 
 /// The precision of LENGTH, INDEX, SIGN, ALLOCATION, LBOUND and HBOUND (own).
@@ -207,5 +208,36 @@ pub fn generations(reference: &TypedReference) -> Option<TypedValue>
             kind: A_COUNT,
         }),
         _ => None,
+    }
+}
+
+/// NULL (X3.74).
+pub fn null_value() -> TypedValue
+    ensures { value_view result ≡ ext.null_value }
+{
+    TypedValue {
+        expression: TypedExpression::Literal(Value::Locator(Locator::Null)),
+        kind: ExpressionType::Null,
+    }
+}
+
+/// A call of ADDR of a variable or a part of one, which is or is not a parameter: a pointer to a whole variable at level
+/// 1 that is none; none of anything else (X3.74; that parameters are refused, own).
+pub fn address(reference: TypedReference, is_parameter: bool) -> Option<TypedValue>
+    ensures { option_map value_view result ≡ spec.address_in is_parameter (reference_view reference) }
+{
+    if is_parameter {
+        drop(reference);
+        return None;
+    }
+    match reference {
+        TypedReference::Whole(root) => Some(TypedValue {
+            expression: TypedExpression::Address(TypedReference::Whole(root)),
+            kind: ExpressionType::Pointer,
+        }),
+        _ => {
+            drop(reference);
+            None
+        }
     }
 }

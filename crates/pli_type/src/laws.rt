@@ -4,6 +4,7 @@ ghost use Rattle.pli_type.specs.laws.TextSorting.{TokensAreSorted};
 ghost use Rattle.pli_type.specs.examples.AllocationExamples.{WhatIsAllocated, WhatIsFreed, WhatIsCounted};
 ghost use Rattle.pli_type.specs.examples.FaultExamples.{OneFaultToAStatement, OperatorsTakeTheirTypes, AssignmentsConvert, AggregatesStandAlone, SubscriptsAreCounted, LocatorsAreNotAllowed, NamesOfNoVariable, FunctionsConvertNothing, BareConstants};
 ghost use Rattle.pli_type.specs.examples.ControlExamples.{ControlVariables, CallsAreTyped, BlocksAreTyped};
+ghost use Rattle.pli_type.specs.examples.PointerExamples.{PointersAndNull, BasedReferences, Addresses, GenerationsByPointers};
 ghost use Rattle.pli_type.specs.examples.TypeExamples.{ConstantsAreDecimal, PrecisionsOfOperations, PrecisionsOfFunctions, KindsOfStrings, ColumnsOfNumbers};
 ghost use Rattle.pli_type.specs.examples.TypedExamples.{ConversionsStand, SubscriptsHaveStrides};
 ghost use Rattle.pli_type.specs.examples.UnitExamples.{FirstUnbuilt, InitialValues, CheckedUnits};
@@ -35,6 +36,14 @@ pub fn allocation_examples()
     ensures allocated { WhatIsAllocated }
     ensures freed { WhatIsFreed }
     ensures counted { WhatIsCounted }
+{}
+
+/// Worked examples of pointers and BASED variables.
+pub fn pointer_examples()
+    ensures pointers { PointersAndNull }
+    ensures based { BasedReferences }
+    ensures addresses { Addresses }
+    ensures generations { GenerationsByPointers }
 {}
 
 /// Worked examples of types.

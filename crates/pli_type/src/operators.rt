@@ -86,8 +86,31 @@ fn on_strings(
     with_two(alloc, operation, left, right)
 }
 
-/// What a comparison gives.
-fn comparison(
+/// What a comparison of two pointers gives: they are equal or not, and none is less than another.
+fn pointers_compared(
+    alloc: Global,
+    relation: Relation,
+    left: TypedValue,
+    right: TypedValue,
+) -> Result<Option<TypedValue>, AllocError>
+    ensures { IfOk result (λ given. option_map value_view given
+        ≡ spec.pointers_compared relation (expression_view left.expression) (expression_view right.expression)) }
+{
+    match relation {
+        Relation::Equal | Relation::Unequal => {
+            let operation = Operation::Compare(relation);
+            let expression = with_two(alloc, operation, left.expression, right.expression)?;
+            Ok(Some(TypedValue {
+                expression,
+                kind: ExpressionType::Bits,
+            }))
+        }
+        _ => Ok(refused(left, right)),
+    }
+}
+
+/// What a comparison of what are not two pointers gives.
+fn compared(
     alloc: Global,
     greatest: u8,
     relation: Relation,
@@ -95,7 +118,7 @@ fn comparison(
     right: TypedValue,
 ) -> Result<Option<TypedValue>, AllocError>
     ensures { IfOk result (λ given. option_map value_view given
-        ≡ spec.comparison greatest relation (value_view left) (value_view right)) }
+        ≡ spec.compared greatest relation (value_view left) (value_view right) (spec.string_type left.kind right.kind)) }
 {
     let expression = match (
         left.kind.beside(right.kind),
@@ -114,6 +137,24 @@ fn comparison(
         expression,
         kind: ExpressionType::Bits,
     }))
+}
+
+/// What a comparison gives.
+fn comparison(
+    alloc: Global,
+    greatest: u8,
+    relation: Relation,
+    left: TypedValue,
+    right: TypedValue,
+) -> Result<Option<TypedValue>, AllocError>
+    ensures { IfOk result (λ given. option_map value_view given
+        ≡ spec.comparison greatest relation (value_view left) (value_view right)) }
+{
+    if left.kind.is_pointer() && right.kind.is_pointer() {
+        pointers_compared(alloc, relation, left, right)
+    } else {
+        compared(alloc, greatest, relation, left, right)
+    }
 }
 
 /// What `||` gives.
@@ -212,7 +253,7 @@ fn product(
 }
 
 /// What an infix operator gives, or none where it does not take the operands: `+`, `-` and `*` take numbers, `&` and
-/// `|` bits, `||` strings, a comparison two numbers or two strings (X3.74).
+/// `|` bits, `||` strings, a comparison two numbers, two strings, or for equality alone two pointers (X3.74).
 pub fn infix_value(
     alloc: Global,
     greatest: u8,

@@ -12,30 +12,23 @@ use pli_base::statement::ProcedureOption;
 use pli_base::syntax::Identifier;
 use pli_resolve::{BuiltInFunction, function_named};
 
-/// Whether a built-in function is not compiled yet: ADDR, NULL, EMPTY, POINTER and OFFSET (own).
+/// Whether a built-in function is not compiled yet: EMPTY, POINTER and OFFSET (own).
 pub fn is_later_function(function: BuiltInFunction) -> bool
     ensures { result ≡ spec.is_later_function function }
 {
     matches!(
         function,
-        BuiltInFunction::Address
-            | BuiltInFunction::Null
-            | BuiltInFunction::Empty
-            | BuiltInFunction::Pointer
-            | BuiltInFunction::Offset
+        BuiltInFunction::Empty | BuiltInFunction::Pointer | BuiltInFunction::Offset
     )
 }
 
-/// Whether an attribute is one of a declaration that is not compiled yet: of locators, areas, and BASED storage (own).
+/// Whether an attribute is one of a declaration that is not compiled yet: OFFSET or AREA (own).
 fn later_simple(attribute: &SimpleAttribute) -> bool
     ensures { result ≡ spec.later_simple (simple_view attribute.now) }
 {
     matches!(
         attribute,
-        SimpleAttribute::Pointer
-            | SimpleAttribute::Offset(_)
-            | SimpleAttribute::Area(_)
-            | SimpleAttribute::Based(_)
+        SimpleAttribute::Offset(_) | SimpleAttribute::Area(_)
     )
 }
 
@@ -172,7 +165,7 @@ fn any_later_option(options: &[ProcedureOption]) -> bool
     options.iter().any(|option| later_option(option))
 }
 
-/// Whether a procedure gives what is not compiled yet: a locator (own).
+/// Whether a procedure gives what is not compiled yet: an OFFSET (own).
 #[tactic(auto, using(crate::proofs::Lists::any_map))]
 pub fn later_returns(options: &[ProcedureOption]) -> bool
     ensures { result ≡ list_any spec.later_option (map option_view options.now) }

@@ -19,7 +19,7 @@ pub none_behind : {B : Type 0} (r : Result (List B) Fault) → behind [] r ≡ r
 none_behind (Ok ys) = refl
 none_behind (Err f) = refl
 
-one_behind : {B : Type 0} (xs : List B) (x : B) (r : Result (List B) Fault)
+pub one_behind : {B : Type 0} (xs : List B) (x : B) (r : Result (List B) Fault)
     → behind xs (r >>= λ ys. Ok (x ∷ ys)) ≡ behind (xs ++ x ∷ []) r
 one_behind xs x (Ok ys) = ap Ok (sym (append_assoc xs (x ∷ []) ys))
 one_behind xs x (Err f) = refl
@@ -34,7 +34,7 @@ one_faulty : {A B : Type 0} (each : A → Result B Fault) (xs : List B) (f : Fau
 one_faulty each xs f a more h = ap (λ r. behind xs (r >>= λ z. in_turn each more >>= λ zs. Ok (z ∷ zs))) h
 
 -- what is left of a list begins with the element of this turn
-front : {X C : Type 0} (P : List X → C) (xs : List X) (i : ℕ) (x : X) → x ≡ get_or xs i x → i < length xs
+pub front : {X C : Type 0} (P : List X → C) (xs : List X) (i : ℕ) (x : X) → x ≡ get_or xs i x → i < length xs
     → P (drop i xs) ≡ P (x ∷ drop (i + 1) xs)
 front P xs i x is within = at_drop_more P xs i x within ∙ ap (λ y. P (y ∷ drop (i + 1) xs)) (sym is)
 

@@ -1,1 +1,2 @@
+pub mod AllocatedInTurn
 pub mod InTurn

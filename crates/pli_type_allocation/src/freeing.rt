@@ -8,6 +8,7 @@ ghost use Rattle.pli_type.specs.AllocationTyping.{in_turn};
 ghost use Rattle.pli_type.specs.StatementTyping.{free_typed};
 ghost use Rattle.pli_type.specs.Unbuilt.{later_reference};
 ghost use Rattle.pli_type_names.specs.UnitNaming.{compiled_in, naming_in};
+ghost use Rattle.pli_type_tree.specs.TypedTree as tree;
 ghost use Rattle.pli_type_tree.specs.views.TypedView as typed;
 ghost use Rattle.pli_type_tree.specs.views.TypedView.{form_view, freed_view};
 
@@ -19,15 +20,37 @@ use pli_type_names::Naming;
 use pli_type_tree::{Form, FreedItem, Root, TypedReference};
 use std::alloc::Global;
 
-/// What is freed: the newest generation of a CONTROLLED variable as a whole.
-fn released(reference: &TypedReference) -> Option<FreedItem>
-    ensures { option_map freed_view result ≡ spec.released (typed.reference_view reference.now) }
+/// What is freed that begins there: the newest generation of a CONTROLLED variable, or the generation of a BASED one to
+/// which its locator leads.
+fn released_at(root: Root) -> Option<FreedItem>
+    ensures { option_map freed_view result ≡ spec.released (tree.Whole (typed.root_view root)) }
+{
+    match root {
+        Root::NewestOf { number } => Some(FreedItem::Controlled { number }),
+        Root::Located {
+            locator,
+            description,
+        } => {
+            let locator = Box::into_inner(locator);
+            Some(FreedItem::Based {
+                locator,
+                description,
+            })
+        }
+        Root::InSlot { .. } | Root::OfProgram { .. } => None,
+    }
+}
+
+/// What is freed: a CONTROLLED or BASED variable as a whole.
+fn released(reference: TypedReference) -> Option<FreedItem>
+    ensures { option_map freed_view result ≡ spec.released (typed.reference_view reference) }
 {
     match reference {
-        TypedReference::Whole(Root::NewestOf { number }) => Some(FreedItem::Controlled {
-            number: *number,
-        }),
-        _ => None,
+        TypedReference::Whole(root) => released_at(root),
+        _ => {
+            drop(reference);
+            None
+        }
     }
 }
 
@@ -39,7 +62,7 @@ fn freed(alloc: Global, naming: &Naming<'_>, reference: &Reference) -> Result<Fr
     let at = first_token(reference);
     let denoted = referred(alloc, naming, Role::Target, reference)?;
     let referent = only_variable(denoted, at)?;
-    match released(&referent.reference) {
+    match released(referent.reference) {
         Some(item) => Ok(item),
         None => Err(fault(Code::CannotAllocateOrFree, at)),
     }

@@ -3,7 +3,9 @@
 
 mod allocating;
 mod freeing;
+mod temporaries;
 mod variables;
 
 pub use allocating::allocate;
 pub use freeing::free;
+pub use temporaries::counted;

@@ -1,68 +1,114 @@
--- ALLOCATE and FREE are of globals of the unit.
-use Rattle.std.specs.Prelude.{ℕ, Option, None, List, [], ◌∷◌}
+-- ALLOCATE and FREE are of what is within the limits.
+use Rattle.std.specs.Prelude.{ℕ, zero, suc, ◌+◌, Option, Some, None, List, [], ◌∷◌, slice_get}
 use Rattle.std.specs.List.{AllByRecursion}
 use Rattle.pli_base.specs.Statements.{Allocation}
 use Rattle.pli_base.specs.Syntax.{Reference, first_token}
 use Rattle.pli_base.specs.declared.code.Code.TheVariants.{CannotAllocateOrFree}
-use Rattle.pli_type.specs.AllocationTyping.{in_turn, only_variable, place_given, stacked, taken, allocated, released, freed}
+use Rattle.pli_map.specs.Description.{Description, Pointer}
+use Rattle.pli_type.specs.AllocationTyping.{in_turn, only_variable, place_given, pointer_set, placed_by, taken_in, taken, allocated, all_allocated, released, freed}
 use Rattle.pli_type.specs.FunctionCalls.{Denoted, DenotesVariable, DenotesResult}
-use Rattle.pli_type.specs.Names.{NamedAs, AVariable, Naming}
-use Rattle.pli_type.specs.References.{AsTarget, Referent}
+use Rattle.pli_type.specs.Names.{NamedStorage, Begins, IsBased, NamedAs, AVariable, Naming}
+use Rattle.pli_type.specs.References.{AsLocator, AsTarget, Referent, pointer_at}
 use Rattle.pli_type.specs.StatementTyping.{allocate_typed, free_typed}
 use Rattle.pli_type.specs.Typing.{referred}
-use Rattle.pli_type_tree.specs.TypedTree.{Root, NewestOf, TypedReference, Whole, TypedUnit}
-use Rattle.pli_type_laws.proofs.Allocations.{Any, whatever}
+use Rattle.pli_type_tree.specs.Allocations.{kept_for}
+use Rattle.pli_type_tree.specs.Templates.{Template}
+use Rattle.pli_type_tree.specs.TypedTree.{NewestOf, Located, TypedReference, Whole, TypedUnit}
 use Rattle.pli_type_laws.proofs.Conversions.{OnGiven}
 use Rattle.pli_type_laws.proofs.Denotations.{OnRead}
 use Rattle.pli_type_laws.proofs.Expressions.{read_option}
 use Rattle.pli_type_laws.proofs.References.{read_then}
 use Rattle.pli_type_bounds.proofs.ExpressionsFit.{N, referred_fits}
-use Rattle.pli_type_bounds.proofs.Meanings.{IsMeaning, IsReferent, IsDenoted}
-use Rattle.pli_source_laws.specs.Sources.{IsSourceReference}
-use Rattle.pli_deck_laws.specs.WellFormed.{IsRoot, IsReference, IsAllocated, IsFreed, IsForm}
+use Rattle.pli_type_bounds.proofs.Meanings.{IsStorage, IsMeaning, IsReferent, IsDenoted}
+use Rattle.pli_source_laws.specs.Sources.{IsSourceReference, IsSourceAllocation}
+use Rattle.pli_deck_laws.specs.Limits.{IfThere, IsTemplate}
+use Rattle.pli_deck_laws.specs.WellFormed.{IsReference, IsAllocated, IsFreed, IsForm}
+
+template_at : (ts : List Template) (k : ℕ) → AllByRecursion IsTemplate ts → OnGiven IsTemplate (slice_get ts k)
+template_at [] k h = tt
+template_at (x ∷ ts) zero h = h.0
+template_at (x ∷ ts) (suc k) h = template_at ts k h.1
 
 module _ (t : TypedUnit) where
-  one_stacked : (root : Root) (path : List ℕ) → IsRoot t root → OnGiven (IsAllocated t) (stacked root path)
-  one_stacked (NewestOf number) [] h = h
-  one_stacked root path h = tt
+  -- the reference in IN or in SET, if one stands
+  abbrev IsGiven : Option Referent → Type 0
+  IsGiven o = IfThere (IsReferent t) o
 
-  one_taken : (a : NamedAs) → IsMeaning t a → (area target : Option Referent) → OnGiven (IsAllocated t) (taken a area target)
-  one_taken (AVariable v) k None None = one_stacked v.root v.path k.root
-  one_taken a k area target = tt
+  -- ALLOCATE
+  pointer_kept : (r : TypedReference) (d : Description) → IsReference t r → OnGiven (IsReference t) (pointer_at r d)
+  pointer_kept r Pointer h = h
+  pointer_kept r d h = tt
 
+  pointer_fits : (target : Option Referent) (implied : Option TypedReference) → IsGiven target → IfThere (IsReference t) implied
+      → OnGiven (IsReference t) (pointer_set target implied)
+  pointer_fits None None h k = tt
+  pointer_fits None (Some r) h k = k
+  pointer_fits (Some r) implied h k = pointer_kept r.reference r.description h.reference
+
+  based_placed : (temporary : ℕ) (x : Option Template) (target : Option TypedReference) → OnGiven IsTemplate x → OnGiven (IsReference t) target
+      → OnGiven (IsAllocated t) (placed_by temporary x target)
+  based_placed temporary (Some x) (Some target) h k = (h, k)
+  based_placed temporary (Some x) None h k = tt
+  based_placed temporary None target h k = tt
+
+  module _ (n : Naming) (templates : (block : ℕ) → AllByRecursion IsTemplate (n.based block)) where
+    stored_taken : (temporary : ℕ) (storage : NamedStorage) (path : List ℕ) → IsStorage t storage → (area target : Option Referent) → IsGiven target
+        → OnGiven (IsAllocated t) (taken_in n temporary storage path area target)
+    stored_taken temporary (Begins (NewestOf number) is_parameter) [] h None None k = h
+    stored_taken temporary (IsBased block number implied) [] h None target k =
+        based_placed temporary (slice_get (n.based block) number) (pointer_set target implied)
+        (template_at (n.based block) number (templates block)) (pointer_fits target implied k h)
+    stored_taken temporary storage path h area target k = tt
+
+    one_taken : (temporary : ℕ) (a : NamedAs) → IsMeaning t a → (area target : Option Referent) → IsGiven target
+        → OnGiven (IsAllocated t) (taken n temporary a area target)
+    one_taken temporary (AVariable v) h area target k = stored_taken temporary v.storage v.path h.storage area target k
+    one_taken temporary a h area target k = tt
+
+  -- FREE
   one_released : (r : TypedReference) → IsReference t r → OnGiven (IsFreed t) (released r)
   one_released (Whole (NewestOf number)) h = h
+  one_released (Whole (Located locator d)) h = h
   one_released r h = tt
 
   only_fits : (at : ℕ) (d : Denoted) → IsDenoted t d → OnRead (IsReferent t) (only_variable at d)
   only_fits at (DenotesVariable r) h = h
   only_fits at (DenotesResult v) h = tt
 
-module _ (t : TypedUnit) (meaning : ℕ → NamedAs) (known : (at : ℕ) → IsMeaning t (meaning at)) where
+module _ (t : TypedUnit) (based : ℕ → List Template) (meaning : ℕ → NamedAs) (known : (at : ℕ) → IsMeaning t (meaning at)) where
   abbrev M : Naming
-  M = N t meaning known
+  M = N t based meaning known
 
-  one_allocated : (a : Allocation) → OnRead (IsAllocated t) (allocated M a)
-  one_allocated a =
-      read_then Any (IsAllocated t) (place_given M a.area) _ (whatever (place_given M a.area))
-      (λ area h. read_then Any (IsAllocated t) (place_given M a.target) _ (whatever (place_given M a.target))
-      (λ target k. read_option (IsAllocated t) CannotAllocateOrFree a.name.at (taken (meaning a.name.at) area target)
-      (one_taken t (meaning a.name.at) (known a.name.at) area target)))
+  given_fits : (o : Option Reference) → IfThere IsSourceReference o → OnRead (IsGiven t) (place_given M o)
+  given_fits None l = tt
+  given_fits (Some r) l =
+      read_then (IsDenoted t) (IsGiven t) (referred M AsLocator r) _ (referred_fits t based meaning known AsLocator r l)
+      (λ d h. read_then (IsReferent t) (IsGiven t) (only_variable (first_token r) d) _ (only_fits t (first_token r) d h) (λ q k. k))
 
-  all_allocated : (list : List Allocation) → OnRead (AllByRecursion (IsAllocated t)) (in_turn (allocated M) list)
-  all_allocated [] = tt
-  all_allocated (a ∷ more) =
-      read_then (IsAllocated t) (AllByRecursion (IsAllocated t)) (allocated M a) _ (one_allocated a)
-      (λ x h. read_then (AllByRecursion (IsAllocated t)) (AllByRecursion (IsAllocated t)) (in_turn (allocated M) more) _ (all_allocated more)
-      (λ xs k. (h, k)))
+  module _ (templates : (block : ℕ) → AllByRecursion IsTemplate (based block)) where
+    one_allocated : (temporary : ℕ) (a : Allocation) → IsSourceAllocation a → OnRead (IsAllocated t) (allocated M temporary a)
+    one_allocated temporary a l =
+        read_then (IsGiven t) (IsAllocated t) (place_given M a.area) _ (given_fits a.area l.0)
+        (λ area h. read_then (IsGiven t) (IsAllocated t) (place_given M a.target) _ (given_fits a.target l.1)
+        (λ target k. read_option (IsAllocated t) CannotAllocateOrFree a.name.at (taken M temporary (meaning a.name.at) area target)
+        (one_taken t M templates temporary (meaning a.name.at) (known a.name.at) area target k)))
 
-  pub allocate_fits : (list : List Allocation) → OnRead (IsForm t) (allocate_typed M list)
-  allocate_fits list =
-      read_then (AllByRecursion (IsAllocated t)) (IsForm t) (in_turn (allocated M) list) _ (all_allocated list) (λ xs h. h)
+    each_allocated : (temporary : ℕ) (list : List Allocation) → AllByRecursion IsSourceAllocation list
+        → OnRead (AllByRecursion (IsAllocated t)) (all_allocated M temporary list)
+    each_allocated temporary [] l = tt
+    each_allocated temporary (a ∷ more) l =
+        read_then (IsAllocated t) (AllByRecursion (IsAllocated t)) (allocated M temporary a) _ (one_allocated temporary a l.0)
+        (λ x h. read_then (AllByRecursion (IsAllocated t)) (AllByRecursion (IsAllocated t)) (all_allocated M (temporary + kept_for x) more) _
+        (each_allocated (temporary + kept_for x) more l.1) (λ xs k. (h, k)))
+
+    pub allocate_fits : (temporary : ℕ) (list : List Allocation) → AllByRecursion IsSourceAllocation list
+        → OnRead (IsForm t) (allocate_typed M temporary list)
+    allocate_fits temporary list l =
+        read_then (AllByRecursion (IsAllocated t)) (IsForm t) (all_allocated M temporary list) _ (each_allocated temporary list l) (λ xs h. h)
 
   one_freed : (r : Reference) → IsSourceReference r → OnRead (IsFreed t) (freed M r)
   one_freed r l =
-      read_then (IsDenoted t) (IsFreed t) (referred M AsTarget r) _ (referred_fits t meaning known AsTarget r l)
+      read_then (IsDenoted t) (IsFreed t) (referred M AsTarget r) _ (referred_fits t based meaning known AsTarget r l)
       (λ d h. read_then (IsReferent t) (IsFreed t) (only_variable (first_token r) d) _ (only_fits t (first_token r) d h)
       (λ q k. read_option (IsFreed t) CannotAllocateOrFree (first_token r) (released q.reference) (one_released t q.reference k.reference)))
 

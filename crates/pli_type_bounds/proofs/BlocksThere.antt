@@ -212,11 +212,11 @@ module _ (sizes : ℕ → ℕ) where
 
 -- ---- statements
 
-module _ (program : ExternalProcedure) (is_later : ℕ → Bool) (meaning : List ℕ → ℕ → NamedAs) (parameters : ℕ → List Description)
+module _ (program : ExternalProcedure) (is_later is_based : ℕ → Bool) (based : List ℕ → ℕ → List Template) (meaning : List ℕ → ℕ → NamedAs) (parameters : ℕ → List Description)
     (returned : ℕ → Option Description) (automatic : ℕ → List Template) (globals : List Global)
     (begins : (number : ℕ) (b : SourceBlock) → slice_get (unit_blocks program) number ≡ Some b → b.kind ≡ kinds.Begin → parameters number ≡ []) where
   abbrev U : NamedUnit
-  U = unit_with program is_later meaning parameters returned automatic globals
+  U = unit_with program is_later is_based based meaning parameters returned automatic globals
 
   abbrev All : List SourceBlock
   All = unit_blocks program
@@ -270,12 +270,12 @@ module _ (program : ExternalProcedure) (is_later : ℕ → Bool) (meaning : List
         (with_here sizes_of (λ parent (b : TypedStatement × OtherWise). blocks_in parent b.0 ++ blocks_of_else parent b.1) blocks_of_form
         (λ c (b : TypedStatement × OtherWise). typed.If c b.0 b.1) x.block (x.block + source.blocks_in consequence + source.blocks_behind alternative)
         (condition (naming_at U s) tested)
-        (together (λ y z. (y, z)) (statement_typed U s x consequence) (alternative_typed U s (behind x consequence) alternative))
+        (together (λ y z. (y, z)) (statement_typed U s x consequence) (alternative_typed U s (behind is_based x consequence) alternative))
         (λ parent c b. refl)
         (both_here sizes_of blocks_in blocks_of_else (λ parent (b : TypedStatement × OtherWise). blocks_in parent b.0 ++ blocks_of_else parent b.1)
         (λ y z. (y, z)) x.block (x.block + source.blocks_in consequence) (x.block + source.blocks_in consequence + source.blocks_behind alternative)
-        (statement_typed U s x consequence) (alternative_typed U s (behind x consequence) alternative) (λ parent y z. refl)
-        (statement_here s x consequence parts.0) (alternative_here s (behind x consequence) alternative parts.1)))
+        (statement_typed U s x consequence) (alternative_typed U s (behind is_based x consequence) alternative) (λ parent y z. refl)
+        (statement_here s x consequence parts.0) (alternative_here s (behind is_based x consequence) alternative parts.1)))
     body_here s x number at tree.Null sits = none_here sizes_of blocks_of_form x.block (x.block + 0) (body_typed U s x number at tree.Null) (omega arith)
     body_here s x number at (tree.Assign target equals value) sits =
         none_here sizes_of blocks_of_form x.block (x.block + 0) (body_typed U s x number at (tree.Assign target equals value)) (omega arith)
@@ -312,9 +312,9 @@ module _ (program : ExternalProcedure) (is_later : ℕ → Bool) (meaning : List
         at_end blocks_among x.block (x.block + source.blocks_of body + source.blocks_among more) _
         (statements_typed U s x (Before (Numbered number label at body) more)) (omega arith)
         (put_here sizes_of (leaves_nothing body) number x.block (x.block + source.blocks_of body) (x.block + source.blocks_of body + source.blocks_among more)
-        (body_typed U s x number at body) (statements_typed U s (behind x (Numbered number label at body)) more)
+        (body_typed U s x number at body) (statements_typed U s (behind is_based x (Numbered number label at body)) more)
         (λ e. nothing_left U s x number at body e) (body_here s x number at body parts.0)
-        (list_here s (behind x (Numbered number label at body)) more parts.1))
+        (list_here s (behind is_based x (Numbered number label at body)) more parts.1))
 
   -- ---- the unit
 

@@ -15,23 +15,27 @@ use Rattle.pli_map.specs.Same.{same}
 use Rattle.pli_map.specs.Scalars.{is_aggregate}
 use Rattle.pli_map.specs.Sizes.{size_of}
 use Rattle.pli_type.specs.ExpressionTypes.{TypedValue, precision_of, prefix_value, infix_value, converted}
+use Rattle.pli_resolve.specs.declared.built_in.BuiltInFunction.{BuiltInFunction}
+use Rattle.pli_resolve.specs.declared.built_in.BuiltInFunction.TheVariants as functions
 use Rattle.pli_type.specs.FunctionCalls.{Denoted, DenotesVariable, DenotesResult, Meant, OneValue, WholeAggregate, meant_as, Argument}
 use Rattle.pli_type.specs.FunctionCalls.{roles_of, function_called}
-use Rattle.pli_type.specs.Names.{NamedAs, AVariable, AFunction, AProcedure, NamedVariable, NamedProcedure, Naming}
+use Rattle.pli_type.specs.Names.{NamedAs, AVariable, AFunction, AProcedure, NamedStorage, Begins, IsBased, NamedVariable, NamedProcedure, Naming}
 use Rattle.pli_type.specs.ProcedureCalls.{passed_place, passed_value, passed, passed_before, all_passed, or_wrong_argument}
 use Rattle.pli_type.specs.ProcedureCalls.{arguments_passed, result_of, type_returned}
 use Rattle.pli_type.specs.References.{Role, AsValue, AsArgument, AsLocator, wants_scalar, variable_meant, StridedPart, part_of, with_subscripts, subscripts_at, reference_to, Referent, permitted, settled}
+use Rattle.pli_type.specs.References.{LocatorBefore, NotLocated, LocatedBy, LocatedWrongly, locator_held, root_by, begins_somewhere, referent_from}
 use Rattle.pli_type.specs.Typing.{first_token, how_many, or_fault, one_value}
-use Rattle.pli_type.specs.Typing.{subscript_value, Segment, OfVariable, OfFunction, OfNoVariable, is_call, with_more, ended, procedure_called, roles_or_none}
+use Rattle.pli_type.specs.Typing.{subscript_value, Segment, OfVariable, OfFunction, OfNoVariable, is_call, with_more, ended, as_locator, named_alone, procedure_called, roles_or_none}
 use Rattle.pli_type.specs.Typing.{as_value, denoted, meant, referred, joined, begun, subscripts_in, all_subscripts, all_arguments, value_of}
 use Rattle.pli_type.specs.declared.expression_type.ExpressionType.{ExpressionType}
+use Rattle.pli_type_tree.specs.Templates.{Template}
 use Rattle.pli_type_tree.specs.TypedTree.{Root, Stride, TypedExpression, TypedReference, TypedArguments, TypedUnit}
 use Rattle.pli_type_laws.proofs.Conversions.{OnGiven}
 use Rattle.pli_type_laws.proofs.Denotations.{OnRead}
 use Rattle.pli_type_laws.proofs.Expressions.{read_option}
 use Rattle.pli_type_laws.proofs.References.{read_then, read_if}
 use Rattle.pli_type_name_laws.proofs.InitialHeld.{all_behind}
-use Rattle.pli_type_bounds.proofs.Meanings.{IsPart, IsVariable, IsProcedureNamed, IsMeaning, IsValue, IsReferent, IsMeant, IsDenoted, AreArgumentsGiven, IsSegment}
+use Rattle.pli_type_bounds.proofs.Meanings.{IsPart, IsStorage, IsLocator, IsVariable, IsProcedureNamed, IsMeaning, IsValue, IsReferent, IsMeant, IsDenoted, AreArgumentsGiven, IsSegment}
 use Rattle.pli_type_bounds.proofs.OperatorsFit.{given_made, constant_fits, prefix_fits, infix_fits, converted_fits, denoted_fits, functions_fit}
 use Rattle.pli_source_laws.specs.Sources.{IsSource, IsSourceReference, AreSourceParts, AreSourceArguments, AreSources}
 use Rattle.pli_deck_laws.specs.Limits.{parameter_limit, IsDescription, IsMade, IsStride}
@@ -52,26 +56,48 @@ module _ (t : TypedUnit) where
   reference_fits root [] q (x ∷ xs) r h k = (r, h.offset, h.described, subscripts_fit q.strides (x ∷ xs) h.strides k)
   reference_fits root (i ∷ path) q xs r h k = (r, h.offset, h.described, subscripts_fit q.strides xs h.strides k)
 
-  allowed : (role : Role) (located : Bool) (at : ℕ) (r : Referent) → IsReferent t r → OnRead (IsReferent t) (permitted role located at r)
-  allowed role located at r h =
-      read_if (IsReferent t) (wants_scalar role && is_aggregate r.description) _ _ tt (read_if (IsReferent t) located _ _ tt h)
+  -- where a reference begins
+  root_fits : (storage : NamedStorage) (whole : Description) (locator : LocatorBefore) → IsStorage t storage → IsDescription whole
+      → IsLocator t locator → OnGiven (IsRoot t) (root_by storage whole locator)
+  root_fits (Begins root is_parameter) whole NotLocated h good k = h
+  root_fits (Begins root is_parameter) whole (LocatedBy e) h good k = tt
+  root_fits (Begins root is_parameter) whole LocatedWrongly h good k = tt
+  root_fits (IsBased block number None) whole NotLocated h good k = tt
+  root_fits (IsBased block number (Some implied)) whole NotLocated h good k = (h, good)
+  root_fits (IsBased block number None) whole (LocatedBy e) h good k = (k, good)
+  root_fits (IsBased block number (Some implied)) whole (LocatedBy e) h good k = (k, good)
+  root_fits (IsBased block number None) whole LocatedWrongly h good k = tt
+  root_fits (IsBased block number (Some implied)) whole LocatedWrongly h good k = tt
 
-  module _ (role : Role) (located : Bool) (at : ℕ) (v : NamedVariable) (known : IsVariable t v) (xs : List TypedExpression)
-      (given : AllByRecursion (IsExpression t) xs) where
+  somewhere : (at : ℕ) (o : Option Referent) → OnGiven (IsReferent t) o → OnRead (IsReferent t) (begins_somewhere at o)
+  somewhere at (Some r) h = h
+  somewhere at None h = tt
+
+  allowed : (role : Role) (at : ℕ) (d : Description) (o : Option Referent) → OnGiven (IsReferent t) o
+      → OnRead (IsReferent t) (permitted role at d o)
+  allowed role at d o h = read_if (IsReferent t) (wants_scalar role && is_aggregate d) _ _ tt (somewhere at o h)
+
+  module _ (role : Role) (locator : LocatorBefore) (located : IsLocator t locator) (at : ℕ) (v : NamedVariable) (known : IsVariable t v)
+      (xs : List TypedExpression) (given : AllByRecursion (IsExpression t) xs) where
+    with_root : (q : StridedPart) → IsPart q → (o : Option Root) → OnGiven (IsRoot t) o
+        → OnGiven (IsReferent t) (option_map (referent_from v xs q) o)
+    with_root q part None h = tt
+    with_root q part (Some root) h = record { reference = reference_fits root v.path q xs h part given; described = part.described }
+
     with_part : (p : StridedPart) → part_of v ≡ Some p → (o : Option StridedPart) → with_subscripts (length xs) p ≡ o
-        → OnRead (IsReferent t) (settled role located at v xs o)
+        → OnRead (IsReferent t) (settled role locator at v xs o)
     with_part p is None e = tt
     with_part p is (Some q) e =
-        let part : IsPart q = known.parts p q (length xs) is e in
-        allowed role located at (record { reference = reference_to v.root v.path q xs; description = q.description })
-        (record { reference = reference_fits v.root v.path q xs known.root part given; described = part.described })
+        allowed role at q.description (option_map (referent_from v xs q) (root_by v.storage v.whole locator))
+        (with_root q (known.parts p q (length xs) is e) (root_by v.storage v.whole locator)
+        (root_fits v.storage v.whole locator known.storage known.whole located))
 
     in_variable : (o : Option StridedPart) → part_of v ≡ o
-        → OnRead (IsReferent t) (settled role located at v xs (option_and_then (with_subscripts (length xs)) o))
+        → OnRead (IsReferent t) (settled role locator at v xs (option_and_then (with_subscripts (length xs)) o))
     in_variable None is = tt
     in_variable (Some p) is = with_part p is (with_subscripts (length xs) p) refl
 
-    variable_fits : OnRead (IsReferent t) (variable_meant role located at v xs)
+    variable_fits : OnRead (IsReferent t) (variable_meant role locator at v xs)
     variable_fits = in_variable (part_of v) refl
 
   -- ---- calls
@@ -87,6 +113,7 @@ module _ (t : TypedUnit) where
   small (described.Character n) v e h k = omega (arith, h)
   small (described.Varying n) v e h k = omega (arith, h)
   small (described.Bit n) v e h k = omega (arith, h)
+  small described.Pointer v e h k = omega arith
   small d v e h k = absurd (cc)
 
   place_if : (b : Bool) (r : TypedReference) → IsReference t r → OnGiven (IsReference t) (if b then Some r else None)
@@ -162,19 +189,32 @@ module _ (t : TypedUnit) where
   one_meant at (WholeAggregate r) h = tt
 
   more_segment : (g : Segment) (ys : List TypedExpression) → IsSegment t g → AllByRecursion (IsExpression t) ys → IsSegment t (with_more g ys)
-  more_segment (OfVariable located at v xs) ys h k = (h.0, all_behind (IsExpression t) xs ys h.1 k)
+  more_segment (OfVariable locator at v xs) ys h k = (h.0, all_behind (IsExpression t) xs ys h.1 k, h.2)
   more_segment (OfFunction v) ys h k = h
   more_segment (OfNoVariable at) ys h k = tt
 
+  -- what stands in front of an arrow, and NULL without parentheses
+  held_locator : (r : TypedReference) (d : Description) → IsReference t r → IsLocator t (locator_held r d)
+  held_locator r described.Pointer h = h
+  held_locator r d h = tt
+
+  locator_fits : (d : Denoted) → IsDenoted t d → IsLocator t (as_locator d)
+  locator_fits (DenotesVariable r) h = held_locator r.reference r.description h.reference
+  locator_fits (DenotesResult v) h = tt
+
+  alone_fits : (at : ℕ) (function : BuiltInFunction) → IsSegment t (named_alone at function)
+  alone_fits at functions.Null = refl
+  alone_fits at function = tt
+
   ended_fits : (role : Role) (g : Segment) → IsSegment t g → OnRead (IsDenoted t) (ended role g)
-  ended_fits role (OfVariable located at v xs) h =
-      read_then (IsReferent t) (IsDenoted t) (variable_meant role located at v xs) _ (variable_fits role located at v h.0 xs h.1) (λ r g. g)
+  ended_fits role (OfVariable locator at v xs) h =
+      read_then (IsReferent t) (IsDenoted t) (variable_meant role locator at v xs) _ (variable_fits role locator h.2 at v h.0 xs h.1) (λ r g. g)
   ended_fits role (OfFunction v) h = h
   ended_fits role (OfNoVariable at) h = tt
 
-module _ (t : TypedUnit) (meaning : ℕ → NamedAs) (known : (at : ℕ) → IsMeaning t (meaning at)) where
+module _ (t : TypedUnit) (based : ℕ → List Template) (meaning : ℕ → NamedAs) (known : (at : ℕ) → IsMeaning t (meaning at)) where
   abbrev pub N : Naming
-  N = record { greatest = 31; meaning = meaning }
+  N = record { greatest = 31; based = based; meaning = meaning }
 
   value_read : (at : ℕ) (r : Result Denoted Fault) → OnRead (IsDenoted t) r → OnRead (IsValue t) (as_value at r)
   value_read at r h =
@@ -202,8 +242,8 @@ module _ (t : TypedUnit) (meaning : ℕ → NamedAs) (known : (at : ℕ) → IsM
 
     pub referred_fits : (role : Role) (r : Reference) → IsSourceReference r → OnRead (IsDenoted t) (referred N role r)
     referred_fits role (Named name arguments more) l =
-        read_then (IsSegment t) (IsDenoted t) (begun N (meaning name.at) (is_call role false more) false name.at arguments) _
-        (begun_fits (meaning name.at) (known name.at) (is_call role false more) false name.at arguments l.0)
+        read_then (IsSegment t) (IsDenoted t) (begun N (meaning name.at) (is_call role false more) NotLocated name.at arguments) _
+        (begun_fits (meaning name.at) (known name.at) (is_call role false more) NotLocated tt name.at arguments l.0)
         (λ g h. joined_fits role g h more l.1)
 
     joined_fits : (role : Role) (g : Segment) → IsSegment t g → (more : JoinedParts) → AreSourceParts more
@@ -215,26 +255,27 @@ module _ (t : TypedUnit) (meaning : ℕ → NamedAs) (known : (at : ℕ) → IsM
     joined_fits role g h (Joined Located name arguments more) l =
         read_then (IsDenoted t) (IsDenoted t) (ended AsLocator g) _ (ended_fits t AsLocator g h)
         (λ locator k. read_then (IsSegment t) (IsDenoted t)
-        (begun N (meaning name.at) (is_call role true more) true name.at arguments) _
-        (begun_fits (meaning name.at) (known name.at) (is_call role true more) true name.at arguments l.0)
+        (begun N (meaning name.at) (is_call role true more) (as_locator locator) name.at arguments) _
+        (begun_fits (meaning name.at) (known name.at) (is_call role true more) (as_locator locator) (locator_fits t locator k) name.at arguments l.0)
         (λ s u. joined_fits role s u more l.1))
 
-    begun_fits : (a : NamedAs) → IsMeaning t a → (call located : Bool) (at : ℕ) (arguments : Arguments)
-        → AreSourceArguments arguments → OnRead (IsSegment t) (begun N a call located at arguments)
-    begun_fits (AVariable v) k call located at (Given list) l =
-        read_then (AllByRecursion (IsExpression t)) (IsSegment t) (all_subscripts N list) _ (indices_fit list l) (λ xs h. (k, h))
-    begun_fits (AVariable v) k call located at Absent l = (k, tt)
-    begun_fits (AFunction function) k true located at (Given list) l =
+    begun_fits : (a : NamedAs) → IsMeaning t a → (call : Bool) (locator : LocatorBefore) → IsLocator t locator → (at : ℕ) (arguments : Arguments)
+        → AreSourceArguments arguments → OnRead (IsSegment t) (begun N a call locator at arguments)
+    begun_fits (AVariable v) k call locator located at (Given list) l =
+        read_then (AllByRecursion (IsExpression t)) (IsSegment t) (all_subscripts N list) _ (indices_fit list l) (λ xs h. (k, h, located))
+    begun_fits (AVariable v) k call locator located at Absent l = (k, tt, located)
+    begun_fits (AFunction function) k true locator located at Absent l = alone_fits t at function
+    begun_fits (AFunction function) k true locator located at (Given list) l =
         read_then (AreArgumentsGiven t) (IsSegment t) (all_arguments N (roles_or_none (roles_of function (how_many list))) list) _
         (list_fits (roles_or_none (roles_of function (how_many list))) list l)
         (λ gs h. read_then (IsValue t) (IsSegment t) (function_called 31 function at (roles_of function (how_many list)) gs) _
         (functions_fit t function at (roles_of function (how_many list)) gs h) (λ v g. g))
-    begun_fits (AProcedure p) k true located at (Given list) l =
+    begun_fits (AProcedure p) k true locator located at (Given list) l =
         read_then (AreArgumentsGiven t) (IsSegment t) (all_arguments N [] list) _ (list_fits [] list l)
         (λ gs h. procedure_fits t p k at gs h)
-    begun_fits a k call located at (Given list) l =
+    begun_fits a k call locator located at (Given list) l =
         read_then (AreArgumentsGiven t) (IsSegment t) (all_arguments N [] list) _ (list_fits [] list l) (λ gs h. tt)
-    begun_fits a k call located at Absent l = tt
+    begun_fits a k call locator located at Absent l = tt
 
     subscripts_all : (arguments : Arguments) → AreSourceArguments arguments
         → OnRead (AllByRecursion (IsExpression t)) (subscripts_in N arguments)

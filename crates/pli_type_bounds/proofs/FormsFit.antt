@@ -1,5 +1,5 @@
 -- Forms without statements in them are within the limits.
-use Rattle.std.specs.Prelude.{◌≡◌, ℕ, suc, ◌≤◌, Bool, true, false, Option, Some, None, is_none, option_map, List, [], ◌∷◌, length}
+use Rattle.std.specs.Prelude.{◌≡◌, ℕ, suc, ◌≤◌, Bool, true, false, not, ◌&&◌, Option, Some, None, is_none, option_map, List, [], ◌∷◌, length}
 use Rattle.std.specs.Prelude.{Ok, refl, if◌then◌else◌}
 use Rattle.std.specs.List.{AllByRecursion}
 use Rattle.std.proofs.Common.{arith, subst, sym}
@@ -20,11 +20,12 @@ use Rattle.pli_type.specs.References.{AsArgument, AsLocator, AsTarget, Referent}
 use Rattle.pli_type.specs.StatementTyping.{aggregate_assigned, scalar_assigned, assigned, assignment, truth_of, condition, item, items}
 use Rattle.pli_type.specs.StatementTyping.{Surroundings, Enclosing, label_found, jump_to, jump, goto_typed, arguments_typed, no_function, call_of}
 use Rattle.pli_type.specs.StatementTyping.{call_typed, returned_value, return_typed, number_of, limit, possible_limit, limits}
-use Rattle.pli_type.specs.StatementTyping.{without_subscripts, suits_range, suited_control, controls, possible_condition, next_value, with_repeat}
+use Rattle.pli_type.specs.StatementTyping.{without_subscripts, has_locator, suits_range, suited_control, controls, possible_condition, next_value, with_repeat}
 use Rattle.pli_type.specs.StatementTyping.{iteration}
 use Rattle.pli_type.specs.Typing.{first_token, or_fault, meant, referred, value_of}
 use Rattle.pli_type.specs.declared.expression_type.ExpressionType.{ExpressionType}
 use Rattle.pli_type.specs.declared.expression_type.ExpressionType.TheVariants as types
+use Rattle.pli_type_tree.specs.Templates.{Template}
 use Rattle.pli_type_tree.specs.TypedTree as typed
 use Rattle.pli_type_tree.specs.TypedTree.{TypedExpression, TypedReference, TypedArguments, TypedRange, TypedUnit}
 use Rattle.pli_type_laws.proofs.Conversions.{OnGiven}
@@ -69,18 +70,18 @@ module _ (t : TypedUnit) where
       by true e rest = omega (arith, same_some e)
       by false e rest = next (label_found bs label) refl e rest
 
-module _ (t : TypedUnit) (meaning : ℕ → NamedAs) (known : (at : ℕ) → IsMeaning t (meaning at)) where
+module _ (t : TypedUnit) (based : ℕ → List Template) (meaning : ℕ → NamedAs) (known : (at : ℕ) → IsMeaning t (meaning at)) where
   abbrev M : Naming
-  M = N t meaning known
+  M = N t based meaning known
 
   pub condition_fits : (e : Expression) → IsSource e → OnRead (IsExpression t) (condition M e)
   condition_fits e l =
-      read_then (IsValue t) (IsExpression t) (value_of M e) _ (value_of_fits t meaning known e l)
+      read_then (IsValue t) (IsExpression t) (value_of M e) _ (value_of_fits t based meaning known e l)
       (λ v h. read_option (IsExpression t) WrongOperandType (first_token e) (truth_of v) (truth_fits t v.expression v.kind h))
 
   item_fits : (e : Expression) → IsSource e → OnRead (IsExpression t) (item M e)
   item_fits e l =
-      read_then (IsValue t) (IsExpression t) (value_of M e) _ (value_of_fits t meaning known e l)
+      read_then (IsValue t) (IsExpression t) (value_of M e) _ (value_of_fits t based meaning known e l)
       (λ v h. read_option (IsExpression t) CannotPrint (first_token e) (printed v) (printed_fits t v.expression v.kind h))
 
   pub items_fit : (es : List Expression) → AllByRecursion IsSource es → OnRead (AllByRecursion (IsExpression t)) (items M es)
@@ -92,7 +93,7 @@ module _ (t : TypedUnit) (meaning : ℕ → NamedAs) (known : (at : ℕ) → IsM
   scalar_fits : (equals : ℕ) (r : TypedReference) (d : Description) → IsReference t r → IsDescription d → (e : Expression) → IsSource e
       → OnRead (IsForm t) (scalar_assigned M equals r d e)
   scalar_fits equals r d placed good e l =
-      read_then (IsValue t) (IsForm t) (value_of M e) _ (value_of_fits t meaning known e l)
+      read_then (IsValue t) (IsForm t) (value_of M e) _ (value_of_fits t based meaning known e l)
       (λ v h. read_then (IsExpression t) (IsForm t) (or_fault CannotAssign equals (converted 31 d v)) _
       (read_option (IsExpression t) CannotAssign equals (converted 31 d v) (converted_fits t d v good h))
       (λ x k. (placed, k)))
@@ -101,14 +102,14 @@ module _ (t : TypedUnit) (meaning : ℕ → NamedAs) (known : (at : ℕ) → IsM
   assigned_fits at equals (DenotesVariable target) h e l =
       read_if (IsForm t) (is_aggregate target.description) _ _
       (read_then (IsMeant t) (IsForm t) (meant M AsArgument e) (aggregate_assigned equals target)
-      (meant_fits t meaning known AsArgument e l) (aggregate_fits t equals target h))
+      (meant_fits t based meaning known AsArgument e l) (aggregate_fits t equals target h))
       (scalar_fits equals target.reference target.description h.reference h.described e l)
   assigned_fits at equals (DenotesResult v) h e l = tt
 
   pub assignment_fits : (at : ℕ) (target : Reference) (equals : ℕ) (e : Expression) → IsSourceReference target → IsSource e
       → OnRead (IsForm t) (assignment M at target equals e)
   assignment_fits at target equals e l m =
-      read_then (IsDenoted t) (IsForm t) (referred M AsTarget target) _ (referred_fits t meaning known AsTarget target l)
+      read_then (IsDenoted t) (IsForm t) (referred M AsTarget target) _ (referred_fits t based meaning known AsTarget target l)
       (λ d h. assigned_fits at equals d h e m)
 
   -- calls
@@ -125,7 +126,7 @@ module _ (t : TypedUnit) (meaning : ℕ → NamedAs) (known : (at : ℕ) → IsM
 
   arguments_read : (a : Arguments) → AreSourceArguments a → OnRead (AreArgumentsGiven t) (arguments_typed M a)
   arguments_read Absent l = tt
-  arguments_read (Given list) l = list_fits t meaning known [] list l
+  arguments_read (Given list) l = list_fits t based meaning known [] list l
 
   pub call_fits : (name : Identifier) (a : Arguments) → AreSourceArguments a → OnRead (IsForm t) (call_typed M name a)
   call_fits name a l =
@@ -148,7 +149,7 @@ module _ (t : TypedUnit) (meaning : ℕ → NamedAs) (known : (at : ℕ) → IsM
     pub return_fits : (at : ℕ) (v : Option Expression) → IfThere IsSource v → OnRead (IsForm t) (return_typed M su at v)
     return_fits at None l = without_value at (is_none su.value)
     return_fits at (Some e) l =
-        read_then (IsValue t) (IsForm t) (value_of M e) _ (value_of_fits t meaning known e l)
+        read_then (IsValue t) (IsForm t) (value_of M e) _ (value_of_fits t based meaning known e l)
         (λ v h. with_value at (first_token e) v h su.value good)
 
   -- jumps, where few blocks are around
@@ -167,7 +168,7 @@ module _ (t : TypedUnit) (meaning : ℕ → NamedAs) (known : (at : ℕ) → IsM
   -- groups with a control variable
   limit_fits : (e : Expression) → IsSource e → OnRead (IsExpression t) (limit M e)
   limit_fits e l =
-      read_then (IsValue t) (IsExpression t) (value_of M e) _ (value_of_fits t meaning known e l)
+      read_then (IsValue t) (IsExpression t) (value_of M e) _ (value_of_fits t based meaning known e l)
       (λ v h. read_option (IsExpression t) WrongOperandType (first_token e) (number_of 31 v)
       (given_made (IsExpression t) (λ p. v.expression) (precision_of 31 v.kind) (λ p. h)))
 
@@ -190,10 +191,11 @@ module _ (t : TypedUnit) (meaning : ℕ → NamedAs) (known : (at : ℕ) → IsM
   control_fits at r true h = h
   control_fits at r false h = tt
 
-  controls_fit : (at : ℕ) (range : TypedRange) (d : Denoted) → IsDenoted t d → OnRead (IsReferent t) (controls at range d)
-  controls_fit at range (DenotesVariable r) h =
-      read_if (IsReferent t) (without_subscripts r.reference) _ _ (control_fits at r (suits_range r.description range) h) tt
-  controls_fit at range (DenotesResult v) h = tt
+  controls_fit : (at : ℕ) (is_located : Bool) (range : TypedRange) (d : Denoted) → IsDenoted t d
+      → OnRead (IsReferent t) (controls at is_located range d)
+  controls_fit at is_located range (DenotesVariable r) h =
+      read_if (IsReferent t) (without_subscripts r.reference && not is_located) _ _ (control_fits at r (suits_range r.description range) h) tt
+  controls_fit at is_located range (DenotesResult v) h = tt
 
   possible_condition_fits : (o : Option Expression) → IfThere IsSource o → OnRead (IfThere (IsExpression t)) (possible_condition M o)
   possible_condition_fits None l = tt
@@ -202,7 +204,7 @@ module _ (t : TypedUnit) (meaning : ℕ → NamedAs) (known : (at : ℕ) → IsM
 
   next_fits : (d : Description) → IsDescription d → (e : Expression) → IsSource e → OnRead (IsRange t) (next_value M d e)
   next_fits d good e l =
-      read_then (IsValue t) (IsRange t) (value_of M e) _ (value_of_fits t meaning known e l)
+      read_then (IsValue t) (IsRange t) (value_of M e) _ (value_of_fits t based meaning known e l)
       (λ v h. read_then (IsExpression t) (IsRange t) (or_fault CannotAssign (first_token e) (converted 31 d v)) _
       (read_option (IsExpression t) CannotAssign (first_token e) (converted 31 d v) (converted_fits t d v good h)) (λ x k. k))
 
@@ -217,11 +219,11 @@ module _ (t : TypedUnit) (meaning : ℕ → NamedAs) (known : (at : ℕ) → IsM
       (tested : Option Expression) → IsSourceControl (tree.Iterate variable equals first range tested)
       → OnRead (IsIteration t) (iteration M temporary variable equals first range tested)
   iteration_fits temporary variable equals first range tested l =
-      read_then (IsValue t) (IsIteration t) (value_of M first) _ (value_of_fits t meaning known first l.1)
+      read_then (IsValue t) (IsIteration t) (value_of M first) _ (value_of_fits t based meaning known first l.1)
       (λ v h. read_then (IsRange t) (IsIteration t) (limits M range) _ (limits_fit range l.2)
-      (λ kept k. read_then (IsDenoted t) (IsIteration t) (referred M AsLocator variable) _ (referred_fits t meaning known AsLocator variable l.0)
-      (λ d g. read_then (IsReferent t) (IsIteration t) (controls (first_token (Referred variable)) kept d) _
-      (controls_fit (first_token (Referred variable)) kept d g)
+      (λ kept k. read_then (IsDenoted t) (IsIteration t) (referred M AsLocator variable) _ (referred_fits t based meaning known AsLocator variable l.0)
+      (λ d g. read_then (IsReferent t) (IsIteration t) (controls (first_token (Referred variable)) (has_locator variable) kept d) _
+      (controls_fit (first_token (Referred variable)) (has_locator variable) kept d g)
       (λ r m. read_then (AllByRecursion IsOperation) (IsIteration t) (or_fault CannotAssign equals (conversions 31 r.description v.kind)) _
       (read_option (AllByRecursion IsOperation) CannotAssign equals (conversions 31 r.description v.kind)
       (conversions_fit t r.description v.kind m.described))

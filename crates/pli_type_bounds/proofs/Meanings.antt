@@ -3,11 +3,11 @@ use Rattle.std.specs.Prelude.{◌≡◌, ℕ, ◌≤◌, ◌<◌, Some, List, []
 use Rattle.std.specs.List.{AllByRecursion}
 use Rattle.pli_type.specs.ExpressionTypes.{TypedValue}
 use Rattle.pli_type.specs.FunctionCalls.{Denoted, DenotesVariable, DenotesResult, Meant, OneValue, WholeAggregate, Argument}
-use Rattle.pli_type.specs.Names.{NamedVariable, NamedProcedure, NamedAs, AVariable, AProcedure}
-use Rattle.pli_type.specs.References.{StridedPart, part_of, with_subscripts, Referent}
+use Rattle.pli_type.specs.Names.{NamedStorage, Begins, IsBased, NamedVariable, NamedProcedure, NamedAs, AVariable, AProcedure}
+use Rattle.pli_type.specs.References.{StridedPart, part_of, with_subscripts, Referent, LocatorBefore, NotLocated, LocatedBy, LocatedWrongly}
 use Rattle.pli_type.specs.Typing.{Segment, OfVariable, OfFunction, OfNoVariable}
 use Rattle.pli_type_tree.specs.TypedTree.{TypedUnit}
-use Rattle.pli_deck_laws.specs.Limits.{parameter_limit, word_limit, IsDescription, IsStride}
+use Rattle.pli_deck_laws.specs.Limits.{parameter_limit, word_limit, IfThere, IsDescription, IsStride}
 use Rattle.pli_deck_laws.specs.WellFormed.{IsRoot, IsCallee, IsExpression, IsReference}
 
 -- a part of a variable
@@ -17,9 +17,21 @@ pub record IsPart (q : StridedPart) : Type 0 where
   pub strides : AllByRecursion IsStride q.strides
 
 module _ (t : TypedUnit) where
-  -- it begins where there is something, and each of its parts is within the limits
+  -- storage begins where there is something; or a POINTER that BASED names does
+  abbrev pub IsStorage : NamedStorage → Type 0
+  IsStorage (Begins root is_parameter) = IsRoot t root
+  IsStorage (IsBased block number implied) = IfThere (IsReference t) implied
+
+  -- what stands in front of an arrow is within the limits
+  abbrev pub IsLocator : LocatorBefore → Type 0
+  IsLocator NotLocated = Unit {0}
+  IsLocator (LocatedBy e) = IsExpression t e
+  IsLocator LocatedWrongly = Unit {0}
+
+  -- it has storage, and each of its parts is within the limits
   pub record IsVariable (v : NamedVariable) : Type 0 where
-    pub root : IsRoot t v.root
+    pub storage : IsStorage v.storage
+    pub whole : IsDescription v.whole
     pub parts : (p q : StridedPart) (given : ℕ) → part_of v ≡ Some p → with_subscripts given p ≡ Some q → IsPart q
 
   -- it is there, and has few parameters
@@ -54,6 +66,6 @@ module _ (t : TypedUnit) where
   AreArgumentsGiven (g ∷ gs) = IsDenoted g.denoted × AreArgumentsGiven gs
 
   abbrev pub IsSegment : Segment → Type 0
-  IsSegment (OfVariable located at v xs) = IsVariable v × AllByRecursion (IsExpression t) xs
+  IsSegment (OfVariable locator at v xs) = IsVariable v × AllByRecursion (IsExpression t) xs × IsLocator locator
   IsSegment (OfFunction v) = IsValue v
   IsSegment (OfNoVariable at) = Unit {0}

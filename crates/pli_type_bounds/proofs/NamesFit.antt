@@ -9,32 +9,36 @@ use Rattle.std.proofs.lemmas.Option.{same_Some, none-some, slice_get_within, get
 use Rattle.pli_base.specs.Statements.{ExternalProcedure}
 use Rattle.pli_base.specs.declared.syntax.Identifier.{Identifier}
 use Rattle.pli_declare.specs.Resolution.{resolution_faults}
-use Rattle.pli_map.specs.Description.{Description}
+use Rattle.pli_map.specs.Description.{Description, Pointer}
 use Rattle.pli_map.specs.Sizes.{size_of}
 use Rattle.pli_resolve.specs.ResolvedUnits.{ResolvedUnit, ResolvedBlock, resolved_unit_of, all_symbols, symbol_at, meaning_at}
 use Rattle.pli_resolve.specs.Symbols.{Symbol, SymbolKind, Variable, Member, Label, Procedure, Entry, BuiltIn}
+use Rattle.pli_resolve.specs.declared.symbol.StorageClass.{StorageClass}
+use Rattle.pli_resolve.specs.declared.symbol.StorageClass.TheVariants as classes
 use Rattle.pli_resolve.specs.declared.symbol.SymbolKey.{SymbolKey}
-use Rattle.pli_type.specs.NamedUnits.{is_plain, is_automatic, block_symbols, of_block, is_procedure, parameter_numbers, description_in, parameters_of, returned_by, returned_of}
+use Rattle.pli_type.specs.NamedUnits.{is_plain, is_automatic, is_based, is_passed_class, root_of, pointer_part, pointer_on, pointer_in, pointer_meant, pointer_named}
+use Rattle.pli_type.specs.NamedUnits.{block_symbols, of_block, is_procedure, parameter_numbers, description_in, parameters_of, returned_by, returned_of}
 use Rattle.pli_type.specs.NamedUnits.{outward_to, is_reached, all_globals, templates_of, named_as}
-use Rattle.pli_type.specs.Names.{NamedVariable, NamedProcedure, NamedAs, AVariable, AFunction, AProcedure, ALabel, Untyped}
-use Rattle.pli_type_name_laws.proofs.NamesMean.{Begins, IsThere, variable_begins, procedure_named_so}
-use Rattle.pli_type_name_laws.proofs.RootsStand.{Standing, IsEntry, descriptions, automatic_stored, entry_stands}
+use Rattle.pli_type.specs.References.{StridedPart, part_on, whole_part, pointer_at, reference_to, subscripts_at}
+use Rattle.pli_type.specs.Names.{NamedStorage, Begins, IsBased, NamedVariable, NamedProcedure, NamedAs, AVariable, AFunction, AProcedure, ALabel, Untyped}
+use Rattle.pli_type_name_laws.proofs.NamesMean.{StandsIn, IsStored, IsThere, variable_begins, procedure_named_so}
+use Rattle.pli_type_name_laws.proofs.RootsStand.{Standing, IsOf, IsEntry, root_begins, descriptions, automatic_stored, based_stored, entry_stands}
 use Rattle.pli_program.specs.declared.kind.VariableKind.{VariableKind}
 use Rattle.pli_program.specs.declared.kind.VariableKind.TheVariants.{Static, Controlled}
 use Rattle.pli_type_tree.specs.Globals.{description_of, described_as, signature_of}
 use Rattle.pli_type_tree.specs.laws.GlobalLaws.{described_parts}
 use Rattle.pli_type_tree.specs.Templates.{Template}
-use Rattle.pli_type_tree.specs.TypedTree.{Root, InSlot, OfProgram, NewestOf, Callee, OfBlock, OfEntry, Global, OwnVariable, ExternalVariable, EntryPoint, Signature, TypedUnit}
+use Rattle.pli_type_tree.specs.TypedTree.{Root, InSlot, OfProgram, NewestOf, Located, Stride, TypedReference, Callee, OfBlock, OfEntry, Global, OwnVariable, ExternalVariable, EntryPoint, Signature, TypedUnit}
 use Rattle.pli_resolve_bounds.proofs.SymbolsWithin.{parameters_are_few}
-use Rattle.pli_type_bounds.proofs.Meanings.{IsVariable, IsProcedureNamed, IsMeaning}
-use Rattle.pli_type_bounds.proofs.PartsFit.{parts_fit}
+use Rattle.pli_type_bounds.proofs.Meanings.{IsPart, IsStorage, IsVariable, IsProcedureNamed, IsMeaning}
+use Rattle.pli_type_bounds.proofs.PartsFit.{way_fits, parts_fit}
 use Rattle.pli_type_bounds.proofs.SymbolsFit.{symbol_fits, initial_fits}
 use Rattle.pli_resolve_bounds.specs.SymbolBounds.{IsLimited}
 use Rattle.pli_type_name_laws.proofs.InitialHeld.{all_behind}
 use Rattle.pli_type_bounds.proofs.TemplatesFit.{AreSymbols, all_described, templates_fit, globals_fit}
 use Rattle.pli_initial_laws.specs.InitialCounts.{HaveFewInitial}
 use Rattle.pli_deck_laws.specs.Limits.{IfThere, IsDescription, IsTemplate, IsGlobal, link_limit, parameter_limit}
-use Rattle.pli_deck_laws.specs.WellFormed.{HasBlock, HasSlot, IsRoot, IsCallee}
+use Rattle.pli_deck_laws.specs.WellFormed.{HasBlock, HasSlot, IsRoot, IsCallee, IsReference, AreSubscripts}
 
 -- ---- lists
 
@@ -169,6 +173,11 @@ module _ (u : ExternalProcedure) (none : resolution_faults u ≡ []) where
   automatic_fit block =
       templates_fit (is_automatic 31) (automatic_stored 31) (block_symbols R block) 0 (block_symbols R block) (symbols_in block) (initial_fits u none block)
 
+  -- and BASED ones
+  pub based_fit : (block : ℕ) → AllByRecursion IsTemplate (templates_of (is_based 31) (block_symbols R block))
+  based_fit block =
+      templates_fit (is_based 31) (based_stored 31) (block_symbols R block) 0 (block_symbols R block) (symbols_in block) (initial_fits u none block)
+
   each_block : (i : ℕ) (ss : List Symbol) → slice_get (all_symbols R) i ≡ Some ss
       → AreSymbols ss × HaveFewInitial ss 0 ss
   each_block i ss e =
@@ -200,9 +209,9 @@ module _ (u : ExternalProcedure) (none : resolution_faults u ≡ []) where
     abbrev IsInside : List ℕ → Type 0
     IsInside blocks = AllByRecursion (λ b. b < length R.blocks) blocks
 
-    slot_fits : (blocks : List ℕ) (outward slot : ℕ) (d : Description) → length blocks ≤ link_limit → IsInside blocks
-        → Standing 31 R blocks (InSlot outward slot) d → IsRoot t (InSlot outward slot) × IsDescription d
-    slot_fits blocks outward slot d near inside (block, at, there) =
+    slot_fits : (blocks : List ℕ) (is_parameter : Bool) (outward slot : ℕ) (d : Description) → length blocks ≤ link_limit → IsInside blocks
+        → Standing 31 R blocks is_parameter (InSlot outward slot) d → IsRoot t (InSlot outward slot) × IsDescription d
+    slot_fits blocks is_parameter outward slot d near inside (block, at, there, own) =
         let found = outward_near (λ b. b < length R.blocks) blocks block outward inside at in
         let within : slot < length (parameters_of R block) + length (Automatic block) =
         omega (
@@ -221,17 +230,116 @@ module _ (u : ExternalProcedure) (none : resolution_faults u ≡ []) where
           global_described (slice_get Globals number) d (λ g is. at_all IsGlobal Globals number g all_globals_fit is) is,
         )
 
-    root_fits : (blocks : List ℕ) (root : Root) (d : Description) → length blocks ≤ link_limit → IsInside blocks → Standing 31 R blocks root d
-        → IsRoot t root × IsDescription d
-    root_fits blocks (InSlot outward slot) d near inside h = slot_fits blocks outward slot d near inside h
-    root_fits blocks (OfProgram number) d near inside h = global_fits Static number d h
-    root_fits blocks (NewestOf number) d near inside h = global_fits Controlled number d h
+    root_fits : (blocks : List ℕ) (is_parameter : Bool) (root : Root) (d : Description) → length blocks ≤ link_limit → IsInside blocks
+        → Standing 31 R blocks is_parameter root d → IsRoot t root × IsDescription d
+    root_fits blocks is_parameter (InSlot outward slot) d near inside h = slot_fits blocks is_parameter outward slot d near inside h
+    root_fits blocks is_parameter (OfProgram number) d near inside h = global_fits Static number d h
+    root_fits blocks is_parameter (NewestOf number) d near inside h = global_fits Controlled number d h
+    root_fits blocks is_parameter (Located locator whole) d near inside h = absurd h
 
-    variable_fits : (blocks : List ℕ) (v : NamedVariable) → length blocks ≤ link_limit → IsInside blocks → Begins 31 R blocks v → IsVariable t v
+    -- the POINTER that BASED names
+    abbrev IsImplied : Option TypedReference → Type 0
+    IsImplied o = IfThere (IsReference t) o
+
+    -- without dimensions, of what begins somewhere
+    scalar_fits : (root : Root) (path : List ℕ) (q : StridedPart) → IsRoot t root → IsPart q → IsReference t (reference_to root path q [])
+    scalar_fits root [] q h k = h
+    scalar_fits root (i ∷ path) q h k = (h, k.offset, k.described, alone q.strides)
+      where
+        alone : (ss : List Stride) → AreSubscripts t (subscripts_at ss [])
+        alone [] = tt
+        alone (s ∷ ss) = tt
+
+    pointer_fits : (r : TypedReference) (d : Description) → IsReference t r → IsImplied (pointer_at r d)
+    pointer_fits r Pointer h = h
+    pointer_fits r d h = tt
+
+    implied_if : (b : Bool) (o : Option TypedReference) → IsImplied o → IsImplied (if b then o else None)
+    implied_if true o h = h
+    implied_if false o h = tt
+
+    part_fits : (root : Root) (path : List ℕ) (o : Option StridedPart) → IsRoot t root → ((q : StridedPart) → o ≡ Some q → IsPart q)
+        → IsImplied (pointer_part root path o)
+    part_fits root path None h k = tt
+    part_fits root path (Some q) h k =
+        implied_if (nat_eq (length q.strides) 0) (pointer_at (reference_to root path q []) q.description)
+        (pointer_fits (reference_to root path q []) q.description (scalar_fits root path q h (k q refl)))
+
+    module _ (blocks : List ℕ) (near : length blocks ≤ link_limit) (inside : IsInside blocks) where
+      on_fits : (key : SymbolKey) (class : StorageClass) (d : Description) (path : List ℕ) (s : Symbol)
+          → slice_get (block_symbols R key.block) key.number ≡ Some s → IsOf class d s.kind → (o : Option Root)
+          → root_of 31 R blocks key class d ≡ o → IsImplied (pointer_on o d path)
+      on_fits key class d path s there of None is = tt
+      on_fits key class d path s there of (Some root) is =
+          let begun = root_begins 31 R blocks key d root s there class of is in
+          let both = root_fits blocks (is_passed_class class) root d near inside begun.0 in
+          let small : size_of d ≤ 1000000 = leb-true (size_of d) 1000000 (and_parts (is_plain 31 d) (nat_le (size_of d) 1000000) begun.1).1 in
+          part_fits root path (part_on (whole_part d) path) both.0 (λ q e. way_fits d path both.1 small q e)
+
+      kind_fits : (key : SymbolKey) (path : List ℕ) (s : Symbol) (kind : SymbolKind)
+          → slice_get (block_symbols R key.block) key.number ≡ Some s → s.kind ≡ kind
+          → IsImplied (pointer_in 31 R blocks key path (Some (record { identifier = s.identifier; kind = kind })))
+      kind_fits key path s (Variable d class scope initial area) there is =
+          on_fits key class d path s there (subst (IsOf class d) (sym is) (refl, refl)) (root_of 31 R blocks key class d) refl
+      kind_fits key path s (Member root p initial area) there is = tt
+      kind_fits key path s (Label statement) there is = tt
+      kind_fits key path s (Procedure block returned area) there is = tt
+      kind_fits key path s (Entry parameters returned) there is = tt
+      kind_fits key path s BuiltIn there is = tt
+
+      in_fits : (key : SymbolKey) (path : List ℕ) (o : Option Symbol) → slice_get (block_symbols R key.block) key.number ≡ o
+          → IsImplied (pointer_in 31 R blocks key path o)
+      in_fits key path None there = tt
+      in_fits key path (Some s) there = kind_fits key path s s.kind there refl
+
+      meant_fits : (key : SymbolKey) (o : Option Symbol) → slice_get (block_symbols R key.block) key.number ≡ o
+          → IsImplied (pointer_meant 31 R blocks key o)
+      meant_fits key None there = tt
+      meant_fits key (Some s) there = by s.kind refl
+        where
+          by : (kind : SymbolKind) → s.kind ≡ kind
+              → IsImplied (pointer_meant 31 R blocks key (Some (record { identifier = s.identifier; kind = kind })))
+          by (Variable d class scope initial area) is = kind_fits key [] s (Variable d class scope initial area) there is
+          by (Member root path initial area) is =
+              in_fits (record { block = key.block; number = root }) path (slice_get (block_symbols R key.block) root) refl
+          by (Label statement) is = tt
+          by (Procedure block returned area) is = tt
+          by (Entry parameters returned) is = tt
+          by BuiltIn is = tt
+
+      implied_fits : (locator : Option SymbolKey) → IsImplied (pointer_named 31 R blocks locator)
+      implied_fits None = tt
+      implied_fits (Some key) = meant_fits key (symbol_at R key) refl
+
+      -- storage
+      storage_fits : (storage : NamedStorage) (d : Description) → StandsIn 31 R blocks storage d → IsStorage t storage
+      storage_fits (Begins root is_parameter) d h = (root_fits blocks is_parameter root d near inside h).0
+      storage_fits (IsBased block number implied) d h = subst IsImplied (sym h.3) (implied_fits h.0)
+
+    -- what a symbol is, is described
+    of_described : (class : StorageClass) (d : Description) (kind : SymbolKind) → IsOf class d kind → IsLimited kind → IsDescription d
+    of_described class d (Variable description c scope values area) h g = subst IsDescription h.0 g.0
+    of_described class d (Member root path values area) h g = absurd h
+    of_described class d (Label statement) h g = absurd h
+    of_described class d (Procedure block returned area) h g = absurd h
+    of_described class d (Entry parameters returned) h g = absurd h
+    of_described class d BuiltIn h g = absurd h
+
+    whole_fits : (blocks : List ℕ) (storage : NamedStorage) (d : Description) → length blocks ≤ link_limit → IsInside blocks
+        → StandsIn 31 R blocks storage d → IsDescription d
+    whole_fits blocks (Begins root is_parameter) d near inside h = (root_fits blocks is_parameter root d near inside h).1
+    whole_fits blocks (IsBased block number implied) d near inside h =
+        of_described (classes.Based h.0) d h.2.kind h.5 (symbol_in h.1.block h.1.number h.2 h.4)
+
+    variable_fits : (blocks : List ℕ) (v : NamedVariable) → length blocks ≤ link_limit → IsInside blocks → IsStored 31 R blocks v → IsVariable t v
     variable_fits blocks v near inside b =
-        let both = root_fits blocks v.root v.whole near inside b.0 in
+        let good = whole_fits blocks v.storage v.whole near inside b.0 in
         let small : size_of v.whole ≤ 1000000 = leb-true (size_of v.whole) 1000000 (and_parts (is_plain 31 v.whole) (nat_le (size_of v.whole) 1000000) b.1).1 in
-        record { root = both.0; parts = λ p q given e f. parts_fit v both.1 small p q given e f }
+        record {
+          storage = storage_fits blocks near inside v.storage v.whole b.0;
+          whole = good;
+          parts = λ p q given e f. parts_fit v good small p q given e f;
+        }
 
     -- procedures
     reached_within : (blocks : List ℕ) (block : ℕ) (o : Option ResolvedBlock) → slice_get R.blocks block ≡ o → is_reached blocks o ≡ true

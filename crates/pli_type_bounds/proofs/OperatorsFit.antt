@@ -21,12 +21,12 @@ use Rattle.pli_resolve.specs.declared.built_in.BuiltInFunction.{BuiltInFunction}
 use Rattle.pli_resolve.specs.declared.built_in.BuiltInFunction.TheVariants as functions
 use Rattle.pli_type.specs.ExpressionTypes.{TypedValue, precision_of, precisions, all_operands, constant, with_one, with_plus, with_minus, with_not}
 use Rattle.pli_type.specs.ExpressionTypes.{prefix_value, infix_value, on_numbers, sum_precision, product_precision, columns, width_of, decimal_digits}
-use Rattle.pli_type.specs.ExpressionTypes.{string_type, string_as, on_strings, as_bits, compared, comparison, concatenation, of_bits_alone}
+use Rattle.pli_type.specs.ExpressionTypes.{string_type, string_as, on_strings, as_bits, is_pointer, compared, pointers_compared, comparison, concatenation, of_bits_alone}
 use Rattle.pli_type.specs.ExpressionTypes.{number_as_characters, as_characters, only_bits, suited, converted, string_conversions, bit_conversions, suiting, conversions, printed_from}
 use Rattle.pli_type.specs.FunctionCalls.{Meant, OneValue, WholeAggregate, meant_as, Argument, Denoted, DenotesVariable, DenotesResult, meant_by}
-use Rattle.pli_type.specs.FunctionCalls.{call_type, operation_of, calculation, of_values, bound_value, bound_in, the_bound, generations_in, generations_of}
+use Rattle.pli_type.specs.FunctionCalls.{call_type, operation_of, calculation, of_values, bound_value, bound_in, the_bound, generations_in, generations_of, address_in, address_of}
 use Rattle.pli_type.specs.FunctionCalls.{value_in, values_in, divided, of_arguments, or_bad_argument, function_called, number_type}
-use Rattle.pli_type.specs.References.{Role}
+use Rattle.pli_type.specs.References.{Role, Referent}
 use Rattle.pli_type.specs.declared.expression_type.ExpressionType.{ExpressionType}
 use Rattle.pli_type.specs.declared.expression_type.ExpressionType.TheVariants as types
 use Rattle.pli_type_tree.specs.TypedTree.{NewestOf, TypedOperation, Fit, Operate, TypedExpression, TypedReference, Whole, TypedUnit}
@@ -100,7 +100,17 @@ module _ (t : TypedUnit) where
       (numbers_fit (Compare relation) (sum_precision 31) v w tt a b)
 
   comparison_fits : (relation : Relation) (v w : TypedValue) → IsValue t v → IsValue t w → OnGiven (IsValue t) (comparison 31 relation v w)
-  comparison_fits relation v w a b = compared_fits relation v w (string_type v.kind w.kind) a b
+  comparison_fits relation v w a b = by (is_pointer v.kind && is_pointer w.kind)
+    where
+      pointers : (relation : Relation) → OnGiven (IsValue t) (pointers_compared relation v.expression w.expression)
+      pointers Equal = (tt, (a, (b, tt)))
+      pointers Unequal = (tt, (a, (b, tt)))
+      pointers other = tt
+
+      by : (c : Bool) → OnGiven (IsValue t) (if c then pointers_compared relation v.expression w.expression
+          else compared 31 relation v w (string_type v.kind w.kind))
+      by true = pointers relation
+      by false = compared_fits relation v w (string_type v.kind w.kind) a b
 
   concatenation_fits : (v w : TypedValue) → IsValue t v → IsValue t w → OnGiven (IsValue t) (concatenation v w)
   concatenation_fits v w a b = given_made (IsValue t) _ (string_type v.kind w.kind) (λ kind. strings_fit Concatenate v w kind tt a b)
@@ -137,6 +147,7 @@ module _ (t : TypedUnit) where
   widths types.Characters = tt
   widths types.Bits = tt
   widths types.Pointer = tt
+  widths types.Null = tt
   widths types.Offset = tt
   widths types.Area = tt
 
@@ -157,6 +168,7 @@ module _ (t : TypedUnit) where
   suited_fits other e kind h = tt
 
   pub converted_fits : (d : Description) (v : TypedValue) → IsDescription d → IsValue t v → OnGiven (IsExpression t) (converted 31 d v)
+  converted_fits described.Pointer v good h = given_if (IsExpression t) (is_pointer v.kind) (Some v.expression) h
   converted_fits d v good h =
       given_map (IsExpression t) (IsExpression t) (with_one (Fit d)) (suited 31 d v.expression v.kind) (λ e k. (good, (k, tt)))
       (suited_fits d v.expression v.kind h)
@@ -194,26 +206,30 @@ module _ (t : TypedUnit) where
   then_fitted d (o ∷ os) good h = (h.0, then_fitted d os good h.1)
 
   pub conversions_fit : (d : Description) (kind : ExpressionType) → IsDescription d → OnGiven (AllByRecursion IsOperation) (conversions 31 d kind)
+  conversions_fit described.Pointer kind good = given_if (AllByRecursion IsOperation) (is_pointer kind) (Some []) tt
   conversions_fit d kind good =
       given_map (AllByRecursion IsOperation) (AllByRecursion IsOperation) (λ operations. operations ++ Fit d ∷ []) (suiting 31 d kind)
       (λ os h. then_fitted d os good h) (suiting_operations d kind)
 
   -- ---- what is denoted
 
-  held_fits : (r : TypedReference) (d : Description) → IsReferent t (record { reference = r; description = d })
-      → IsMeant t (meant_by (record { reference = r; description = d }))
-  held_fits r (described.FixedBinary p) h = h.reference
-  held_fits r (described.Character k) h = h.reference
-  held_fits r (described.Varying k) h = h.reference
-  held_fits r (described.Bit k) h = h.reference
-  held_fits r described.Pointer h = h.reference
-  held_fits r described.Offset h = h.reference
-  held_fits r (described.Area k) h = h.reference
-  held_fits r (described.Array bounds element) h = h
-  held_fits r (described.Structure ds) h = h
+  abbrev as_referent : TypedReference → Description → Bool → Referent
+  as_referent r d passed = record { reference = r; description = d; is_parameter = passed }
+
+  held_fits : (r : TypedReference) (d : Description) (passed : Bool) → IsReferent t (as_referent r d passed)
+      → IsMeant t (meant_by (as_referent r d passed))
+  held_fits r (described.FixedBinary p) passed h = h.reference
+  held_fits r (described.Character k) passed h = h.reference
+  held_fits r (described.Varying k) passed h = h.reference
+  held_fits r (described.Bit k) passed h = h.reference
+  held_fits r described.Pointer passed h = h.reference
+  held_fits r described.Offset passed h = h.reference
+  held_fits r (described.Area k) passed h = h.reference
+  held_fits r (described.Array bounds element) passed h = h
+  held_fits r (described.Structure ds) passed h = h
 
   pub denoted_fits : (d : Denoted) → IsDenoted t d → IsMeant t (meant_as d)
-  denoted_fits (DenotesVariable r) h = held_fits r.reference r.description h
+  denoted_fits (DenotesVariable r) h = held_fits r.reference r.description r.is_parameter h
   denoted_fits (DenotesResult v) h = h
 
   -- ---- built-in functions
@@ -302,6 +318,15 @@ module _ (t : TypedUnit) where
   generations_given (DenotesVariable r) h = generations_fit r.reference h.reference
   generations_given (DenotesResult v) h = tt
 
+  -- ADDR
+  address_fits : (passed : Bool) (r : TypedReference) → IsReference t r → OnGiven (IsValue t) (address_in passed r)
+  address_fits false (Whole root) h = h
+  address_fits passed r h = tt
+
+  address_given : (d : Denoted) → IsDenoted t d → OnGiven (IsValue t) (address_of d)
+  address_given (DenotesVariable r) h = address_fits r.is_parameter r.reference h.reference
+  address_given (DenotesResult v) h = tt
+
   -- arguments that are values
   one_value_in : (m : Meant) → IsMeant t m → OnGiven (IsValue t) (value_in m)
   one_value_in (OneValue v) h = h
@@ -330,6 +355,8 @@ module _ (t : TypedUnit) where
   arguments_give functions.LowBound (a ∷ n ∷ []) h = bound_of (λ b. b.low) (λ b k. k.1) (meant_as a.denoted) n.written (denoted_fits a.denoted h.0)
   arguments_give functions.HighBound (a ∷ n ∷ []) h = bound_of (λ b. b.high) (λ b k. k.2) (meant_as a.denoted) n.written (denoted_fits a.denoted h.0)
   arguments_give functions.Allocation (a ∷ []) h = generations_given a.denoted h.0
+  arguments_give functions.Address (a ∷ []) h = address_given a.denoted h.0
+  arguments_give functions.Null [] h = refl
   arguments_give function gs h = given_values function (values_in gs) (all_values_in gs h)
 
   or_bad : (at : ℕ) (o : Option TypedValue) → OnGiven (IsValue t) o → OnRead (IsValue t) (or_bad_argument at o)

@@ -12,7 +12,7 @@ use Rattle.pli_map.specs.Sizes.{extent_of, count_of, alignment_of, size_of, stri
 use Rattle.pli_map.specs.declared.description.Bounds.{Bounds}
 use Rattle.pli_map.proofs.Places.{member_inside}
 use Rattle.pli_type.specs.Names.{NamedVariable}
-use Rattle.pli_type.specs.References.{StridedPart, strides_of, element_of, member_of, part_on, part_of, with_subscripts}
+use Rattle.pli_type.specs.References.{StridedPart, strides_of, element_of, member_of, part_on, part_of, whole_part, with_subscripts}
 use Rattle.pli_type_tree.specs.TypedTree.{Stride}
 use Rattle.pli_type_name_laws.proofs.InitialHeld.{all_behind}
 use Rattle.pli_type_bounds.proofs.Meanings.{IsPart}
@@ -156,6 +156,13 @@ module _ (size : ℕ) (small : size ≤ 1000000) where
 
   as_part : (q : StridedPart) → Lies size q → IsPart q
   as_part q h = record { offset = omega (arith, h.within, small); described = h.described; strides = h.strides }
+
+-- on a way of members
+pub way_fits : (d : Description) (path : List ℕ) → IsDescription d → size_of d ≤ 1000000 → (q : StridedPart)
+    → part_on (whole_part d) path ≡ Some q → IsPart q
+way_fits d path h small q e =
+    let start : Lies (size_of d) (strided 0 d []) = record { within = omega arith; described = h; strides = tt } in
+    as_part (size_of d) small q (path_lies (size_of d) small (strided 0 d []) path q start e)
 
 -- with so many subscripts
 pub parts_fit : (v : NamedVariable) → IsDescription v.whole → size_of v.whole ≤ 1000000 → (p q : StridedPart) (given : ℕ)

@@ -10,14 +10,15 @@ use Rattle.pli_base.specs.declared.token.Fault.{Fault}
 use Rattle.pli_map.specs.Description.{Description}
 use Rattle.pli_parse_expression.specs.Expressions.{Deeper}
 use Rattle.pli_resolve.specs.TreeBlocks as blocks
+use Rattle.pli_type.specs.NamedUnits.{names_based}
 use Rattle.pli_type.specs.Names.{NamedUnit, NamedAs}
 use Rattle.pli_type.specs.StatementTyping.{Enclosing, Surroundings, naming_at, block_at, leaves_nothing, assignment, items}
 use Rattle.pli_type.specs.StatementTyping.{condition, iteration, allocate_typed, free_typed, call_typed, goto_typed, return_typed, WithProcedures, of_own, together}
 use Rattle.pli_type.specs.StatementTyping.{made, head_of, function_end, procedure_of, as_procedure, put_before, inside, behind_limits, in_begin, in_group, in_procedure, with_labels, labels_of}
 use Rattle.pli_type.specs.StatementTyping.{statement_typed, body_typed, alternative_typed, statements_typed}
-use Rattle.pli_type.specs.Temporaries.{Next, behind, temporaries_in, temporaries_of, temporaries_among, temporaries_behind}
+use Rattle.pli_type.specs.Temporaries.{Next, behind, based_among, temporaries_in, temporaries_of, temporaries_among, temporaries_behind}
 use Rattle.pli_type_laws.specs.TypedUnits.{unit_with}
-use Rattle.pli_type_laws.proofs.Shapes.{HasOwn, iteration_keeps}
+use Rattle.pli_type_laws.proofs.Shapes.{IsAllocation, allocate_keeps, HasOwn, iteration_keeps}
 use Rattle.pli_type_name_laws.specs.Nesting.{NestsWithin, BodyNests, ListNests, ElseNests}
 use Rattle.pli_type_name_laws.specs.Numbering.{IsNumbered, IsNumberedBody, AreNumbered, IsNumberedElse}
 use Rattle.pli_type_tree.specs.Templates.{Template}
@@ -35,14 +36,16 @@ use Rattle.pli_source_laws.specs.Sources.{IsSourceStatement, IsSourceBody, IsSou
 use Rattle.pli_deck_laws.specs.WellFormed.{HasBlock, IsHead, IsExpression, IsIteration, IsStatement, IsForm, IsElse, AreStatements, IsProcedure, kept_in, kept_in_form, kept_in_else, kept_among}
 
 -- what is to be known of a unit: names mean what is within the limits, blocks have few parameters and templates
--- within the limits, and so many of them are those of the typed unit
-pub record UnitFits (t : TypedUnit) (meaning : (blocks : List ℕ) → ℕ → NamedAs) (parameters : (block : ℕ) → List Description)
+-- within the limits, and so many of them are those of the typed unit; and where BASED variables are named is known
+pub record UnitFits (t : TypedUnit) (is_based : ℕ → Bool) (based : (blocks : List ℕ) → (block : ℕ) → List Template) (meaning : (blocks : List ℕ) → ℕ → NamedAs) (parameters : (block : ℕ) → List Description)
     (returned : (block : ℕ) → Option Description) (automatic : (block : ℕ) → List Template) (size : ℕ) : Type 0 where
   pub names : (blocks : List ℕ) (at : ℕ) → length blocks ≤ link_limit → AllByRecursion (λ b. b < size) blocks → IsMeaning t (meaning blocks at)
   pub few : (block : ℕ) → length (parameters block) ≤ parameter_limit
   pub returned_fits : (block : ℕ) → IfThere IsDescription (returned block)
   pub templates : (block : ℕ) → AllByRecursion IsTemplate (automatic block)
   pub blocks : (number : ℕ) → number < size → HasBlock t number
+  pub based_fits : (blocks : List ℕ) (block : ℕ) → AllByRecursion IsTemplate (based blocks block)
+  pub knows : (blocks : List ℕ) (at : ℕ) → names_based (meaning blocks at) ≡ is_based at
 
 -- a place of the text: blocks may nest so many levels deeper
 pub record Sits (size levels : ℕ) (s : Surroundings) : Type 0 where
@@ -97,10 +100,17 @@ abbrev pub ListFits : TypedUnit → ℕ → TypedStatements → Type 0
 ListFits t n list = AreStatements t list × (n ≤ kept_among list)
 
 -- what leaves nothing among the statements keeps nothing there
-nothing_kept : (body : Body) → leaves_nothing body ≡ true → temporaries_of body ≡ 0
-nothing_kept (tree.Declare declared) e = refl
-nothing_kept (tree.Procedure heading statements end) e = refl
-nothing_kept body e = absurd (cc)
+nothing_kept : (is_based : ℕ → Bool) (body : Body) → leaves_nothing body ≡ true → temporaries_of is_based body ≡ 0
+nothing_kept is_based (tree.Declare declared) e = refl
+nothing_kept is_based (tree.Procedure heading statements end) e = refl
+nothing_kept is_based body e = absurd (cc)
+
+-- ALLOCATE keeps as many temporaries as its items have
+allocation_kept : (temporary count : ℕ) (r : Result Form Fault) → OnRead (IsAllocation temporary count) r
+    → OnRead (λ f. count ≤ kept_in_form f) r
+allocation_kept temporary count (Ok (typed.Allocate items)) h = omega (arith, h.1)
+allocation_kept temporary count (Ok f) h = absurd h
+allocation_kept temporary count (Err e) h = tt
 
 module _ (t : TypedUnit) where
   own_fits : {A : Type 0} (P : A → Type 0) (r : Result A Fault) → OnRead P r → OnTyped (Fit t P) (of_own r)
@@ -130,11 +140,11 @@ module _ (t : TypedUnit) where
   put_fits true x y m n none h k = (k.0, omega (arith, k.1, none refl))
   put_fits false x y m n none h k = ((h.0, k.0), omega (arith, h.1, k.1))
 
-module _ (t : TypedUnit) (program : ExternalProcedure) (is_later : ℕ → Bool) (meaning : List ℕ → ℕ → NamedAs)
+module _ (t : TypedUnit) (program : ExternalProcedure) (is_later is_based : ℕ → Bool) (based : List ℕ → ℕ → List Template) (meaning : List ℕ → ℕ → NamedAs)
     (parameters : ℕ → List Description) (returned : ℕ → Option Description) (automatic : ℕ → List Template) (globals : List Global)
-    (size : ℕ) (fits : UnitFits t meaning parameters returned automatic size) where
+    (size : ℕ) (fits : UnitFits t is_based based meaning parameters returned automatic size) where
   abbrev U : NamedUnit
-  U = unit_with program is_later meaning parameters returned automatic globals
+  U = unit_with program is_later is_based based meaning parameters returned automatic globals
 
   abbrev numbers : Surroundings → List ℕ
   numbers s = map (λ b. b.number) s.blocks
@@ -189,7 +199,7 @@ module _ (t : TypedUnit) (program : ExternalProcedure) (is_later : ℕ → Bool)
 
   -- ---- blocks
 
-  head_fits : (number statement : ℕ) (ss : Statements) (list : TypedStatements) → statement < word_limit → temporaries_among ss ≤ kept_among list
+  head_fits : (number statement : ℕ) (ss : Statements) (list : TypedStatements) → statement < word_limit → temporaries_among is_based ss ≤ kept_among list
       → IsHead (head_of U number statement ss) list
   head_fits number statement ss list lt kept = (lt, fits.templates number, kept)
 
@@ -198,7 +208,7 @@ module _ (t : TypedUnit) (program : ExternalProcedure) (is_later : ℕ → Bool)
   end_fits (Some d) end lt = lt
 
   procedure_fits : (s : Surroundings) (number statement end : ℕ) (ss : Statements) (list : TypedStatements) → block_at s < size
-      → statement < word_limit → end < word_limit → ListFits t (temporaries_among ss) list
+      → statement < word_limit → end < word_limit → ListFits t (temporaries_among is_based ss) list
       → IsProcedure t (procedure_of U (Some (block_at s)) number statement end ss list)
   procedure_fits s number statement end ss list inside lt last h =
       (head_fits number statement ss list lt h.1, fits.blocks (block_at s) inside, fits.few number, end_fits (returned number) end last, h.0)
@@ -214,23 +224,23 @@ module _ (t : TypedUnit) (program : ExternalProcedure) (is_later : ℕ → Bool)
   mutual
     statement_fits : (d : Bool) (m : ℕ) (s : Surroundings) (x : Next) (a : ℕ) (st : Statement) → Sits size m s → NestsWithin d m st
         → IsNumbered a st → a + count st ≤ word_limit → x.block + blocks.blocks_in st ≤ size → IsSourceStatement st
-        → OnTyped (Fit t (StatementFits t (temporaries_in st))) (statement_typed U s x st)
+        → OnTyped (Fit t (StatementFits t (temporaries_in is_based st))) (statement_typed U s x st)
     statement_fits d m s x a (Numbered number label at body) sits n h low room l =
-        made_fits t (FormFits t (temporaries_of body)) (StatementFits t (temporaries_of body)) (typed.Statement number) (body_typed U s x number at body)
+        made_fits t (FormFits t (temporaries_of is_based body)) (StatementFits t (temporaries_of is_based body)) (typed.Statement number) (body_typed U s x number at body)
         (λ f k. ((omega (arith, h.0, low), k.0), k.1))
         (body_fits d m s x number at (suc a) body sits n h.1 (omega (arith, h.0, low)) (omega (arith, low)) room l)
 
     body_fits : (d : Bool) (m : ℕ) (s : Surroundings) (x : Next) (number at a : ℕ) (body : Body) → Sits size m s → BodyNests d m body
         → IsNumberedBody a body → number < word_limit → a + body_count body ≤ word_limit → x.block + blocks.blocks_of body ≤ size
-        → IsSourceBody body → OnTyped (Fit t (FormFits t (temporaries_of body))) (body_typed U s x number at body)
+        → IsSourceBody body → OnTyped (Fit t (FormFits t (temporaries_of is_based body))) (body_typed U s x number at body)
     body_fits d m s x number at a tree.Null sits n h lt low room l = ((tt, omega arith), tt)
     body_fits d m s x number at a (tree.Assign target equals value) sits n h lt low room l =
         form_fits t (assignment (naming_at U s) at target equals value)
-        (assignment_fits t (meaning (numbers s)) (known m s sits) at target equals value l.0 l.1)
+        (assignment_fits t (based (numbers s)) (meaning (numbers s)) (known m s sits) at target equals value l.0 l.1)
     body_fits d m s x number at a (tree.Declare declared) sits n h lt low room l = ((tt, omega arith), tt)
     body_fits d m s x number at a (tree.Procedure heading ss end) sits n h lt low room l =
         deeper_in m (λ m. ListNests true m ss) _ n.1
-        (λ i e g. procedures_fit (temporaries_among ss) (procedure_of U (Some (block_at s)) x.block number end ss)
+        (λ i e g. procedures_fit (temporaries_among is_based ss) (procedure_of U (Some (block_at s)) x.block number end ss)
         (statements_typed U (in_procedure x.block (returned x.block) ss s) (inside x) ss)
         (λ list k. procedure_fits s x.block number end ss list sits.block lt (omega (arith, h.1, low)) k)
         (list_fits true i (in_procedure x.block (returned x.block) ss s) (inside x) a ss
@@ -238,87 +248,91 @@ module _ (t : TypedUnit) (program : ExternalProcedure) (is_later : ℕ → Bool)
         (omega (arith, room)) l))
     body_fits d m s x number at a (tree.Begin ss end) sits n h lt low room l =
         deeper_in m (λ m. ListNests true m ss) _ n
-        (λ i e g. made_fits t (ListFits t (temporaries_among ss)) (FormFits t 0) (typed.Begin (head_of U x.block number ss))
+        (λ i e g. made_fits t (ListFits t (temporaries_among is_based ss)) (FormFits t 0) (typed.Begin (head_of U x.block number ss))
         (statements_typed U (in_begin x.block ss s) (inside x) ss) (λ list k. ((head_fits x.block number ss list lt k.1, k.0), omega arith))
         (list_fits true i (in_begin x.block ss s) (inside x) a ss
         (in_a_begin i x.block s ss (omega (arith, room)) (subst (λ k. Sits size k s) e sits)) g h.0 (omega (arith, low))
         (omega (arith, room)) l))
     body_fits d m s x number at a (tree.Do None ss end) sits n h lt low room l =
         deeper_in m (λ m. ListNests false m ss) _ n
-        (λ i e g. made_fits t (ListFits t (temporaries_among ss)) (FormFits t (temporaries_of (tree.Do None ss end))) typed.Group
+        (λ i e g. made_fits t (ListFits t (temporaries_among is_based ss)) (FormFits t (temporaries_of is_based (tree.Do None ss end))) typed.Group
         (statements_typed U (in_group ss s) x ss) (λ list k. (k.0, omega (arith, k.1)))
         (list_fits false i (in_group ss s) x a ss (in_a_group i s ss (subst (λ k. Sits size k s) e sits)) g h.0 (omega (arith, low)) room l.1))
     body_fits d m s x number at a (tree.Do (Some (tree.While tested)) ss end) sits n h lt low room l =
         deeper_in m (λ m. ListNests false m ss) _ n
-        (λ i e g. both_fit t (IsExpression t) (ListFits t (temporaries_among ss)) (FormFits t (temporaries_of (tree.Do (Some (tree.While tested)) ss end)))
+        (λ i e g. both_fit t (IsExpression t) (ListFits t (temporaries_among is_based ss)) (FormFits t (temporaries_of is_based (tree.Do (Some (tree.While tested)) ss end)))
         typed.While (of_own (condition (naming_at U s) tested)) (statements_typed U (in_group ss s) x ss)
         (λ c list j k. ((j, k.0), omega (arith, k.1)))
-        (own_fits t (IsExpression t) (condition (naming_at U s) tested) (condition_fits t (meaning (numbers s)) (known m s sits) tested l.0))
+        (own_fits t (IsExpression t) (condition (naming_at U s) tested) (condition_fits t (based (numbers s)) (meaning (numbers s)) (known m s sits) tested l.0))
         (list_fits false i (in_group ss s) x a ss (in_a_group i s ss (subst (λ k. Sits size k s) e sits)) g h.0 (omega (arith, low)) room l.1))
     body_fits d m s x number at a (tree.Do (Some (tree.Iterate variable equals first range tested)) ss end) sits n h lt low room l =
         deeper_in m (λ m. ListNests false m ss) _ n
-        (λ i e g. both_fit t (λ i. IsIteration t i × HasOwn x.temporary range i) (ListFits t (temporaries_among ss))
-        (FormFits t (temporaries_of (tree.Do (Some (tree.Iterate variable equals first range tested)) ss end))) typed.Iterate
+        (λ i e g. both_fit t (λ i. IsIteration t i × HasOwn x.temporary range i) (ListFits t (temporaries_among is_based ss))
+        (FormFits t (temporaries_of is_based (tree.Do (Some (tree.Iterate variable equals first range tested)) ss end))) typed.Iterate
         (of_own (iteration (naming_at U s) x.temporary variable equals first range tested))
         (statements_typed U (in_group ss s) (behind_limits range x) ss) (λ c list j k. ((j.0, k.0), omega (arith, j.1.1, k.1)))
         (own_fits t (λ i. IsIteration t i × HasOwn x.temporary range i) (iteration (naming_at U s) x.temporary variable equals first range tested)
         (both_read (IsIteration t) (HasOwn x.temporary range) (iteration (naming_at U s) x.temporary variable equals first range tested)
-        (iteration_fits t (meaning (numbers s)) (known m s sits) x.temporary variable equals first range tested l.0)
+        (iteration_fits t (based (numbers s)) (meaning (numbers s)) (known m s sits) x.temporary variable equals first range tested l.0)
         (iteration_keeps (naming_at U s) x.temporary variable equals first range tested)))
         (list_fits false i (in_group ss s) (behind_limits range x) a ss (in_a_group i s ss (subst (λ k. Sits size k s) e sits)) g h.0
         (omega (arith, low)) room l.1))
     body_fits d m s x number at a (tree.If tested consequence alternative) sits n h lt low room l =
         deeper_in m (λ m. NestsWithin false m consequence × ElseNests m alternative) _ n
         (λ i e g. both_fit t (IsExpression t)
-        (λ (b : TypedStatement × OtherWise). StatementFits t (temporaries_in consequence) b.0 × ElseFits t (temporaries_behind alternative) b.1)
-        (FormFits t (temporaries_of (tree.If tested consequence alternative)))
+        (λ (b : TypedStatement × OtherWise). StatementFits t (temporaries_in is_based consequence) b.0 × ElseFits t (temporaries_behind is_based alternative) b.1)
+        (FormFits t (temporaries_of is_based (tree.If tested consequence alternative)))
         (λ c b. typed.If c b.0 b.1) (of_own (condition (naming_at U s) tested))
-        (together (λ y z. (y, z)) (statement_typed U s x consequence) (alternative_typed U s (behind x consequence) alternative))
+        (together (λ y z. (y, z)) (statement_typed U s x consequence) (alternative_typed U s (behind is_based x consequence) alternative))
         (λ c b j k. ((j, k.0.0, k.1.0), omega (arith, k.0.1, k.1.1)))
-        (own_fits t (IsExpression t) (condition (naming_at U s) tested) (condition_fits t (meaning (numbers s)) (known m s sits) tested l.0))
-        (both_fit t (StatementFits t (temporaries_in consequence)) (ElseFits t (temporaries_behind alternative))
-        (λ (b : TypedStatement × OtherWise). StatementFits t (temporaries_in consequence) b.0 × ElseFits t (temporaries_behind alternative) b.1)
+        (own_fits t (IsExpression t) (condition (naming_at U s) tested) (condition_fits t (based (numbers s)) (meaning (numbers s)) (known m s sits) tested l.0))
+        (both_fit t (StatementFits t (temporaries_in is_based consequence)) (ElseFits t (temporaries_behind is_based alternative))
+        (λ (b : TypedStatement × OtherWise). StatementFits t (temporaries_in is_based consequence) b.0 × ElseFits t (temporaries_behind is_based alternative) b.1)
         (λ y z. (y, z))
-        (statement_typed U s x consequence) (alternative_typed U s (behind x consequence) alternative) (λ y z j k. (j, k))
+        (statement_typed U s x consequence) (alternative_typed U s (behind is_based x consequence) alternative) (λ y z j k. (j, k))
         (statement_fits false i s x a consequence (fewer i s (subst (λ k. Sits size k s) e sits)) g.0 h.0 (omega (arith, low))
         (omega (arith, room)) l.1)
-        (alternative_fits i s (behind x consequence) (a + count consequence) alternative (fewer i s (subst (λ k. Sits size k s) e sits)) g.1 h.1
+        (alternative_fits i s (behind is_based x consequence) (a + count consequence) alternative (fewer i s (subst (λ k. Sits size k s) e sits)) g.1 h.1
         (omega (arith, low)) (omega (arith, room)) l.2)))
     body_fits d m s x number at a tree.Stop sits n h lt low room l = ((tt, omega arith), tt)
     body_fits d m s x number at a (tree.Allocate list) sits n h lt low room l =
-        form_fits t (allocate_typed (naming_at U s) list) (allocate_fits t (meaning (numbers s)) (known m s sits) list)
+        own_fits t (FormFits t (based_among is_based list)) (allocate_typed (naming_at U s) x.temporary list)
+        (both_read (IsForm t) (λ f. based_among is_based list ≤ kept_in_form f) (allocate_typed (naming_at U s) x.temporary list)
+        (allocate_fits t (based (numbers s)) (meaning (numbers s)) (known m s sits) (fits.based_fits (numbers s)) x.temporary list l)
+        (allocation_kept x.temporary (based_among is_based list) (allocate_typed (naming_at U s) x.temporary list)
+        (allocate_keeps (naming_at U s) is_based (fits.knows (numbers s)) x.temporary list)))
     body_fits d m s x number at a (tree.Free list) sits n h lt low room l =
-        form_fits t (free_typed (naming_at U s) list) (free_fits t (meaning (numbers s)) (known m s sits) list l)
+        form_fits t (free_typed (naming_at U s) list) (free_fits t (based (numbers s)) (meaning (numbers s)) (known m s sits) list l)
     body_fits d m s x number at a (tree.Call name arguments) sits n h lt low room l =
-        form_fits t (call_typed (naming_at U s) name arguments) (call_fits t (meaning (numbers s)) (known m s sits) name arguments l)
+        form_fits t (call_typed (naming_at U s) name arguments) (call_fits t (based (numbers s)) (meaning (numbers s)) (known m s sits) name arguments l)
     body_fits d m s x number at a (tree.Goto label) sits n h lt low room l =
         form_fits t (goto_typed (naming_at U s) s label)
-        (goto_fits t (meaning (numbers s)) (known m s sits) s (near m s sits) label)
+        (goto_fits t (based (numbers s)) (meaning (numbers s)) (known m s sits) s (near m s sits) label)
     body_fits d m s x number at a (tree.Return value) sits n h lt low room l =
         form_fits t (return_typed (naming_at U s) s at value)
-        (return_fits t (meaning (numbers s)) (known m s sits) s (few_begins m s sits) sits.value at value l)
+        (return_fits t (based (numbers s)) (meaning (numbers s)) (known m s sits) s (few_begins m s sits) sits.value at value l)
     body_fits d m s x number at a (tree.Put skip list) sits n h lt low room l =
         made_fits t (AllByRecursion (IsExpression t)) (FormFits t 0) (typed.Put skip) (of_own (items (naming_at U s) list)) (λ xs k. (k, omega arith))
-        (own_fits t (AllByRecursion (IsExpression t)) (items (naming_at U s) list) (items_fit t (meaning (numbers s)) (known m s sits) list l))
+        (own_fits t (AllByRecursion (IsExpression t)) (items (naming_at U s) list) (items_fit t (based (numbers s)) (meaning (numbers s)) (known m s sits) list l))
     body_fits d m s x number at a other sits n h lt low room l = tt
 
     alternative_fits : (m : ℕ) (s : Surroundings) (x : Next) (a : ℕ) (e : Alternative) → Sits size m s → ElseNests m e
         → IsNumberedElse a e → a + alternative_count e ≤ word_limit → x.block + blocks.blocks_behind e ≤ size → IsSourceElse e
-        → OnTyped (Fit t (ElseFits t (temporaries_behind e))) (alternative_typed U s x e)
+        → OnTyped (Fit t (ElseFits t (temporaries_behind is_based e))) (alternative_typed U s x e)
     alternative_fits m s x a tree.NoElse sits n h low room l = ((tt, omega arith), tt)
     alternative_fits m s x a (tree.Else st) sits n h low room l =
-        made_fits t (StatementFits t (temporaries_in st)) (ElseFits t (temporaries_in st)) Else (statement_typed U s x st) (λ y k. k)
+        made_fits t (StatementFits t (temporaries_in is_based st)) (ElseFits t (temporaries_in is_based st)) Else (statement_typed U s x st) (λ y k. k)
         (statement_fits false m s x a st sits n h low room l)
 
     pub list_fits : (d : Bool) (m : ℕ) (s : Surroundings) (x : Next) (a : ℕ) (ss : Statements) → Sits size m s → ListNests d m ss
         → AreNumbered a ss → a + list_count ss ≤ word_limit → x.block + blocks.blocks_among ss ≤ size → AreSourceStatements ss
-        → OnTyped (Fit t (ListFits t (temporaries_among ss))) (statements_typed U s x ss)
+        → OnTyped (Fit t (ListFits t (temporaries_among is_based ss))) (statements_typed U s x ss)
     list_fits d m s x a Ended sits n h low room l = ((tt, omega arith), tt)
     list_fits d m s x a (Before (Numbered number label at body) more) sits n h low room l =
-        both_fit t (StatementFits t (temporaries_of body)) (ListFits t (temporaries_among more)) (ListFits t (temporaries_of body + temporaries_among more))
+        both_fit t (StatementFits t (temporaries_of is_based body)) (ListFits t (temporaries_among is_based more)) (ListFits t (temporaries_of is_based body + temporaries_among is_based more))
         (put_before (leaves_nothing body))
-        (statement_typed U s x (Numbered number label at body)) (statements_typed U s (behind x (Numbered number label at body)) more)
-        (λ y z j k. put_fits t (leaves_nothing body) y z (temporaries_of body) (temporaries_among more) (nothing_kept body) j k)
+        (statement_typed U s x (Numbered number label at body)) (statements_typed U s (behind is_based x (Numbered number label at body)) more)
+        (λ y z j k. put_fits t (leaves_nothing body) y z (temporaries_of is_based body) (temporaries_among is_based more) (nothing_kept is_based body) j k)
         (statement_fits d m s x a (Numbered number label at body) sits n.0 h.0 (omega (arith, low)) (omega (arith, room)) l.0)
-        (list_fits d m s (behind x (Numbered number label at body)) (a + count (Numbered number label at body)) more sits n.1 h.1
+        (list_fits d m s (behind is_based x (Numbered number label at body)) (a + count (Numbered number label at body)) more sits n.1 h.1
         (omega (arith, low)) (omega (arith, room)) l.1)

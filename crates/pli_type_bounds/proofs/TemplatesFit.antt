@@ -12,7 +12,7 @@ use Rattle.std.proofs.lemmas.List.Sorted.{All-permutation}
 use Rattle.pli_base.specs.Name.{Name}
 use Rattle.pli_declare_attributes.specs.declared.completed.ScopeAttribute.{ScopeAttribute}
 use Rattle.pli_declare_attributes.specs.declared.completed.ScopeAttribute.TheVariants as scopes
-use Rattle.pli_map.specs.Description.{Description, FixedBinary, Character, Varying, Bit, Array, Structure, Members, NoMembers, MemberThen}
+use Rattle.pli_map.specs.Description.{Description, FixedBinary, Character, Varying, Bit, Pointer, Array, Structure, Members, NoMembers, MemberThen}
 use Rattle.pli_bytes.specs.Contents.{scalar_on, spread, scalars_at, scalars_behind}
 use Rattle.pli_bytes.proofs.Rising.{Rise, rises}
 use Rattle.pli_bytes.proofs.Scalars.{scalar_moved}
@@ -116,6 +116,10 @@ kept_is (Bit k) (Bits s) plain one =
 kept_is (Bit k) (Number x) plain one = bits_kept k (replicate k false) (few k plain) (length-replicate k false)
 kept_is (Bit k) (Characters s) plain one = bits_kept k (replicate k false) (few k plain) (length-replicate k false)
 kept_is (Bit k) (Located l) plain one = bits_kept k (replicate k false) (few k plain) (length-replicate k false)
+kept_is Pointer (Number x) plain one = (refl, refl)
+kept_is Pointer (Characters s) plain one = (refl, refl)
+kept_is Pointer (Bits s) plain one = (refl, refl)
+kept_is Pointer (Located l) plain one = (refl, refl)
 kept_is (Array bs e) v plain one = absurd (not_true one)
 kept_is (Structure ds) v plain one = absurd (not_true one)
 kept_is d v plain one = absurd (not_true plain)
@@ -138,6 +142,7 @@ plain_byte (Varying k) plain one = omega arith
 plain_byte (Bit k) plain one =
     let some = ltb-true 0 k (and_parts (nat_lt 0 k) (nat_le k 32767) plain).0 in
     packed_byte k some
+plain_byte Pointer plain one = omega arith
 plain_byte (Array bs e) plain one = absurd (not_true one)
 plain_byte (Structure ds) plain one = absurd (not_true one)
 plain_byte d plain one = absurd (not_true plain)
@@ -215,6 +220,7 @@ mutual
   item_scalars whole (Character k) path front back at plain split = one_scalar whole front back (Character k) at plain refl split
   item_scalars whole (Varying k) path front back at plain split = one_scalar whole front back (Varying k) at plain refl split
   item_scalars whole (Bit k) path front back at plain split = one_scalar whole front back (Bit k) at plain refl split
+  item_scalars whole Pointer path front back at plain split = one_scalar whole front back Pointer at plain refl split
   item_scalars whole d path front back at plain split = absurd (not_true plain)
 
   member_scalars : (whole : List PlacedPart) (ds : Members) (i : ℕ) (path : List ℕ) (front back : List PlacedPart) (at ended : ℕ)

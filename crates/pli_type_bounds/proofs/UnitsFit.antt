@@ -1,6 +1,6 @@
 -- Typed units are well formed.
 use Rattle.std.specs.Prelude.{◌≡◌, ℕ, zero, suc, ◌+◌, ◌≤◌, ◌<◌, Option, Some, None, List, [], ◌∷◌, length, slice_get}
-use Rattle.std.specs.Prelude.{true, Result, Ok, Err, refl}
+use Rattle.std.specs.Prelude.{Bool, true, Result, Ok, Err, refl}
 use Rattle.std.proofs.Common.{arith, sym, ap, ◌∙◌, subst}
 use Rattle.std.proofs.lemmas.List.{length-map}
 use Rattle.pli_base.specs.Statements.{ExternalProcedure, Statements, Ended, Before, Numbered, list_count}
@@ -20,13 +20,14 @@ use Rattle.pli_resolve.specs.ResolvedUnits.{ResolvedUnit, resolved_unit_of, all_
 use Rattle.pli_resolve.specs.TreeBlocks as source
 use Rattle.pli_type.specs.Checked as typing
 use Rattle.pli_type.specs.Checked.{in_unit, first_inside, typed_as, checked, unless_unbuilt}
-use Rattle.pli_type.specs.NamedUnits.{is_automatic, all_globals, block_symbols, parameters_of, returned_of, means_later, named_as}
+use Rattle.pli_type.specs.NamedUnits.{is_automatic, is_based, all_globals, block_symbols, parameters_of, returned_of, means_later, names_based, named_as}
 use Rattle.pli_type.specs.NamedUnits.{named_unit, templates_of, checked_unit}
 use Rattle.pli_type.specs.Names.{NamedUnit, NamedAs}
 use Rattle.pli_type.specs.StatementTyping.{WithProcedures, enclosing, function_end, statements_typed}
 use Rattle.pli_type.specs.Temporaries.{temporaries_among}
 use Rattle.pli_type_laws.proofs.BlocksKnown.{Sits, sits_all}
 use Rattle.pli_type_laws.proofs.BlocksKnown as counted
+use Rattle.pli_type_name_laws.proofs.BasedNames.{based_known}
 use Rattle.pli_type_name_laws.proofs.BlocksOfUnits.{blocks_are_of_tree}
 use Rattle.pli_type_name_laws.proofs.NameFactsHold.{facts_hold}
 use Rattle.pli_type_name_laws.proofs.NestingHolds.{unit_nests}
@@ -35,12 +36,13 @@ use Rattle.pli_type_name_laws.specs.NameFacts.{NameFacts}
 use Rattle.pli_type_name_laws.specs.Numbering.{AreNumbered}
 use Rattle.pli_type_name_laws.specs.SourceBlocks.{SourceBlock, unit_blocks}
 use Rattle.pli_type_name_laws.specs.UnitBlocks.{in_unit as block_in_unit, in_tree}
+use Rattle.pli_type_tree.specs.Templates.{Template}
 use Rattle.pli_type_tree.specs.TypedTree.{TypedStatements, TypedUnit}
 use Rattle.pli_gen_emit.specs.TreeTranslation.{blocks_among}
 use Rattle.pli_type_bounds.proofs.BlocksThere.{AreHere, list_here, has_block, has_slot}
 use Rattle.pli_type_laws.proofs.TypedParts.{OnTyped}
 use Rattle.pli_type_laws.specs.TypedUnits.{unit_with}
-use Rattle.pli_type_bounds.proofs.NamesFit.{Has, Automatic, automatic_fit, all_globals_fit, meanings_fit, parameters_few, parameters_described, returned_described}
+use Rattle.pli_type_bounds.proofs.NamesFit.{Has, Automatic, automatic_fit, based_fit, all_globals_fit, meanings_fit, parameters_few, parameters_described, returned_described}
 use Rattle.pli_type_bounds.proofs.StatementsFit as fitting
 use Rattle.pli_type_bounds.proofs.StatementsFit.{UnitFits, Fit, ListFits, list_fits}
 use Rattle.pli_type_bounds.specs.UnitLaws.{TypedUnitsAreWellFormed}
@@ -88,8 +90,14 @@ module _ (texts : Tokens) (u : ExternalProcedure) (read : unit_of texts ≡ Ok u
   abbrev meaning : List ℕ → ℕ → NamedAs
   meaning = λ blocks at. named_as 31 R blocks (meaning_at R at)
 
+  abbrev named : ℕ → Bool
+  named = λ at. names_based (named_as 31 R [] (meaning_at R at))
+
+  abbrev based : List ℕ → ℕ → List Template
+  based = λ blocks block. templates_of (is_based 31) (block_symbols R block)
+
   abbrev U : NamedUnit
-  U = unit_with u (λ at. means_later (meaning_at R at)) meaning (parameters_of R) (returned_of R)
+  U = unit_with u (λ at. means_later (meaning_at R at)) named based meaning (parameters_of R) (returned_of R)
       (λ block. templates_of (is_automatic 31) (block_symbols R block)) (all_globals 31 (all_symbols R))
 
   -- how many statements there are
@@ -120,7 +128,7 @@ module _ (texts : Tokens) (u : ExternalProcedure) (read : unit_of texts ≡ Ok u
 
   blocks_here : OnTyped (AreHere (λ k. length (parameters_of R k) + length (Automatic u none k)) blocks_among 1 (1 + source.blocks_among u.statements)) Given
   blocks_here =
-      list_here u (λ at. means_later (meaning_at R at)) meaning (parameters_of R) (returned_of R)
+      list_here u (λ at. means_later (meaning_at R at)) named based meaning (parameters_of R) (returned_of R)
       (λ block. templates_of (is_automatic 31) (block_symbols R block)) (all_globals 31 (all_symbols R)) facts.begins
       (in_unit (returned_of R 0) u.statements) first_inside u.statements all_sit.1
 
@@ -134,19 +142,21 @@ module _ (texts : Tokens) (u : ExternalProcedure) (read : unit_of texts ≡ Ok u
     has : Has u none T
     has = record {
       globals = refl;
-      blocks = λ block lt. has_block u (λ at. means_later (meaning_at R at)) meaning (parameters_of R) (returned_of R)
+      blocks = λ block lt. has_block u (λ at. means_later (meaning_at R at)) named based meaning (parameters_of R) (returned_of R)
           (λ block. templates_of (is_automatic 31) (block_symbols R block)) (all_globals 31 (all_symbols R)) facts.begins y here block (omega (arith, lt, size_is));
-      slots = λ block slot lt within. has_slot u (λ at. means_later (meaning_at R at)) meaning (parameters_of R) (returned_of R)
+      slots = λ block slot lt within. has_slot u (λ at. means_later (meaning_at R at)) named based meaning (parameters_of R) (returned_of R)
           (λ block. templates_of (is_automatic 31) (block_symbols R block)) (all_globals 31 (all_symbols R)) facts.begins y here block slot (omega (arith, lt, size_is)) within;
     }
 
-    fits : UnitFits T meaning (parameters_of R) (returned_of R) (λ block. templates_of (is_automatic 31) (block_symbols R block)) (length R.blocks)
+    fits : UnitFits T named based meaning (parameters_of R) (returned_of R) (λ block. templates_of (is_automatic 31) (block_symbols R block)) (length R.blocks)
     fits = record {
       names = λ blocks at near inside. meanings_fit u none T has blocks at near inside;
       few = parameters_few u none;
       returned_fits = returned_described u none;
       templates = automatic_fit u none;
       blocks = has.blocks;
+      based_fits = λ blocks block. based_fit u none block;
+      knows = λ blocks at. based_known R blocks at;
     }
 
     start : fitting.Sits (length R.blocks) 63 (in_unit (returned_of R 0) u.statements)
@@ -158,9 +168,9 @@ module _ (texts : Tokens) (u : ExternalProcedure) (read : unit_of texts ≡ Ok u
       value = returned_described u none 0;
     }
 
-    statements_fit : OnTyped (Fit T (ListFits T (temporaries_among u.statements))) Given
+    statements_fit : OnTyped (Fit T (ListFits T (temporaries_among named u.statements))) Given
     statements_fit =
-        list_fits T u (λ at. means_later (meaning_at R at)) meaning (parameters_of R) (returned_of R)
+        list_fits T u (λ at. means_later (meaning_at R at)) named based meaning (parameters_of R) (returned_of R)
         (λ block. templates_of (is_automatic 31) (block_symbols R block)) (all_globals 31 (all_symbols R)) (length R.blocks) fits
         true 63 (in_unit (returned_of R 0) u.statements) first_inside 2 u.statements start (unit_nests texts u read) (unit_numbered texts u read)
         (omega (arith, few)) (omega (arith, size_is)) list_good
@@ -172,7 +182,7 @@ module _ (texts : Tokens) (u : ExternalProcedure) (read : unit_of texts ≡ Ok u
     well_formed : IsWellFormed T
     well_formed =
         let s = unit_reads texts u read in
-        let all = on_given (Fit T (ListFits T (temporaries_among u.statements))) Given y is statements_fit in
+        let all = on_given (Fit T (ListFits T (temporaries_among named u.statements))) Given y is statements_fit in
         let first : u.heading.number < word_limit = omega (arith, s.7) in
         let last : u.end < word_limit = omega (arith, s.11, few) in
         record {

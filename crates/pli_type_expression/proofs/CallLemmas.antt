@@ -1,6 +1,7 @@
 -- Calls of built-in functions.
-use Rattle.std.proofs.Common.{◌≡◌, ℕ, ◌<◌, ◌-◌, true, List, [], ◌∷◌, length, Option, Some, None, refl, ap, ◌∙◌, sym}
-use Rattle.std.proofs.Common.{arith, option_map, if◌then◌else◌, take, ℤ}
+use Rattle.std.proofs.Common.{◌≡◌, ℕ, ◌<◌, ◌-◌, Bool, true, List, [], ◌∷◌, length, Option, Some, None, refl, ap, ◌∙◌, sym}
+use Rattle.std.proofs.Common.{arith, option_map, if◌then◌else◌, take, ℤ, ◌++◌, map}
+use Rattle.std.proofs.lemmas.List.{length-append, length-map}
 use Rattle.std.specs.Prelude.{option_and_then}
 use Rattle.std.specs.Prelude.{slice_get}
 use Rattle.std.proofs.lemmas.Bool.{le-leb, false≢true}
@@ -11,10 +12,12 @@ use Rattle.pli_type.specs.ExpressionTypes.{TypedValue}
 use Rattle.pli_resolve.specs.declared.built_in.BuiltInFunction.{BuiltInFunction}
 use Rattle.pli_resolve.specs.declared.built_in.BuiltInFunction.TheVariants as functions
 use Rattle.pli_type.specs.FunctionCalls.{Meant, OneValue, WholeAggregate, meant_by, meant_as, bound_value, bound_in}
-use Rattle.pli_type.specs.FunctionCalls.{the_bound, value_in, divided, Argument, of_values, of_arguments, values_in}
+use Rattle.pli_type.specs.FunctionCalls.{address_of, the_bound, value_in, divided, Argument, of_values, of_arguments, values_in}
 use Rattle.pli_type.specs.References.{Referent}
 use Rattle.pli_type_tree.specs.TypedTree.{TypedReference}
 use Rattle.pli_type_expression.specs.Bounded.{is_bound}
+use Rattle.pli_type_expression.specs.declared.argument.Argument.{Argument as Code}
+use Rattle.pli_type_expression.specs.views.TypingView.{argument_view, denoted_view}
 use Rattle.pli_type_expression.specs.Quotients.{precision_written, quotient_of}
 
 -- the bounds of a dimension, counted from 1
@@ -29,20 +32,20 @@ bound_found which number bounds element b stands e =
 -- only an aggregate has bounds
 pub bound_of_variable : (which : Bounds → ℤ) (number : ℕ) (r : Referent)
     → the_bound which (meant_by r) (Some number) ≡ bound_in which number r.description
-bound_of_variable which number r = by_description r.reference r.description
+bound_of_variable which number r = by_description r.reference r.description r.is_parameter
   where
-    by_description : (reference : TypedReference) (d : Description)
-        → the_bound which (meant_by (record { reference = reference; description = d })) (Some number)
+    by_description : (reference : TypedReference) (d : Description) (passed : Bool)
+        → the_bound which (meant_by (record { reference = reference; description = d; is_parameter = passed })) (Some number)
         ≡ bound_in which number d
-    by_description reference (described.FixedBinary p) = refl
-    by_description reference (described.Character n) = refl
-    by_description reference (described.Varying n) = refl
-    by_description reference (described.Bit n) = refl
-    by_description reference described.Pointer = refl
-    by_description reference described.Offset = refl
-    by_description reference (described.Area n) = refl
-    by_description reference (described.Array bounds d) = refl
-    by_description reference (described.Structure _) = refl
+    by_description reference (described.FixedBinary p) passed = refl
+    by_description reference (described.Character n) passed = refl
+    by_description reference (described.Varying n) passed = refl
+    by_description reference (described.Bit n) passed = refl
+    by_description reference described.Pointer passed = refl
+    by_description reference described.Offset passed = refl
+    by_description reference (described.Area n) passed = refl
+    by_description reference (described.Array bounds d) passed = refl
+    by_description reference (described.Structure _) passed = refl
 
 -- and no number says which one
 pub bound_unwritten : (which : Bounds → ℤ) (m : Meant) → the_bound which m None ≡ None
@@ -114,6 +117,48 @@ pub no_generations : (greatest : ℕ) (gs : List Argument) → (length gs ≡ 1 
 no_generations greatest [] h = refl
 no_generations greatest (a ∷ []) h = absurd (h refl)
 no_generations greatest (a ∷ b ∷ gs) h = generations_of_values greatest (values_in (a ∷ b ∷ gs))
+
+-- nor an address
+
+address_of_values : (greatest : ℕ) (vs : Option (List TypedValue))
+    → None ≡ option_and_then (of_values greatest functions.Address) vs
+address_of_values greatest None = refl
+address_of_values greatest (Some vs) = refl
+
+-- but of one argument there may be one
+pub no_address : (greatest : ℕ) (gs : List Argument) → (length gs ≡ 1 → ⊥)
+    → None ≡ of_arguments greatest functions.Address gs
+no_address greatest [] h = refl
+no_address greatest (a ∷ []) h = absurd (h refl)
+no_address greatest (a ∷ b ∷ gs) h = address_of_values greatest (values_in (a ∷ b ∷ gs))
+
+-- of an argument that was taken from their end
+pub address_alone : (greatest : ℕ) (all left : List Code) (a : Code) → all ≡ left ++ a ∷ [] → length left ≡ 0
+    → of_arguments greatest functions.Address (map argument_view all) ≡ address_of (denoted_view a.denoted)
+address_alone greatest all [] a e none = ap (λ gs. of_arguments greatest functions.Address (map argument_view gs)) e
+address_alone greatest all (x ∷ xs) a e none = absurd (omega arith)
+
+pub address_of_more : (greatest : ℕ) (all left : List Code) (a : Code) → all ≡ left ++ a ∷ [] → 0 < length left
+    → None ≡ of_arguments greatest functions.Address (map argument_view all)
+address_of_more greatest all left a e some =
+    no_address greatest (map argument_view all)
+    (λ one. omega (arith, some, one, length-map all argument_view, ap length e, length-append left (a ∷ [])))
+
+pub address_of_none : (greatest : ℕ) (all : List Code) → length all ≡ 0
+    → None ≡ of_arguments greatest functions.Address (map argument_view all)
+address_of_none greatest [] none = refl
+address_of_none greatest (x ∷ xs) none = absurd (omega arith)
+
+-- NULL is there of none
+null_of_values : (greatest : ℕ) (vs : Option (List TypedValue))
+    → None ≡ option_and_then (of_values greatest functions.Null) vs
+null_of_values greatest None = refl
+null_of_values greatest (Some vs) = refl
+
+pub no_null : (greatest : ℕ) (gs : List Argument) → (length gs ≡ 0 → ⊥)
+    → None ≡ of_arguments greatest functions.Null gs
+no_null greatest [] h = absurd (h refl)
+no_null greatest (a ∷ gs) h = null_of_values greatest (values_in (a ∷ gs))
 
 -- and of three a quotient
 pub no_quotient : (greatest : ℕ) (gs : List Argument) → (length gs ≡ 3 → ⊥)

@@ -17,8 +17,8 @@ use Rattle.pli_base.specs.declared.token.Fault.{Fault}
 use Rattle.pli_type.specs.ExpressionTypes.{TypedValue, prefix_value, infix_value}
 use Rattle.pli_type.specs.FunctionCalls.{Denoted, DenotesResult, Argument}
 use Rattle.pli_type.specs.Names.{Naming}
-use Rattle.pli_type.specs.References.{Role, AsValue, AsArgument, AsTarget, AsLocator}
-use Rattle.pli_type.specs.Typing.{Segment, first_token, denoted, value_of, referred, joined, begun}
+use Rattle.pli_type.specs.References.{Role, AsValue, AsArgument, AsTarget, AsLocator, NotLocated}
+use Rattle.pli_type.specs.Typing.{Segment, first_token, denoted, value_of, referred, joined, begun, as_locator}
 use Rattle.pli_type.specs.Typing.{all_subscripts, subscripts_in, all_arguments, argument}
 use Rattle.pli_type.specs.Typing.{or_fault, subscript_value, ended, with_more, is_call}
 use Rattle.pli_type_tree.specs.TypedTree.{TypedExpression}
@@ -126,38 +126,43 @@ joined_ends n role s (Joined Member name arguments more) =
     behind ih (Ok xs) = ih (with_more s xs)
     behind ih (Err f) = refl
 joined_ends n role s (Joined Located name arguments more) =
-    ap (λ call. ended AsLocator s >>= λ l. (begun n (n.meaning name.at) call true name.at arguments
+    ap (λ call. ended AsLocator s >>= λ l. (begun n (n.meaning name.at) call (as_locator l) name.at arguments
     >>= λ t. joined n role t more)) (is_call_located role more)
-    ∙ behind (λ t. joined_ends n role t more) (ended AsLocator s) (begun n (n.meaning name.at) false true name.at arguments)
+    ∙ behind (λ t. joined_ends n role t more) (ended AsLocator s) (λ l. begun n (n.meaning name.at) false (as_locator l) name.at arguments)
   where
+    once : ((t : Segment) → joined n role t more ≡ (last_segment n t more >>= ended role))
+        → (b : Result Segment Fault)
+        → (b >>= λ t. joined n role t more) ≡ ((b >>= λ t. last_segment n t more) >>= ended role)
+    once ih (Ok t) = ih t
+    once ih (Err f) = refl
+
     behind : ((t : Segment) → joined n role t more ≡ (last_segment n t more >>= ended role))
-        → (l : Result Denoted Fault) (b : Result Segment Fault)
-        → (l >>= λ d. (b >>= λ t. joined n role t more))
-        ≡ (((l >>= λ d. b) >>= λ t. last_segment n t more) >>= ended role)
+        → (l : Result Denoted Fault) (b : Denoted → Result Segment Fault)
+        → (l >>= λ d. (b d >>= λ t. joined n role t more))
+        ≡ (((l >>= λ d. b d) >>= λ t. last_segment n t more) >>= ended role)
     behind ih (Err f) b = refl
-    behind ih (Ok d) (Ok t) = ih t
-    behind ih (Ok d) (Err f) = refl
+    behind ih (Ok d) b = once ih (b d)
 
 -- a reference by its parts
 referred_ends : (n : Naming) (role : Role) (name : Identifier) (arguments : Arguments) (more : JoinedParts)
-    (s t : Segment) → begun n (n.meaning name.at) (is_call role false more) false name.at arguments ≡ Ok s
+    (s t : Segment) → begun n (n.meaning name.at) (is_call role false more) NotLocated name.at arguments ≡ Ok s
     → last_segment n s more ≡ Ok t → referred n role (Named name arguments more) ≡ ended role t
 referred_ends n role name arguments more s t p q =
-    bind_ok (begun n (n.meaning name.at) (is_call role false more) false name.at arguments) s (λ s. joined n role s more) p
+    bind_ok (begun n (n.meaning name.at) (is_call role false more) NotLocated name.at arguments) s (λ s. joined n role s more) p
     ∙ joined_ends n role s more ∙ bind_ok (last_segment n s more) t (ended role) q
 
 reference_unbegun : (n : Naming) (role : Role) (name : Identifier) (arguments : Arguments) (more : JoinedParts)
-    (error : Failure Fault) → Fails error (begun n (n.meaning name.at) (is_call role false more) false name.at arguments)
+    (error : Failure Fault) → Fails error (begun n (n.meaning name.at) (is_call role false more) NotLocated name.at arguments)
     → Fails error (referred n role (Named name arguments more))
 reference_unbegun n role name arguments more error p =
-    fails_on error (begun n (n.meaning name.at) (is_call role false more) false name.at arguments) (λ s. joined n role s more) p
+    fails_on error (begun n (n.meaning name.at) (is_call role false more) NotLocated name.at arguments) (λ s. joined n role s more) p
 
 reference_unended : (n : Naming) (role : Role) (name : Identifier) (arguments : Arguments) (more : JoinedParts)
     (s : Segment) (error : Failure Fault)
-    → begun n (n.meaning name.at) (is_call role false more) false name.at arguments ≡ Ok s
+    → begun n (n.meaning name.at) (is_call role false more) NotLocated name.at arguments ≡ Ok s
     → Fails error (last_segment n s more) → Fails error (referred n role (Named name arguments more))
 reference_unended n role name arguments more s error p q =
-    fails_as error _ _ (bind_ok (begun n (n.meaning name.at) (is_call role false more) false name.at arguments) s (λ s. joined n role s more) p
+    fails_as error _ _ (bind_ok (begun n (n.meaning name.at) (is_call role false more) NotLocated name.at arguments) s (λ s. joined n role s more) p
     ∙ joined_ends n role s more) (fails_on error (last_segment n s more) (ended role) q)
 
 -- a reference as code has it
@@ -166,7 +171,7 @@ module _ (n : Naming) (role : Role) (r : Reference) (parts : List JoinedPart) (c
   abbrev begins : Bool → Result Segment Fault
   begins k =
       let first = (out-Reference r).first in
-      begun n (n.meaning first.name.at) k false first.name.at (arguments_view first.arguments)
+      begun n (n.meaning first.name.at) k NotLocated first.name.at (arguments_view first.arguments)
 
   so : begins (is_call role false (joined_view (out-Reference r).joined.items)) ≡ begins call
   so = sym (ap begins (is ∙ ap (λ xs. is_call role false (joined_view xs)) same))

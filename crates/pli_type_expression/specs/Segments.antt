@@ -1,5 +1,5 @@
 -- A reference, segment by segment.
-use Rattle.std.specs.Prelude.{ℕ, true, false, Result, Ok}
+use Rattle.std.specs.Prelude.{ℕ, Bool, true, false, Result, Ok}
 use Rattle.pli_base.specs.Results.{◌>>=◌}
 use Rattle.pli_base.specs.Syntax.{JoinedParts, Alone, Joined, Arguments, Expressions}
 use Rattle.pli_base.specs.declared.syntax.Identifier.{Identifier}
@@ -7,18 +7,24 @@ use Rattle.pli_base.specs.declared.syntax.Joining.{Joining}
 use Rattle.pli_base.specs.declared.syntax.Joining.TheVariants.{Member, Located}
 use Rattle.pli_base.specs.declared.token.Fault.{Fault}
 use Rattle.pli_resolve.specs.declared.built_in.BuiltInFunction.{BuiltInFunction}
+use Rattle.pli_resolve.specs.declared.built_in.BuiltInFunction.TheVariants as functions
 use Rattle.pli_type.specs.ExpressionTypes.{TypedValue}
 use Rattle.pli_type.specs.FunctionCalls.{roles_of, function_called}
-use Rattle.pli_type.specs.Names.{Naming}
+use Rattle.pli_type.specs.Names.{Naming, NamedAs, AFunction}
 use Rattle.pli_type.specs.References.{AsLocator}
 use Rattle.pli_type.specs.Typing.{Segment, subscripts_in, with_more, ended, begun, all_arguments}
-use Rattle.pli_type.specs.Typing.{roles_or_none, how_many}
+use Rattle.pli_type.specs.Typing.{roles_or_none, how_many, as_locator}
+
+-- a name means NULL
+abbrev pub means_null : NamedAs → Bool
+means_null (AFunction functions.Null) = true
+means_null meant = false
 
 -- the segment behind a part that is joined to one
 abbrev pub next_segment : Naming → Segment → Joining → Identifier → Arguments → Result Segment Fault
 next_segment n s Member name arguments = subscripts_in n arguments >>= λ xs. Ok (with_more s xs)
 next_segment n s Located name arguments =
-    ended AsLocator s >>= λ l. begun n (n.meaning name.at) false true name.at arguments
+    ended AsLocator s >>= λ l. begun n (n.meaning name.at) false (as_locator l) name.at arguments
 
 -- the last one
 abbrev pub last_segment : Naming → Segment → JoinedParts → Result Segment Fault

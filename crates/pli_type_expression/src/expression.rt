@@ -8,19 +8,20 @@ ghost use Rattle.pli_type.specs.views.ValueView.{value_view};
 ghost use Rattle.pli_type_expression.specs.Segments.{next_segment, last_segment, function_typed};
 ghost use Rattle.pli_type_names.specs.UnitNaming.{compiled_in, naming_in};
 ghost use Rattle.pli_base.specs.answers.FailureAnswers.{Gives};
-ghost use Rattle.pli_type_expression.specs.views.TypingView.{argument_view, denoted_view, meant_view, role_view, segment_view};
+ghost use Rattle.pli_type_expression.specs.views.TypingView.{argument_view, denoted_view, locator_view, meant_view, role_view, segment_view};
 ghost use Rattle.pli_type_tree.specs.views.TypedView.{expression_view};
 
 use crate::answer::TypeError;
 use crate::argument::{Argument, number_written};
 use crate::constant::constant;
 use crate::function::{function_called, roles_of};
+use crate::locator::{LocatorBefore, as_locator};
 use crate::meaning::{Denoted, ExpressionMeaning};
 use crate::names::greatest;
 use crate::operator::{infix, prefix};
 use crate::procedure::procedure_called;
 use crate::role::{Role, role_at};
-use crate::segment::{Segment, is_call};
+use crate::segment::{Segment, begun_alone, is_call};
 use crate::subscripts::subscript;
 use pli_base::syntax::{Expression, JoinedPart, Joining, Part, Reference};
 use pli_base::{Code, fault};
@@ -145,7 +146,13 @@ pub fn referred<'a>(
 {
     let joined = reference.joined.as_slice();
     let call = is_call(role, joined);
-    let first = begun(alloc, naming, call, false, &reference.first)?;
+    let first = begun(
+        alloc,
+        naming,
+        call,
+        LocatorBefore::NotLocated,
+        &reference.first,
+    )?;
     let last = continued(alloc, naming, first, joined)?;
     last.ended(alloc, naming, role)
 }
@@ -195,8 +202,9 @@ fn with_part(
             Ok(longer)
         }
         Joining::Located => {
-            drop(segment.ended(alloc, naming, Role::Locator)?);
-            begun(alloc, naming, false, true, &joined.part)
+            let denoted = segment.ended(alloc, naming, Role::Locator)?;
+            let locator = as_locator(alloc, denoted)?;
+            begun(alloc, naming, false, locator, &joined.part)
         }
     }
 }
@@ -207,18 +215,18 @@ fn begun(
     alloc: Global,
     naming: &Naming<'_>,
     call: bool,
-    located: bool,
+    locator: LocatorBefore,
     part: &Part,
 ) -> Result<Segment, TypeError>
     requires { later_arguments (compiled_in naming.now) (syntax.arguments_view part.now.arguments) ≡ false }
     ensures { Gives (segment_view (naming_in naming.now)) result
-        (typing.begun (naming_in naming.now) ((naming_in naming.now).meaning part.now.name.at) call located part.now.name.at
+        (typing.begun (naming_in naming.now) ((naming_in naming.now).meaning part.now.name.at) call (locator_view locator) part.now.name.at
         (syntax.arguments_view part.now.arguments)) }
 {
     let at = part.name.at;
     match &part.arguments {
-        None => Ok(Segment::named(alloc, located, at)),
-        Some(list) => begun_with(alloc, naming, call, located, at, list.as_slice()),
+        None => Ok(begun_alone(alloc, naming, call, locator, at)),
+        Some(list) => begun_with(alloc, naming, call, locator, at, list.as_slice()),
     }
 }
 
@@ -228,19 +236,19 @@ fn begun_with(
     alloc: Global,
     naming: &Naming<'_>,
     call: bool,
-    located: bool,
+    locator: LocatorBefore,
     at: u32,
     list: &[Expression],
 ) -> Result<Segment, TypeError>
     requires { later_list (compiled_in naming.now) (syntax.expressions_view list.now) ≡ false }
     ensures { Gives (segment_view (naming_in naming.now)) result
-        (typing.begun (naming_in naming.now) ((naming_in naming.now).meaning at) call located at (Given (syntax.expressions_view list.now))) }
+        (typing.begun (naming_in naming.now) ((naming_in naming.now).meaning at) call (locator_view locator) at (Given (syntax.expressions_view list.now))) }
 {
     match naming.meaning(at) {
         NamedAs::Variable(_) => {
             let subscripts = all_subscripts(alloc, naming, list)?;
             Ok(Segment::Named {
-                located,
+                locator,
                 at,
                 subscripts,
             })
@@ -251,18 +259,18 @@ fn begun_with(
                 return Ok(Segment::Function(value));
             }
             all_arguments(alloc, naming, &[], list)?;
-            Ok(Segment::named(alloc, located, at))
+            Ok(Segment::named(alloc, LocatorBefore::NotLocated, at))
         }
         NamedAs::Procedure(procedure) => {
             let arguments = all_arguments(alloc, naming, &[], list)?;
             if call {
                 return procedure_called(alloc, greatest(naming), procedure, at, arguments);
             }
-            Ok(Segment::named(alloc, located, at))
+            Ok(Segment::named(alloc, LocatorBefore::NotLocated, at))
         }
         NamedAs::Label(_) | NamedAs::Untyped => {
             all_arguments(alloc, naming, &[], list)?;
-            Ok(Segment::named(alloc, located, at))
+            Ok(Segment::named(alloc, LocatorBefore::NotLocated, at))
         }
     }
 }

@@ -16,7 +16,7 @@ use crate::role::Role;
 use pli_base::{Code, fault};
 use pli_map::{Bounds, Description};
 use pli_resolve::BuiltInFunction;
-use pli_type::{ExpressionType, TypedValue, call, generations, quotient};
+use pli_type::{ExpressionType, TypedValue, address, call, generations, null_value, quotient};
 use pli_type_tree::TypedExpression;
 use pli_value::Value;
 use std::alloc::{AllocError, Global};
@@ -24,8 +24,8 @@ use std::alloc::{AllocError, Global};
 /// The precision of LBOUND and HBOUND (own).
 const BOUND_PRECISION: u8 = 15;
 
-/// For what the arguments of a built-in function stand, where it may have so many: SUBSTR has two or three. The array
-/// of LBOUND and HBOUND and the variable of ALLOCATION are not evaluated, and the number of a dimension and the
+/// For what the arguments of a built-in function stand, where it may have so many: SUBSTR has two or three, NULL none.
+/// The array of LBOUND and HBOUND and the variable of ALLOCATION are not evaluated, and the number of a dimension and the
 /// precision of DIVIDE are constants (X3.74).
 pub(crate) fn roles_of(function: BuiltInFunction, given: usize) -> Option<&'static [Role]>
     ensures { option_map (λ roles. map role_view roles.now) result ≡ spec.roles_of function given }
@@ -40,7 +40,8 @@ pub(crate) fn roles_of(function: BuiltInFunction, given: usize) -> Option<&'stat
         | BuiltInFunction::Substring => &[Role::Value, Role::Value],
         BuiltInFunction::Divide => &[Role::Value, Role::Value, Role::Argument],
         BuiltInFunction::LowBound | BuiltInFunction::HighBound => &[Role::Argument, Role::Argument],
-        BuiltInFunction::Allocation => &[Role::Argument],
+        BuiltInFunction::Allocation | BuiltInFunction::Address => &[Role::Argument],
+        BuiltInFunction::Null => &[],
         _ => return None,
     };
     if given == roles.len() {
@@ -208,6 +209,48 @@ fn allocation_called(arguments: &[Argument<'_>]) -> Option<TypedValue>
     generations_of(&variable.denoted)
 }
 
+/// A pointer to a whole variable that is denoted, and is no parameter; none of anything else.
+fn address_of(denoted: Denoted<'_>) -> Option<TypedValue>
+    ensures { option_map value_view result ≡ spec.address_of (denoted_view denoted.entry) }
+{
+    match denoted {
+        Denoted::Variable(referent) => address(referent.reference, referent.is_parameter),
+        Denoted::Result(value) => {
+            drop(value);
+            None
+        }
+    }
+}
+
+/// What ADDR gives of its argument.
+fn address_called(arguments: Vec<Argument<'_>>) -> Option<TypedValue>
+    ensures { (greatest : ℕ) → option_map value_view result
+        ≡ spec.of_arguments greatest BuiltInFunction.Address (map argument_view arguments.entry.items) }
+{
+    let mut arguments = arguments;
+    let Some(variable) = arguments.pop() else {
+        return None;
+    };
+    if arguments.is_empty() {
+        address_of(variable.denoted)
+    } else {
+        drop(variable);
+        None
+    }
+}
+
+/// What NULL gives of no arguments.
+#[tactic(auto, using(crate::proofs::CallLemmas::no_null))]
+fn null_called(arguments: &[Argument<'_>]) -> Option<TypedValue>
+    ensures { (greatest : ℕ) → option_map value_view result
+        ≡ spec.of_arguments greatest BuiltInFunction.Null (map argument_view arguments.now) }
+{
+    match arguments {
+        [] => Some(null_value()),
+        _ => None,
+    }
+}
+
 /// What DIVIDE gives of its arguments.
 fn divide_called(
     alloc: Global,
@@ -244,6 +287,8 @@ fn of_arguments(
             Ok(bound_called(function, arguments.as_slice()))
         }
         BuiltInFunction::Allocation => Ok(allocation_called(arguments.as_slice())),
+        BuiltInFunction::Address => Ok(address_called(arguments)),
+        BuiltInFunction::Null => Ok(null_called(arguments.as_slice())),
         _ => match values_in(alloc, arguments)? {
             Some(values) => of_values(alloc, greatest, function, values),
             None => Ok(None),

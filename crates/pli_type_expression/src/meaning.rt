@@ -20,6 +20,8 @@ use pli_type_tree::{TypedExpression, TypedReference};
 pub struct Referent<'a> {
     pub reference: TypedReference,
     pub description: &'a Description,
+    /// Whether it is, or is in, a parameter.
+    pub is_parameter: bool,
 }
 
 /// What an expression is.

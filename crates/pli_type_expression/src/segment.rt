@@ -1,20 +1,24 @@
 //! What stands between arrows of a reference.
-ghost use Rattle.std.specs.Prelude.{◌≡◌, [], false, map, IfOk};
+ghost use Rattle.std.specs.Prelude.{◌≡◌, [], false, map, IfOk, Ok};
+ghost use Rattle.pli_base.specs.Syntax.{Absent};
 ghost use Rattle.pli_base.specs.views.SyntaxView.{joined_view};
 ghost use Rattle.pli_type.specs.Names as names;
 ghost use Rattle.pli_type.specs.Typing as typing;
 ghost use Rattle.pli_base.specs.answers.FailureAnswers.{Gives};
-ghost use Rattle.pli_type_expression.specs.views.TypingView.{denoted_view, of_name, role_view, segment_view};
+ghost use Rattle.pli_type_expression.specs.views.TypingView.{denoted_view, locator_view, of_name, role_view, segment_view};
+ghost use Rattle.pli_type_expression.specs.Segments.{means_null};
 ghost use Rattle.pli_type_names.specs.UnitNaming.{naming_in};
 ghost use Rattle.pli_type_tree.specs.views.TypedView.{expression_view};
 
 use crate::answer::TypeError;
+use crate::locator::LocatorBefore;
 use crate::meaning::Denoted;
 use crate::role::Role;
 use crate::variable::variable_meant;
 use pli_base::syntax::JoinedPart;
 use pli_base::{Code, fault};
-use pli_type::TypedValue;
+use pli_resolve::BuiltInFunction;
+use pli_type::{TypedValue, null_value};
 use pli_type_names::{NamedAs, Naming};
 use pli_type_tree::TypedExpression;
 use std::alloc::{AllocError, Global};
@@ -22,10 +26,10 @@ use std::alloc::{AllocError, Global};
 /// What stands between arrows, so far.
 #[derive(Drop)]
 pub(crate) enum Segment {
-    /// The name at a token, of a variable or of what is none, and the subscripts behind it and behind the members
-    /// that are joined to it; `located` where an arrow stands in front of it.
+    /// The name at a token, of a variable or of what is none, with what stands in front of it, and the subscripts behind
+    /// it and behind the members that are joined to it.
     Named {
-        located: bool,
+        locator: LocatorBefore,
         at: u32,
         subscripts: Vec<TypedExpression>,
     },
@@ -45,13 +49,48 @@ pub(crate) fn is_call(role: Role, joined: &[JoinedPart]) -> bool
     }
 }
 
+/// Whether the name at a token means NULL.
+#[tactic(auto, using(crate::proofs::MeaningLemmas::function_is_null, crate::proofs::MeaningLemmas::variable_is_no_null, crate::proofs::MeaningLemmas::procedure_is_no_null, crate::proofs::MeaningLemmas::label_is_no_null, crate::proofs::MeaningLemmas::untyped_is_no_null))]
+fn is_null(naming: &Naming<'_>, at: u32) -> bool
+    ensures { result ≡ means_null ((naming_in naming.now).meaning at) }
+{
+    match naming.meaning(at) {
+        NamedAs::Function(function) => function == BuiltInFunction::Null,
+        NamedAs::Variable(_) | NamedAs::Procedure(_) | NamedAs::Label(_) | NamedAs::Untyped =>
+            false,
+    }
+}
+
+/// A segment that begins with a name without parentheses: NULL is a value where one is wanted.
+#[tactic(auto, using(crate::proofs::MeaningLemmas::begun_as_null, crate::proofs::MeaningLemmas::begun_uncalled, crate::proofs::MeaningLemmas::begun_as_name))]
+pub(crate) fn begun_alone(
+    alloc: Global,
+    naming: &Naming<'_>,
+    call: bool,
+    locator: LocatorBefore,
+    at: u32,
+) -> Segment
+    ensures { Ok (segment_view (naming_in naming.now) result)
+        ≡ typing.begun (naming_in naming.now) ((naming_in naming.now).meaning at) call (locator_view locator) at Absent }
+{
+    if !call {
+        return Segment::named(alloc, locator, at);
+    }
+    if is_null(naming, at) {
+        drop(locator);
+        Segment::Function(null_value())
+    } else {
+        Segment::named(alloc, locator, at)
+    }
+}
+
 impl Segment {
     /// A name without subscripts.
-    pub(crate) fn named(alloc: Global, located: bool, at: u32) -> Segment
-        ensures { (n : names.Naming) → segment_view n result ≡ of_name (n.meaning at) located at [] }
+    pub(crate) fn named(alloc: Global, locator: LocatorBefore, at: u32) -> Segment
+        ensures { (n : names.Naming) → segment_view n result ≡ of_name (n.meaning at) (locator_view locator) at [] }
     {
         Segment::Named {
-            located,
+            locator,
             at,
             subscripts: Vec::new(alloc),
         }
@@ -64,14 +103,14 @@ impl Segment {
     {
         match self {
             Segment::Named {
-                located,
+                locator,
                 at,
                 mut subscripts,
             } => {
                 let mut more = more;
                 subscripts.append(&mut more)?;
                 Ok(Segment::Named {
-                    located,
+                    locator,
                     at,
                     subscripts,
                 })
@@ -91,12 +130,12 @@ impl Segment {
     {
         match self {
             Segment::Named {
-                located,
+                locator,
                 at,
                 subscripts,
             } => match naming.meaning(at) {
                 NamedAs::Variable(variable) => {
-                    let referent = variable_meant(alloc, role, located, at, variable, subscripts)?;
+                    let referent = variable_meant(alloc, role, locator, at, variable, subscripts)?;
                     Ok(Denoted::Variable(referent))
                 }
                 NamedAs::Function(_)

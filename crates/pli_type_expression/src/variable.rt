@@ -3,16 +3,19 @@ ghost use Rattle.std.specs.Prelude.{◌≡◌, ℕ, List, map, option_map, IfOk}
 ghost use Rattle.pli_type.specs.Names as names;
 ghost use Rattle.pli_type.specs.References as spec;
 ghost use Rattle.pli_base.specs.answers.FailureAnswers.{Gives};
-ghost use Rattle.pli_type_expression.specs.views.TypingView.{referent_view, role_view};
+ghost use Rattle.pli_type_expression.specs.views.TypingView.{locator_view, referent_view, role_view};
 ghost use Rattle.pli_type_names.specs.SymbolMeaning.{IsVariable, is_way};
 ghost use Rattle.pli_type_names.specs.views.NameView.{part_view};
+ghost use Rattle.pli_map.specs.views.DescriptionView.{description_view};
+ghost use Rattle.pli_type_tree.specs.TypedTree.{Part};
 ghost use Rattle.pli_type_tree.specs.views.TypedView.{expression_view, reference_view, root_view, stride_view, subscripts_view};
 
 use crate::answer::TypeError;
+use crate::locator::{LocatorBefore, root_by};
 use crate::meaning::Referent;
-use crate::permission::permitted;
 use crate::role::Role;
 use pli_base::{Code, fault};
+use pli_map::{Description, is_aggregate};
 use pli_type_names::{NamedVariable, StridedPart};
 use pli_type_tree::{Root, Stride, TypedExpression, TypedReference, TypedSubscript};
 use std::alloc::{AllocError, Global};
@@ -55,40 +58,80 @@ fn subscripts_at(
     Ok(placed)
 }
 
+/// A part of a variable that begins there.
+fn part_reference(
+    root: Box<Root>,
+    offset: u32,
+    description: Description,
+    subscripts: Vec<TypedSubscript>,
+) -> TypedReference
+    ensures { reference_view result
+        ≡ Part (root_view root.value) offset (description_view description) (subscripts_view subscripts.items) }
+{
+    TypedReference::Part {
+        root: Box::into_inner(root),
+        offset,
+        description,
+        subscripts,
+    }
+}
+
 /// A reference to a whole variable of its own, or to a part.
-#[tactic(auto, using(pli_type_tree::specs::laws::TypedTreeLaws::part_made))]
 fn reference_to(
     alloc: Global,
-    root: Root,
+    root: Box<Root>,
     is_member: bool,
     part: &StridedPart<'_>,
     subscripts: Vec<TypedExpression>,
 ) -> Result<TypedReference, AllocError>
     ensures { IfOk result (λ made. (path : List ℕ) → is_member ≡ is_way path → reference_view made
-        ≡ spec.reference_to (root_view root) path (part_view part.now) (map expression_view subscripts.items)) }
+        ≡ spec.reference_to (root_view root.value) path (part_view part.now) (map expression_view subscripts.items)) }
 {
     if !is_member && subscripts.is_empty() {
-        return Ok(TypedReference::Whole(root));
+        return Ok(TypedReference::Whole(Box::into_inner(root)));
     }
-    Ok(TypedReference::Part {
-        root,
-        offset: part.offset,
-        description: part.description.copy(alloc)?,
-        subscripts: subscripts_at(alloc, part.strides.as_slice(), subscripts)?,
+    let description = part.description.copy(alloc)?;
+    let subscripts = subscripts_at(alloc, part.strides.as_slice(), subscripts)?;
+    Ok(part_reference(root, part.offset, description, subscripts))
+}
+
+/// A reference to a part of a variable, with all its subscripts: T10 where it begins nowhere.
+fn referent<'a>(
+    alloc: Global,
+    locator: LocatorBefore,
+    at: u32,
+    variable: NamedVariable<'_, 'a>,
+    part: &StridedPart<'a>,
+    subscripts: Vec<TypedExpression>,
+) -> Result<Referent<'a>, TypeError>
+    ensures { (named : names.NamedVariable) → IsVariable variable.entry named
+        → Gives referent_view result (spec.begins_somewhere at
+        (option_map (spec.referent_from named (map expression_view subscripts.items) (part_view part.now))
+        (spec.root_by named.storage named.whole (locator_view locator)))) }
+{
+    let Some(root) = root_by(alloc, variable, locator)? else {
+        return Err(fault(Code::LocatorMissingOrNotAllowed, at));
+    };
+    let reference = reference_to(alloc, root, variable.is_member, part, subscripts)?;
+    Ok(Referent {
+        reference,
+        description: part.description,
+        is_parameter: variable.storage.is_parameter(),
     })
 }
 
-/// A reference to a variable, with all its subscripts: T3 where their number is wrong.
+/// A reference to a variable, with all its subscripts: T3 where their number is wrong, T2 where no aggregate may stand,
+/// and then T10 (own).
 pub(crate) fn variable_meant<'a>(
     alloc: Global,
     role: Role,
-    located: bool,
+    locator: LocatorBefore,
     at: u32,
     variable: NamedVariable<'_, 'a>,
     subscripts: Vec<TypedExpression>,
 ) -> Result<Referent<'a>, TypeError>
     ensures { (named : names.NamedVariable) → IsVariable variable.entry named
-        → Gives referent_view result (spec.variable_meant (role_view role) located at named (map expression_view subscripts.items)) }
+        → Gives referent_view result (spec.variable_meant (role_view role) (locator_view locator) at named (map expression_view subscripts.items)) }
 {
     let Some(whole) = variable.part else {
         return Err(fault(Code::WrongNumberOfSubscripts, at));
@@ -96,15 +139,8 @@ pub(crate) fn variable_meant<'a>(
     let Some(part) = with_subscripts(alloc, subscripts.len(), whole)? else {
         return Err(fault(Code::WrongNumberOfSubscripts, at));
     };
-    let description = part.description;
-    let reference = reference_to(alloc, variable.root, variable.is_member, &part, subscripts)?;
-    permitted(
-        role,
-        located,
-        at,
-        Referent {
-            reference,
-            description,
-        },
-    )
+    if role.wants_scalar() && is_aggregate(part.description) {
+        return Err(fault(Code::AggregateNotAllowedHere, at));
+    }
+    referent(alloc, locator, at, variable, &part, subscripts)
 }

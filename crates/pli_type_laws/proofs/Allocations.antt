@@ -1,107 +1,140 @@
--- ALLOCATE and FREE take CONTROLLED variables.
-use Rattle.std.specs.Prelude.{◌≡◌, ℕ, Bool, false, Option, Some, None, List, [], ◌∷◌, slice_get, Result, Ok, Err}
+-- ALLOCATE and FREE take CONTROLLED and BASED variables.
+use Rattle.std.specs.Prelude.{◌≡◌, ℕ, zero, suc, ◌+◌, Bool, false, Option, Some, None, List, [], ◌∷◌, map, slice_get}
 use Rattle.std.specs.List.{list_any}
 use Rattle.pli_base.specs.Statements.{Allocation}
 use Rattle.pli_base.specs.Syntax.{Reference, first_token}
 use Rattle.pli_base.specs.declared.code.Code.TheVariants.{CannotAllocateOrFree}
-use Rattle.pli_base.specs.declared.token.Fault.{Fault}
-use Rattle.pli_map.specs.Description.{Description}
+use Rattle.pli_map.specs.Description.{Description, Pointer}
 use Rattle.pli_program.specs.declared.kind.VariableKind.TheVariants.{Controlled}
-use Rattle.pli_type.specs.AllocationTyping.{in_turn, only_variable, place_given, stacked, taken, allocated, released, freed}
+use Rattle.pli_type.specs.AllocationTyping.{in_turn, only_variable, place_given, pointer_set, placed_by, taken_in, taken, allocated, all_allocated, released, freed}
 use Rattle.pli_type.specs.FunctionCalls.{Denoted, DenotesVariable, DenotesResult}
-use Rattle.pli_type.specs.Names.{NamedAs, AVariable, Naming, Compiled}
-use Rattle.pli_type.specs.References.{AsTarget, Referent}
+use Rattle.pli_type.specs.Names.{NamedStorage, Begins, IsBased, NamedAs, AVariable, Naming, Compiled}
+use Rattle.pli_type.specs.References.{AsLocator, AsTarget, Referent, pointer_at}
 use Rattle.pli_type.specs.StatementTyping.{allocate_typed, free_typed}
 use Rattle.pli_type.specs.Typing.{referred}
-use Rattle.pli_type.specs.Unbuilt.{later_reference}
+use Rattle.pli_type.specs.Unbuilt.{later_part, later_reference, later_allocation}
 use Rattle.pli_type_laws.proofs.Conversions.{OnGiven}
 use Rattle.pli_type_laws.proofs.Denotations.{OnRead, IsReferent, IsDenoted}
 use Rattle.pli_type_laws.proofs.Expressions.{IsMeaning, N, C, or_parts, read_option, referred_typed}
 use Rattle.pli_type_laws.proofs.References.{read_then}
+use Rattle.pli_type_name_laws.specs.NameFacts.{IsPointed, IsStoredIn}
+use Rattle.pli_type_tree.specs.Allocations.{kept_for}
+use Rattle.pli_type_tree.specs.Templates.{Template, variable_of}
 use Rattle.pli_type_tree.specs.laws.GlobalLaws.{described_parts}
-use Rattle.pli_type_tree.specs.TypedTree.{Root, NewestOf, TypedReference, Whole, AllocatedItem, AllocatesControlled, FreedItem, FreesControlled}
-use Rattle.pli_type_tree.specs.WellTyped.{TypingContext, root_of, IsControlled, IsPlaced, AreAllocated, AreFreed, IsTypedForm}
+use Rattle.pli_type_tree.specs.TypedTree.{NewestOf, Located, TypedReference, Whole}
+use Rattle.pli_type_tree.specs.WellTyped.{TypingContext, IsMade, AreMade, IsPlaced, IsAllocated, AreAllocated, IsFreed, AreFreed, IsTypedForm}
 
--- an item is of a CONTROLLED variable
-abbrev IsAllocated : TypingContext → AllocatedItem → Type 0
-IsAllocated s (AllocatesControlled number) = IsControlled s number
+-- the reference in IN or in SET, if one stands, is to a part of a variable
+abbrev IsGiven : TypingContext → Option Referent → Type 0
+IsGiven s None = Unit {0}
+IsGiven s (Some r) = IsReferent s r
 
-abbrev IsFreed : TypingContext → FreedItem → Type 0
-IsFreed s (FreesControlled number) = IsControlled s number
+-- a template of which variables are made well
+abbrev IsMadeFrom : Template → Type 0
+IsMadeFrom t = IsMade (variable_of t)
 
--- whatever IN or SET gives
-abbrev pub Any : Option Referent → Type 0
-Any r = Unit {0}
-
-pub whatever : (r : Result (Option Referent) Fault) → OnRead Any r
-whatever (Ok r) = tt
-whatever (Err f) = tt
+made_at : (ts : List Template) (k : ℕ) → AreMade (map variable_of ts) → OnGiven IsMadeFrom (slice_get ts k)
+made_at [] k h = tt
+made_at (t ∷ ts) zero h = h.0
+made_at (t ∷ ts) (suc k) h = made_at ts k h.1
 
 module _ (s : TypingContext) where
+  -- a reference to a POINTER
+  abbrev IsPointer : TypedReference → Type 0
+  IsPointer r = IsPlaced 31 s r Pointer
+
   -- ALLOCATE
-  one_stacked : (root : Root) (d : Description) (path : List ℕ) → root_of s root ≡ Some d → OnGiven (IsAllocated s) (stacked root path)
-  one_stacked (NewestOf number) d [] e = (described_parts Controlled (slice_get s.globals number) d e).0
-  one_stacked root d path e = tt
+  pointer_kept : (r : TypedReference) (d : Description) → IsPlaced 31 s r d → OnGiven IsPointer (pointer_at r d)
+  pointer_kept r Pointer placed = placed
+  pointer_kept r d placed = tt
 
-  one_taken : (a : NamedAs) → IsMeaning s a → (area target : Option Referent) → OnGiven (IsAllocated s) (taken a area target)
-  one_taken (AVariable v) k None None = one_stacked v.root v.whole v.path k.begins
-  one_taken a k area target = tt
+  pointer_typed : (target : Option Referent) (implied : Option TypedReference) → IsGiven s target → IsPointed 31 s implied
+      → OnGiven IsPointer (pointer_set target implied)
+  pointer_typed None None h k = tt
+  pointer_typed None (Some r) h k = k
+  pointer_typed (Some r) implied h k = pointer_kept r.reference r.description h.0
 
-  more_allocated : (x : AllocatedItem) (xs : List AllocatedItem) → IsAllocated s x → AreAllocated s xs → AreAllocated s (x ∷ xs)
-  more_allocated (AllocatesControlled number) xs h k = (h, k)
+  based_placed : (temporary : ℕ) (t : Option Template) (target : Option TypedReference) → OnGiven IsMadeFrom t → OnGiven IsPointer target
+      → OnGiven (IsAllocated 31 s) (placed_by temporary t target)
+  based_placed temporary (Some t) (Some target) h k = (h, k)
+  based_placed temporary (Some t) None h k = tt
+  based_placed temporary None target h k = tt
+
+  module _ (n : Naming) (made : (block : ℕ) → AreMade (map variable_of (n.based block))) where
+    stored_taken : (temporary : ℕ) (storage : NamedStorage) (path : List ℕ) (whole : Description) → IsStoredIn 31 s storage whole
+        → (area target : Option Referent) → IsGiven s target → OnGiven (IsAllocated 31 s) (taken_in n temporary storage path area target)
+    stored_taken temporary (Begins (NewestOf number) is_parameter) [] whole h None None k =
+        (described_parts Controlled (slice_get s.globals number) whole h.0).0
+    stored_taken temporary (IsBased block number implied) [] whole h None target k =
+        based_placed temporary (slice_get (n.based block) number) (pointer_set target implied)
+        (made_at (n.based block) number (made block)) (pointer_typed target implied k h)
+    stored_taken temporary storage path whole h area target k = tt
+
+    one_taken : (temporary : ℕ) (a : NamedAs) → IsMeaning s a → (area target : Option Referent) → IsGiven s target
+        → OnGiven (IsAllocated 31 s) (taken n temporary a area target)
+    one_taken temporary (AVariable v) h area target k = stored_taken temporary v.storage v.path v.whole h.begins area target k
+    one_taken temporary a h area target k = tt
 
   -- FREE
-  one_released : (r : TypedReference) (d : Description) → IsPlaced 31 s r d → OnGiven (IsFreed s) (released r)
+  one_released : (r : TypedReference) (d : Description) → IsPlaced 31 s r d → OnGiven (IsFreed 31 s) (released r)
   one_released (Whole (NewestOf number)) d placed = (described_parts Controlled (slice_get s.globals number) d placed).0
+  one_released (Whole (Located locator whole)) d placed = placed.1
   one_released r d placed = tt
 
   only_typed : (at : ℕ) (d : Denoted) → IsDenoted s d → OnRead (IsReferent s) (only_variable at d)
   only_typed at (DenotesVariable r) h = h
   only_typed at (DenotesResult v) h = tt
 
-  more_freed : (x : FreedItem) (xs : List FreedItem) → IsFreed s x → AreFreed s xs → AreFreed s (x ∷ xs)
-  more_freed (FreesControlled number) xs h k = (h, k)
-
-module _ (is_later : ℕ → Bool) (meaning : ℕ → NamedAs) (s : TypingContext) (known : (at : ℕ) → IsMeaning s (meaning at)) where
+module _ (is_later is_based : ℕ → Bool) (based : ℕ → List Template) (meaning : ℕ → NamedAs) (s : TypingContext) (known : (at : ℕ) → IsMeaning s (meaning at)) where
   abbrev M : Naming
-  M = N is_later meaning s known
+  M = N is_later is_based based meaning s known
 
   abbrev L : Compiled
-  L = C is_later meaning s known
+  L = C is_later is_based based meaning s known
 
-  one_allocated : (a : Allocation) → OnRead (IsAllocated s) (allocated M a)
-  one_allocated a =
-      read_then Any (IsAllocated s) (place_given M a.area) _ (whatever (place_given M a.area))
-      (λ area h. read_then Any (IsAllocated s) (place_given M a.target) _ (whatever (place_given M a.target))
-      (λ target k. read_option (IsAllocated s) CannotAllocateOrFree a.name.at (taken (meaning a.name.at) area target)
-      (one_taken s (meaning a.name.at) (known a.name.at) area target)))
+  given_typed : (o : Option Reference) → later_part (later_reference L) o ≡ false → OnRead (IsGiven s) (place_given M o)
+  given_typed None l = tt
+  given_typed (Some r) l =
+      read_then (IsDenoted s) (IsGiven s) (referred M AsLocator r) _ (referred_typed is_later is_based based meaning s known AsLocator r l)
+      (λ d h. read_then (IsReferent s) (IsGiven s) (only_variable (first_token r) d) _ (only_typed s (first_token r) d h) (λ q k. k))
 
-  all_allocated : (list : List Allocation) → OnRead (AreAllocated s) (in_turn (allocated M) list)
-  all_allocated [] = tt
-  all_allocated (a ∷ more) =
-      read_then (IsAllocated s) (AreAllocated s) (allocated M a) _ (one_allocated a)
-      (λ x h. read_then (AreAllocated s) (AreAllocated s) (in_turn (allocated M) more) _ (all_allocated more)
-      (λ xs k. more_allocated s x xs h k))
+  module _ (made : (block : ℕ) → AreMade (map variable_of (based block))) where
+    one_allocated : (temporary : ℕ) (a : Allocation) → later_allocation L a ≡ false → OnRead (IsAllocated 31 s) (allocated M temporary a)
+    one_allocated temporary a l =
+        let parts : (later_part (later_reference L) a.area ≡ false) × (later_part (later_reference L) a.target ≡ false) = or_parts _ _ l in
+        read_then (IsGiven s) (IsAllocated 31 s) (place_given M a.area) _ (given_typed a.area parts.0)
+        (λ area h. read_then (IsGiven s) (IsAllocated 31 s) (place_given M a.target) _ (given_typed a.target parts.1)
+        (λ target k. read_option (IsAllocated 31 s) CannotAllocateOrFree a.name.at (taken M temporary (meaning a.name.at) area target)
+        (one_taken s M made temporary (meaning a.name.at) (known a.name.at) area target k)))
 
-  pub allocate_is_typed : (list : List Allocation) → OnRead (IsTypedForm 31 s) (allocate_typed M list)
-  allocate_is_typed list =
-      read_then (AreAllocated s) (IsTypedForm 31 s) (in_turn (allocated M) list) _ (all_allocated list) (λ xs h. h)
+    each_allocated : (temporary : ℕ) (list : List Allocation) → list_any (later_allocation L) list ≡ false
+        → OnRead (AreAllocated 31 s) (all_allocated M temporary list)
+    each_allocated temporary [] l = tt
+    each_allocated temporary (a ∷ more) l =
+        let parts : (later_allocation L a ≡ false) × (list_any (later_allocation L) more ≡ false) = or_parts _ _ l in
+        read_then (IsAllocated 31 s) (AreAllocated 31 s) (allocated M temporary a) _ (one_allocated temporary a parts.0)
+        (λ x h. read_then (AreAllocated 31 s) (AreAllocated 31 s) (all_allocated M (temporary + kept_for x) more) _
+        (each_allocated (temporary + kept_for x) more parts.1) (λ xs k. (h, k)))
 
-  one_freed : (r : Reference) → later_reference L r ≡ false → OnRead (IsFreed s) (freed M r)
+    pub allocate_is_typed : (temporary : ℕ) (list : List Allocation) → list_any (later_allocation L) list ≡ false
+        → OnRead (IsTypedForm 31 s) (allocate_typed M temporary list)
+    allocate_is_typed temporary list l =
+        read_then (AreAllocated 31 s) (IsTypedForm 31 s) (all_allocated M temporary list) _ (each_allocated temporary list l) (λ xs h. h)
+
+  one_freed : (r : Reference) → later_reference L r ≡ false → OnRead (IsFreed 31 s) (freed M r)
   one_freed r l =
-      read_then (IsDenoted s) (IsFreed s) (referred M AsTarget r) _ (referred_typed is_later meaning s known AsTarget r l)
-      (λ d h. read_then (IsReferent s) (IsFreed s) (only_variable (first_token r) d) _ (only_typed s (first_token r) d h)
-      (λ q k. read_option (IsFreed s) CannotAllocateOrFree (first_token r) (released q.reference)
+      read_then (IsDenoted s) (IsFreed 31 s) (referred M AsTarget r) _ (referred_typed is_later is_based based meaning s known AsTarget r l)
+      (λ d h. read_then (IsReferent s) (IsFreed 31 s) (only_variable (first_token r) d) _ (only_typed s (first_token r) d h)
+      (λ q k. read_option (IsFreed 31 s) CannotAllocateOrFree (first_token r) (released q.reference)
       (one_released s q.reference q.description k.0)))
 
-  all_freed : (list : List Reference) → list_any (later_reference L) list ≡ false → OnRead (AreFreed s) (in_turn (freed M) list)
+  all_freed : (list : List Reference) → list_any (later_reference L) list ≡ false → OnRead (AreFreed 31 s) (in_turn (freed M) list)
   all_freed [] l = tt
   all_freed (r ∷ more) l =
       let parts : (later_reference L r ≡ false) × (list_any (later_reference L) more ≡ false) = or_parts _ _ l in
-      read_then (IsFreed s) (AreFreed s) (freed M r) _ (one_freed r parts.0)
-      (λ x h. read_then (AreFreed s) (AreFreed s) (in_turn (freed M) more) _ (all_freed more parts.1)
-      (λ xs k. more_freed s x xs h k))
+      read_then (IsFreed 31 s) (AreFreed 31 s) (freed M r) _ (one_freed r parts.0)
+      (λ x h. read_then (AreFreed 31 s) (AreFreed 31 s) (in_turn (freed M) more) _ (all_freed more parts.1) (λ xs k. (h, k)))
 
   pub free_is_typed : (list : List Reference) → list_any (later_reference L) list ≡ false → OnRead (IsTypedForm 31 s) (free_typed M list)
   free_is_typed list l =
-      read_then (AreFreed s) (IsTypedForm 31 s) (in_turn (freed M) list) _ (all_freed list l) (λ xs h. h)
+      read_then (AreFreed 31 s) (IsTypedForm 31 s) (in_turn (freed M) list) _ (all_freed list l) (λ xs h. h)

@@ -1,6 +1,6 @@
 -- Contexts of typed statements, by where their source statements stand.
 use Rattle.std.specs.Prelude.{◌≡◌, ℕ, suc, nat_eq, Bool, true, false, IsTrue, Option, Some, None, option_map, List, [], ◌∷◌}
-use Rattle.std.specs.Prelude.{map, slice_get, refl, if◌then◌else◌}
+use Rattle.std.specs.Prelude.{length, map, slice_get, refl, if◌then◌else◌}
 use Rattle.std.specs.List.{list_any}
 use Rattle.std.proofs.Common.{sym, ap, ◌∙◌, subst}
 use Rattle.std.proofs.lemmas.Bool.{eqb-true}
@@ -25,7 +25,7 @@ use Rattle.pli_type_tree.specs.TypedTree.{Callee, OfBlock, OfEntry}
 -- the same blocks are around themselves
 pub around_self : (bs : List BlockAround) → AreAround bs bs
 around_self [] = tt
-around_self (b ∷ bs) = (refl, refl, (λ label e. e), around_self bs)
+around_self (b ∷ bs) = (refl, (refl, refl), (λ label e. e), around_self bs)
 
 module _ (u : NamedUnit) where
   abbrev All : List SourceBlock
@@ -123,7 +123,7 @@ module _ (u : NamedUnit) where
       stands : x.number ≡ e.number → home.0.0 ≡ direct.0 → AreAround (b ∷ bs) (known_blocks u (e ∷ rest))
       stands is one = (
         around.0 ∙ is,
-        around.1 ∙ ap (slots_in u) is,
+        (around.1.0 ∙ ap (λ k. length (u.parameters k)) is, around.1.1 ∙ ap (slots_in u) is),
         (λ label f. around.2 label (home.0.3 label (subst (λ (c : SourceBlock). IsTrue (list_any (nat_eq label) c.labels)) (sym one) (direct.3 label f)))),
         subst (λ xs. AreAround bs (known_blocks u xs))
             (sym home.0.2 ∙ ap (λ (c : SourceBlock). c.around) one ∙ direct.2) around.3,
@@ -177,7 +177,7 @@ module _ (u : NamedUnit) where
     known_as at (AVariable v) e =
         let own : VariableFacts u (map (λ x. x.number) here.blocks) v = facts.variables (map (λ x. x.number) here.blocks) at v e in
         record {
-          begins = own.begins s knows.globals (slots_known here.blocks s.blocks knows.blocks);
+          begins = own.begins 31 s knows.globals (slots_known here.blocks s.blocks knows.blocks);
           leads = own.leads;
           whole = own.whole;
         }

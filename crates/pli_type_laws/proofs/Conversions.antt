@@ -4,13 +4,13 @@ use Rattle.std.proofs.Common.{arith, subst}
 use Rattle.pli_map.specs.Description as described
 use Rattle.pli_map.specs.Description.{Description}
 use Rattle.pli_operation.specs.declared.operation.Operation.TheVariants.{ToCharacters}
-use Rattle.pli_type.specs.ExpressionTypes.{TypedValue, with_one, suited, converted, printed, printed_from, as_characters, columns, decimal_digits}
+use Rattle.pli_type.specs.ExpressionTypes.{TypedValue, with_one, suited, only_pointer, converted, printed, printed_from, as_characters, columns, decimal_digits}
 use Rattle.pli_type.specs.declared.expression_type.ExpressionType.{ExpressionType}
 use Rattle.pli_type.specs.declared.expression_type.ExpressionType.TheVariants as types
 use Rattle.pli_type_laws.specs.ExpressionTyping.{HasType, IsShort, ConvertedIsHeld, PrintedIsString}
 use Rattle.pli_type_laws.proofs.Widths.{near_has_columns}
 use Rattle.pli_type_tree.specs.TypedTree.{Fit, Operate, TypedExpression}
-use Rattle.pli_type_tree.specs.ValueTypes.{ValueType, Numbers, Strings, StringKind, OfCharacters, OfBits, type_held, IsFitted, IsWithin, HaveColumns}
+use Rattle.pli_type_tree.specs.ValueTypes.{ValueType, Numbers, Strings, Pointers, StringKind, OfCharacters, OfBits, type_held, IsFitted, IsWithin, HaveColumns}
 use Rattle.pli_type_tree.specs.WellTyped.{TypingContext, IsTyped, IsValueFor}
 
 -- what is there, if something is
@@ -26,6 +26,7 @@ pub within_self : (t : ValueType) → IsWithin t t
 within_self (Numbers p) = omega arith
 within_self (Strings OfCharacters a b) = (omega arith, omega arith)
 within_self (Strings OfBits a b) = (omega arith, omega arith)
+within_self Pointers = tt
 
 some_same : {A : Type 0} {x y : A} → Some x ≡ Some y → x ≡ y
 some_same e = cc
@@ -77,7 +78,8 @@ module _ (s : TypingContext) where
     fits h.0 h.1,
     held,
   )
-  characters_fit d t held fits e types.Pointer h = absurd h
+  characters_fit d t held fits e types.Pointer h = tt
+  characters_fit d t held fits e types.Null h = tt
   characters_fit d t held fits e types.Offset h = absurd h
   characters_fit d t held fits e types.Area h = absurd h
 
@@ -98,8 +100,16 @@ module _ (s : TypingContext) where
   given_fit d (Some x) h = fitted d x h
   given_fit d None h = tt
 
+  -- a pointer needs no fitting
+  pointer_held : (e : TypedExpression) (kind : ExpressionType) → HasType s e kind
+      → OnGiven (IsValueFor 31 s described.Pointer) (only_pointer e kind)
+  pointer_held e types.Pointer h = (Pointers, h, (Pointers, refl, tt))
+  pointer_held e types.Null h = (Pointers, h, (Pointers, refl, tt))
+  pointer_held e kind h = tt
+
   pub conversion_held : (d : Description) (v : TypedValue) → HasType s v.expression v.kind
       → OnGiven (IsValueFor 31 s d) (converted 31 d v)
+  conversion_held described.Pointer v h = pointer_held v.expression v.kind h
   conversion_held d v h = given_fit d (suited 31 d v.expression v.kind) (all_fit d v.expression v.kind h)
 
   -- what is printed
@@ -115,7 +125,8 @@ module _ (s : TypingContext) where
       (OfCharacters, (width, width, made_string e width h.0 h.1 (near_has_columns h.0 q h.2), omega arith))
   item_of e types.Characters h = (OfCharacters, h)
   item_of e types.Bits h = (OfBits, h)
-  item_of e types.Pointer h = absurd h
+  item_of e types.Pointer h = tt
+  item_of e types.Null h = tt
   item_of e types.Offset h = absurd h
   item_of e types.Area h = absurd h
 

@@ -1,5 +1,5 @@
 -- What expressions denote: parts of variables that are placed, and values of their types.
-use Rattle.std.specs.Prelude.{◌≡◌, IsTrue, Some, List, [], ◌∷◌, Result, Ok, Err, refl}
+use Rattle.std.specs.Prelude.{◌≡◌, Bool, false, IsTrue, Some, List, [], ◌∷◌, Result, Ok, Err, refl}
 use Rattle.std.proofs.Common.{arith, sym}
 use Rattle.std.proofs.lemmas.Bool.{and_parts, leb-true, true≢false}
 use Rattle.pli_base.specs.declared.token.Fault.{Fault}
@@ -12,18 +12,25 @@ use Rattle.pli_type.specs.References.{Referent}
 use Rattle.pli_type_laws.proofs.Conversions.{OnGiven}
 use Rattle.pli_type_laws.proofs.Operators.{HasValue}
 use Rattle.pli_type_laws.specs.ExpressionTyping.{HasType}
-use Rattle.pli_type_tree.specs.TypedTree.{TypedExpression, TypedReference, Held}
+use Rattle.pli_type_tree.specs.TypedTree.{TypedExpression, TypedReference, Whole, Part, Held}
 use Rattle.pli_type_tree.specs.ValueTypes.{ValueType, type_held}
-use Rattle.pli_type_tree.specs.WellTyped.{TypingContext, IsTyped, IsPlaced}
+use Rattle.pli_type_tree.specs.WellTyped.{TypingContext, BeginsWhole, IsTyped, IsPlaced}
 
 -- what was read, if there is no fault
 abbrev pub OnRead : {A : Type 0} → (A → Type 0) → Result A Fault → Type 0
 OnRead P (Ok x) = P x
 OnRead P (Err f) = Unit {0}
 
--- a part is placed, and plain
+-- where a reference is to a whole variable, that is a whole generation
+abbrev pub IsOfWhole : TypingContext → TypedReference → Type 0
+IsOfWhole s (Whole root) = BeginsWhole s root
+IsOfWhole s (Part root offset d subscripts) = Unit {0}
+
+-- a part is placed, and plain; and it is of whole generations, but where it is in a parameter
 abbrev pub IsReferent : TypingContext → Referent → Type 0
-IsReferent s r = IsPlaced 31 s r.reference r.description × IsTrue (is_plain 31 r.description)
+IsReferent s r =
+    IsPlaced 31 s r.reference r.description × IsTrue (is_plain 31 r.description)
+    × (r.is_parameter ≡ false → IsOfWhole s r.reference)
 
 abbrev pub IsMeant : TypingContext → Meant → Type 0
 IsMeant s (OneValue v) = HasValue s v
@@ -49,7 +56,7 @@ module _ (s : TypingContext) where
   scalar_typed e (Character k) plain h = (k, k, h _ refl, leb-true k 32767 ((and_parts _ _ plain).1))
   scalar_typed e (Varying k) plain h = (0, k, h _ refl, leb-true k 32767 ((and_parts _ _ plain).1))
   scalar_typed e (Bit k) plain h = (k, k, h _ refl, leb-true k 32767 ((and_parts _ _ plain).1))
-  scalar_typed e Pointer plain h = absurd (true≢false (sym plain))
+  scalar_typed e Pointer plain h = h _ refl
   scalar_typed e Offset plain h = absurd (true≢false (sym plain))
   scalar_typed e (Area k) plain h = absurd (true≢false (sym plain))
   scalar_typed e (Array bounds element) plain h = tt
@@ -59,18 +66,21 @@ module _ (s : TypingContext) where
   held_as r d placed t e = (d, placed, e)
 
   -- what a variable holds
-  held_typed : (r : TypedReference) (d : Description) → IsReferent s (record { reference = r; description = d })
-      → IsMeant s (meant_by (record { reference = r; description = d }))
-  held_typed r (FixedBinary p) h = scalar_typed (Held r) (FixedBinary p) h.1 (held_as r (FixedBinary p) h.0)
-  held_typed r (Character k) h = scalar_typed (Held r) (Character k) h.1 (held_as r (Character k) h.0)
-  held_typed r (Varying k) h = scalar_typed (Held r) (Varying k) h.1 (held_as r (Varying k) h.0)
-  held_typed r (Bit k) h = scalar_typed (Held r) (Bit k) h.1 (held_as r (Bit k) h.0)
-  held_typed r Pointer h = absurd (true≢false (sym h.1))
-  held_typed r Offset h = absurd (true≢false (sym h.1))
-  held_typed r (Area k) h = absurd (true≢false (sym h.1))
-  held_typed r (Array bounds element) h = h
-  held_typed r (Structure _) h = h
+  abbrev as_referent : TypedReference → Description → Bool → Referent
+  as_referent r d passed = record { reference = r; description = d; is_parameter = passed }
+
+  held_typed : (r : TypedReference) (d : Description) (passed : Bool) → IsReferent s (as_referent r d passed)
+      → IsMeant s (meant_by (as_referent r d passed))
+  held_typed r (FixedBinary p) passed h = scalar_typed (Held r) (FixedBinary p) h.1 (held_as r (FixedBinary p) h.0)
+  held_typed r (Character k) passed h = scalar_typed (Held r) (Character k) h.1 (held_as r (Character k) h.0)
+  held_typed r (Varying k) passed h = scalar_typed (Held r) (Varying k) h.1 (held_as r (Varying k) h.0)
+  held_typed r (Bit k) passed h = scalar_typed (Held r) (Bit k) h.1 (held_as r (Bit k) h.0)
+  held_typed r Pointer passed h = scalar_typed (Held r) Pointer h.1 (held_as r Pointer h.0)
+  held_typed r Offset passed h = absurd (true≢false (sym h.1))
+  held_typed r (Area k) passed h = absurd (true≢false (sym h.1))
+  held_typed r (Array bounds element) passed h = h
+  held_typed r (Structure _) passed h = h
 
   pub denoted_meant : (d : Denoted) → IsDenoted s d → IsMeant s (meant_as d)
-  denoted_meant (DenotesVariable r) h = held_typed r.reference r.description h
+  denoted_meant (DenotesVariable r) h = held_typed r.reference r.description r.is_parameter h
   denoted_meant (DenotesResult v) h = h

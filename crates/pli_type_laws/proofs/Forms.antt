@@ -1,5 +1,5 @@
 -- Forms without statements in them are typed as the meaning of typed trees asks.
-use Rattle.std.specs.Prelude.{◌≡◌, ℕ, Bool, true, false, Option, Some, None, is_none, option_map, List, [], ◌∷◌, slice_get}
+use Rattle.std.specs.Prelude.{◌≡◌, ℕ, Bool, true, false, not, ◌&&◌, Option, Some, None, is_none, option_map, List, [], ◌∷◌, slice_get}
 use Rattle.std.specs.Prelude.{Result, Ok, Err, refl, if◌then◌else◌}
 use Rattle.std.specs.List.{list_any}
 use Rattle.std.proofs.Common.{sym, subst, ◌∙◌}
@@ -23,7 +23,7 @@ use Rattle.pli_type.specs.References.{AsArgument, AsLocator, AsTarget, Referent}
 use Rattle.pli_type.specs.StatementTyping.{aggregate_assigned, scalar_assigned, assigned, assignment, truth_of, condition, item, items}
 use Rattle.pli_type.specs.StatementTyping.{Surroundings, label_found, jump_to, jump, goto_typed, arguments_typed, no_function, call_of}
 use Rattle.pli_type.specs.StatementTyping.{call_typed, returned_value, return_typed, number_of, limit, possible_limit, limits}
-use Rattle.pli_type.specs.StatementTyping.{without_subscripts, suits_range, controls, possible_condition, next_value, with_repeat}
+use Rattle.pli_type.specs.StatementTyping.{without_subscripts, has_locator, suits_range, controls, possible_condition, next_value, with_repeat}
 use Rattle.pli_type.specs.StatementTyping.{iteration}
 use Rattle.pli_type.specs.Typing.{first_token, or_fault, meant, referred, value_of}
 use Rattle.pli_type.specs.Unbuilt.{later_expression, later_reference, later_arguments, later_part, later_range, later_control}
@@ -39,6 +39,7 @@ use Rattle.pli_type_laws.proofs.Operators.{HasValue, has_precision}
 use Rattle.pli_type_laws.proofs.References.{read_then}
 use Rattle.pli_type_laws.specs.ExpressionTyping as Near
 use Rattle.pli_type_laws.specs.ExpressionTyping.{HasType}
+use Rattle.pli_type_tree.specs.Templates.{Template}
 use Rattle.pli_type_tree.specs.TypedTree as typed
 use Rattle.pli_type_tree.specs.TypedTree.{TypedOperation, TypedExpression, TypedReference, TypedArguments, TypedRange, Form}
 use Rattle.pli_type_tree.specs.ValueTypes.{StringKind, OfBits}
@@ -81,23 +82,23 @@ module _ (s : TypingContext) where
       )
       by false e = tt
 
-module _ (is_later : ℕ → Bool) (meaning : ℕ → NamedAs) (s : TypingContext) (known : (at : ℕ) → IsMeaning s (meaning at)) where
+module _ (is_later is_based : ℕ → Bool) (based : ℕ → List Template) (meaning : ℕ → NamedAs) (s : TypingContext) (known : (at : ℕ) → IsMeaning s (meaning at)) where
   abbrev M : Naming
-  M = N is_later meaning s known
+  M = N is_later is_based based meaning s known
 
   abbrev L : Compiled
-  L = C is_later meaning s known
+  L = C is_later is_based based meaning s known
 
   pub condition_typed : (e : Expression) → later_expression L e ≡ false
       → OnRead (IsString 31 s OfBits) (condition M e)
   condition_typed e l =
-      read_then (HasValue s) (IsString 31 s OfBits) (value_of M e) _ (value_typed is_later meaning s known e l)
+      read_then (HasValue s) (IsString 31 s OfBits) (value_of M e) _ (value_typed is_later is_based based meaning s known e l)
       (λ v h. read_option (IsString 31 s OfBits) WrongOperandType (first_token e) (truth_of v)
       (truth_typed s v.expression v.kind h))
 
   item_typed : (e : Expression) → later_expression L e ≡ false → OnRead (IsPrinted s) (item M e)
   item_typed e l =
-      read_then (HasValue s) (IsPrinted s) (value_of M e) _ (value_typed is_later meaning s known e l)
+      read_then (HasValue s) (IsPrinted s) (value_of M e) _ (value_typed is_later is_based based meaning s known e l)
       (λ v h. read_option (IsPrinted s) CannotPrint (first_token e) (printed v)
       (printed_typed s (printed v) (printing_held s v h)))
 
@@ -112,7 +113,7 @@ module _ (is_later : ℕ → Bool) (meaning : ℕ → NamedAs) (s : TypingContex
   scalar_typed : (equals : ℕ) (r : TypedReference) (d : Description) → IsPlaced 31 s r d → (e : Expression)
       → later_expression L e ≡ false → OnRead (IsTypedForm 31 s) (scalar_assigned M equals r d e)
   scalar_typed equals r d placed e l =
-      read_then (HasValue s) (IsTypedForm 31 s) (value_of M e) _ (value_typed is_later meaning s known e l)
+      read_then (HasValue s) (IsTypedForm 31 s) (value_of M e) _ (value_typed is_later is_based based meaning s known e l)
       (λ v h. read_then (IsValueFor 31 s d) (IsTypedForm 31 s) (or_fault CannotAssign equals (converted 31 d v)) _
       (read_option (IsValueFor 31 s d) CannotAssign equals (converted 31 d v) (conversion_held s d v h))
       (λ x k. (d, placed, k)))
@@ -127,7 +128,7 @@ module _ (is_later : ℕ → Bool) (meaning : ℕ → NamedAs) (s : TypingContex
   assigned_typed at equals (DenotesVariable target) h e l =
       choice (is_aggregate target.description) _ _
       (λ aggregate. read_then (IsMeant s) (IsTypedForm 31 s) (meant M AsArgument e) (aggregate_assigned equals target)
-      (meant_typed is_later meaning s known AsArgument e l) (aggregate_typed s equals target aggregate h))
+      (meant_typed is_later is_based based meaning s known AsArgument e l) (aggregate_typed s equals target aggregate h))
       (scalar_typed equals target.reference target.description h.0 e l)
   assigned_typed at equals (DenotesResult v) h e l = tt
 
@@ -135,7 +136,7 @@ module _ (is_later : ℕ → Bool) (meaning : ℕ → NamedAs) (s : TypingContex
       → later_expression L e ≡ false → OnRead (IsTypedForm 31 s) (assignment M at target equals e)
   assignment_typed at target equals e l m =
       read_then (IsDenoted s) (IsTypedForm 31 s) (referred M AsTarget target) _
-      (referred_typed is_later meaning s known AsTarget target l) (λ d h. assigned_typed at equals d h e m)
+      (referred_typed is_later is_based based meaning s known AsTarget target l) (λ d h. assigned_typed at equals d h e m)
 
   -- calls
   no_function_typed : (p : NamedProcedure) (callable : IsCallable s p) (xs : TypedArguments) → ArePassed 31 s xs p.parameters
@@ -153,7 +154,7 @@ module _ (is_later : ℕ → Bool) (meaning : ℕ → NamedAs) (s : TypingContex
 
   arguments_read : (a : Arguments) → later_arguments L a ≡ false → OnRead (AreArguments s) (arguments_typed M a)
   arguments_read Absent l = tt
-  arguments_read (Given list) l = list_typed is_later meaning s known [] list l
+  arguments_read (Given list) l = list_typed is_later is_based based meaning s known [] list l
 
   pub call_is_typed : (name : Identifier) (a : Arguments) → later_arguments L a ≡ false
       → OnRead (IsTypedForm 31 s) (call_typed M name a)
@@ -180,7 +181,7 @@ module _ (is_later : ℕ → Bool) (meaning : ℕ → NamedAs) (s : TypingContex
         → OnRead (IsTypedForm 31 s) (return_typed M su at v)
     return_is_typed at None l = without_value at su.value refl
     return_is_typed at (Some e) l =
-        read_then (HasValue s) (IsTypedForm 31 s) (value_of M e) _ (value_typed is_later meaning s known e l)
+        read_then (HasValue s) (IsTypedForm 31 s) (value_of M e) _ (value_typed is_later is_based based meaning s known e l)
         (λ v h. with_value at (first_token e) v h su.value refl)
 
   -- jumps
@@ -205,7 +206,7 @@ module _ (is_later : ℕ → Bool) (meaning : ℕ → NamedAs) (s : TypingContex
 
   limit_typed : (e : Expression) → later_expression L e ≡ false → OnRead (IsNumber 31 s) (limit M e)
   limit_typed e l =
-      read_then (HasValue s) (IsNumber 31 s) (value_of M e) _ (value_typed is_later meaning s known e l)
+      read_then (HasValue s) (IsNumber 31 s) (value_of M e) _ (value_typed is_later is_based based meaning s known e l)
       (λ v h. read_option (IsNumber 31 s) WrongOperandType (first_token e) (number_of 31 v)
       (limit_given v (precision_of 31 v.kind) (has_precision s v.expression v.kind h)))
 
@@ -233,15 +234,17 @@ module _ (is_later : ℕ → Bool) (meaning : ℕ → NamedAs) (s : TypingContex
   abbrev Suits : TypedRange → Referent → Type 0
   Suits range r = IsReferent s r × (suits_range r.description range ≡ true)
 
-  suited : (at : ℕ) (range : TypedRange) (r : Referent) → IsReferent s r → (b : Bool) → without_subscripts r.reference ≡ b
-      → (c : Bool) → suits_range r.description range ≡ c → OnRead (Suits range) (controls at range (DenotesVariable r))
-  suited at range r h true e true f = rw (e, f) (h, f)
-  suited at range r h true e false f = rw (e, f) tt
-  suited at range r h false e c f = rw e tt
+  suited : (at : ℕ) (is_located : Bool) (range : TypedRange) (r : Referent) → IsReferent s r → (b : Bool)
+      → (without_subscripts r.reference && not is_located) ≡ b → (c : Bool) → suits_range r.description range ≡ c
+      → OnRead (Suits range) (controls at is_located range (DenotesVariable r))
+  suited at is_located range r h true e true f = rw (e, f) (h, f)
+  suited at is_located range r h true e false f = rw (e, f) tt
+  suited at is_located range r h false e c f = rw e tt
 
-  controls_typed : (at : ℕ) (range : TypedRange) (d : Denoted) → IsDenoted s d → OnRead (Suits range) (controls at range d)
-  controls_typed at range (DenotesVariable r) h = suited at range r h _ refl _ refl
-  controls_typed at range (DenotesResult v) h = tt
+  controls_typed : (at : ℕ) (is_located : Bool) (range : TypedRange) (d : Denoted) → IsDenoted s d
+      → OnRead (Suits range) (controls at is_located range d)
+  controls_typed at is_located range (DenotesVariable r) h = suited at is_located range r h _ refl _ refl
+  controls_typed at is_located range (DenotesResult v) h = tt
 
   possible_condition_typed : (o : Option Expression) → later_part (later_expression L) o ≡ false
       → OnRead (IsPossibleCondition 31 s) (possible_condition M o)
@@ -252,7 +255,7 @@ module _ (is_later : ℕ → Bool) (meaning : ℕ → NamedAs) (s : TypingContex
   next_typed : (d : Description) (operations : List TypedOperation) (e : Expression) → later_expression L e ≡ false
       → OnRead (IsRange 31 s operations d) (next_value M d e)
   next_typed d operations e l =
-      read_then (HasValue s) (IsRange 31 s operations d) (value_of M e) _ (value_typed is_later meaning s known e l)
+      read_then (HasValue s) (IsRange 31 s operations d) (value_of M e) _ (value_typed is_later is_based based meaning s known e l)
       (λ v h. read_then (IsValueFor 31 s d) (IsRange 31 s operations d)
       (or_fault CannotAssign (first_token e) (converted 31 d v)) _
       (read_option (IsValueFor 31 s d) CannotAssign (first_token e) (converted 31 d v) (conversion_held s d v h))
@@ -273,12 +276,12 @@ module _ (is_later : ℕ → Bool) (meaning : ℕ → NamedAs) (s : TypingContex
       let front : (_ ≡ false) × (later_part (later_expression L) tested ≡ false) = or_parts _ _ l in
       let inner : (_ ≡ false) × (later_part (later_range L) range ≡ false) = or_parts _ _ front.0 in
       let both : (later_reference L variable ≡ false) × (later_expression L first ≡ false) = or_parts _ _ inner.0 in
-      read_then (HasValue s) (IsIteration 31 s) (value_of M first) _ (value_typed is_later meaning s known first both.1)
+      read_then (HasValue s) (IsIteration 31 s) (value_of M first) _ (value_typed is_later is_based based meaning s known first both.1)
       (λ v h. read_then (AreLimits s) (IsIteration 31 s) (limits M range) _ (limits_typed range inner.1)
       (λ kept k. read_then (IsDenoted s) (IsIteration 31 s) (referred M AsLocator variable) _
-      (referred_typed is_later meaning s known AsLocator variable both.0)
-      (λ d g. read_then (Suits kept) (IsIteration 31 s) (controls (first_token (Referred variable)) kept d) _
-      (controls_typed (first_token (Referred variable)) kept d g)
+      (referred_typed is_later is_based based meaning s known AsLocator variable both.0)
+      (λ d g. read_then (Suits kept) (IsIteration 31 s) (controls (first_token (Referred variable)) (has_locator variable) kept d) _
+      (controls_typed (first_token (Referred variable)) (has_locator variable) kept d g)
       (λ r m. read_then (Converts s r.description v.expression) (IsIteration 31 s)
       (or_fault CannotAssign equals (conversions 31 r.description v.kind)) _
       (read_option (Converts s r.description v.expression) CannotAssign equals (conversions 31 r.description v.kind)

@@ -11,14 +11,14 @@ use Rattle.pli_resolve.specs.declared.built_in.BuiltInFunction.{BuiltInFunction}
 use Rattle.pli_resolve.specs.declared.built_in.BuiltInFunction.TheVariants as functions
 use Rattle.pli_type.specs.ExpressionTypes.{TypedValue, precision_of, precisions, all_operands}
 use Rattle.pli_type.specs.FunctionCalls.{Meant, OneValue, WholeAggregate, meant_as, Argument, calculation, of_values, string_kind, with_number, of_one_kind}
-use Rattle.pli_type.specs.FunctionCalls.{Denoted, DenotesVariable, DenotesResult, a_count, number_type, bound_value, bound_in, the_bound, generations_in, generations_of, value_in, values_in}
+use Rattle.pli_type.specs.FunctionCalls.{Denoted, DenotesVariable, DenotesResult, a_count, number_type, bound_value, bound_in, the_bound, generations_in, generations_of, address_in, address_of, value_in, values_in}
 use Rattle.pli_type.specs.FunctionCalls.{divided, of_arguments, or_bad_argument, function_called}
 use Rattle.pli_type.specs.NamedUnits.{is_plain, are_bounds}
 use Rattle.pli_type.specs.References.{Role}
 use Rattle.pli_type.specs.declared.expression_type.ExpressionType.{ExpressionType}
 use Rattle.pli_type.specs.declared.expression_type.ExpressionType.TheVariants as types
 use Rattle.pli_type_laws.proofs.Conversions.{OnGiven, given_if}
-use Rattle.pli_type_laws.proofs.Denotations.{OnRead, IsMeant, IsDenoted, AreArguments, denoted_meant}
+use Rattle.pli_type_laws.proofs.Denotations.{OnRead, IsOfWhole, IsMeant, IsDenoted, AreArguments, denoted_meant}
 use Rattle.pli_type_laws.proofs.Operators.{HasValue, has_precision, have_precisions, of_one, of_two, AreNumbers}
 use Rattle.pli_type_laws.specs.ExpressionTyping.{HasType, IsNumber}
 use Rattle.pli_program.specs.declared.kind.VariableKind.TheVariants.{Controlled}
@@ -26,6 +26,7 @@ use Rattle.pli_type_tree.specs.laws.GlobalLaws.{described_parts}
 use Rattle.pli_type_tree.specs.TypedTree.{NewestOf, Operate, TypedExpression, Calculated, TypedReference, Whole}
 use Rattle.pli_type_tree.specs.ValueTypes.{ValueType, Numbers, OfCharacters, OfBits, Computes}
 use Rattle.pli_type_tree.specs.WellTyped.{TypingContext, IsTyped, IsPlaced}
+use Rattle.pli_value.specs.declared.locator.Locator.TheVariants as locators
 
 abbrev pub AreValues : TypingContext → List TypedValue → Type 0
 AreValues s [] = Unit {0}
@@ -235,6 +236,16 @@ module _ (s : TypingContext) where
   generations_given (DenotesVariable r) h = generations_typed r.reference r.description h.0
   generations_given (DenotesResult v) h = tt
 
+  -- pointers to variables
+  address_typed : (passed : Bool) (r : TypedReference) (d : Description) → IsPlaced 31 s r d → (passed ≡ false → IsOfWhole s r)
+      → OnGiven (HasValue s) (address_in passed r)
+  address_typed false (Whole root) d placed own = ((own refl, (d, placed)), refl)
+  address_typed passed r d placed own = tt
+
+  address_given : (d : Denoted) → IsDenoted s d → OnGiven (HasValue s) (address_of d)
+  address_given (DenotesVariable r) h = address_typed r.is_parameter r.reference r.description h.0 h.2
+  address_given (DenotesResult v) h = tt
+
   -- arguments that are values
   one_value_in : (m : Meant) → IsMeant s m → OnGiven (HasValue s) (value_in m)
   one_value_in (OneValue v) h = h
@@ -272,6 +283,8 @@ module _ (s : TypingContext) where
   arguments_give functions.HighBound (a ∷ n ∷ []) h =
       bound_of (λ b. b.high) (λ bs e. (bounds_small bs e).1) (meant_as a.denoted) n.written (denoted_meant s a.denoted h.0)
   arguments_give functions.Allocation (a ∷ []) h = generations_given a.denoted h.0
+  arguments_give functions.Address (a ∷ []) h = address_given a.denoted h.0
+  arguments_give functions.Null [] h = (locators.Null, refl, refl)
   arguments_give function gs h = by_values function gs h
 
   or_bad : (at : ℕ) (o : Option TypedValue) → OnGiven (HasValue s) o → OnRead (HasValue s) (or_bad_argument at o)

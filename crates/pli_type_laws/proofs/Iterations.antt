@@ -3,7 +3,7 @@ use Rattle.std.specs.Prelude.{◌≡◌, ℕ, true, Option, Some, None, option_m
 use Rattle.std.proofs.lemmas.Bool.{false≢true}
 use Rattle.pli_map.specs.Description as described
 use Rattle.pli_map.specs.Description.{Description}
-use Rattle.pli_type.specs.ExpressionTypes.{string_conversions, conversions, columns, decimal_digits}
+use Rattle.pli_type.specs.ExpressionTypes.{string_conversions, pointer_conversions, conversions, columns, decimal_digits}
 use Rattle.pli_type.specs.StatementTyping.{suits_range}
 use Rattle.pli_type.specs.declared.expression_type.ExpressionType.{ExpressionType}
 use Rattle.pli_type.specs.declared.expression_type.ExpressionType.TheVariants as types
@@ -11,7 +11,7 @@ use Rattle.pli_type_laws.proofs.Conversions.{OnGiven, within_self}
 use Rattle.pli_type_laws.proofs.Widths.{near_has_columns}
 use Rattle.pli_type_laws.specs.ExpressionTyping.{HasType}
 use Rattle.pli_type_tree.specs.TypedTree.{TypedOperation, Fit, TypedExpression, TypedRange, Once, ToBy, ByTo, Repeated}
-use Rattle.pli_type_tree.specs.ValueTypes.{ValueType, Numbers, Strings, OfCharacters, OfBits, type_held, IsFitted}
+use Rattle.pli_type_tree.specs.ValueTypes.{ValueType, Numbers, Strings, Pointers, OfCharacters, OfBits, type_held, IsFitted}
 use Rattle.pli_type_tree.specs.WellTyped.{TypingContext, IsTyped, Convert, Counts, IsNumber, IsPossibleNumber, IsRange}
 
 -- a number counts, whatever the number is that is converted to it
@@ -65,7 +65,8 @@ module _ (s : TypingContext) where
     h.2,
     (Strings OfCharacters h.0 h.1, (OfBits, h.0, h.1, refl, (refl, refl)), last d (Strings OfCharacters h.0 h.1) u (fits h.0 h.1) held),
   )
-  characters_convert d u held fits e types.Pointer h = absurd h
+  characters_convert d u held fits e types.Pointer h = tt
+  characters_convert d u held fits e types.Null h = tt
   characters_convert d u held fits e types.Offset h = absurd h
   characters_convert d u held fits e types.Area h = absurd h
 
@@ -74,6 +75,13 @@ module _ (s : TypingContext) where
       → OnGiven (Converts d e) (option_map (λ operations. operations ++ Fit d ∷ []) o)
   fitted_last d e (Some operations) counts h = (h, counts (operations ++ Fit d ∷ []))
   fitted_last d e None counts h = tt
+
+  -- a pointer needs no conversion
+  pointers_convert : (e : TypedExpression) (kind : ExpressionType) → HasType s e kind
+      → OnGiven (Converts described.Pointer e) (pointer_conversions kind)
+  pointers_convert e types.Pointer h = ((Pointers, h, (Pointers, refl, tt)), tt)
+  pointers_convert e types.Null h = ((Pointers, h, (Pointers, refl, tt)), tt)
+  pointers_convert e kind h = tt
 
   pub conversions_hold : (d : Description) (e : TypedExpression) (kind : ExpressionType) → HasType s e kind
       → OnGiven (Converts d e) (conversions 31 d kind)
@@ -85,7 +93,7 @@ module _ (s : TypingContext) where
       fitted_last (described.Varying k) e (string_conversions kind) (λ operations. tt)
       (characters_convert (described.Varying k) _ refl (λ a b. tt) e kind h)
   conversions_hold (described.Bit k) e kind h = bits_convert k e kind h
-  conversions_hold described.Pointer e kind h = tt
+  conversions_hold described.Pointer e kind h = pointers_convert e kind h
   conversions_hold described.Offset e kind h = tt
   conversions_hold (described.Area k) e kind h = tt
   conversions_hold (described.Array bounds element) e kind h = tt

@@ -1,6 +1,6 @@
 -- What the type checker gives is numbered well: by induction on the source tree.
 use Rattle.std.specs.Prelude.{◌≡◌, ℕ, zero, suc, ◌+◌, ◌-◌, ◌≤◌, ◌<◌, Bool, true, false, Option, Some, None, List, [], ◌∷◌}
-use Rattle.std.specs.Prelude.{length, Result, Ok, Err, refl}
+use Rattle.std.specs.Prelude.{length, map, Result, Ok, Err, refl}
 use Rattle.std.specs.List.{flat_map, AllByRecursion}
 use Rattle.std.proofs.Common.{arith, sym, ap, ◌∙◌, subst, length-append}
 use Rattle.std.proofs.lemmas.Bool.{false≢true}
@@ -19,7 +19,7 @@ use Rattle.pli_type.specs.StatementTyping.{allocate_typed, free_typed, call_type
 use Rattle.pli_type.specs.StatementTyping.{procedure_of, as_procedure, put_before, inside, behind_limits, in_group, in_begin, in_procedure}
 use Rattle.pli_type.specs.StatementTyping.{statement_typed, body_typed, alternative_typed, statements_typed}
 use Rattle.pli_resolve.specs.TreeBlocks as blocks
-use Rattle.pli_type.specs.Temporaries.{Next, behind, limits_kept, temporaries_in, temporaries_of, temporaries_among, temporaries_behind}
+use Rattle.pli_type.specs.Temporaries.{Next, behind, limits_kept, based_among, temporaries_in, temporaries_of, temporaries_among, temporaries_behind}
 use Rattle.pli_type.specs.Unbuilt.{first_unbuilt}
 use Rattle.pli_type_laws.proofs.Counting.{same, below, below_next, below_bound, in_blocks, of_blocks, in_both, of_both}
 use Rattle.pli_type_laws.proofs.Counting.{blocks_placed, ordered_distinct}
@@ -27,9 +27,10 @@ use Rattle.pli_type_laws.proofs.Denotations.{OnRead}
 use Rattle.pli_type_laws.proofs.NumberedParts.{AreRoomy, roomy_both, blocks_within, Good, good_alone, good_made, good_both}
 use Rattle.pli_type_laws.proofs.NumberedParts.{HereForm, HereStatement, HereElse, HereList, GoodForm, GoodStatement, GoodElse, GoodList}
 use Rattle.pli_type_laws.proofs.NumberedParts.{good_numbered, good_begin, good_procedure}
-use Rattle.pli_type_laws.proofs.Shapes.{IsSimple, simple_assignment, simple_goto, simple_call, simple_return, simple_allocate, simple_free, HasOwn, iteration_keeps}
+use Rattle.pli_type_laws.proofs.Shapes.{IsSimple, simple_assignment, simple_goto, simple_call, simple_return, simple_free, IsAllocation, allocate_keeps, HasOwn, iteration_keeps}
 use Rattle.pli_type_laws.proofs.TypedParts.{OnTyped}
 use Rattle.pli_type_laws.specs.TypedUnits.{TypedUnitsAreNumbered}
+use Rattle.pli_type_name_laws.specs.NameFacts.{KnowsBased}
 use Rattle.pli_type_name_laws.specs.Nesting.{NestsWithin, BodyNests, ListNests, ElseNests}
 use Rattle.pli_type_name_laws.specs.Numbering.{IsNumbered, IsNumberedBody, AreNumbered, IsNumberedElse}
 use Rattle.pli_type_tree.specs.Iterations.{is_iterated}
@@ -45,6 +46,7 @@ simple_good m t z a b k (typed.Begin head ss) le h = absurd h
 simple_good m t z a b k (typed.Group ss) le h = absurd h
 simple_good m t z a b k (typed.While c ss) le h = absurd h
 simple_good m t z a b k (typed.Iterate i ss) le h = absurd h
+simple_good m t z a b k (typed.Allocate items) le h = absurd h
 simple_good m t z a b k f le h =
     good_alone numbers_in_form blocks_of_form (HereForm m t z) a b k f le refl (λ parent. refl)
     ((λ j lt. tt), (λ used size u s. tt))
@@ -53,6 +55,14 @@ own_good : (m t z a b k l : ℕ) (r : Result Form Fault) → a ≤ b → k ≡ l
     → OnTyped (GoodForm m t z a b k l) (of_own r)
 own_good m t z a b k l (Ok f) le e h = subst (λ l. GoodForm m t z a b k l (alone f)) e (simple_good m t z a b k f le h)
 own_good m t z a b k l (Err f) le e h = tt
+
+allocate_good : (m t count a b k l : ℕ) (r : Result Form Fault) → a ≤ b → k ≡ l → OnRead (IsAllocation t count) r
+    → OnTyped (GoodForm m t (t + count) a b k l) (of_own r)
+allocate_good m t count a b k l (Ok (typed.Allocate items)) le e h =
+    subst (λ l. GoodForm m t (t + count) a b k l (alone (typed.Allocate items))) e
+    (good_alone numbers_in_form blocks_of_form (HereForm m t (t + count)) a b k (typed.Allocate items) le refl (λ parent. refl) ((λ j lt. tt), h.0))
+allocate_good m t count a b k l (Ok f) le e h = absurd h
+allocate_good m t count a b k l (Err f) le e h = tt
 
 put_form_good : (m t z a b k l : ℕ) (skip : Bool) (r : Result (List TypedExpression) Fault) → a ≤ b → k ≡ l
     → OnTyped (GoodForm m t z a b k l) (made (typed.Put skip) (of_own r))
@@ -110,7 +120,7 @@ begin_good m i t a b c k l head (Err fs) few le e g = tt
 
 procedure_good : (u : NamedUnit) (parent : Option ℕ) (statement end : ℕ) (ss : Statements) (m i t a b c k l : ℕ)
     (r : Result (WithProcedures TypedStatements) (List Fault)) → i < 64 → b ≤ c
-    → OnTyped (GoodList i 0 (temporaries_among ss) a b (suc k) l) r
+    → OnTyped (GoodList i 0 (temporaries_among u.compiled.is_based ss) a b (suc k) l) r
     → OnTyped (GoodForm m t t a c k l) (as_procedure (procedure_of u parent k statement end ss) r)
 procedure_good u parent statement end ss m i t a b c k l (Ok y) few le g =
     good_procedure i m t a b c k l (procedure_of u parent k statement end ss y.part) y.procedures few le refl g
@@ -217,11 +227,11 @@ deeper_in : (levels : ℕ) (F : ℕ → Type 0) (X : Type 0) → Deeper F levels
 deeper_in zero F X h g = absurd h
 deeper_in (suc m) F X h g = g m refl h
 
-module _ (u : NamedUnit) where
+module _ (u : NamedUnit) (knows : KnowsBased u) where
   mutual
     statement_good : (d : Bool) (m : ℕ) (s : Surroundings) (x : Next) (a : ℕ) (st : Statement) → m < 64 → NestsWithin d m st
         → IsNumbered a st
-        → OnTyped (GoodStatement m x.temporary (x.temporary + temporaries_in st) a (a + count st) x.block
+        → OnTyped (GoodStatement m x.temporary (x.temporary + temporaries_in u.compiled.is_based st) a (a + count st) x.block
         (x.block + blocks.blocks_in st)) (statement_typed u s x st)
     statement_good d m s x a (Numbered number label at body) few n h =
         numbered_good m x.temporary _ a _ x.block _ number (body_typed u s x number at body) h.0
@@ -230,7 +240,7 @@ module _ (u : NamedUnit) where
 
     body_good : (d : Bool) (m : ℕ) (s : Surroundings) (x : Next) (number at a : ℕ) (body : Body) → m < 64 → BodyNests d m body
         → IsNumberedBody a body
-        → OnTyped (GoodForm m x.temporary (x.temporary + temporaries_of body) a (a + body_count body) x.block
+        → OnTyped (GoodForm m x.temporary (x.temporary + temporaries_of u.compiled.is_based body) a (a + body_count body) x.block
         (x.block + blocks.blocks_of body)) (body_typed u s x number at body)
     body_good d m s x number at a (tree.Procedure heading ss end) few n h =
         deeper_in m (λ m. ListNests true m ss) _ n.1
@@ -239,7 +249,7 @@ module _ (u : NamedUnit) where
         (procedure_good u (Some (block_at s)) number end ss m i x.temporary a (a + list_count ss) (a + (list_count ss + 1)) x.block
         (suc x.block + blocks.blocks_among ss)
         (statements_typed u (in_procedure x.block (u.returned x.block) ss s) (inside x) ss) (omega (arith, few, e)) (omega arith)
-        (list_at i 0 (0 + temporaries_among ss) _ a _ _ (suc x.block) _ _
+        (list_at i 0 (0 + temporaries_among u.compiled.is_based ss) _ a _ _ (suc x.block) _ _
         (statements_typed u (in_procedure x.block (u.returned x.block) ss s) (inside x) ss) (omega arith) refl refl
         (list_good true i (in_procedure x.block (u.returned x.block) ss s) (inside x) a ss (omega (arith, few, e)) g h.0))))
     body_good d m s x number at a (tree.Begin ss end) few n h =
@@ -249,21 +259,21 @@ module _ (u : NamedUnit) where
         (begin_good m i x.temporary a (a + list_count ss) (a + (list_count ss + 1)) x.block
         (suc x.block + blocks.blocks_among ss) (head_of u x.block number ss)
         (statements_typed u (in_begin x.block ss s) (inside x) ss) (omega (arith, few, e)) (omega arith) refl
-        (list_at i 0 (0 + temporaries_among ss) _ a _ _ (suc x.block) _ _
+        (list_at i 0 (0 + temporaries_among u.compiled.is_based ss) _ a _ _ (suc x.block) _ _
         (statements_typed u (in_begin x.block ss s) (inside x) ss) (omega arith) refl refl
         (list_good true i (in_begin x.block ss s) (inside x) a ss (omega (arith, few, e)) g h.0))))
     body_good d m s x number at a (tree.Do None ss end) few n h =
         deeper_in m (λ m. ListNests false m ss) _ n
         (λ i e g. group_good m i x.temporary _ a (a + list_count ss) _ x.block _ (statements_typed u (in_group ss s) x ss) e
         (omega arith)
-        (list_at i x.temporary (x.temporary + temporaries_among ss) _ a _ _ x.block _ _
+        (list_at i x.temporary (x.temporary + temporaries_among u.compiled.is_based ss) _ a _ _ x.block _ _
         (statements_typed u (in_group ss s) x ss) (omega arith) refl refl
         (list_good false i (in_group ss s) x a ss (omega (arith, few, e)) g h.0)))
     body_good d m s x number at a (tree.Do (Some (tree.While tested)) ss end) few n h =
         deeper_in m (λ m. ListNests false m ss) _ n
         (λ i e g. while_good m i x.temporary _ a (a + list_count ss) _ x.block _ (condition (naming_at u s) tested)
         (statements_typed u (in_group ss s) x ss) e (omega arith)
-        (list_at i x.temporary (x.temporary + temporaries_among ss) _ a _ _ x.block _ _
+        (list_at i x.temporary (x.temporary + temporaries_among u.compiled.is_based ss) _ a _ _ x.block _ _
         (statements_typed u (in_group ss s) x ss) (omega arith) refl refl
         (list_good false i (in_group ss s) x a ss (omega (arith, few, e)) g h.0)))
     body_good d m s x number at a (tree.Do (Some (tree.Iterate variable equals first range tested)) ss end) few n h =
@@ -272,21 +282,21 @@ module _ (u : NamedUnit) where
         (iteration (naming_at u s) x.temporary variable equals first range tested)
         (statements_typed u (in_group ss s) (behind_limits range x) ss) e (omega arith) (omega arith)
         (iteration_keeps (naming_at u s) x.temporary variable equals first range tested)
-        (list_at i (x.temporary + suc (limits_kept range)) (x.temporary + suc (limits_kept range) + temporaries_among ss) _ a _ _
+        (list_at i (x.temporary + suc (limits_kept range)) (x.temporary + suc (limits_kept range) + temporaries_among u.compiled.is_based ss) _ a _ _
         x.block _ _ (statements_typed u (in_group ss s) (behind_limits range x) ss) (omega arith) refl refl
         (list_good false i (in_group ss s) (behind_limits range x) a ss (omega (arith, few, e)) g h.0)))
     body_good d m s x number at a (tree.If tested consequence alternative) few n h =
         deeper_in m (λ m. NestsWithin false m consequence × ElseNests m alternative) _ n
         (λ i e g. form_at m x.temporary
-        (x.temporary + temporaries_in consequence + temporaries_behind alternative) _ a
+        (x.temporary + temporaries_in u.compiled.is_based consequence + temporaries_behind u.compiled.is_based alternative) _ a
         (a + count consequence + alternative_count alternative) _ x.block
         (x.block + blocks.blocks_in consequence + blocks.blocks_behind alternative) _
         (body_typed u s x number at (tree.If tested consequence alternative)) (omega arith) (omega arith) (omega arith)
-        (if_good m i x.temporary (x.temporary + temporaries_in consequence) _ a (a + count consequence) _ x.block
+        (if_good m i x.temporary (x.temporary + temporaries_in u.compiled.is_based consequence) _ a (a + count consequence) _ x.block
         (x.block + blocks.blocks_in consequence) _ (condition (naming_at u s) tested) (statement_typed u s x consequence)
-        (alternative_typed u s (behind x consequence) alternative) e (omega arith) (omega arith)
+        (alternative_typed u s (behind u.compiled.is_based x consequence) alternative) e (omega arith) (omega arith)
         (statement_good false i s x a consequence (omega (arith, few, e)) g.0 h.0)
-        (alternative_good i s (behind x consequence) (a + count consequence) alternative (omega (arith, few, e)) g.1 h.1)))
+        (alternative_good i s (behind u.compiled.is_based x consequence) (a + count consequence) alternative (omega (arith, few, e)) g.1 h.1)))
     body_good d m s x number at a tree.Null few n h =
         own_good m x.temporary _ a (a + 0) x.block (x.block + 0) (Ok typed.Null) (omega arith) (omega arith) tt
     body_good d m s x number at a (tree.Declare declared) few n h =
@@ -297,8 +307,8 @@ module _ (u : NamedUnit) where
         own_good m x.temporary _ a (a + 0) x.block (x.block + 0) (assignment (naming_at u s) at target equals value) (omega arith)
         (omega arith) (simple_assignment (naming_at u s) at target equals value)
     body_good d m s x number at a (tree.Allocate list) few n h =
-        own_good m x.temporary _ a (a + 0) x.block (x.block + 0) (allocate_typed (naming_at u s) list) (omega arith)
-        (omega arith) (simple_allocate (naming_at u s) list)
+        allocate_good m x.temporary (based_among u.compiled.is_based list) a (a + 0) x.block (x.block + 0) (allocate_typed (naming_at u s) x.temporary list) (omega arith)
+        (omega arith) (allocate_keeps (naming_at u s) u.compiled.is_based (knows (map (λ b. b.number) s.blocks)) x.temporary list)
     body_good d m s x number at a (tree.Free list) few n h =
         own_good m x.temporary _ a (a + 0) x.block (x.block + 0) (free_typed (naming_at u s) list) (omega arith)
         (omega arith) (simple_free (naming_at u s) list)
@@ -317,7 +327,7 @@ module _ (u : NamedUnit) where
 
     alternative_good : (m : ℕ) (s : Surroundings) (x : Next) (a : ℕ) (e : Alternative) → m < 64 → ElseNests m e
         → IsNumberedElse a e
-        → OnTyped (GoodElse m x.temporary (x.temporary + temporaries_behind e) a (a + alternative_count e) x.block
+        → OnTyped (GoodElse m x.temporary (x.temporary + temporaries_behind u.compiled.is_based e) a (a + alternative_count e) x.block
         (x.block + blocks.blocks_behind e)) (alternative_typed u s x e)
     alternative_good m s x a tree.NoElse few n h =
         subst (λ l. GoodElse m x.temporary (x.temporary + 0) a (a + 0) x.block l (alone NoElse)) (omega arith)
@@ -328,7 +338,7 @@ module _ (u : NamedUnit) where
 
     pub list_good : (d : Bool) (m : ℕ) (s : Surroundings) (x : Next) (a : ℕ) (ss : Statements) → m < 64 → ListNests d m ss
         → AreNumbered a ss
-        → OnTyped (GoodList m x.temporary (x.temporary + temporaries_among ss) a (a + list_count ss) x.block
+        → OnTyped (GoodList m x.temporary (x.temporary + temporaries_among u.compiled.is_based ss) a (a + list_count ss) x.block
         (x.block + blocks.blocks_among ss)) (statements_typed u s x ss)
     list_good d m s x a Ended few n h =
         subst (λ l. GoodList m x.temporary (x.temporary + 0) a (a + 0) x.block l (alone NoStatement)) (omega arith)
@@ -336,21 +346,21 @@ module _ (u : NamedUnit) where
         refl (λ parent. refl) ((λ j lt. tt), (λ used size u s. tt)))
     list_good d m s x a (Before (Numbered number label at body) more) few n h =
         list_at m x.temporary
-        (x.temporary + temporaries_in (Numbered number label at body) + temporaries_among more) _ a
+        (x.temporary + temporaries_in u.compiled.is_based (Numbered number label at body) + temporaries_among u.compiled.is_based more) _ a
         (a + count (Numbered number label at body) + list_count more) _ x.block
         (x.block + blocks.blocks_in (Numbered number label at body) + blocks.blocks_among more) _
         (statements_typed u s x (Before (Numbered number label at body) more)) (omega arith) (omega arith) (omega arith)
-        (put_good m x.temporary (x.temporary + temporaries_in (Numbered number label at body)) _ a
+        (put_good m x.temporary (x.temporary + temporaries_in u.compiled.is_based (Numbered number label at body)) _ a
         (a + count (Numbered number label at body)) _ x.block (x.block + blocks.blocks_in (Numbered number label at body)) _ number
         (leaves_nothing body) (body_typed u s x number at body)
-        (statements_typed u s (behind x (Numbered number label at body)) more) (omega arith) (omega arith)
+        (statements_typed u s (behind u.compiled.is_based x (Numbered number label at body)) more) (omega arith) (omega arith)
         (λ e. nothing_left u s x number at body e)
         (statement_good d m s x a (Numbered number label at body) few n.0 h.0)
-        (list_good d m s (behind x (Numbered number label at body)) (a + count (Numbered number label at body)) more few n.1 h.1))
+        (list_good d m s (behind u.compiled.is_based x (Numbered number label at body)) (a + count (Numbered number label at body)) more few n.1 h.1))
 
   -- ---- the unit
 
-  module _ (a b l : ℕ) (y : WithProcedures TypedStatements) (g : GoodList 63 0 (temporaries_among u.tree.statements) a b 1 l y) where
+  module _ (a b l : ℕ) (y : WithProcedures TypedStatements) (g : GoodList 63 0 (temporaries_among u.compiled.is_based u.tree.statements) a b 1 l y) where
     abbrev Own : TypedProcedure
     Own = external_of u y.part
 
@@ -375,7 +385,7 @@ module _ (u : NamedUnit) where
     roomy : AreRoomy All
     roomy =
         roomy_both (blocks_of_procedure Own) (blocks_within y.procedures)
-        ((g.5.0 64 (omega arith), g.5.1 0 (temporaries_among u.tree.statements) (omega arith) (omega arith)), g.3 0) g.4
+        ((g.5.0 64 (omega arith), g.5.1 0 (temporaries_among u.compiled.is_based u.tree.statements) (omega arith) (omega arith)), g.3 0) g.4
 
     all_loops : (bs : List BlockTree) → AreRoomy bs → AllByRecursion (λ b. HaveRoom 64 b.statements) bs
     all_loops [] h = tt
@@ -400,7 +410,7 @@ module _ (u : NamedUnit) where
   given_same r e f = cc
 
   numbered_unit : (t : TypedUnit) (a b l : ℕ) (o : Option ℕ) (r : Result (WithProcedures TypedStatements) (List Fault))
-      → OnTyped (GoodList 63 0 (temporaries_among u.tree.statements) a b 1 l) r → unless_unbuilt o (typed_as u r) ≡ Ok t
+      → OnTyped (GoodList 63 0 (temporaries_among u.compiled.is_based u.tree.statements) a b 1 l) r → unless_unbuilt o (typed_as u r) ≡ Ok t
       → IsWellNumbered t
   numbered_unit t a b l None (Ok y) g e = subst IsWellNumbered (given_same (Ok (unit_of u y)) refl e) (well_numbered a b l y g)
   numbered_unit t a b l None (Err fs) g e = absurd (error_given _ refl e)
@@ -412,9 +422,9 @@ module _ (u : NamedUnit) where
   unit_numbered t from h n e =
       numbered_unit t from _ _ (first_unbuilt u.compiled u.tree)
       (statements_typed u (in_unit (u.returned 0) u.tree.statements) first_inside u.tree.statements)
-      (list_at 63 0 (0 + temporaries_among u.tree.statements) _ from _ _ 1 _ _
+      (list_at 63 0 (0 + temporaries_among u.compiled.is_based u.tree.statements) _ from _ _ 1 _ _
       (statements_typed u (in_unit (u.returned 0) u.tree.statements) first_inside u.tree.statements) (omega arith) refl refl
       (list_good true 63 (in_unit (u.returned 0) u.tree.statements) first_inside from u.tree.statements (omega arith) n h)) e
 
 pub units_are_numbered : TypedUnitsAreNumbered
-units_are_numbered u t from h nests e = unit_numbered u t from h nests e
+units_are_numbered u t from h nests knows e = unit_numbered u knows t from h nests e

@@ -1,5 +1,7 @@
 -- Operators give values of their types.
-use Rattle.std.specs.Prelude.{◌≡◌, ℕ, ◌+◌, min, max, Option, Some, None, option_map, [], ◌∷◌, refl}
+use Rattle.std.specs.Prelude.{◌≡◌, ℕ, ◌+◌, min, max, Bool, true, false, ◌&&◌, Option, Some, None, option_map, [], ◌∷◌}
+use Rattle.std.specs.Prelude.{if◌then◌else◌, refl}
+use Rattle.std.proofs.lemmas.Bool.{false≢true}
 use Rattle.std.proofs.Common.{arith, inl, inr, sym, subst}
 use Rattle.pli_base.specs.declared.syntax.InfixOperator.{InfixOperator}
 use Rattle.pli_base.specs.declared.syntax.InfixOperator.TheVariants as infixes
@@ -11,13 +13,13 @@ use Rattle.pli_operation.specs.declared.operation.Relation.{Relation}
 use Rattle.pli_operation.specs.declared.operation.Relation.TheVariants.{Equal, Unequal, Less, AtMost, Greater, AtLeast}
 use Rattle.pli_type.specs.ExpressionTypes.{TypedValue, precision_of, precisions, paired, with_one, with_two, with_plus, with_minus, with_not}
 use Rattle.pli_type.specs.ExpressionTypes.{prefix_value, infix_value, on_numbers, sum_precision, product_precision}
-use Rattle.pli_type.specs.ExpressionTypes.{string_type, string_as, on_strings, as_bits, compared, comparison, concatenation, of_bits_alone}
+use Rattle.pli_type.specs.ExpressionTypes.{string_type, string_as, on_strings, as_bits, is_pointer, compared, pointers_compared, comparison, concatenation, of_bits_alone}
 use Rattle.pli_type.specs.declared.expression_type.ExpressionType.{ExpressionType}
 use Rattle.pli_type.specs.declared.expression_type.ExpressionType.TheVariants as types
 use Rattle.pli_type_laws.proofs.Conversions.{OnGiven}
 use Rattle.pli_type_laws.specs.ExpressionTyping.{HasType, IsShort, IsNumber, AreNear}
 use Rattle.pli_type_tree.specs.TypedTree.{Operate, TypedOperation, TypedExpression}
-use Rattle.pli_type_tree.specs.ValueTypes.{ValueType, Numbers, Strings, StringKind, OfCharacters, OfBits, Computes, Operates, longest}
+use Rattle.pli_type_tree.specs.ValueTypes.{ValueType, Numbers, Strings, Pointers, StringKind, OfCharacters, OfBits, Computes, Operates, longest}
 use Rattle.pli_type_tree.specs.WellTyped.{TypingContext, IsTyped}
 
 -- a value has its type
@@ -46,6 +48,7 @@ module _ (s : TypingContext) where
   has_precision e types.Characters h = tt
   has_precision e types.Bits h = tt
   has_precision e types.Pointer h = tt
+  has_precision e types.Null h = tt
   has_precision e types.Offset h = tt
   has_precision e types.Area h = tt
 
@@ -85,6 +88,7 @@ module _ (s : TypingContext) where
   minus e types.Characters o h n = tt
   minus e types.Bits o h n = tt
   minus e types.Pointer o h n = tt
+  minus e types.Null o h n = tt
   minus e types.Offset o h n = tt
   minus e types.Area o h n = tt
 
@@ -99,6 +103,7 @@ module _ (s : TypingContext) where
   negation e types.Bits h =
       (h.0, h.1, of_one (Operate Not) e (Strings OfBits h.0 h.1) _ h.2 (OfBits, h.0, h.1, refl, (refl, refl)), h.3)
   negation e types.Pointer h = tt
+  negation e types.Null h = tt
   negation e types.Offset h = tt
   negation e types.Area h = tt
 
@@ -168,7 +173,7 @@ module _ (s : TypingContext) where
       one_bit (on_strings (Compare relation) v w kind)
       (of_two (Compare relation) (string_as v.expression v.kind kind) (string_as w.expression w.kind kind)
       (Strings h.0 h.1.0 h.1.1) (Strings h.0 h.2.0 h.2.1) (Strings OfBits 1 1) h.1.2 h.2.2
-      (inr (h.0, h.1.0, h.1.1, h.2.0, h.2.1, refl, tt), refl))
+      (inr (inl (h.0, h.1.0, h.1.1, h.2.0, h.2.1, refl, tt)), refl))
   compared_type relation v w None a b h =
       given_map (λ x. IsShort s OfBits x.expression) (HasValue s) (λ x. as_bits x.expression)
       (on_numbers 31 (Compare relation) (sum_precision 31) v w) (λ x g. g)
@@ -182,11 +187,38 @@ module _ (s : TypingContext) where
           (of_two (Compare relation) v.expression w.expression (Numbers g.0.0) (Numbers g.1.0) (Strings OfBits 1 1)
           g.0.1 g.1.1 (inl (g.0.0, g.1.0, refl, tt), refl))
 
+  -- pointers
+  pointer_value : (e : TypedExpression) (kind : ExpressionType) → HasType s e kind → is_pointer kind ≡ true → IsTyped 31 s e Pointers
+  pointer_value e types.Pointer h is = h
+  pointer_value e types.Null h is = h
+  pointer_value e other h is = absurd (false≢true is)
+
+  pointers_type : (relation : Relation) (e f : TypedExpression) → IsTyped 31 s e Pointers → IsTyped 31 s f Pointers
+      → OnGiven (HasValue s) (pointers_compared relation e f)
+  pointers_type Equal e f a b =
+      one_bit (with_two (Compare Equal) e f)
+      (of_two (Compare Equal) e f Pointers Pointers (Strings OfBits 1 1) a b (inr (inr (tt, refl)), refl))
+  pointers_type Unequal e f a b =
+      one_bit (with_two (Compare Unequal) e f)
+      (of_two (Compare Unequal) e f Pointers Pointers (Strings OfBits 1 1) a b (inr (inr (tt, refl)), refl))
+  pointers_type relation e f a b = tt
+
   compares : (relation : Relation) (v w : TypedValue) → HasValue s v → HasValue s w
       → OnGiven (HasValue s) (comparison 31 relation v w)
-  compares relation v w a b =
-      compared_type relation v w (string_type v.kind w.kind) a b
-      (strings_meet v.expression v.kind w.expression w.kind a b)
+  compares relation v w a b = by (is_pointer v.kind) (is_pointer w.kind) refl refl
+    where
+      others : OnGiven (HasValue s) (compared 31 relation v w (string_type v.kind w.kind))
+      others =
+          compared_type relation v w (string_type v.kind w.kind) a b
+          (strings_meet v.expression v.kind w.expression w.kind a b)
+
+      by : (p q : Bool) → is_pointer v.kind ≡ p → is_pointer w.kind ≡ q
+          → OnGiven (HasValue s) (if p && q then pointers_compared relation v.expression w.expression
+          else compared 31 relation v w (string_type v.kind w.kind))
+      by true true e f =
+          pointers_type relation v.expression w.expression (pointer_value v.expression v.kind a e) (pointer_value w.expression w.kind b f)
+      by true false e f = others
+      by false q e f = others
 
   string_value : (k : StringKind) (e : TypedExpression) (kind : ExpressionType) → KindIs k kind → IsShort s k e
       → HasType s e kind

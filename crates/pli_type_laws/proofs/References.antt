@@ -1,17 +1,21 @@
 -- References lead to the parts that they are typed as.
-use Rattle.std.specs.Prelude.{◌≡◌, ℕ, Bool, true, false, ◌&&◌, IsTrue, Option, Some, None, option_and_then, List, [], ◌∷◌, ◌++◌, length, Result, Ok, Err, refl, if◌then◌else◌}
-use Rattle.std.proofs.Common.{sym, ap, ◌∙◌, subst}
+use Rattle.std.specs.Prelude.{◌≡◌, ℕ, Bool, true, false, ◌&&◌, IsTrue, Option, Some, None, option_map, option_and_then, List, [], ◌∷◌, ◌++◌, length, Result, Ok, Err, refl, if◌then◌else◌}
+use Rattle.std.proofs.Common.{sym, subst}
 use Rattle.pli_base.specs.Results.{◌>>=◌}
 use Rattle.pli_base.specs.declared.token.Fault.{Fault}
+use Rattle.pli_map.specs.Description.{Description, Pointer}
 use Rattle.pli_map.specs.Scalars.{is_aggregate}
 use Rattle.pli_type.specs.NamedUnits.{is_plain}
-use Rattle.pli_type.specs.Names.{NamedVariable}
+use Rattle.pli_type.specs.Names.{NamedStorage, Begins, IsBased, NamedVariable}
 use Rattle.pli_type.specs.References.{Role, wants_scalar, StridedPart, part_of, with_subscripts, subscripts_at, reference_to, Referent}
-use Rattle.pli_type.specs.References.{permitted, settled, variable_meant}
-use Rattle.pli_type_laws.proofs.Denotations.{OnRead, IsReferent}
-use Rattle.pli_type_tree.specs.TypedTree.{Stride, TypedExpression}
-use Rattle.pli_type_tree.specs.ValueTypes.{Numbers}
-use Rattle.pli_type_tree.specs.WellTyped.{TypingContext, IsTyped, IsPlaced, AreSubscripts, LeadTo, root_of}
+use Rattle.pli_type.specs.References.{LocatorBefore, NotLocated, LocatedBy, LocatedWrongly, root_by, is_passed, begins_somewhere}
+use Rattle.pli_type.specs.References.{permitted, referent_from, settled, variable_meant}
+use Rattle.pli_type_laws.proofs.Conversions.{OnGiven}
+use Rattle.pli_type_laws.proofs.Denotations.{OnRead, IsOfWhole, IsReferent}
+use Rattle.pli_type_tree.specs.TypedTree.{Root, Stride, TypedExpression}
+use Rattle.pli_type_tree.specs.ValueTypes.{Numbers, Pointers}
+use Rattle.pli_type_tree.specs.WellTyped.{TypingContext, BeginsWhole, IsTyped, IsRooted, IsPlaced, AreSubscripts, LeadTo}
+use Rattle.pli_type_name_laws.specs.NameFacts.{IsStoredIn}
 
 -- what is read behind what was read
 pub read_then : {A B : Type 0} (P : A → Type 0) (Q : B → Type 0) (r : Result A Fault) (f : A → Result B Fault)
@@ -26,12 +30,18 @@ read_if P false r q a b = b
 
 -- a variable is there, and each reference to a part of it leads to that part
 pub record IsKnown (s : TypingContext) (v : NamedVariable) : Type 0 where
-  pub begins : root_of s v.root ≡ Some v.whole
+  pub begins : IsStoredIn 31 s v.storage v.whole
   pub leads :
       (p q : StridedPart) (xs : List TypedExpression) → part_of v ≡ Some p → with_subscripts (length xs) p ≡ Some q
       → LeadTo v.whole q.offset (subscripts_at q.strides xs) q.description × IsTrue (is_plain 31 q.description)
   pub whole :
       (p q : StridedPart) → v.path ≡ [] → part_of v ≡ Some p → with_subscripts 0 p ≡ Some q → q.description ≡ v.whole
+
+-- a locator in front of a name is a pointer
+abbrev pub IsLocator : TypingContext → LocatorBefore → Type 0
+IsLocator s NotLocated = Unit {0}
+IsLocator s (LocatedBy e) = IsTyped 31 s e Pointers
+IsLocator s LocatedWrongly = Unit {0}
 
 -- subscripts are numbers
 abbrev pub AreIndices : TypingContext → List TypedExpression → Type 0
@@ -54,41 +64,71 @@ module _ (s : TypingContext) where
   abbrev IsPart : (v : NamedVariable) → StridedPart → List TypedExpression → Type 0
   IsPart v q xs = LeadTo v.whole q.offset (subscripts_at q.strides xs) q.description
 
-  placed : (v : NamedVariable) (q : StridedPart) (path : List ℕ) (xs : List TypedExpression)
-      → root_of s v.root ≡ Some v.whole → IsPart v q xs → AreIndices s xs
+  placed : (v : NamedVariable) (q : StridedPart) (path : List ℕ) (xs : List TypedExpression) (root : Root)
+      → IsRooted 31 s root v.whole → IsPart v q xs → AreIndices s xs
       → (path ≡ [] → xs ≡ [] → q.description ≡ v.whole)
-      → IsPlaced 31 s (reference_to v.root path q xs) q.description
-  placed v q [] [] begins leads indices whole = begins ∙ ap Some (sym (whole refl refl))
-  placed v q [] (x ∷ xs) begins leads indices whole =
+      → IsPlaced 31 s (reference_to root path q xs) q.description
+  placed v q [] [] root begins leads indices whole = subst (IsRooted 31 s root) (sym (whole refl refl)) begins
+  placed v q [] (x ∷ xs) root begins leads indices whole =
       (refl, (v.whole, begins, leads), subscripts_typed q.strides (x ∷ xs) indices)
-  placed v q (i ∷ path) xs begins leads indices whole =
+  placed v q (i ∷ path) xs root begins leads indices whole =
       (refl, (v.whole, begins, leads), subscripts_typed q.strides xs indices)
 
-  allowed : (role : Role) (located : Bool) (at : ℕ) (r : Referent) → IsReferent s r
-      → OnRead (IsReferent s) (permitted role located at r)
-  allowed role located at r h =
-      read_if (IsReferent s) (wants_scalar role && is_aggregate r.description) _ _ tt
-      (read_if (IsReferent s) located _ _ tt h)
+  of_whole : (q : StridedPart) (path : List ℕ) (xs : List TypedExpression) (root : Root) → BeginsWhole s root
+      → IsOfWhole s (reference_to root path q xs)
+  of_whole q [] [] root h = h
+  of_whole q [] (x ∷ xs) root h = tt
+  of_whole q (i ∷ path) xs root h = tt
 
-  module _ (role : Role) (located : Bool) (at : ℕ) (v : NamedVariable) (known : IsKnown s v) (xs : List TypedExpression)
-      (indices : AreIndices s xs) where
-    with_part : (p : StridedPart) → part_of v ≡ Some p → (o : Option StridedPart) → with_subscripts (length xs) p ≡ o
-        → OnRead (IsReferent s) (settled role located at v xs o)
-    with_part p is None given = tt
-    with_part p is (Some q) given =
-        let leads : IsPart v q xs × IsTrue (is_plain 31 q.description) = known.leads p q xs is given in
-        allowed role located at
-        (record { reference = reference_to v.root v.path q xs; description = q.description }) (
-          placed v q v.path xs known.begins leads.0 indices
+  -- where a reference begins
+  abbrev IsRootOf : NamedStorage → Description → Root → Type 0
+  IsRootOf storage whole root = IsRooted 31 s root whole × (is_passed storage ≡ false → BeginsWhole s root)
+
+  root_typed : (storage : NamedStorage) (whole : Description) (locator : LocatorBefore) → IsStoredIn 31 s storage whole
+      → IsLocator s locator → OnGiven (IsRootOf storage whole) (root_by storage whole locator)
+  root_typed (Begins root is_parameter) whole NotLocated h k = h
+  root_typed (Begins root is_parameter) whole (LocatedBy e) h k = tt
+  root_typed (Begins root is_parameter) whole LocatedWrongly h k = tt
+  root_typed (IsBased block number None) whole NotLocated h k = tt
+  root_typed (IsBased block number (Some implied)) whole NotLocated h k = ((refl, (Pointer, h, refl)), λ own. tt)
+  root_typed (IsBased block number None) whole (LocatedBy e) h k = ((refl, k), λ own. tt)
+  root_typed (IsBased block number (Some implied)) whole (LocatedBy e) h k = ((refl, k), λ own. tt)
+  root_typed (IsBased block number None) whole LocatedWrongly h k = tt
+  root_typed (IsBased block number (Some implied)) whole LocatedWrongly h k = tt
+
+  somewhere : (at : ℕ) (o : Option Referent) → OnGiven (IsReferent s) o → OnRead (IsReferent s) (begins_somewhere at o)
+  somewhere at (Some r) h = h
+  somewhere at None h = tt
+
+  allowed : (role : Role) (at : ℕ) (d : Description) (o : Option Referent) → OnGiven (IsReferent s) o
+      → OnRead (IsReferent s) (permitted role at d o)
+  allowed role at d o h = read_if (IsReferent s) (wants_scalar role && is_aggregate d) _ _ tt (somewhere at o h)
+
+  module _ (role : Role) (locator : LocatorBefore) (located : IsLocator s locator) (at : ℕ) (v : NamedVariable) (known : IsKnown s v)
+      (xs : List TypedExpression) (indices : AreIndices s xs) where
+    with_root : (p q : StridedPart) → part_of v ≡ Some p → with_subscripts (length xs) p ≡ Some q → (o : Option Root)
+        → OnGiven (IsRootOf v.storage v.whole) o → OnGiven (IsReferent s) (option_map (referent_from v xs q) o)
+    with_root p q is given None h = tt
+    with_root p q is given (Some root) h =
+        let leads : IsPart v q xs × IsTrue (is_plain 31 q.description) = known.leads p q xs is given in (
+          placed v q v.path xs root h.0 leads.0 indices
               (λ no_path none. known.whole p q no_path is
               (subst (λ ys. with_subscripts (length ys) p ≡ Some q) none given)),
           leads.1,
+          λ own. of_whole q v.path xs root (h.1 own),
         )
 
+    with_part : (p : StridedPart) → part_of v ≡ Some p → (o : Option StridedPart) → with_subscripts (length xs) p ≡ o
+        → OnRead (IsReferent s) (settled role locator at v xs o)
+    with_part p is None given = tt
+    with_part p is (Some q) given =
+        allowed role at q.description (option_map (referent_from v xs q) (root_by v.storage v.whole locator))
+        (with_root p q is given (root_by v.storage v.whole locator) (root_typed v.storage v.whole locator known.begins located))
+
     in_variable : (o : Option StridedPart) → part_of v ≡ o
-        → OnRead (IsReferent s) (settled role located at v xs (option_and_then (with_subscripts (length xs)) o))
+        → OnRead (IsReferent s) (settled role locator at v xs (option_and_then (with_subscripts (length xs)) o))
     in_variable None is = tt
     in_variable (Some p) is = with_part p is (with_subscripts (length xs) p) refl
 
-    pub variable_typed : OnRead (IsReferent s) (variable_meant role located at v xs)
+    pub variable_typed : OnRead (IsReferent s) (variable_meant role locator at v xs)
     variable_typed = in_variable (part_of v) refl

@@ -1,27 +1,30 @@
--- Forms that have no statements in them, and how many temporaries an iteration has.
-use Rattle.std.specs.Prelude.{◌≡◌, ℕ, suc, Option, Some, None, is_none, List}
-use Rattle.std.specs.Prelude.{Result, Ok, Err, refl}
+-- Forms that have no statements in them, and the temporaries of ALLOCATE and of an iteration.
+use Rattle.std.specs.Prelude.{◌≡◌, ℕ, suc, ◌+◌, ◌≤◌, Bool, true, Option, Some, None, is_none, List, [], ◌∷◌, slice_get}
+use Rattle.std.specs.Prelude.{Result, Ok, Err, refl, if◌then◌else◌}
+use Rattle.std.specs.List.{AllByRecursion}
+use Rattle.std.proofs.Common.{arith, ap}
 use Rattle.pli_base.specs.Results.{◌>>=◌}
 use Rattle.pli_base.specs.Statements as tree
 use Rattle.pli_base.specs.Statements.{Range, Allocation}
 use Rattle.pli_base.specs.Syntax.{Expression, Referred, Reference, Arguments}
 use Rattle.pli_base.specs.declared.code.Code.{Code}
-use Rattle.pli_base.specs.declared.code.Code.TheVariants.{CannotAssign, NotYetBuilt}
+use Rattle.pli_base.specs.declared.code.Code.TheVariants.{CannotAllocateOrFree, CannotAssign, NotYetBuilt}
 use Rattle.pli_base.specs.declared.syntax.Identifier.{Identifier}
 use Rattle.pli_base.specs.declared.token.Fault.{Fault}
 use Rattle.pli_map.specs.Description.{Description}
 use Rattle.pli_map.specs.Same.{same}
 use Rattle.pli_map.specs.Scalars.{is_aggregate}
-use Rattle.pli_type.specs.AllocationTyping.{in_turn, allocated, freed}
+use Rattle.pli_type.specs.AllocationTyping.{in_turn, place_given, pointer_set, placed_by, taken_in, taken, allocated, all_allocated, freed}
 use Rattle.pli_type.specs.ExpressionTypes.{TypedValue, converted, conversions}
 use Rattle.pli_type.specs.FunctionCalls.{Denoted, DenotesVariable, DenotesResult, Meant, OneValue, WholeAggregate, Argument}
-use Rattle.pli_type.specs.Names.{NamedAs, AVariable, AFunction, AProcedure, ALabel, Untyped, Naming}
+use Rattle.pli_type.specs.NamedUnits.{is_based_whole, names_based}
+use Rattle.pli_type.specs.Names.{NamedStorage, Begins, IsBased, NamedAs, AVariable, AFunction, AProcedure, ALabel, Untyped, Naming}
 use Rattle.pli_type.specs.ProcedureCalls.{arguments_passed}
 use Rattle.pli_type.specs.References.{AsArgument, AsLocator, AsTarget, Referent}
 use Rattle.pli_type.specs.StatementTyping.{aggregate_assigned, assigned, assignment, Surroundings, label_found, jump_to, jump, goto_typed}
 use Rattle.pli_type.specs.StatementTyping.{arguments_typed, no_function, call_of, call_typed, returned_value, return_typed, allocate_typed, free_typed}
-use Rattle.pli_type.specs.StatementTyping.{limit, limits, controls, possible_condition, with_repeat, iteration}
-use Rattle.pli_type.specs.Temporaries.{limits_kept}
+use Rattle.pli_type.specs.StatementTyping.{limit, limits, controls, possible_condition, with_repeat, has_locator, iteration}
+use Rattle.pli_type.specs.Temporaries.{limits_kept, based_among}
 use Rattle.pli_type.specs.Typing.{first_token, or_fault, meant, referred, value_of}
 use Rattle.pli_type_laws.proofs.Conversions.{OnGiven}
 use Rattle.pli_type_laws.proofs.Denotations.{OnRead}
@@ -29,7 +32,10 @@ use Rattle.pli_type_laws.proofs.Expressions.{read_option}
 use Rattle.pli_type_laws.proofs.References.{read_if}
 use Rattle.pli_type_tree.specs.Iterations.{temporaries_of}
 use Rattle.pli_type_tree.specs.TypedTree as typed
-use Rattle.pli_type_tree.specs.TypedTree.{Form, TypedRange, Iteration, ToBy, ByTo}
+use Rattle.pli_gen.specs.WellNumbered.{KeepsTemporary}
+use Rattle.pli_type_tree.specs.Allocations.{kept_for, all_kept_for}
+use Rattle.pli_type_tree.specs.Templates.{Template}
+use Rattle.pli_type_tree.specs.TypedTree.{NewestOf, TypedReference, AllocatedItem, AllocatesControlled, AllocatesBased, Form, TypedRange, Iteration, ToBy, ByTo}
 
 -- whatever was read
 read_any : {A B : Type 0} (Q : B → Type 0) (r : Result A Fault) (f : A → Result B Fault) → ((x : A) → OnRead Q (f x))
@@ -37,18 +43,31 @@ read_any : {A B : Type 0} (Q : B → Type 0) (r : Result A Fault) (f : A → Res
 read_any Q (Ok x) f g = g x
 read_any Q (Err e) f g = tt
 
+read_so : {A B : Type 0} (P : A → Type 0) (Q : B → Type 0) (r : Result A Fault) (f : A → Result B Fault) → OnRead P r
+    → ((x : A) → P x → OnRead Q (f x)) → OnRead Q (r >>= f)
+read_so P Q (Ok x) f h g = g x h
+read_so P Q (Err e) f h g = tt
+
 option_any : {A : Type 0} (P : A → Type 0) (code : Code) (at : ℕ) (o : Option A) → ((x : A) → P x) → OnRead P (or_fault code at o)
 option_any P code at (Some x) h = h x
 option_any P code at None h = tt
 
--- no statements are in a form
+-- no statements are in a form, and no temporaries
 abbrev pub IsSimple : Form → Type 0
 IsSimple (typed.If c s e) = ⊥
 IsSimple (typed.Begin head ss) = ⊥
 IsSimple (typed.Group ss) = ⊥
 IsSimple (typed.While c ss) = ⊥
 IsSimple (typed.Iterate i ss) = ⊥
+IsSimple (typed.Allocate items) = ⊥
 IsSimple f = Unit {0}
+
+-- a form is an ALLOCATE, whose items have so many temporaries from this one on
+abbrev pub IsAllocation : (from count : ℕ) → Form → Type 0
+IsAllocation t count (typed.Allocate items) =
+    ((used size : ℕ) → used ≤ t → t + count ≤ size → AllByRecursion (KeepsTemporary used size) items)
+    × (all_kept_for items ≡ count)
+IsAllocation t count form = ⊥
 
 simple_aggregate : (equals : ℕ) (target : Referent) (m : Meant) → OnRead IsSimple (aggregate_assigned equals target m)
 simple_aggregate equals target (OneValue v) = tt
@@ -105,11 +124,84 @@ simple_return n s at None = read_if IsSimple (is_none s.value) _ _ tt tt
 simple_return n s at (Some e) =
     read_any IsSimple (value_of n e) _ (λ v. simple_returned n.greatest at (first_token e) s.begins s.value v)
 
-pub simple_allocate : (n : Naming) (list : List Allocation) → OnRead IsSimple (allocate_typed n list)
-simple_allocate n list = read_any IsSimple (in_turn (allocated n) list) _ (λ xs. tt)
-
 pub simple_free : (n : Naming) (list : List Reference) → OnRead IsSimple (free_typed n list)
 simple_free n list = read_any IsSimple (in_turn (freed n) list) _ (λ xs. tt)
+
+-- ---- ALLOCATE
+
+-- an item has this temporary, if it has one, and has one where a BASED variable is known to be named
+abbrev OwnItem : (temporary : ℕ) → AllocatedItem → Type 0
+OwnItem t (AllocatesControlled number) = Unit {0}
+OwnItem t (AllocatesBased template temporary target) = temporary ≡ t
+
+abbrev one_if : Bool → ℕ
+one_if is = if is then 1 else 0
+
+abbrev KeepsItem : (temporary : ℕ) → Bool → AllocatedItem → Type 0
+KeepsItem t is x = (kept_for x ≡ one_if is) × OwnItem t x
+
+placed_item : (t : ℕ) (is : Bool) (template : Option Template) (target : Option TypedReference) → true ≡ is
+    → OnGiven (KeepsItem t is) (placed_by t template target)
+placed_item t is (Some x) (Some r) e = (ap one_if e, refl)
+placed_item t is (Some x) None e = tt
+placed_item t is None target e = tt
+
+module _ (n : Naming) where
+  stored_item : (t : ℕ) (is : Bool) (storage : NamedStorage) (path : List ℕ) → is_based_whole storage path ≡ is
+      → (area target : Option Referent) → OnGiven (KeepsItem t is) (taken_in n t storage path area target)
+  stored_item t is (Begins (NewestOf number) is_parameter) [] k None None = (ap one_if k, tt)
+  stored_item t is (IsBased block number implied) [] k None target =
+      placed_item t is (slice_get (n.based block) number) (pointer_set target implied) k
+  stored_item t is storage path k area target = tt
+
+  taken_item : (t : ℕ) (is : Bool) (a : NamedAs) → names_based a ≡ is → (area target : Option Referent)
+      → OnGiven (KeepsItem t is) (taken n t a area target)
+  taken_item t is (AVariable v) k area target = stored_item t is v.storage v.path k area target
+  taken_item t is a k area target = tt
+
+  item_keeps : (t : ℕ) (is : Bool) (a : Allocation) → names_based (n.meaning a.name.at) ≡ is
+      → OnRead (KeepsItem t is) (allocated n t a)
+  item_keeps t is a k =
+      read_any (KeepsItem t is) (place_given n a.area) _
+      (λ area. read_any (KeepsItem t is) (place_given n a.target) _
+      (λ target. read_option (KeepsItem t is) CannotAllocateOrFree a.name.at (taken n t (n.meaning a.name.at) area target)
+      (taken_item t is (n.meaning a.name.at) k area target)))
+
+  -- where so many temporaries are in use, and the block has these too
+  abbrev KeepItems : (from to : ℕ) → List AllocatedItem → Type 0
+  KeepItems t z xs = (used size : ℕ) → used ≤ t → z ≤ size → AllByRecursion (KeepsTemporary used size) xs
+
+  one_kept : (t used size : ℕ) (is : Bool) (x : AllocatedItem) → KeepsItem t is x → used ≤ t → t + one_if is ≤ size
+      → KeepsTemporary used size x
+  one_kept t used size is (AllocatesControlled number) h u s = tt
+  one_kept t used size is (AllocatesBased template temporary target) h u s = (omega (arith, h.1, u), omega (arith, h.0, h.1, s))
+
+  module _ (is_based : (at : ℕ) → Bool) (known : (at : ℕ) → names_based (n.meaning at) ≡ is_based at) where
+    -- they keep their temporaries, which are as many as BASED variables are named
+    abbrev AreKept : (temporary count : ℕ) → List AllocatedItem → Type 0
+    AreKept t count xs = KeepItems t (t + count) xs × (all_kept_for xs ≡ count)
+
+    items_keep : (t : ℕ) (list : List Allocation) → OnRead (AreKept t (based_among is_based list)) (all_allocated n t list)
+    items_keep t [] = (λ used size u s. tt, refl)
+    items_keep t (a ∷ others) =
+        let is : Bool = is_based a.name.at in
+        let rest : ℕ = based_among is_based others in
+        read_so (KeepsItem t is) (AreKept t (one_if is + rest)) (allocated n t a) _ (item_keeps t is a (known a.name.at))
+        (λ x h. read_so (AreKept (t + kept_for x) rest) (AreKept t (one_if is + rest)) (all_allocated n (t + kept_for x) others) _
+        (items_keep (t + kept_for x) others)
+        (λ xs k. (
+          λ used size u s. (
+            one_kept t used size is x h u (omega (arith, s)),
+            k.0 used size (omega (arith, u)) (omega (arith, s, h.0)),
+          ),
+          omega (arith, h.0, k.1),
+        )))
+
+    -- ALLOCATE keeps its temporaries
+    pub allocate_keeps : (t : ℕ) (list : List Allocation) → OnRead (IsAllocation t (based_among is_based list)) (allocate_typed n t list)
+    allocate_keeps t list =
+        read_so (AreKept t (based_among is_based list)) (IsAllocation t (based_among is_based list)) (all_allocated n t list) _
+        (items_keep t list) (λ xs h. h)
 
 -- ---- iterations
 
@@ -144,11 +236,6 @@ repeat_keeps n d kept (Some (tree.To to by)) h = h
 repeat_keeps n d kept (Some (tree.By by to)) h = h
 repeat_keeps n d kept None h = h
 
-read_so : {A B : Type 0} (P : A → Type 0) (Q : B → Type 0) (r : Result A Fault) (f : A → Result B Fault) → OnRead P r
-    → ((x : A) → P x → OnRead Q (f x)) → OnRead Q (r >>= f)
-read_so P Q (Ok x) f h g = g x h
-read_so P Q (Err e) f h g = tt
-
 -- an iteration's temporaries begin where they should, and are as many
 abbrev pub HasOwn : (temporary : ℕ) → Option Range → Iteration → Type 0
 HasOwn temporary range i = (i.temporary ≡ temporary) × (temporaries_of i.range ≡ suc (limits_kept range))
@@ -159,7 +246,7 @@ iteration_keeps n temporary variable equals first range tested =
     read_any (HasOwn temporary range) (value_of n first) _
     (λ v. read_so (Keeps range) (HasOwn temporary range) (limits n range) _ (limits_keep n range)
     (λ kept h. read_any (HasOwn temporary range) (referred n AsLocator variable) _
-    (λ d. read_any (HasOwn temporary range) (controls (first_token (Referred variable)) kept d) _
+    (λ d. read_any (HasOwn temporary range) (controls (first_token (Referred variable)) (has_locator variable) kept d) _
     (λ r. read_any (HasOwn temporary range) (or_fault CannotAssign equals (conversions n.greatest r.description v.kind)) _
     (λ operations. read_any (HasOwn temporary range) (possible_condition n tested) _
     (λ x. read_so (Keeps range) (HasOwn temporary range) (with_repeat n r.description kept range) _

@@ -1,5 +1,5 @@
 -- Statements are typed as the meaning of typed trees asks, and each procedure as it is known.
-use Rattle.std.specs.Prelude.{◌≡◌, ℕ, suc, ◌+◌, Bool, true, false, ◌||◌, Option, Some, None, List, [], ◌∷◌, ◌++◌, map}
+use Rattle.std.specs.Prelude.{◌≡◌, ℕ, suc, ◌+◌, Bool, true, false, ◌||◌, Option, Some, None, List, [], ◌∷◌, ◌++◌, length, map}
 use Rattle.std.specs.Prelude.{slice_get, Result, Ok, Err, refl, if◌then◌else◌}
 use Rattle.std.proofs.Common.{sym, ap, ◌∙◌, subst, eq-eqb}
 use Rattle.pli_base.specs.Statements as tree
@@ -79,12 +79,12 @@ pub labels_kept : (u : NamedUnit) (s : Surroundings) (x : Next) (ss : Statements
 labels_kept u s x Ended = within_self []
 labels_kept u s x (Before (Numbered number None at body) more) =
     unlabelled (leaves_nothing body) number (source.labels_of more) (body_typed u s x number at body)
-    (statements_typed u s (behind x (Numbered number None at body)) more)
-    (labels_kept u s (behind x (Numbered number None at body)) more)
+    (statements_typed u s (behind u.compiled.is_based x (Numbered number None at body)) more)
+    (labels_kept u s (behind u.compiled.is_based x (Numbered number None at body)) more)
 labels_kept u s x (Before (Numbered number (Some label) at body) more) =
     labelled (leaves_nothing body) number (source.labels_of more) (body_typed u s x number at body)
-    (statements_typed u s (behind x (Numbered number (Some label) at body)) more)
-    (labels_kept u s (behind x (Numbered number (Some label) at body)) more)
+    (statements_typed u s (behind u.compiled.is_based x (Numbered number (Some label) at body)) more)
+    (labels_kept u s (behind u.compiled.is_based x (Numbered number (Some label) at body)) more)
 
 -- ---- where statements stand
 
@@ -113,13 +113,13 @@ put_typed t false x y h k = (h, k)
 begin_no_procedure : kinds.Begin ≡ kinds.Procedure → ⊥
 begin_no_procedure e = absurd (cc)
 
-module _ (program : ExternalProcedure) (is_later : ℕ → Bool) (meaning : List ℕ → ℕ → NamedAs) (parameters : ℕ → List Description)
+module _ (program : ExternalProcedure) (is_later is_based : ℕ → Bool) (based : List ℕ → ℕ → List Template) (meaning : List ℕ → ℕ → NamedAs) (parameters : ℕ → List Description)
     (returned : ℕ → Option Description) (automatic : ℕ → List Template) (globals : List Global) where
   abbrev pub U : NamedUnit
-  U = unit_with program is_later meaning parameters returned automatic globals
+  U = unit_with program is_later is_based based meaning parameters returned automatic globals
 
   abbrev L : Compiled
-  L = record { greatest = 31; is_later = is_later }
+  L = record { greatest = 31; is_later = is_later; is_based = is_based }
 
   abbrev All : List SourceBlock
   All = unit_blocks program
@@ -152,7 +152,10 @@ module _ (program : ExternalProcedure) (is_later : ℕ → Bool) (meaning : List
           procedures = knows.procedures;
           blocks = (
             refl,
-            ap (λ ds. ds ++ map (λ v. v.description) (automatic number)) (sym (facts.begins number b there kind)),
+            (
+              ap length (sym (facts.begins number b there kind)),
+              ap (λ ds. ds ++ map (λ v. v.description) (automatic number)) (sym (facts.begins number b there kind)),
+            ),
             f,
             knows.blocks,
           );
@@ -176,7 +179,7 @@ module _ (program : ExternalProcedure) (is_later : ℕ → Bool) (meaning : List
         procedures = refl;
         blocks = (
           refl,
-          refl,
+          (refl, refl),
           f,
           subst (λ bs. AreAround (known_blocks U b.around) (known_blocks U bs)) same (around_self (known_blocks U b.around)),
         );
@@ -255,7 +258,7 @@ module _ (program : ExternalProcedure) (is_later : ℕ → Bool) (meaning : List
       body_is_typed s x number first at (tree.Assign target equals value) l home within sits t knows =
           let parts : (_ ≡ false) × (later_expression L value ≡ false) = or_parts _ _ (no_token _ first l) in
           typed_own U (IsTypedForm 31 t) x.block (assignment (naming_at U s) at target equals value)
-          (assignment_typed is_later (meaning (numbers s)) t (known s home t knows) at target equals value parts.0 parts.1)
+          (assignment_typed is_later is_based (based (numbers s)) (meaning (numbers s)) t (known s home t knows) at target equals value parts.0 parts.1)
       body_is_typed s x number first at (tree.Declare declared) l home within sits t knows = (tt, tt, tt)
       body_is_typed s x number first at (tree.Procedure heading ss end) l home within sits t knows =
           procedure_typed s x.block number end ss _ sits.0 refl refl within t _
@@ -288,7 +291,7 @@ module _ (program : ExternalProcedure) (is_later : ℕ → Bool) (meaning : List
           typed_with U (IsString 31 t OfBits) (λ list. AreTypedStatements 31 (trees.in_group list t) list) (IsTypedForm 31 t)
           typed.While x.block _ (condition (naming_at U s) tested) (statements_typed U (source.in_group ss s) x ss)
           (λ c list h k. (h, k))
-          (condition_typed is_later (meaning (numbers s)) t (known s home t knows) tested (no_token _ first parts.0))
+          (condition_typed is_later is_based (based (numbers s)) (meaning (numbers s)) t (known s home t knows) tested (no_token _ first parts.0))
           (group_typed s home t knows x ss _
           (list_is_typed (source.in_group ss s) x ss parts.1 (home_labels All (source.labels_of ss) s.blocks home)
           (inside_group (source.labels_of ss) s.blocks within) sits))
@@ -299,7 +302,7 @@ module _ (program : ExternalProcedure) (is_later : ℕ → Bool) (meaning : List
           typed_with U (IsIteration 31 t) (λ list. AreTypedStatements 31 (trees.in_group list t) list) (IsTypedForm 31 t)
           typed.Iterate x.block _ (iteration (naming_at U s) x.temporary variable equals start range tested)
           (statements_typed U (source.in_group ss s) (behind_limits range x) ss) (λ c list h k. (h, k))
-          (iteration_typed is_later (meaning (numbers s)) t (known s home t knows) x.temporary variable equals start range tested
+          (iteration_typed is_later is_based (based (numbers s)) (meaning (numbers s)) t (known s home t knows) x.temporary variable equals start range tested
           (no_token _ first parts.0))
           (group_typed s home t knows (behind_limits range x) ss _
           (list_is_typed (source.in_group ss s) (behind_limits range x) ss parts.1
@@ -315,37 +318,38 @@ module _ (program : ExternalProcedure) (is_later : ℕ → Bool) (meaning : List
           sits_parts All x.block (blocks.blocks_in consequence) _ _ (begun_count s.blocks x.block consequence) sits in
           typed_with U (IsString 31 t OfBits) (λ b. IsTypedStatement 31 t b.0 × IsTypedElse 31 t b.1) (IsTypedForm 31 t)
           (λ c b. typed.If c b.0 b.1) x.block _ (condition (naming_at U s) tested)
-          (together (λ y z. (y, z)) (statement_typed U s x consequence) (alternative_typed U s (behind x consequence) alternative))
+          (together (λ y z. (y, z)) (statement_typed U s x consequence) (alternative_typed U s (behind is_based x consequence) alternative))
           (λ c b h k. (h, k.0, k.1))
-          (condition_typed is_later (meaning (numbers s)) t (known s home t knows) tested (no_token _ first parts.0))
+          (condition_typed is_later is_based (based (numbers s)) (meaning (numbers s)) t (known s home t knows) tested (no_token _ first parts.0))
           (typed_both U (IsTypedStatement 31 t) (IsTypedElse 31 t) (λ b. IsTypedStatement 31 t b.0 × IsTypedElse 31 t b.1)
           (λ y z. (y, z)) x.block (blocks.blocks_in consequence) _ _ (statement_typed U s x consequence)
-          (alternative_typed U s (behind x consequence) alternative) (begun_count s.blocks x.block consequence)
+          (alternative_typed U s (behind is_based x consequence) alternative) (begun_count s.blocks x.block consequence)
           (λ y z h k. (h, k)) (statement_is_typed s x consequence inner.0 home within places.0 t knows)
-          (alternative_is_typed s (behind x consequence) alternative inner.1 home within places.1 t knows))
+          (alternative_is_typed s (behind is_based x consequence) alternative inner.1 home within places.1 t knows))
       body_is_typed s x number first at tree.Stop l home within sits t knows = (tt, tt, tt)
       body_is_typed s x number first at (tree.Allocate list) l home within sits t knows =
-          typed_own U (IsTypedForm 31 t) x.block (allocate_typed (naming_at U s) list)
-          (allocate_is_typed is_later (meaning (numbers s)) t (known s home t knows) list)
+          typed_own U (IsTypedForm 31 t) x.block (allocate_typed (naming_at U s) x.temporary list)
+          (allocate_is_typed is_later is_based (based (numbers s)) (meaning (numbers s)) t (known s home t knows) (facts.based (numbers s)) x.temporary list
+          (no_token _ first l))
       body_is_typed s x number first at (tree.Free list) l home within sits t knows =
           typed_own U (IsTypedForm 31 t) x.block (free_typed (naming_at U s) list)
-          (free_is_typed is_later (meaning (numbers s)) t (known s home t knows) list (no_token _ first l))
+          (free_is_typed is_later is_based (based (numbers s)) (meaning (numbers s)) t (known s home t knows) list (no_token _ first l))
       body_is_typed s x number first at (tree.Call name arguments) l home within sits t knows =
           typed_own U (IsTypedForm 31 t) x.block (call_typed (naming_at U s) name arguments)
-          (call_is_typed is_later (meaning (numbers s)) t (known s home t knows) name arguments (no_token _ first l))
+          (call_is_typed is_later is_based (based (numbers s)) (meaning (numbers s)) t (known s home t knows) name arguments (no_token _ first l))
       body_is_typed s x number first at (tree.Goto label) l home within sits t knows =
           typed_own U (IsTypedForm 31 t) x.block (goto_typed (naming_at U s) s label)
-          (goto_is_typed is_later (meaning (numbers s)) t (known s home t knows) s
+          (goto_is_typed is_later is_based (based (numbers s)) (meaning (numbers s)) t (known s home t knows) s
           (λ n outward e. label_known U s.blocks t.blocks n outward knows.blocks e) label)
       body_is_typed s x number first at (tree.Return value) l home within sits t knows =
           typed_own U (IsTypedForm 31 t) x.block (return_typed (naming_at U s) s at value)
-          (return_is_typed is_later (meaning (numbers s)) t (known s home t knows) s knows.begins knows.value at value
+          (return_is_typed is_later is_based (based (numbers s)) (meaning (numbers s)) t (known s home t knows) s knows.begins knows.value at value
           (no_token _ first l))
       body_is_typed s x number first at (tree.Put skip list) l home within sits t knows =
           typed_made U (AreItems 31 t) (IsTypedForm 31 t) (typed.Put skip) x.block [] (of_own (items (naming_at U s) list))
           (λ xs h. h)
           (typed_own U (AreItems 31 t) x.block (items (naming_at U s) list)
-          (items_typed is_later (meaning (numbers s)) t (known s home t knows) list (no_token _ first l)))
+          (items_typed is_later is_based (based (numbers s)) (meaning (numbers s)) t (known s home t knows) list (no_token _ first l)))
       body_is_typed s x number first at other l home within sits t knows = absurd (some_none l)
 
       alternative_is_typed : (s : Surroundings) (x : Next) (a : Alternative) → later_alternative L a ≡ None
@@ -373,8 +377,8 @@ module _ (program : ExternalProcedure) (is_later : ℕ → Bool) (meaning : List
           typed_both U (IsTypedStatement 31 t) (AreTypedStatements 31 t) (AreTypedStatements 31 t)
           (put_before (leaves_nothing body)) x.block (blocks.blocks_in (Numbered number label at body)) _ _
           (statement_typed U s x (Numbered number label at body))
-          (statements_typed U s (behind x (Numbered number label at body)) more)
+          (statements_typed U s (behind is_based x (Numbered number label at body)) more)
           (begun_count s.blocks x.block (Numbered number label at body))
           (λ y z h k. put_typed t (leaves_nothing body) y z h k)
           (statement_is_typed s x (Numbered number label at body) parts.0 home within places.0 t knows)
-          (list_is_typed s (behind x (Numbered number label at body)) more parts.1 home within places.1 t knows)
+          (list_is_typed s (behind is_based x (Numbered number label at body)) more parts.1 home within places.1 t knows)

@@ -35,13 +35,13 @@ given_same r e f = cc
 error_given : {A B : Type 0} {x : A} {y : B} (r : Result A B) → r ≡ Err y → r ≡ Ok x → ⊥
 error_given r f e = absurd (cc)
 
-module _ (program : ExternalProcedure) (is_later : ℕ → Bool) (meaning : List ℕ → ℕ → NamedAs) (parameters : ℕ → List Description)
+module _ (program : ExternalProcedure) (is_later is_based : ℕ → Bool) (based : List ℕ → ℕ → List Template) (meaning : List ℕ → ℕ → NamedAs) (parameters : ℕ → List Description)
     (returned : ℕ → Option Description) (automatic : ℕ → List Template) (globals : List Global) where
   abbrev V : NamedUnit
-  V = unit_with program is_later meaning parameters returned automatic globals
+  V = unit_with program is_later is_based based meaning parameters returned automatic globals
 
   abbrev L : Compiled
-  L = record { greatest = 31; is_later = is_later }
+  L = record { greatest = 31; is_later = is_later; is_based = is_based }
 
   abbrev All : List SourceBlock
   All = unit_blocks program
@@ -83,7 +83,7 @@ module _ (program : ExternalProcedure) (is_later : ℕ → Bool) (meaning : List
     entered list f = record {
       globals = refl;
       procedures = refl;
-      blocks = (refl, refl, f, tt);
+      blocks = (refl, (refl, refl), f, tt);
       begins = refl;
       value = refl;
     }
@@ -98,7 +98,7 @@ module _ (program : ExternalProcedure) (is_later : ℕ → Bool) (meaning : List
         → OnTyped (Typed V (λ list. AreTypedStatements 31 (Context list) list) 1 Inner) Result_of
     list_typed l =
         with_list V Result_of Context (λ t. Knows V t (in_unit (returned 0) program.statements)) 1 Inner
-        (list_is_typed program is_later meaning parameters returned automatic globals facts direct
+        (list_is_typed program is_later is_based based meaning parameters returned automatic globals facts direct
         (in_unit (returned 0) program.statements) first_inside program.statements l home tt all_sit.1)
         (typed_map _ _ Result_of (λ y f. entered y.part f) (labels_kept V (in_unit (returned 0) program.statements) first_inside program.statements))
 
@@ -197,5 +197,5 @@ module _ (program : ExternalProcedure) (is_later : ℕ → Bool) (meaning : List
     unit_is_typed_so t e = of_built t (first_unbuilt L program) refl e
 
 pub unit_is_typed : TypedUnitsAreTyped
-unit_is_typed program is_later meaning parameters returned automatic globals facts nests t e =
-    unit_is_typed_so program is_later meaning parameters returned automatic globals facts nests t e
+unit_is_typed program is_later is_based based meaning parameters returned automatic globals facts nests t e =
+    unit_is_typed_so program is_later is_based based meaning parameters returned automatic globals facts nests t e

@@ -5,7 +5,7 @@ use Rattle.pli_type.specs.ExpressionTypes.{TypedValue, columns, binary_digits, c
 use Rattle.pli_type.specs.declared.expression_type.ExpressionType.{ExpressionType}
 use Rattle.pli_type.specs.declared.expression_type.ExpressionType.TheVariants as types
 use Rattle.pli_type_tree.specs.TypedTree.{TypedExpression}
-use Rattle.pli_type_tree.specs.ValueTypes.{StringKind, Numbers, Strings, OfCharacters, OfBits}
+use Rattle.pli_type_tree.specs.ValueTypes.{StringKind, Numbers, Strings, Pointers, OfCharacters, OfBits}
 use Rattle.pli_type_tree.specs.ValueTypes.{HaveColumns, longest}
 use Rattle.pli_type_tree.specs.WellTyped.{TypingContext, IsTyped, IsValueFor}
 
@@ -22,7 +22,7 @@ IsNumber s e precision = (p : ℕ) × IsTyped 31 s e (Numbers p) × AreNear p pr
 abbrev pub IsShort : TypingContext → StringKind → TypedExpression → Type 0
 IsShort s kind e = (least : ℕ) × (most : ℕ) × IsTyped 31 s e (Strings kind least most) × (most ≤ longest)
 
--- an expression gives values of its type; a constant has room in the columns of its digits
+-- an expression gives values of its type; a constant has room in the columns of its digits; NULL is a pointer
 abbrev pub HasType : TypingContext → TypedExpression → ExpressionType → Type 0
 HasType s e (types.FixedDecimal digits) =
     (p : ℕ) × IsTyped 31 s e (Numbers p) × AreNear p (binary_digits 31 digits)
@@ -30,7 +30,9 @@ HasType s e (types.FixedDecimal digits) =
 HasType s e (types.FixedBinary precision) = IsNumber s e precision
 HasType s e types.Characters = IsShort s OfCharacters e
 HasType s e types.Bits = IsShort s OfBits e
-HasType s e locator_or_area = ⊥
+HasType s e types.Pointer = IsTyped 31 s e Pointers
+HasType s e types.Null = IsTyped 31 s e Pointers
+HasType s e offset_or_area = ⊥
 
 -- A value of its type that is converted to the type of a variable can be assigned to it.
 abbrev pub ConvertedIsHeld : Type 0

@@ -12,27 +12,29 @@ use Rattle.pli_resolve.specs.ResolvedUnits.{resolved_unit_of}
 use Rattle.pli_type.specs.Checked.{checked}
 use Rattle.pli_type.specs.NamedUnits.{checked_unit}
 use Rattle.pli_type.specs.Names.{NamedAs, NamedUnit}
-use Rattle.pli_type_name_laws.specs.NameFacts.{NameFacts}
+use Rattle.pli_type_name_laws.specs.NameFacts.{KnowsBased, NameFacts}
 use Rattle.pli_type_name_laws.specs.Nesting.{ListNests}
 use Rattle.pli_type_name_laws.specs.Numbering.{AreNumbered}
 use Rattle.pli_type_tree.specs.Templates.{Template}
 use Rattle.pli_type_tree.specs.TypedTree.{Global, TypedUnit}
 
 -- A unit whose statements are numbered in the order of the text, from any number on, and nest within the
--- limit, gives a typed unit that is numbered well.
+-- limit, and in which it is known where BASED variables are named, gives a typed unit that is numbered well.
 abbrev pub TypedUnitsAreNumbered : Type 0
 TypedUnitsAreNumbered =
     (u : NamedUnit) (t : TypedUnit) (from : ℕ) → AreNumbered from u.tree.statements
-    → Deeper (λ m. ListNests true m u.tree.statements) nesting_limit → checked u ≡ Ok t → IsWellNumbered t
+    → Deeper (λ m. ListNests true m u.tree.statements) nesting_limit → KnowsBased u → checked u ≡ Ok t
+    → IsWellNumbered t
 
 -- a unit by its parts, where numbers have at most 31 binary digits
-abbrev pub unit_with : ExternalProcedure → (is_later : ℕ → Bool) → (meaning : (blocks : List ℕ) → ℕ → NamedAs)
+abbrev pub unit_with : ExternalProcedure → (is_later is_based : ℕ → Bool)
+    → (based : (blocks : List ℕ) → (block : ℕ) → List Template) → (meaning : (blocks : List ℕ) → ℕ → NamedAs)
     → (parameters : (block : ℕ) → List Description) → (returned : (block : ℕ) → Option Description)
     → (automatic : (block : ℕ) → List Template) → (globals : List Global) → NamedUnit
-unit_with tree is_later meaning parameters returned automatic globals = record {
+unit_with tree is_later is_based based meaning parameters returned automatic globals = record {
   tree = tree;
-  compiled = record { greatest = 31; is_later = is_later };
-  naming = λ blocks. record { greatest = 31; meaning = meaning blocks };
+  compiled = record { greatest = 31; is_later = is_later; is_based = is_based };
+  naming = λ blocks. record { greatest = 31; based = based blocks; meaning = meaning blocks };
   parameters = parameters;
   returned = returned;
   automatic = automatic;
@@ -43,12 +45,13 @@ unit_with tree is_later meaning parameters returned automatic globals = record {
 -- they hold, and whose procedures stand directly in blocks, gives a typed unit that is well typed.
 abbrev pub TypedUnitsAreTyped : Type 0
 TypedUnitsAreTyped =
-    (tree : ExternalProcedure) (is_later : ℕ → Bool) (meaning : (blocks : List ℕ) → ℕ → NamedAs)
+    (tree : ExternalProcedure) (is_later is_based : ℕ → Bool)
+    (based : (blocks : List ℕ) → (block : ℕ) → List Template) (meaning : (blocks : List ℕ) → ℕ → NamedAs)
     (parameters : (block : ℕ) → List Description) (returned : (block : ℕ) → Option Description)
     (automatic : (block : ℕ) → List Template) (globals : List Global)
-    → NameFacts (unit_with tree is_later meaning parameters returned automatic globals)
+    → NameFacts (unit_with tree is_later is_based based meaning parameters returned automatic globals)
     → Deeper (λ m. ListNests true m tree.statements) nesting_limit → (t : TypedUnit)
-    → checked (unit_with tree is_later meaning parameters returned automatic globals) ≡ Ok t
+    → checked (unit_with tree is_later is_based based meaning parameters returned automatic globals) ≡ Ok t
     → IsTypedUnit 31 t
 
 -- the procedure of a unit with which a program may begin takes nothing and gives nothing

@@ -1,3 +1,4 @@
+pub mod BasedNames
 pub mod BlocksOfUnits
 pub mod InitialHeld
 pub mod NameFactsHold
@@ -7,4 +8,6 @@ pub mod NumberingHolds
 pub mod PartsLead
 pub mod PartsOfNames
 pub mod PlainDescriptions
+pub mod PointersNamed
+pub mod RootsInContext
 pub mod RootsStand

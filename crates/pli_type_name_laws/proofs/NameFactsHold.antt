@@ -1,77 +1,44 @@
 -- The facts about the names of a unit.
-use Rattle.std.specs.Prelude.{◌≡◌, ℕ, suc, true, false, nat_eq, nat_le, Bool, Option, Some, None, option_map}
-use Rattle.std.specs.Prelude.{List, [], ◌∷◌, slice_get, if◌then◌else◌, refl}
+use Rattle.std.specs.Prelude.{◌≡◌, ℕ, true, false, Option, Some, None, List, [], slice_get, refl}
 use Rattle.std.proofs.Common.{sym, ◌∙◌, ap, subst}
-use Rattle.std.proofs.lemmas.Bool.{and_parts, eqb-true}
+use Rattle.std.proofs.lemmas.Bool.{and_parts}
 use Rattle.std.proofs.lemmas.Option.{same_Some, none-some}
 use Rattle.pli_map.specs.Description.{Description}
-use Rattle.pli_map.specs.Sizes.{size_of}
 use Rattle.pli_resolve.specs.ResolvedUnits.{ResolvedUnit, ResolvedBlock, all_symbols, meaning_at}
 use Rattle.pli_resolve.specs.declared.block_numbers.ResolvedBlockKind.{ResolvedBlockKind}
 use Rattle.pli_resolve.specs.declared.block_numbers.ResolvedBlockKind.TheVariants as kinds
-use Rattle.pli_type.specs.NamedUnits.{is_plain, is_stored, is_automatic, block_symbols, parameter_numbers, parameters_of}
-use Rattle.pli_type.specs.NamedUnits.{outward_to, is_reached, is_procedure, stands_around, gives_stored}
+use Rattle.pli_type.specs.NamedUnits.{is_plain, is_stored, is_automatic, is_based, block_symbols, parameter_numbers, parameters_of}
+use Rattle.pli_type.specs.NamedUnits.{is_reached, is_procedure, stands_around, gives_stored}
 use Rattle.pli_type.specs.NamedUnits.{named_procedure, named_unit}
-use Rattle.pli_type.specs.Names.{NamedUnit, NamedVariable, NamedProcedure}
-use Rattle.pli_program.specs.declared.kind.VariableKind.TheVariants.{Static, Controlled}
-use Rattle.pli_type_tree.specs.Globals.{described_as, signature_of}
-use Rattle.pli_type_tree.specs.TypedTree.{Callee, OfBlock, OfEntry, Root, InSlot, OfProgram, NewestOf}
-use Rattle.pli_type_tree.specs.WellTyped.{BlockAround, TypingContext, slot_of, root_of}
-use Rattle.pli_type_name_laws.specs.NameFacts.{HaveSlots, VariableFacts, BlockCalled, IsCalled, ProcedureFacts, NameFacts}
-use Rattle.pli_type_name_laws.specs.SourceBlocks.{SourceBlock, unit_blocks, innermost, slots_in}
+use Rattle.pli_type.specs.Names.{NamedUnit, NamedStorage, Begins, IsBased, NamedVariable, NamedProcedure}
+use Rattle.pli_type_tree.specs.Globals.{signature_of}
+use Rattle.pli_type_tree.specs.TypedTree.{Callee, OfBlock, OfEntry}
+use Rattle.pli_type_tree.specs.WellTyped.{TypingContext}
+use Rattle.pli_type_name_laws.specs.NameFacts.{HaveSlots, IsPointed, IsStoredIn, VariableFacts, BlockCalled, IsCalled, ProcedureFacts, NameFacts}
+use Rattle.pli_type_name_laws.specs.SourceBlocks.{SourceBlock, unit_blocks, innermost}
 use Rattle.pli_type_name_laws.specs.UnitBlocks.{in_unit, in_tree, BlocksAreOfTree}
 use Rattle.pli_type_name_laws.proofs.InitialHeld.{all_made, globals_behind}
-use Rattle.pli_type_name_laws.proofs.NamesMean.{Begins, IsThere, IsNamed, variable_begins, procedure_named_so, is_a_procedure, around, same_place}
+use Rattle.pli_type_name_laws.proofs.NamesMean.{StandsIn, IsStored, IsThere, IsNamed, variable_begins, procedure_named_so, is_a_procedure, around, same_place}
 use Rattle.pli_type_name_laws.proofs.PartsOfNames.{part_stands, subscripts_lead, whole_is}
-use Rattle.pli_type_name_laws.proofs.RootsStand.{Standing, automatic_stored, global_stored, entry_stands}
-
-stored_plain : (n : ℕ) (d : Description) → is_stored n d ≡ true → is_plain n d ≡ true
-stored_plain n d h = (and_parts (is_plain n d) (nat_le (size_of d) 1000000) h).0
-
--- ---- variables
-
--- a block around has the slots of its number
-slot_there : (u : NamedUnit) (numbers : List ℕ) (bs : List BlockAround) (block outward slot : ℕ) (d : Description)
-    → HaveSlots u numbers bs → outward_to numbers block ≡ Some outward → slice_get (slots_in u block) slot ≡ Some d
-    → slot_of (slice_get bs outward) slot ≡ Some d
-slot_there u [] bs block outward slot d h at there = absurd (none-some outward at)
-slot_there u (n ∷ ns) [] block outward slot d h at there = absurd h
-slot_there u (n ∷ ns) (b ∷ bs) block outward slot d h at there =
-    by (nat_eq n block) refl at (λ k is. slot_there u ns bs block k slot d h.2 is there)
-  where
-    next : (o : Option ℕ) → outward_to ns block ≡ o → option_map suc o ≡ Some outward
-        → ((k : ℕ) → outward_to ns block ≡ Some k → slot_of (slice_get bs k) slot ≡ Some d)
-        → slot_of (slice_get (b ∷ bs) outward) slot ≡ Some d
-    next None is e rest = absurd (none-some outward e)
-    next (Some k) is e rest = subst (λ j. slot_of (slice_get (b ∷ bs) j) slot ≡ Some d) (same_Some (suc k) outward e) (rest k is)
-
-    by : (c : Bool) → nat_eq n block ≡ c → (if c then Some 0 else option_map suc (outward_to ns block)) ≡ Some outward
-        → ((k : ℕ) → outward_to ns block ≡ Some k → slot_of (slice_get bs k) slot ≡ Some d)
-        → slot_of (slice_get (b ∷ bs) outward) slot ≡ Some d
-    by true same e rest =
-        subst (λ j. slot_of (slice_get (b ∷ bs) j) slot ≡ Some d) (same_Some 0 outward e)
-        (ap (λ ds. slice_get ds slot) (h.1 ∙ ap (slots_in u) (eqb-true n block same)) ∙ there)
-    by false same e rest = next (outward_to ns block) refl e rest
+use Rattle.pli_type_name_laws.proofs.PointersNamed.{pointer_there}
+use Rattle.pli_type_name_laws.proofs.RootsInContext.{stored_plain, in_context}
+use Rattle.pli_type_name_laws.proofs.RootsStand.{automatic_stored, global_stored, based_stored, entry_stands}
 
 module _ (r : ResolvedUnit) where
   abbrev U : NamedUnit
   U = named_unit 31 r
 
-  in_context : (blocks : List ℕ) (s : TypingContext) (root : Root) (d : Description)
-      → s.globals ≡ U.globals → HaveSlots U blocks s.blocks → Standing 31 r blocks root d
-      → root_of s root ≡ Some d
-  in_context blocks s (InSlot outward slot) d globals slots h =
-      slot_there U blocks s.blocks h.0 outward slot d slots h.1 h.2
-  in_context blocks s (OfProgram number) d globals slots h =
-      ap (λ gs. described_as Static (slice_get gs number)) globals ∙ h
-  in_context blocks s (NewestOf number) d globals slots h =
-      ap (λ gs. described_as Controlled (slice_get gs number)) globals ∙ h
+  stored_in : (blocks : List ℕ) (n : ℕ) (s : TypingContext) (storage : NamedStorage) (d : Description)
+      → s.globals ≡ U.globals → HaveSlots U blocks s.blocks → StandsIn 31 r blocks storage d → IsStoredIn n s storage d
+  stored_in blocks n s (Begins root is_parameter) d globals slots h = in_context r blocks n s is_parameter root d globals slots h
+  stored_in blocks n s (IsBased block number implied) d globals slots h =
+      subst (IsPointed n s) (sym h.3) (pointer_there r blocks n s globals slots h.0)
 
-  variable_facts : (blocks : List ℕ) (v : NamedVariable) → Begins 31 r blocks v → VariableFacts U blocks v
+  variable_facts : (blocks : List ℕ) (v : NamedVariable) → IsStored 31 r blocks v → VariableFacts U blocks v
   variable_facts blocks v b =
       let plain : is_plain 31 v.whole ≡ true = stored_plain 31 v.whole b.1 in
       record {
-        begins = λ s globals slots. in_context blocks s v.root v.whole globals slots b.0;
+        begins = λ n s globals slots. stored_in blocks n s v.storage v.whole globals slots b.0;
         plain = plain;
         leads = λ p q xs e f. subscripts_lead 31 v.whole p q xs (part_stands 31 v.whole v p refl plain e) f;
         whole = λ p q none e f. whole_is 31 v p q plain none e f;
@@ -155,4 +122,5 @@ module _ (r : ResolvedUnit) where
           all_made 31 (is_automatic 31) (automatic_stored 31) (block_symbols r block) 0
           (block_symbols r block);
       globals = globals_behind 31 (global_stored 31) (all_symbols r);
+      based = λ blocks block. all_made 31 (is_based 31) (based_stored 31) (block_symbols r block) 0 (block_symbols r block);
     }

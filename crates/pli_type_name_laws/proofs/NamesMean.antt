@@ -1,5 +1,5 @@
 -- What a name that means a variable or a procedure says.
-use Rattle.std.specs.Prelude.{◌≡◌, ℕ, zero, suc, Bool, true, false, ◌&&◌, Option, Some, None, List, [], ◌∷◌, map, slice_get}
+use Rattle.std.specs.Prelude.{◌≡◌, ℕ, zero, suc, Bool, true, false, ◌&&◌, Option, Some, None, option_map, List, [], ◌∷◌, map, slice_get}
 use Rattle.std.specs.Prelude.{if◌then◌else◌, refl}
 use Rattle.std.proofs.Common.{sym, ◌∙◌, ap, subst}
 use Rattle.std.proofs.lemmas.Bool.{and_parts}
@@ -12,11 +12,12 @@ use Rattle.pli_resolve.specs.declared.block_numbers.ResolvedBlockKind.TheVariant
 use Rattle.pli_resolve.specs.declared.symbol.NameMeaning.{NameMeaning}
 use Rattle.pli_resolve.specs.declared.symbol.NameMeaning.TheVariants as meanings
 use Rattle.pli_resolve.specs.declared.symbol.StorageClass.{StorageClass}
+use Rattle.pli_resolve.specs.declared.symbol.StorageClass.TheVariants as classes
 use Rattle.pli_resolve.specs.declared.symbol.SymbolKey.{SymbolKey}
-use Rattle.pli_type.specs.NamedUnits.{is_stored, block_symbols, outward_to, root_of, variable_from, variable_at, is_procedure}
+use Rattle.pli_type.specs.NamedUnits.{is_stored, is_based, is_passed_class, such_before, block_symbols, outward_to, root_of, pointer_named, storage_of, variable_from, variable_at, is_procedure}
 use Rattle.pli_type.specs.NamedUnits.{global_number, stands_around, is_reached, gives_stored, returned_of, named_procedure}
 use Rattle.pli_type.specs.NamedUnits.{symbol_meant, declared_as, named_as}
-use Rattle.pli_type.specs.Names.{NamedVariable, NamedProcedure, AVariable, AProcedure, ALabel, Untyped}
+use Rattle.pli_type.specs.Names.{NamedStorage, Begins, IsBased, NamedVariable, NamedProcedure, AVariable, AProcedure, ALabel, Untyped}
 use Rattle.pli_type_tree.specs.TypedTree.{Callee, OfBlock, OfEntry, Root}
 use Rattle.pli_type_name_laws.specs.NameFacts.{StandsAround}
 use Rattle.pli_type_name_laws.specs.SourceBlocks.{SourceBlock}
@@ -33,17 +34,47 @@ same_procedure : (p q : NamedProcedure) → AProcedure p ≡ AProcedure q → p 
 same_procedure p q e = cc
 
 module _ (n : ℕ) (r : ResolvedUnit) (blocks : List ℕ) where
-  none_there : (key : SymbolKey) → symbol_at r key ≡ None → declared_as n r blocks key ≡ Untyped
+  pub none_there : (key : SymbolKey) → symbol_at r key ≡ None → declared_as n r blocks key ≡ Untyped
   none_there key e = rw e refl
 
-  one_there : (key : SymbolKey) (s : Symbol) → symbol_at r key ≡ Some s → declared_as n r blocks key ≡ symbol_meant n r blocks key s.kind
+  pub one_there : (key : SymbolKey) (s : Symbol) → symbol_at r key ≡ Some s → declared_as n r blocks key ≡ symbol_meant n r blocks key s.kind
   one_there key s e = rw e refl
 
   -- ---- variables
 
+  -- storage stands: where a variable begins, or, of a symbol that is BASED, wherever the POINTER leads that BASED names
+  abbrev pub StandsIn : NamedStorage → Description → Type 0
+  StandsIn (Begins root is_parameter) d = Standing n r blocks is_parameter root d
+  StandsIn (IsBased block number implied) d =
+      (locator : Option SymbolKey) × (key : SymbolKey) × (s : Symbol) × (implied ≡ pointer_named n r blocks locator)
+      × (slice_get (block_symbols r key.block) key.number ≡ Some s) × IsOf (classes.Based locator) d s.kind
+
+  abbrev pub HasStorage : NamedStorage → Description → Type 0
+  HasStorage storage d = StandsIn storage d × (is_stored n d ≡ true)
+
+  module _ (key : SymbolKey) (d : Description) (storage : NamedStorage) (s : Symbol) (there : slice_get (block_symbols r key.block) key.number ≡ Some s) where
+    begun : (class : StorageClass) → IsOf class d s.kind → (o : Option Root) → root_of n r blocks key class d ≡ o
+        → option_map (λ root. Begins root (is_passed_class class)) o ≡ Some storage → HasStorage storage d
+    begun class of None is e = absurd (none-some storage e)
+    begun class of (Some root) is e =
+        subst (λ t. HasStorage t d) (same_Some _ storage e) (root_begins n r blocks key d root s there class of is)
+
+    based : (locator : Option SymbolKey) → IsOf (classes.Based locator) d s.kind → (b : Bool) → is_stored n d ≡ b
+        → (if b then Some (IsBased key.block (such_before (is_based n) (block_symbols r key.block) key.number) (pointer_named n r blocks locator)) else None) ≡ Some storage
+        → HasStorage storage d
+    based locator of true stored e = subst (λ t. HasStorage t d) (same_Some _ storage e) ((locator, key, s, refl, there, of), stored)
+    based locator of false stored e = absurd (none-some storage e)
+
+    storage_stands : (class : StorageClass) → IsOf class d s.kind → storage_of n r blocks key class d ≡ Some storage → HasStorage storage d
+    storage_stands classes.Automatic of e = begun classes.Automatic of (root_of n r blocks key classes.Automatic d) refl e
+    storage_stands (classes.Parameter slot) of e = begun (classes.Parameter slot) of (root_of n r blocks key (classes.Parameter slot) d) refl e
+    storage_stands classes.Static of e = begun classes.Static of (root_of n r blocks key classes.Static d) refl e
+    storage_stands classes.Controlled of e = begun classes.Controlled of (root_of n r blocks key classes.Controlled d) refl e
+    storage_stands (classes.Based locator) of e = based locator of (is_stored n d) refl e
+
   module _ (v : NamedVariable) where
-    abbrev pub Begins : Type 0
-    Begins = Standing n r blocks v.root v.whole × (is_stored n v.whole ≡ true)
+    abbrev pub IsStored : Type 0
+    IsStored = HasStorage v.storage v.whole
 
     untyped : Untyped ≡ AVariable v → ⊥
     untyped e = absurd (cc)
@@ -54,20 +85,20 @@ module _ (n : ℕ) (r : ResolvedUnit) (blocks : List ℕ) where
     no_label : (statement : ℕ) → ALabel statement ≡ AVariable v → ⊥
     no_label statement e = absurd (cc)
 
-    from_root : (key : SymbolKey) (class : StorageClass) (d : Description) (path : List ℕ) (s : Symbol)
-        → slice_get (block_symbols r key.block) key.number ≡ Some s → IsOf class d s.kind → (o : Option Root)
-        → root_of n r blocks key class d ≡ o → variable_from o d path ≡ AVariable v → Begins
-    from_root key class d path s there of None is e = absurd (untyped e)
-    from_root key class d path s there of (Some root) is e =
-        subst (λ (w : NamedVariable). Standing n r blocks w.root w.whole × (is_stored n w.whole ≡ true))
-        (same_variable (record { root = root; whole = d; path = path }) v e)
-        (root_begins n r blocks key d root s there class of is)
+    from_storage : (key : SymbolKey) (class : StorageClass) (d : Description) (path : List ℕ) (s : Symbol)
+        → slice_get (block_symbols r key.block) key.number ≡ Some s → IsOf class d s.kind → (o : Option NamedStorage)
+        → storage_of n r blocks key class d ≡ o → variable_from o d path ≡ AVariable v → IsStored
+    from_storage key class d path s there of None is e = absurd (untyped e)
+    from_storage key class d path s there of (Some storage) is e =
+        subst (λ (w : NamedVariable). HasStorage w.storage w.whole)
+        (same_variable (record { storage = storage; whole = d; path = path }) v e)
+        (storage_stands key d storage s there class of is)
 
     of_variable : (key : SymbolKey) (path : List ℕ) (s : Symbol) (kind : SymbolKind)
         → slice_get (block_symbols r key.block) key.number ≡ Some s → s.kind ≡ kind
-        → variable_at n r blocks key path (Some (record { identifier = s.identifier; kind = kind })) ≡ AVariable v → Begins
+        → variable_at n r blocks key path (Some (record { identifier = s.identifier; kind = kind })) ≡ AVariable v → IsStored
     of_variable key path s (Variable d class scope initial area) there is e =
-        from_root key class d path s there (subst (IsOf class d) (sym is) (refl, refl)) _ refl e
+        from_storage key class d path s there (subst (IsOf class d) (sym is) (refl, refl)) _ refl e
     of_variable key path s (Member root p initial area) there is e = absurd (untyped e)
     of_variable key path s (Label statement) there is e = absurd (untyped e)
     of_variable key path s (Procedure block returned area) there is e = absurd (untyped e)
@@ -75,7 +106,7 @@ module _ (n : ℕ) (r : ResolvedUnit) (blocks : List ℕ) where
     of_variable key path s BuiltIn there is e = absurd (untyped e)
 
     of_member : (key : SymbolKey) (path : List ℕ) (o : Option Symbol) → slice_get (block_symbols r key.block) key.number ≡ o
-        → variable_at n r blocks key path o ≡ AVariable v → Begins
+        → variable_at n r blocks key path o ≡ AVariable v → IsStored
     of_member key path None there e = absurd (untyped e)
     of_member key path (Some s) there e = of_variable key path s s.kind there refl e
 
@@ -84,9 +115,9 @@ module _ (n : ℕ) (r : ResolvedUnit) (blocks : List ℕ) where
     named_or_not false p e = untyped e
 
     of_symbol : (key : SymbolKey) (s : Symbol) (kind : SymbolKind) → slice_get (block_symbols r key.block) key.number ≡ Some s
-        → s.kind ≡ kind → symbol_meant n r blocks key kind ≡ AVariable v → Begins
+        → s.kind ≡ kind → symbol_meant n r blocks key kind ≡ AVariable v → IsStored
     of_symbol key s (Variable d class scope initial area) there is e =
-        from_root key class d [] s there (subst (IsOf class d) (sym is) (refl, refl)) _ refl e
+        from_storage key class d [] s there (subst (IsOf class d) (sym is) (refl, refl)) _ refl e
     of_symbol key s (Member root path initial area) there is e =
         of_member (record { block = key.block; number = root }) path _ refl e
     of_symbol key s (Label statement) there is e = absurd (no_label statement e)
@@ -96,11 +127,11 @@ module _ (n : ℕ) (r : ResolvedUnit) (blocks : List ℕ) where
         (record { callee = OfEntry (global_number n r key); parameters = parameters; returned = returned }) e)
     of_symbol key s BuiltIn there is e = absurd (untyped e)
 
-    of_declared : (key : SymbolKey) (o : Option Symbol) → symbol_at r key ≡ o → declared_as n r blocks key ≡ AVariable v → Begins
+    of_declared : (key : SymbolKey) (o : Option Symbol) → symbol_at r key ≡ o → declared_as n r blocks key ≡ AVariable v → IsStored
     of_declared key None there e = absurd (untyped (sym (none_there key there) ∙ e))
     of_declared key (Some s) there e = of_symbol key s s.kind there refl (sym (one_there key s there) ∙ e)
 
-    pub variable_begins : (o : Option NameMeaning) → named_as n r blocks o ≡ AVariable v → Begins
+    pub variable_begins : (o : Option NameMeaning) → named_as n r blocks o ≡ AVariable v → IsStored
     variable_begins None e = absurd (untyped e)
     variable_begins (Some (meanings.BuiltIn function)) e = absurd (cc)
     variable_begins (Some (meanings.Symbol key)) e = of_declared key _ refl e
@@ -130,9 +161,9 @@ module _ (n : ℕ) (r : ResolvedUnit) (blocks : List ℕ) where
     nothing : Untyped ≡ AProcedure p → ⊥
     nothing e = absurd (cc)
 
-    from_variable : (o : Option Root) (d : Description) (path : List ℕ) → variable_from o d path ≡ AProcedure p → ⊥
+    from_variable : (o : Option NamedStorage) (d : Description) (path : List ℕ) → variable_from o d path ≡ AProcedure p → ⊥
     from_variable None d path e = nothing e
-    from_variable (Some root) d path e = absurd (cc)
+    from_variable (Some storage) d path e = absurd (cc)
 
     member_means : (key : SymbolKey) (path : List ℕ) (o : Option Symbol) → variable_at n r blocks key path o ≡ AProcedure p → ⊥
     member_means key path None e = nothing e
@@ -140,7 +171,7 @@ module _ (n : ℕ) (r : ResolvedUnit) (blocks : List ℕ) where
       where
         by : (kind : SymbolKind) → s.kind ≡ kind
             → variable_at n r blocks key path (Some (record { identifier = s.identifier; kind = kind })) ≡ AProcedure p → ⊥
-        by (Variable d class scope initial area) is e = from_variable (root_of n r blocks key class d) d path e
+        by (Variable d class scope initial area) is e = from_variable (storage_of n r blocks key class d) d path e
         by (Member root p initial area) is e = nothing e
         by (Label statement) is e = nothing e
         by (Procedure block returned area) is e = nothing e
@@ -185,7 +216,7 @@ module _ (n : ℕ) (r : ResolvedUnit) (blocks : List ℕ) where
 
     symbol_named : (key : SymbolKey) (s : Symbol) → slice_get (block_symbols r key.block) key.number ≡ Some s → (kind : SymbolKind)
         → s.kind ≡ kind → symbol_meant n r blocks key kind ≡ AProcedure p → IsNamed
-    symbol_named key s there (Variable d class scope initial area) is e = absurd (from_variable (root_of n r blocks key class d) d [] e)
+    symbol_named key s there (Variable d class scope initial area) is e = absurd (from_variable (storage_of n r blocks key class d) d [] e)
     symbol_named key s there (Member root path initial area) is e =
         absurd (member_means (record { block = key.block; number = root }) path (slice_get (block_symbols r key.block) root) e)
     symbol_named key s there (Label statement) is e = absurd (cc)

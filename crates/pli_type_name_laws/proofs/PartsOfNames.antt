@@ -76,7 +76,7 @@ module _ (n : ℕ) (w : Description) where
       let s = subscripted (length xs) p q _ _ h refl refl e in
       (leads_at w q.offset q.strides q.description xs s.1 s.0.leads, s.0.plain)
 
-  start : is_plain n w ≡ true → Stands n w (strided 0 w [])
+  pub start : is_plain n w ≡ true → Stands n w (strided 0 w [])
   start plain = record { plain = plain; leads = (0, whole_found w) }
 
   pub part_stands : (v : NamedVariable) (p : StridedPart) → v.whole ≡ w → is_plain n w ≡ true → part_of v ≡ Some p → Stands n w p

@@ -31,7 +31,7 @@ mutual
   plain_filled n (Character k) h = (and_parts (nat_lt 0 k) (nat_le k 32767) h).0
   plain_filled n (Varying k) h = (and_parts (nat_lt 0 k) (nat_le k 32767) h).0
   plain_filled n (Bit k) h = (and_parts (nat_lt 0 k) (nat_le k 32767) h).0
-  plain_filled n Pointer h = absurd (not_true h)
+  plain_filled n Pointer h = refl
   plain_filled n Offset h = absurd (not_true h)
   plain_filled n (Area k) h = absurd (not_true h)
   plain_filled n (Array [] e) h = absurd (not_true h)

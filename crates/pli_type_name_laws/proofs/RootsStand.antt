@@ -1,6 +1,6 @@
 -- A variable's root leads to its description: a block's slots are its parameters and then what its AUTOMATIC
 -- variables are made from, in the order of the symbols; globals stand in the order of the text.
-use Rattle.std.specs.Prelude.{◌≡◌, ℕ, zero, suc, ◌+◌, Bool, true, false, ◌&&◌, nat_eq, Option, Some, None, List, [], ◌∷◌, ◌++◌}
+use Rattle.std.specs.Prelude.{◌≡◌, ℕ, zero, suc, ◌+◌, ◌≤◌, Bool, true, false, ◌&&◌, nat_eq, Option, Some, None, List, [], ◌∷◌, ◌++◌}
 use Rattle.std.specs.Prelude.{length, map, replicate, take, get_or, slice_get, if◌then◌else◌, refl}
 use Rattle.std.proofs.Common.{sym, ◌∙◌, ap, subst, arith, length-append}
 use Rattle.std.proofs.lemmas.List.{map-append}
@@ -16,7 +16,7 @@ use Rattle.pli_resolve.specs.declared.symbol.StorageClass.{StorageClass}
 use Rattle.pli_resolve.specs.declared.symbol.StorageClass.TheVariants as classes
 use Rattle.pli_resolve.specs.declared.symbol.SymbolKey.{SymbolKey}
 use Rattle.pli_type.specs.InitialScalars.{template_of}
-use Rattle.pli_type.specs.NamedUnits.{is_stored, is_automatic, is_global, kind_of_class, one_such, such_before, one_global, globals_before, globals_in}
+use Rattle.pli_type.specs.NamedUnits.{is_stored, is_automatic, is_global, is_based, is_passed_class, kind_of_class, one_such, such_before, one_global, globals_before, globals_in}
 use Rattle.pli_type.specs.NamedUnits.{parameter_numbers, description_in, parameters_of, outward_to, in_slot, is_parameter}
 use Rattle.pli_type.specs.NamedUnits.{root_of, member_items, template_at, templates_from, templates_of}
 use Rattle.pli_type.specs.NamedUnits.{block_symbols, global_number, global_of, global_with, globals_from, globals_of, all_globals}
@@ -27,7 +27,7 @@ use Rattle.pli_type_tree.specs.Templates.{Template}
 use Rattle.pli_program.specs.declared.kind.VariableKind.{VariableKind}
 use Rattle.pli_program.specs.declared.kind.VariableKind.TheVariants.{Static, Controlled}
 use Rattle.pli_type_tree.specs.Globals.{described_as, signature_of}
-use Rattle.pli_type_tree.specs.TypedTree.{Global, EntryPoint, Root, InSlot, OfProgram, NewestOf}
+use Rattle.pli_type_tree.specs.TypedTree.{Global, EntryPoint, Root, InSlot, OfProgram, NewestOf, Located}
 
 abbrev pub descriptions : List Template → List Description
 descriptions ts = map (λ t. t.description) ts
@@ -288,54 +288,66 @@ global_stored n classes.Static d h = h
 global_stored n classes.Controlled d h = h
 global_stored n class d h = absurd (not_true h)
 
+pub based_stored : (n : ℕ) (class : StorageClass) (d : Description) → is_based n class d ≡ true → is_stored n d ≡ true
+based_stored n (classes.Based locator) d h = h
+based_stored n class d h = absurd (not_true h)
+
 module _ (n : ℕ) (r : ResolvedUnit) (blocks : List ℕ) where
   -- the slots of a block
   abbrev pub slots : (block : ℕ) → List Description
   slots block = parameters_of r block ++ descriptions (templates_of (is_automatic n) (block_symbols r block))
 
-  -- a root leads to this description
-  abbrev pub Standing : Root → Description → Type 0
-  Standing (InSlot outward slot) d =
+  -- a root leads to this description; a slot that is no parameter's stands behind those that are
+  abbrev pub Standing : (is_parameter : Bool) → Root → Description → Type 0
+  Standing is_parameter (InSlot outward slot) d =
       (block : ℕ) × (outward_to blocks block ≡ Some outward) × (slice_get (slots block) slot ≡ Some d)
-  Standing (OfProgram number) d = described_as Static (slice_get (all_globals n (all_symbols r)) number) ≡ Some d
-  Standing (NewestOf number) d = described_as Controlled (slice_get (all_globals n (all_symbols r)) number) ≡ Some d
+      × (is_parameter ≡ false → length (parameters_of r block) ≤ slot)
+  Standing is_parameter (OfProgram number) d = described_as Static (slice_get (all_globals n (all_symbols r)) number) ≡ Some d
+  Standing is_parameter (NewestOf number) d = described_as Controlled (slice_get (all_globals n (all_symbols r)) number) ≡ Some d
+  Standing is_parameter (Located locator whole) d = ⊥
 
-  slot_stands : (o : Option ℕ) (block slot : ℕ) (d : Description) (root : Root) → outward_to blocks block ≡ o
-      → slice_get (slots block) slot ≡ Some d → in_slot o slot ≡ Some root → Standing root d
-  slot_stands None block slot d root at there e = absurd (none-some root e)
-  slot_stands (Some x) block slot d root at there e =
-      subst (λ q. Standing q d) (same_Some (InSlot x slot) root e) (block, at, there)
+  slot_stands : (is_parameter : Bool) (o : Option ℕ) (block slot : ℕ) (d : Description) (root : Root) → outward_to blocks block ≡ o
+      → slice_get (slots block) slot ≡ Some d → (is_parameter ≡ false → length (parameters_of r block) ≤ slot) → in_slot o slot ≡ Some root
+      → Standing is_parameter root d
+  slot_stands is_parameter None block slot d root at there own e = absurd (none-some root e)
+  slot_stands is_parameter (Some x) block slot d root at there own e =
+      subst (λ q. Standing is_parameter q d) (same_Some (InSlot x slot) root e) (block, at, there, own)
 
   module _ (key : SymbolKey) (d : Description) (root : Root) (s : Symbol) (there : slice_get (block_symbols r key.block) key.number ≡ Some s) where
-    abbrev Begun : Type 0
-    Begun = Standing root d × (is_stored n d ≡ true)
+    abbrev Begun : (is_parameter : Bool) → Type 0
+    Begun is_parameter = Standing is_parameter root d × (is_stored n d ≡ true)
+
+    as_many : length (parameters_of r key.block) ≡ length (parameter_numbers r key.block)
+    as_many = length_mapped (λ number. description_in (slice_get (block_symbols r key.block) number)) (parameter_numbers r key.block)
 
     automatic_begins : IsOf classes.Automatic d s.kind → (b : Bool) → is_stored n d ≡ b
         → (if b then in_slot (outward_to blocks key.block)
         (length (parameter_numbers r key.block) + such_before (is_automatic n) (block_symbols r key.block) key.number)
-        else None) ≡ Some root → Begun
+        else None) ≡ Some root → Begun false
     automatic_begins of true stored e = (
-      slot_stands (outward_to blocks key.block) key.block _ d root refl
+      slot_stands false (outward_to blocks key.block) key.block _ d root refl
           (behind_front (parameters_of r key.block) (descriptions (templates_of (is_automatic n) (block_symbols r key.block)))
           (such_before (is_automatic n) (block_symbols r key.block) key.number) _
-          (omega (arith, length_mapped (λ number. description_in (slice_get (block_symbols r key.block) number)) (parameter_numbers r key.block)))
+          (omega (arith, as_many))
           ∙ found (is_automatic n) (block_symbols r key.block) (block_symbols r key.block) 0 key.number s d there
-          (such (is_automatic n) classes.Automatic d s.kind of stored)) e,
+          (such (is_automatic n) classes.Automatic d s.kind of stored))
+          (λ own. omega (arith, as_many)) e,
       stored,
     )
     automatic_begins of false stored e = absurd (none-some root e)
 
     parameter_begins : (slot : ℕ) → IsOf (classes.Parameter slot) d s.kind → (b : Bool)
         → (is_stored n d && is_parameter (parameter_numbers r key.block) slot key.number) ≡ b
-        → (if b then in_slot (outward_to blocks key.block) slot else None) ≡ Some root → Begun
+        → (if b then in_slot (outward_to blocks key.block) slot else None) ≡ Some root → Begun true
     parameter_begins slot of true both e =
         let parts : (is_stored n d ≡ true) × (is_parameter (parameter_numbers r key.block) slot key.number ≡ true) = and_parts _ _ both in
         let number : slice_get (parameter_numbers r key.block) slot ≡ Some key.number =
         parameter_there (parameter_numbers r key.block) slot key.number _ refl parts.1 in (
-          slot_stands (outward_to blocks key.block) key.block slot d root refl
+          slot_stands true (outward_to blocks key.block) key.block slot d root refl
               (in_front (parameters_of r key.block) _ slot d
               (mapped (λ number. description_in (slice_get (block_symbols r key.block) number)) (parameter_numbers r key.block) slot key.number number
-              ∙ ap (λ o. Some (description_in o)) there ∙ ap Some (described (classes.Parameter slot) d s s.kind refl of))) e,
+              ∙ ap (λ o. Some (description_in o)) there ∙ ap Some (described (classes.Parameter slot) d s s.kind refl of)))
+              (λ own. absurd (not_true (sym own))) e,
           parts.0,
         )
     parameter_begins slot of false both e = absurd (none-some root e)
@@ -348,18 +360,18 @@ module _ (n : ℕ) (r : ResolvedUnit) (blocks : List ℕ) where
         ap (described_as (kind_of_class class)) (found_in_text n (all_symbols r) key.block key.number s is.0 there is.1) ∙ is.2
 
     static_begins : IsOf classes.Static d s.kind → (b : Bool) → is_stored n d ≡ b
-        → (if b then Some (OfProgram (global_number n r key)) else None) ≡ Some root → Begun
+        → (if b then Some (OfProgram (global_number n r key)) else None) ≡ Some root → Begun false
     static_begins of true stored e =
-        (subst (λ q. Standing q d) (same_Some (OfProgram (global_number n r key)) root e) (global_stands classes.Static of stored), stored)
+        (subst (λ q. Standing false q d) (same_Some (OfProgram (global_number n r key)) root e) (global_stands classes.Static of stored), stored)
     static_begins of false stored e = absurd (none-some root e)
 
     controlled_begins : IsOf classes.Controlled d s.kind → (b : Bool) → is_stored n d ≡ b
-        → (if b then Some (NewestOf (global_number n r key)) else None) ≡ Some root → Begun
+        → (if b then Some (NewestOf (global_number n r key)) else None) ≡ Some root → Begun false
     controlled_begins of true stored e =
-        (subst (λ q. Standing q d) (same_Some (NewestOf (global_number n r key)) root e) (global_stands classes.Controlled of stored), stored)
+        (subst (λ q. Standing false q d) (same_Some (NewestOf (global_number n r key)) root e) (global_stands classes.Controlled of stored), stored)
     controlled_begins of false stored e = absurd (none-some root e)
 
-    pub root_begins : (class : StorageClass) → IsOf class d s.kind → root_of n r blocks key class d ≡ Some root → Begun
+    pub root_begins : (class : StorageClass) → IsOf class d s.kind → root_of n r blocks key class d ≡ Some root → Begun (is_passed_class class)
     root_begins classes.Automatic of e = automatic_begins of (is_stored n d) refl e
     root_begins (classes.Parameter slot) of e = parameter_begins slot of _ refl e
     root_begins classes.Static of e = static_begins of (is_stored n d) refl e

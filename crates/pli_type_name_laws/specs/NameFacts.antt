@@ -1,29 +1,46 @@
 -- Facts about the names of a unit (own): where its variables begin, which parts of them references lead to,
 -- and which procedures are called.
-use Rattle.std.specs.Prelude.{◌≡◌, ℕ, IsTrue, Option, Some, None, List, [], ◌∷◌, length, map, slice_get}
-use Rattle.pli_map.specs.Description.{Description}
+use Rattle.std.specs.Prelude.{◌≡◌, ℕ, false, IsTrue, Option, Some, None, List, [], ◌∷◌, length, map}
+use Rattle.std.specs.Prelude.{slice_get}
+use Rattle.pli_map.specs.Description.{Description, Pointer}
 use Rattle.pli_resolve.specs.declared.block_numbers.ResolvedBlockKind.TheVariants as kinds
-use Rattle.pli_type.specs.NamedUnits.{is_plain, outward_to}
-use Rattle.pli_type.specs.Names.{NamedUnit, NamedVariable, AVariable, NamedProcedure, AProcedure}
+use Rattle.pli_type.specs.NamedUnits.{is_plain, outward_to, names_based}
+use Rattle.pli_type.specs.Names.{NamedUnit, NamedStorage, Begins, IsBased, NamedVariable, AVariable}
+use Rattle.pli_type.specs.Names.{NamedProcedure, AProcedure}
 use Rattle.pli_type.specs.References.{StridedPart, part_of, with_subscripts, subscripts_at}
 use Rattle.pli_type_tree.specs.Templates.{variable_of}
 use Rattle.pli_type_tree.specs.Globals.{signature_of, templates_in}
-use Rattle.pli_type_tree.specs.TypedTree.{Callee, OfBlock, OfEntry, TypedExpression}
-use Rattle.pli_type_tree.specs.WellTyped.{AreMade, BlockAround, LeadTo, TypingContext, root_of}
+use Rattle.pli_type_tree.specs.TypedTree.{Callee, OfBlock, OfEntry, TypedExpression, TypedReference}
+use Rattle.pli_type_tree.specs.WellTyped.{AreMade, BlockAround, LeadTo, TypingContext, BeginsWhole}
+use Rattle.pli_type_tree.specs.WellTyped.{IsRooted, IsPlaced}
 use Rattle.pli_type_name_laws.specs.SourceBlocks.{SourceBlock, unit_blocks, innermost, slots_in}
 
--- blocks of these numbers, with the slots that a unit gives them
+-- blocks of these numbers, with the parameters and the slots that a unit gives them
 abbrev pub HaveSlots : NamedUnit → (numbers : List ℕ) → List BlockAround → Type 0
 HaveSlots u [] [] = Unit {0}
-HaveSlots u (n ∷ ns) (b ∷ bs) = (b.number ≡ n) × (b.slots ≡ slots_in u n) × HaveSlots u ns bs
+HaveSlots u (n ∷ ns) (b ∷ bs) =
+    (b.number ≡ n) × ((b.parameters ≡ length (u.parameters n)) × (b.slots ≡ slots_in u n))
+    × HaveSlots u ns bs
 HaveSlots u ns bs = ⊥
+
+-- the POINTER that BASED names is there, if it names one
+abbrev pub IsPointed : (greatest : ℕ) → TypingContext → Option TypedReference → Type 0
+IsPointed n s None = Unit {0}
+IsPointed n s (Some reference) = IsPlaced n s reference Pointer
+
+-- storage of a variable of this description is there: it begins where that stands, as a whole generation
+-- unless the variable is a parameter; or it is wherever a pointer leads
+abbrev pub IsStoredIn : (greatest : ℕ) → TypingContext → NamedStorage → Description → Type 0
+IsStoredIn n s (Begins root is_parameter) whole =
+    IsRooted n s root whole × (is_parameter ≡ false → BeginsWhole s root)
+IsStoredIn n s (IsBased block number implied) whole = IsPointed n s implied
 
 -- a variable that a name means is there, wherever these blocks are around, and each reference to a part of it
 -- leads to that part
 pub record VariableFacts (u : NamedUnit) (blocks : List ℕ) (v : NamedVariable) : Type 0 where
   pub begins :
-      (s : TypingContext) → s.globals ≡ u.globals → HaveSlots u blocks s.blocks
-      → root_of s v.root ≡ Some v.whole
+      (greatest : ℕ) (s : TypingContext) → s.globals ≡ u.globals → HaveSlots u blocks s.blocks
+      → IsStoredIn greatest s v.storage v.whole
   pub plain : IsTrue (is_plain 31 v.whole)
   -- with as many subscripts as it has levels, or with none where no level above it has subscripts
   pub leads :
@@ -77,3 +94,10 @@ pub record NameFacts (u : NamedUnit) : Type 0 where
       → u.parameters number ≡ []
   pub automatic : (block : ℕ) → AreMade (map variable_of (u.automatic block))
   pub globals : AreMade (map variable_of (templates_in u.globals))
+  pub based : (blocks : List ℕ) (block : ℕ) → AreMade (map variable_of ((u.naming blocks).based block))
+
+-- it is known where names of BASED variables stand, whatever blocks are around: ALLOCATE has a temporary for
+-- each of them
+abbrev pub KnowsBased : NamedUnit → Type 0
+KnowsBased u =
+    (blocks : List ℕ) (at : ℕ) → names_based ((u.naming blocks).meaning at) ≡ u.compiled.is_based at

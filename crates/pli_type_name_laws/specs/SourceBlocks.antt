@@ -1,7 +1,7 @@
 -- The blocks of a source tree, as its statements know them: which lists they stand in, and which labels these
 -- have.
 use Rattle.std.specs.Prelude.{ℕ, suc, ◌+◌, Option, Some, None, option_and_then}
-use Rattle.std.specs.Prelude.{List, [], ◌∷◌, ◌++◌, map, slice_get}
+use Rattle.std.specs.Prelude.{List, [], ◌∷◌, ◌++◌, length, map, slice_get}
 use Rattle.pli_base.specs.Statements as tree
 use Rattle.pli_base.specs.Statements.{Statement, Numbered, Body, Statements, Ended, Before, Alternative}
 use Rattle.pli_base.specs.Statements.{NoElse, Else, ExternalProcedure}
@@ -81,7 +81,12 @@ slots_in u block = u.parameters block ++ map (λ t. t.description) (u.automatic 
 abbrev pub known_blocks : NamedUnit → List Enclosing → List BlockAround
 known_blocks u [] = []
 known_blocks u (b ∷ bs) =
-    record { number = b.number; slots = slots_in u b.number; labels = b.labels } ∷ known_blocks u bs
+    record {
+      number = b.number;
+      parameters = length (u.parameters b.number);
+      slots = slots_in u b.number;
+      labels = b.labels;
+    } ∷ known_blocks u bs
 
 -- a procedure of a unit, by its block
 abbrev pub procedure_known : NamedUnit → (number : ℕ) → SourceBlock → Option KnownProcedure

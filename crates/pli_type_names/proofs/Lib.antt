@@ -4,6 +4,8 @@ pub mod LevelsLead
 pub mod ListLemmas
 pub mod MembersPassed
 pub mod Names
+pub mod StorageIs
+pub mod BasedNames
 pub mod PlacesOrdered
 pub mod OutwardLemmas
 pub mod VariableStarts

@@ -1,94 +1,67 @@
 -- What names mean, by what is kept of symbols and blocks.
 use Rattle.std.proofs.Common.{◌≡◌, ℕ, Bool, true, false, ◌&&◌, Option, Some, None, List, [], option_map, slice_get, get_or}
-use Rattle.std.proofs.Common.{refl, ap, sym, ◌∙◌, arith}
-use Rattle.std.specs.Option.{unwrap_or, option_and_then}
+use Rattle.std.proofs.Common.{refl, ap, ◌∙◌}
+use Rattle.std.specs.Option.{option_and_then}
 use Rattle.std.specs.Prelude.{if◌then◌else◌}
 use Rattle.pli_map.specs.Description.{Description}
 use Rattle.pli_resolve.specs.ResolvedUnits.{ResolvedUnit, ResolvedBlock}
 use Rattle.pli_resolve.specs.Symbols.{Symbol, SymbolKind, Variable, Member, Label, Procedure, Entry, BuiltIn}
 use Rattle.pli_resolve.specs.declared.built_in.BuiltInFunction.{BuiltInFunction}
 use Rattle.pli_resolve.specs.declared.symbol.StorageClass.{StorageClass}
-use Rattle.pli_resolve.specs.declared.symbol.StorageClass.TheVariants as classes
 use Rattle.pli_resolve.specs.declared.symbol.SymbolKey.{SymbolKey}
 use Rattle.pli_type.specs.Names as plain
 use Rattle.pli_type.specs.Names.{AVariable, AFunction, AProcedure, ALabel, Untyped}
-use Rattle.pli_type.specs.NamedUnits.{block_symbols, declared_as, gives_stored, global_number, is_parameter, is_procedure, is_reached, is_stored}
-use Rattle.pli_type.specs.NamedUnits.{named_procedure, parameter_numbers, returned_of, root_of, stands_around}
+use Rattle.pli_type.specs.NamedUnits.{block_symbols, declared_as, gives_stored, global_number, is_procedure, is_reached}
+use Rattle.pli_type.specs.NamedUnits.{named_procedure, returned_of, stands_around, storage_of}
 use Rattle.pli_type.specs.NamedUnits.{symbol_meant, variable_at, variable_from}
-use Rattle.pli_type.specs.References.{StridedPart, part_on}
+use Rattle.pli_type.specs.References.{StridedPart, part_on, whole_part}
 use Rattle.pli_type_names.specs.BlockEntries.{BlockEntry, entry_at}
-use Rattle.pli_type_names.specs.BlockFacts.{BlockFacts, facts_of}
+use Rattle.pli_type_names.specs.BlockFacts.{facts_of}
 use Rattle.pli_type_names.specs.SymbolMeaning.{IsMeantAs, is_way}
-use Rattle.pli_type_names.specs.OwnVariables.{OwnVariable, begun, global_at, own_at, own_variables, place_at}
+use Rattle.pli_type_names.specs.OwnVariables.{begun, own_at, own_variables, place_at}
 use Rattle.pli_type_names.specs.Seen.{Seen, SeenVariable, SeenFunction, SeenProcedure, SeenLabel, SeenUntyped, seen}
-use Rattle.pli_type_names.specs.Seen.{Kept, KeptEntry, KeptNothing, kept_seen, kept_symbols, kind_kept, on_way, procedure_seen, root_from, variable_seen}
+use Rattle.pli_type_names.specs.Seen.{Kept, KeptEntry, KeptNothing, kept_seen, kept_symbols, kind_kept, on_way, procedure_seen, storage_from, variable_seen}
 use Rattle.pli_type_names.specs.declared.naming.NamedAs.{NamedAs}
 use Rattle.pli_type_names.specs.declared.naming.NamedAs.TheVariants as answers
 use Rattle.pli_type_names.specs.declared.place.Location.{Location}
-use Rattle.pli_type_names.specs.declared.place.Location.TheVariants.{InBlock}
 use Rattle.pli_type_names.specs.views.MeaningView.{answer_view, procedure_view}
-use Rattle.pli_type_names.proofs.ListLemmas.{each_get}
-use Rattle.pli_type_tree.specs.TypedTree.{OfEntry, Root}
-
--- ---- where variables begin
-
-if_placed : (from : Location → Option Root) (b : Bool) (p : Location)
-    → (if b then from p else None) ≡ option_and_then from (if b then Some p else None)
-if_placed from true p = refl
-if_placed from false p = refl
-
-root_is : (r : ResolvedUnit) (blocks : List ℕ) (key : SymbolKey) (class : StorageClass) (d : Description)
-    → root_of 31 r blocks key class d ≡ option_and_then (root_from blocks key.block) (place_at (facts_of r key.block) key.number class d)
-root_is r blocks key classes.Automatic d =
-    if_placed (root_from blocks key.block) (is_stored 31 d) _
-root_is r blocks key (classes.Parameter slot) d =
-    if_placed (root_from blocks key.block) (is_stored 31 d && is_parameter (parameter_numbers r key.block) slot key.number) (InBlock slot)
-root_is r blocks key classes.Static d =
-    if_placed (root_from blocks key.block) (is_stored 31 d) _
-root_is r blocks key classes.Controlled d =
-    if_placed (root_from blocks key.block) (is_stored 31 d) _
-root_is r blocks key (classes.Based locator) d = refl
+use Rattle.pli_type_names.proofs.StorageIs.{AreRows, kept_get, kept_there, own_get, own_there, storage_is}
+use Rattle.pli_type_tree.specs.TypedTree.{OfEntry}
 
 -- ---- variables and members
 
-from_root : (o : Option Root) (d : Description) (path : List ℕ)
-    → variable_seen o (is_way path) (part_on (record { offset = 0; description = d; strides = [] }) path) ≡ seen (variable_from o d path)
-from_root None d path = refl
-from_root (Some root) d path = refl
+from_storage : (o : Option plain.NamedStorage) (d : Description) (path : List ℕ)
+    → variable_seen o d (is_way path) (part_on (whole_part d) path) ≡ seen (variable_from o d path)
+from_storage None d path = refl
+from_storage (Some storage) d path = refl
 
-module _ (blocks : List ℕ) (entries : List BlockEntry) where
+module _ (r : ResolvedUnit) (blocks : List ℕ) (entries : List BlockEntry) (rows : List (List Kept)) (are : AreRows r blocks rows) where
   way_seen : (block : ℕ) (o : Option Location) (d : Description) (path : List ℕ)
-      → kept_seen blocks entries block (on_way (begun o d) path) ≡ seen (variable_from (option_and_then (root_from blocks block) o) d path)
+      → kept_seen rows blocks entries block (on_way (begun o d) path) ≡ seen (variable_from (option_and_then (storage_from rows blocks block) o) d path)
   way_seen block None d path = refl
-  way_seen block (Some p) d path = from_root (root_from blocks block p) d path
+  way_seen block (Some p) d path = from_storage (storage_from rows blocks block p) d path
 
-  way_of_class : (r : ResolvedUnit) (key : SymbolKey) (path : List ℕ) (class : StorageClass) (d : Description)
-      → kept_seen blocks entries key.block (on_way (begun (place_at (facts_of r key.block) key.number class d) d) path)
-      ≡ seen (variable_from (root_of 31 r blocks key class d) d path)
-  way_of_class r key path class d =
+  way_of_class : (key : SymbolKey) (path : List ℕ) (class : StorageClass) (d : Description)
+      → kept_seen rows blocks entries key.block (on_way (begun (place_at (facts_of r key.block) key.number class d) d) path)
+      ≡ seen (variable_from (storage_of 31 r blocks key class d) d path)
+  way_of_class key path class d =
       way_seen key.block (place_at (facts_of r key.block) key.number class d) d path
-      ∙ ap (λ o. seen (variable_from o d path)) (sym (root_is r blocks key class d))
+      ∙ ap (λ o. seen (variable_from o d path)) (storage_is r blocks rows are key class d)
 
-  way_of_kind : (r : ResolvedUnit) (key : SymbolKey) (path : List ℕ) (s : Symbol) (k : SymbolKind)
-      → kept_seen blocks entries key.block (on_way (own_at (facts_of r key.block) key.number k) path)
+  way_of_kind : (key : SymbolKey) (path : List ℕ) (s : Symbol) (k : SymbolKind)
+      → kept_seen rows blocks entries key.block (on_way (own_at (facts_of r key.block) key.number k) path)
       ≡ seen (variable_at 31 r blocks key path (Some (record { identifier = s.identifier; kind = k })))
-  way_of_kind r key path s (Variable d class scope initial area) = way_of_class r key path class d
-  way_of_kind r key path s (Member root p initial area) = refl
-  way_of_kind r key path s (Label statement) = refl
-  way_of_kind r key path s (Procedure block returned area) = refl
-  way_of_kind r key path s (Entry parameters returned) = refl
-  way_of_kind r key path s BuiltIn = refl
+  way_of_kind key path s (Variable d class scope initial area) = way_of_class key path class d
+  way_of_kind key path s (Member root p initial area) = refl
+  way_of_kind key path s (Label statement) = refl
+  way_of_kind key path s (Procedure block returned area) = refl
+  way_of_kind key path s (Entry parameters returned) = refl
+  way_of_kind key path s BuiltIn = refl
 
-  abbrev own_there : BlockFacts → (number : ℕ) → Option Symbol → Option OwnVariable
-  own_there f number o = unwrap_or (option_map (λ (s : Symbol). own_at f number s.kind) o) None
-
-  own_get : (f : BlockFacts) (n : ℕ) → get_or (own_variables f) n None ≡ own_there f n (slice_get f.symbols n)
-  own_get f n = each_get (λ m s. own_at f m s.kind) f.symbols 0 n n None (omega arith)
-
-  way_there : (r : ResolvedUnit) (key : SymbolKey) (path : List ℕ) (o : Option Symbol)
-      → kept_seen blocks entries key.block (on_way (own_there (facts_of r key.block) key.number o) path) ≡ seen (variable_at 31 r blocks key path o)
-  way_there r key path None = refl
-  way_there r key path (Some s) = way_of_kind r key path s s.kind
+  way_there : (key : SymbolKey) (path : List ℕ) (o : Option Symbol)
+      → kept_seen rows blocks entries key.block (on_way (own_there (facts_of r key.block) key.number o) path) ≡ seen (variable_at 31 r blocks key path o)
+  way_there key path None = refl
+  way_there key path (Some s) = way_of_kind key path s s.kind
 
 -- ---- procedures
 
@@ -107,12 +80,12 @@ procedure_there r blocks block None = refl
 procedure_there r blocks block (Some b) =
     if_named (is_procedure b.kind) (gives_stored 31 (returned_of r block)) (stands_around blocks b.outer) (named_procedure r block)
 
-if_entry : (blocks : List ℕ) (entries : List BlockEntry) (block number : ℕ) (parameters : List Description) (returned : Option Description)
+if_entry : (rows : List (List Kept)) (blocks : List ℕ) (entries : List BlockEntry) (block number : ℕ) (parameters : List Description) (returned : Option Description)
     (gives : Bool)
-    → kept_seen blocks entries block (if gives then KeptEntry number parameters returned else KeptNothing)
+    → kept_seen rows blocks entries block (if gives then KeptEntry number parameters returned else KeptNothing)
     ≡ seen (if gives then AProcedure (record { callee = OfEntry number; parameters = parameters; returned = returned }) else Untyped)
-if_entry blocks entries block number parameters returned true = refl
-if_entry blocks entries block number parameters returned false = refl
+if_entry rows blocks entries block number parameters returned true = refl
+if_entry rows blocks entries block number parameters returned false = refl
 
 -- ---- symbols
 
@@ -120,54 +93,53 @@ if_entry blocks entries block number parameters returned false = refl
 abbrev pub AreAll : ResolvedUnit → List BlockEntry → Type 0
 AreAll r entries = (number : ℕ) → slice_get entries number ≡ option_map (entry_at r number) (slice_get r.blocks number)
 
-module _ (r : ResolvedUnit) (blocks : List ℕ) (entries : List BlockEntry) where
+module _ (r : ResolvedUnit) (blocks : List ℕ) (entries : List BlockEntry) (rows : List (List Kept)) (are : AreRows r blocks rows) where
   kind_seen : (key : SymbolKey) (s : Symbol) (k : SymbolKind) → AreAll r entries
       → slice_get (block_symbols r key.block) key.number ≡ Some s → s.kind ≡ k
-      → kept_seen blocks entries key.block (kind_kept (own_variables (facts_of r key.block)) key.number (global_number 31 r key) k) ≡ seen (symbol_meant 31 r blocks key k)
+      → kept_seen rows blocks entries key.block (kind_kept (own_variables (facts_of r key.block)) key.number (global_number 31 r key) k) ≡ seen (symbol_meant 31 r blocks key k)
   kind_seen key s (Variable d class scope initial area) all e is =
       let f = facts_of r key.block in
-      ap (λ o. kept_seen blocks entries key.block (on_way o []))
-      (own_get blocks entries f key.number ∙ ap (own_there blocks entries f key.number) e ∙ ap (own_at f key.number) is)
-      ∙ way_of_class blocks entries r key [] class d
+      ap (λ o. kept_seen rows blocks entries key.block (on_way o []))
+      (own_get f key.number ∙ ap (own_there f key.number) e ∙ ap (own_at f key.number) is)
+      ∙ way_of_class r blocks entries rows are key [] class d
   kind_seen key s (Member root path initial area) all e is =
-      let f = facts_of r key.block in
-      ap (λ o. kept_seen blocks entries key.block (on_way o path)) (own_get blocks entries f root)
-      ∙ way_there blocks entries r (record { block = key.block; number = root }) path (slice_get (block_symbols r key.block) root)
+      ap (λ o. kept_seen rows blocks entries key.block (on_way o path)) (own_get (facts_of r key.block) root)
+      ∙ way_there r blocks entries rows are (record { block = key.block; number = root }) path (slice_get (block_symbols r key.block) root)
   kind_seen key s (Label statement) all e is = refl
   kind_seen key s (Procedure block returned area) all e is =
       ap (λ o. procedure_seen blocks o block) (all block) ∙ procedure_there r blocks block (slice_get r.blocks block)
   kind_seen key s (Entry parameters returned) all e is =
-      if_entry blocks entries key.block (global_number 31 r key) parameters returned (gives_stored 31 returned)
+      if_entry rows blocks entries key.block (global_number 31 r key) parameters returned (gives_stored 31 returned)
   kind_seen key s BuiltIn all e is = refl
 
-  abbrev kept_there : SymbolKey → Option Symbol → Kept
-  kept_there key o = unwrap_or (option_map (λ (s : Symbol). kind_kept (own_variables (facts_of r key.block)) key.number (global_number 31 r key) s.kind) o) KeptNothing
-
   symbol_there : (key : SymbolKey) (o : Option Symbol) → AreAll r entries → slice_get (block_symbols r key.block) key.number ≡ o
-      → kept_seen blocks entries key.block (kept_there key o) ≡ seen (declared_as 31 r blocks key)
+      → kept_seen rows blocks entries key.block (kept_there r blocks key o) ≡ seen (declared_as 31 r blocks key)
   symbol_there key None all e = rw e refl
   symbol_there key (Some s) all e = rw e (kind_seen key s s.kind all e refl)
 
   pub declared_seen : (key : SymbolKey) (kept : Kept) → AreAll r entries
       → kept ≡ get_or (kept_symbols (facts_of r key.block)) key.number KeptNothing
-      → kept_seen blocks entries key.block kept ≡ seen (declared_as 31 r blocks key)
+      → kept_seen rows blocks entries key.block kept ≡ seen (declared_as 31 r blocks key)
   declared_seen key kept all is =
-      ap (kept_seen blocks entries key.block)
-      (is ∙ each_get (λ m s. kind_kept (own_variables (facts_of r key.block)) m (global_at (facts_of r key.block) m) s.kind) (block_symbols r key.block) 0 key.number key.number KeptNothing (omega arith))
+      ap (kept_seen rows blocks entries key.block) (is ∙ kept_get r blocks key)
       ∙ symbol_there key (slice_get (block_symbols r key.block) key.number) all refl
 
 -- ---- what an answer says
 
-abbrev root_in : Root → Seen → Root
-root_in d (SeenVariable root is_member part) = root
-root_in d other = d
+abbrev storage_in : plain.NamedStorage → Seen → plain.NamedStorage
+storage_in d (SeenVariable storage whole is_member part) = storage
+storage_in d other = d
+
+abbrev whole_in : Description → Seen → Description
+whole_in d (SeenVariable storage whole is_member part) = whole
+whole_in d other = d
 
 abbrev is_member_in : Seen → Bool
-is_member_in (SeenVariable root is_member part) = is_member
+is_member_in (SeenVariable storage whole is_member part) = is_member
 is_member_in other = false
 
 abbrev part_in : Seen → Option StridedPart
-part_in (SeenVariable root is_member part) = part
+part_in (SeenVariable storage whole is_member part) = part
 part_in other = None
 
 abbrev function_in : BuiltInFunction → Seen → BuiltInFunction
@@ -183,7 +155,8 @@ label_in (SeenLabel statement) = statement
 label_in other = 0
 
 pub is_meant : (a : NamedAs) (m : plain.NamedAs) → answer_view a ≡ seen m → IsMeantAs a m
-is_meant (answers.Variable v) (AVariable w) e = (ap (root_in w.root) e, ap is_member_in e, ap part_in e)
+is_meant (answers.Variable v) (AVariable w) e =
+    (ap (storage_in w.storage) e, ap (whole_in w.whole) e, ap is_member_in e, ap part_in e)
 is_meant (answers.Variable v) (AFunction g) e = absurd (cc)
 is_meant (answers.Variable v) (AProcedure q) e = absurd (cc)
 is_meant (answers.Variable v) (ALabel t) e = absurd (cc)

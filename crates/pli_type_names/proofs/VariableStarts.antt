@@ -1,5 +1,5 @@
 -- Where variables begin, by how many stand before them.
-use Rattle.std.proofs.Common.{◌≡◌, ℕ, zero, suc, ◌+◌, ◌<◌, ◌≤◌, Bool, true, false, ◌&&◌, Option, Some, None, List, [], ◌∷◌, map, length, get_or}
+use Rattle.std.proofs.Common.{◌≡◌, ℕ, zero, suc, ◌+◌, ◌<◌, ◌≤◌, Bool, true, false, ◌&&◌, Some, None, List, [], ◌∷◌, map, length, get_or}
 use Rattle.std.proofs.Common.{refl, ap, ◌∙◌, arith}
 use Rattle.std.specs.Prelude.{if◌then◌else◌}
 use Rattle.pli_map.specs.Description.{Description}
@@ -9,11 +9,11 @@ use Rattle.pli_resolve.specs.declared.symbol.Symbol.{Symbol}
 use Rattle.pli_resolve.specs.declared.symbol.StorageClass.{StorageClass}
 use Rattle.pli_resolve.specs.declared.symbol.StorageClass.TheVariants as classes
 use Rattle.pli_resolve.specs.views.SymbolView.{symbol_view, symbol_kind_view}
-use Rattle.pli_type.specs.NamedUnits.{is_parameter, is_stored, is_automatic, is_global, one_such, such_before, one_global, globals_before}
+use Rattle.pli_type.specs.NamedUnits.{is_parameter, is_stored, is_automatic, is_based, is_global, one_such, such_before, one_global, globals_before}
 use Rattle.pli_type_names.specs.BlockFacts.{BlockFacts}
-use Rattle.pli_type_names.specs.OwnVariables.{OwnVariable, begun, global_at, own_at, own_behind, slots_of, globals_of}
+use Rattle.pli_type_names.specs.OwnVariables.{begun, global_at, own_at, own_behind, slots_of, globals_of, based_of}
 use Rattle.pli_type_names.specs.declared.place.Location.{Location}
-use Rattle.pli_type_names.specs.declared.place.Location.TheVariants.{InBlock, BeforeProgram, NewestOf}
+use Rattle.pli_type_names.specs.declared.place.Location.TheVariants.{InBlock, Passed, BeforeProgram, NewestOf, Based}
 
 -- ---- one variable
 
@@ -27,32 +27,31 @@ in_both : (stored is : Bool) (place : Location) (d : Description)
 in_both true is place d = refl
 in_both false is place d = refl
 
-nowhere : (stored : Bool) (o : Option OwnVariable) → (if stored then o else o) ≡ o
-nowhere true o = refl
-nowhere false o = refl
-
 -- the variable that a symbol is, by those before it
-pub own_is : (f : BlockFacts) (number slots globals : ℕ) (k : SymbolKind)
+pub own_is : (f : BlockFacts) (number slots globals based : ℕ) (k : SymbolKind)
     → slots ≡ length f.parameters + such_before (is_automatic 31) f.symbols number
     → globals ≡ global_at f number
-    → own_behind f.parameters slots globals number k ≡ own_at f number k
-own_is f number slots globals (Variable d classes.Automatic scope initial area) e g =
+    → based ≡ such_before (is_based 31) f.symbols number
+    → own_behind f.parameters slots globals based number k ≡ own_at f number k
+own_is f number slots globals based (Variable d classes.Automatic scope initial area) e g h =
     in_order (is_stored 31 d) (InBlock slots) d
     ∙ ap (λ n. begun (if is_stored 31 d then Some (InBlock n) else None) d) e
-own_is f number slots globals (Variable d classes.Static scope initial area) e g =
+own_is f number slots globals based (Variable d classes.Static scope initial area) e g h =
     in_order (is_stored 31 d) (BeforeProgram globals) d
     ∙ ap (λ n. begun (if is_stored 31 d then Some (BeforeProgram n) else None) d) g
-own_is f number slots globals (Variable d (classes.Parameter slot) scope initial area) e g =
-    in_both (is_stored 31 d) (is_parameter f.parameters slot number) (InBlock slot) d
-own_is f number slots globals (Variable d classes.Controlled scope initial area) e g =
+own_is f number slots globals based (Variable d (classes.Parameter slot) scope initial area) e g h =
+    in_both (is_stored 31 d) (is_parameter f.parameters slot number) (Passed slot) d
+own_is f number slots globals based (Variable d classes.Controlled scope initial area) e g h =
     in_order (is_stored 31 d) (NewestOf globals) d
     ∙ ap (λ n. begun (if is_stored 31 d then Some (NewestOf n) else None) d) g
-own_is f number slots globals (Variable d (classes.Based locator) scope initial area) e g = nowhere (is_stored 31 d) None
-own_is f number slots globals (Member root path initial area) e g = refl
-own_is f number slots globals (Label statement) e g = refl
-own_is f number slots globals (Procedure block returned area) e g = refl
-own_is f number slots globals (Entry parameters returned) e g = refl
-own_is f number slots globals BuiltIn e g = refl
+own_is f number slots globals based (Variable d (classes.Based locator) scope initial area) e g h =
+    in_order (is_stored 31 d) (Based based locator) d
+    ∙ ap (λ n. begun (if is_stored 31 d then Some (Based n locator) else None) d) h
+own_is f number slots globals based (Member root path initial area) e g h = refl
+own_is f number slots globals based (Label statement) e g h = refl
+own_is f number slots globals based (Procedure block returned area) e g h = refl
+own_is f number slots globals based (Entry parameters returned) e g h = refl
+own_is f number slots globals based BuiltIn e g h = refl
 
 -- ---- counting
 
@@ -80,7 +79,23 @@ globals_stored d (classes.Parameter slot) e = refl
 globals_stored d classes.Controlled e = ap one_if e
 globals_stored d (classes.Based locator) e = refl
 
+pub based_stored : (d : Description) (class : StorageClass) → is_stored 31 d ≡ true
+    → one_if (is_based 31 class d) ≡ based_of class
+based_stored d classes.Automatic e = refl
+based_stored d classes.Static e = refl
+based_stored d (classes.Parameter slot) e = refl
+based_stored d classes.Controlled e = refl
+based_stored d (classes.Based locator) e = ap one_if e
+
 -- one that is not
+pub based_unstored : (d : Description) (class : StorageClass) → is_stored 31 d ≡ false
+    → one_if (is_based 31 class d) ≡ 0
+based_unstored d classes.Automatic e = refl
+based_unstored d classes.Static e = refl
+based_unstored d (classes.Parameter slot) e = refl
+based_unstored d classes.Controlled e = refl
+based_unstored d (classes.Based locator) e = ap one_if e
+
 pub slots_unstored : (d : Description) (class : StorageClass) → is_stored 31 d ≡ false
     → one_if (is_automatic 31 class d) ≡ 0
 slots_unstored d classes.Automatic e = ap one_if e

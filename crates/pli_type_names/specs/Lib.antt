@@ -4,6 +4,7 @@ pub mod SymbolMeaning
 pub mod Numbered
 pub mod OnWays
 pub mod OwnVariables
+pub mod PointerReferences
 pub mod Seen
 pub mod UnitNaming
 pub mod views

@@ -3,22 +3,24 @@ use Rattle.std.specs.Prelude.{◌≡◌, ℕ, Bool, true, false, List, [], ◌�
 use Rattle.pli_map.specs.views.DescriptionView.{description_view}
 use Rattle.pli_type.specs.Names as plain
 use Rattle.pli_type.specs.References.{part_of}
-use Rattle.pli_type_tree.specs.views.TypedView.{callee_view, root_view}
+use Rattle.pli_type_tree.specs.views.TypedView.{callee_view}
 use Rattle.pli_type_names.specs.declared.naming.NamedAs.{NamedAs}
 use Rattle.pli_type_names.specs.declared.naming.NamedAs.TheVariants as answers
 use Rattle.pli_type_names.specs.declared.naming.NamedProcedure.{NamedProcedure}
 use Rattle.pli_type_names.specs.declared.naming.NamedVariable.{NamedVariable}
 use Rattle.pli_type_names.specs.views.NameView.{part_view}
+use Rattle.pli_type_names.specs.views.StorageView.{storage_view}
 
 -- members stand on the way to a name
 abbrev pub is_way : (path : List ℕ) → Bool
 is_way [] = false
 is_way (i ∷ path) = true
 
--- a variable: where it begins, whether it is a member, and which part it is
+-- a variable: its storage, what it is as a whole, whether it is a member, and which part it is
 abbrev pub IsVariable : NamedVariable → plain.NamedVariable → Type 0
 IsVariable v w =
-    (root_view v.root ≡ w.root)
+    (storage_view v.storage ≡ w.storage)
+    × (description_view v.whole.now ≡ w.whole)
     × (v.is_member ≡ is_way w.path)
     × (option_map part_view v.part.now ≡ part_of w)
 

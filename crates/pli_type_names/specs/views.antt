@@ -1,4 +1,5 @@
 pub mod EntryView
 pub mod MeaningView
 pub mod NameView
+pub mod StorageView
 pub mod VariableView

@@ -2,10 +2,10 @@
 ghost use Rattle.std.specs.Prelude.{◌≡◌, option_map, reverse};
 ghost use Rattle.pli_type.specs.NamedUnits.{outward_to, stands_around};
 ghost use Rattle.pli_type_names.specs.Seen.{root_from};
-ghost use Rattle.pli_type_tree.specs.views.TypedView.{root_view};
+ghost use Rattle.pli_type_names.specs.views.StorageView.{beginning_view};
 
 use crate::place::Location;
-use pli_type_tree::Root;
+use crate::storage::Beginning;
 
 /// How many static links outward a block is, if it stands around.
 fn outward_to(around: &[usize], block: usize) -> Option<usize>
@@ -29,16 +29,18 @@ pub(crate) fn stands_around(around: &[usize], outer: Option<usize>) -> bool
     }
 }
 
-/// Where a variable of a block begins, if the block stands around or it is one that is there for the whole program.
-pub(crate) fn root_from(around: &[usize], block: usize, begins: Location) -> Option<Root>
-    ensures { option_map root_view result ≡ root_from (reverse around.now) block begins }
+/// Where a variable of a block begins, if the block stands around or it is one that is there for the whole program; a
+/// BASED variable begins nowhere.
+pub(crate) fn root_from(around: &[usize], block: usize, begins: Location) -> Option<Beginning>
+    ensures { option_map beginning_view result ≡ root_from (reverse around.now) block begins }
 {
     match begins {
-        Location::InBlock { slot } => {
+        Location::InBlock { slot } | Location::Passed { slot } => {
             let outward = outward_to(around, block)?;
-            Some(Root::InSlot { outward, slot })
+            Some(Beginning::InSlot { outward, slot })
         }
-        Location::BeforeProgram { number } => Some(Root::OfProgram { number }),
-        Location::NewestOf { number } => Some(Root::NewestOf { number }),
+        Location::BeforeProgram { number } => Some(Beginning::OfProgram { number }),
+        Location::NewestOf { number } => Some(Beginning::NewestOf { number }),
+        Location::Based { .. } => None,
     }
 }

@@ -49,8 +49,8 @@ fn are_bounds(bounds: &[Bounds]) -> bool
     true
 }
 
-/// Whether a description is of numbers and strings alone, within the limits: numbers of 31 binary digits at most,
-/// strings of 1 to 32,767 elements, arrays with elements, and structures with members (own).
+/// Whether a description is of numbers, strings and pointers alone, within the limits: numbers of 31 binary digits at
+/// most, strings of 1 to 32,767 elements, arrays with elements, and structures with members (own).
 #[cycle(is_plain)]
 #[tactic(auto, using(crate::proofs::PlainLemmas::structure_plain, crate::proofs::PlainLemmas::structure_empty, crate::proofs::PlainLemmas::array_plain, crate::proofs::PlainLemmas::array_empty))]
 pub fn is_plain(description: &Description) -> bool
@@ -61,7 +61,8 @@ pub fn is_plain(description: &Description) -> bool
         Description::Character(length) => is_length(*length),
         Description::Varying(length) => is_length(*length),
         Description::Bit(length) => is_length(*length),
-        Description::Pointer | Description::Offset | Description::Area(_) => false,
+        Description::Pointer => true,
+        Description::Offset | Description::Area(_) => false,
         Description::Array { bounds, element } => {
             !bounds.is_empty() && has_elements(bounds) && are_bounds(bounds) && is_plain(element)
         }
@@ -81,8 +82,8 @@ fn are_plain(members: &[Description]) -> bool
     true
 }
 
-/// Whether a variable of this description is compiled: one of numbers and strings alone, of 1,000,000 bytes at most
-/// (own).
+/// Whether a variable of this description is compiled: one of numbers, strings and pointers alone, of 1,000,000 bytes at
+/// most (own).
 pub fn is_stored(description: &Description) -> bool
     ensures { result ≡ spec.is_stored 31 (description_view description.now) }
 {

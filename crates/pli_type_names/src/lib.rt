@@ -16,9 +16,11 @@ mod part;
 mod passed_members;
 mod place;
 mod seen;
+mod storage;
 mod unit_symbols;
 
 pub use descriptions::{GREATEST, is_plain, is_stored};
 pub use naming::{NamedAs, NamedProcedure, NamedVariable, Naming, name_unit};
 pub use part::StridedPart;
+pub use storage::{Beginning, NamedPointer, NamedStorage};
 pub use unit_symbols::symbols;

@@ -30,6 +30,8 @@ use std::alloc::{AllocError, Global};
 pub(crate) enum SymbolMeaning<'a> {
     Variable {
         begins: Location,
+        /// What the whole variable is.
+        whole: &'a Description,
         /// Whether it is a member, and not a variable of its own.
         is_member: bool,
         /// Which part of the variable it is; none where the way leads nowhere.
@@ -91,6 +93,7 @@ fn meant_on_way<'a>(
     let part = part_on_way(alloc, variables, root, path, levels)?;
     Ok(SymbolMeaning::Variable {
         begins: variable.begins,
+        whole: variable.description,
         is_member: !path.is_empty(),
         part,
     })

@@ -1,6 +1,7 @@
 //! What names mean where types are asked for.
 ghost use Rattle.std.specs.Prelude.{◌≡◌, [], IfOk, OnErr, OnOk};
-ghost use Rattle.pli_type.specs.NamedUnits.{declared_as};
+ghost use Rattle.pli_type.specs.NamedUnits.{declared_as, names_based};
+ghost use Rattle.pli_type.specs.Names as plain;
 ghost use Rattle.pli_base.specs.views.StatementView.{unit_view};
 ghost use Rattle.pli_map.specs.Description as described;
 ghost use Rattle.pli_map.specs.views.DescriptionView.{description_view};
@@ -15,19 +16,22 @@ use crate::entries::{BlockEntry, block_entries, parameters_at, returned_at};
 use crate::meanings::{SymbolMeaning, unit_meanings};
 use crate::part::StridedPart;
 use crate::seen::symbol_seen;
+use crate::storage::NamedStorage;
 use pli_base::statement::Procedure;
 use pli_map::Description;
 use pli_resolve::{BuiltInFunction, NameMeaning, ResolvedUnit, SymbolKey};
 use pli_type::is_later_function;
-use pli_type_tree::{Callee, Root};
+use pli_type_tree::Callee;
 use std::alloc::{AllocError, Global};
 use std::marker::Model;
 
 /// A variable of its own, or a member of one.
 #[derive(Clone, Copy)]
 pub struct NamedVariable<'n, 'a> {
-    /// Where the variable begins, from where the name is used.
-    pub root: Root,
+    /// Where the variable's storage is, from where the name is used.
+    pub storage: NamedStorage,
+    /// What the whole variable is.
+    pub whole: &'a Description,
     /// Whether it is a member, and not a variable of its own.
     pub is_member: bool,
     /// Which part of the variable it is; none where the way leads nowhere.
@@ -110,6 +114,18 @@ pub fn name_unit<'a>(
     })
 }
 
+/// Whether a name that means this is that of a BASED variable, and of no member.
+#[tactic(auto, using(crate::proofs::BasedNames::variable_based, crate::proofs::BasedNames::function_based, crate::proofs::BasedNames::procedure_based, crate::proofs::BasedNames::label_based, crate::proofs::BasedNames::untyped_based))]
+fn names_based(meant: NamedAs<'_, '_>) -> bool
+    ensures { (m : plain.NamedAs) → IsMeantAs meant.entry m → result ≡ names_based m }
+{
+    match meant {
+        NamedAs::Variable(variable) => !variable.is_member && variable.storage.is_based(),
+        NamedAs::Function(_) | NamedAs::Procedure(_) | NamedAs::Label(_) | NamedAs::Untyped =>
+            false,
+    }
+}
+
 impl<'a> Naming<'a> {
     /// How many binary digits numbers have at most.
     pub fn greatest(&self) -> u8
@@ -163,6 +179,14 @@ impl<'a> Naming<'a> {
             Some(NameMeaning::BuiltIn(function)) => is_later_function(function),
             Some(NameMeaning::Symbol(_)) | None => false,
         }
+    }
+
+    /// Whether the name at a token means a BASED variable, and no member of one. Tokens are counted from 0.
+    #[tactic(auto, using(crate::proofs::BasedNames::based_here))]
+    pub fn is_based(&self, at: u32) -> bool
+        ensures { result ≡ (compiled_in self.now).is_based at }
+    {
+        names_based(self.meaning(at))
     }
 
     /// What the symbol under a key means here.

@@ -2,10 +2,10 @@
 ghost use Rattle.std.specs.Prelude.{◌≡◌, ◌≤◌, ◌<◌, ◌+◌, ◌++◌, IfOk, get_or, length, map, option_map};
 ghost use Rattle.pli_resolve.specs.views.SymbolView.{symbol_view, symbol_kind_view};
 ghost use Rattle.pli_type.specs.NamedUnits as units;
-ghost use Rattle.pli_type.specs.NamedUnits.{globals_before, is_automatic, one_global, one_such};
+ghost use Rattle.pli_type.specs.NamedUnits.{globals_before, is_automatic, is_based, one_global, one_such};
 ghost use Rattle.pli_type_names.specs.Numbered.{each_from};
 ghost use Rattle.pli_type_names.specs.OwnVariables as spec;
-ghost use Rattle.pli_type_names.specs.OwnVariables.{globals_of, own_behind, place_behind, slots_of};
+ghost use Rattle.pli_type_names.specs.OwnVariables.{based_of, globals_of, own_behind, place_behind, slots_of};
 ghost use Rattle.pli_type_names.specs.views.VariableView.{own_view};
 
 use crate::descriptions::is_stored;
@@ -15,11 +15,13 @@ use crate::place::Location;
 use pli_resolve::{StorageClass, Symbol, SymbolKind};
 use std::alloc::{AllocError, Global};
 
-/// The first slot of a block's activation that is free, and how many globals there are before, block after block.
+/// The first slot of a block's activation that is free, how many globals there are before, block after block, and how
+/// many BASED variables the block has so far.
 #[derive(Clone, Copy)]
 struct Free {
     slot: usize,
     globals: usize,
+    based: usize,
 }
 
 /// Takes a number.
@@ -45,17 +47,17 @@ fn is_parameter(parameters: &[usize], slot: usize, number: usize) -> bool
 
 /// The slot of a parameter that is the symbol of this number.
 fn parameter_place(parameters: &[usize], slot: usize, number: usize) -> Option<Location>
-    ensures { result ≡ place_behind parameters.now 0 0 number (StorageClass.Parameter slot) }
+    ensures { result ≡ place_behind parameters.now 0 0 0 number (StorageClass.Parameter slot) }
 {
     if is_parameter(parameters, slot, number) {
-        Some(Location::InBlock { slot })
+        Some(Location::Passed { slot })
     } else {
         None
     }
 }
 
-/// Where a variable of this class and number begins, if it is of a class that is compiled: parameters and AUTOMATIC
-/// variables in slots, STATIC and CONTROLLED ones under their numbers among the globals.
+/// Where a variable of this class and number begins: parameters and AUTOMATIC variables in slots, STATIC and CONTROLLED
+/// ones under their numbers among the globals; BASED ones have numbers of their own.
 fn place(
     class: StorageClass,
     number: usize,
@@ -65,9 +67,11 @@ fn place(
 ) -> Option<Location>
     requires slot { free.old.slot < 18446744073709551615 }
     requires global { free.old.globals < 18446744073709551615 }
-    ensures begins { result ≡ place_behind parameters.now free.old.slot (get_or places.now free.old.globals 0) number class }
+    requires based { free.old.based < 18446744073709551615 }
+    ensures begins { result ≡ place_behind parameters.now free.old.slot (get_or places.now free.old.globals 0) free.old.based number class }
     ensures slots { free.new.slot ≡ free.old.slot + slots_of class }
     ensures globals { free.new.globals ≡ free.old.globals + globals_of class }
+    ensures based { free.new.based ≡ free.old.based + based_of class }
 {
     match class {
         StorageClass::Automatic => {
@@ -83,7 +87,10 @@ fn place(
             Some(Location::NewestOf { number })
         }
         StorageClass::Parameter(slot) => parameter_place(parameters, slot, number),
-        StorageClass::Based(_) => None,
+        StorageClass::Based(locator) => {
+            let number = take(&mut free.based);
+            Some(Location::Based { number, locator })
+        }
     }
 }
 
@@ -97,10 +104,12 @@ fn own_variable<'a>(
 ) -> Option<OwnVariable<'a>>
     requires slot { free.old.slot < 18446744073709551615 }
     requires global { free.old.globals < 18446744073709551615 }
+    requires based { free.old.based < 18446744073709551615 }
     ensures variable { option_map own_view result
-        ≡ own_behind parameters.now free.old.slot (get_or places.now free.old.globals 0) number (symbol_kind_view kind.entry) }
+        ≡ own_behind parameters.now free.old.slot (get_or places.now free.old.globals 0) free.old.based number (symbol_kind_view kind.entry) }
     ensures slots { free.new.slot ≡ free.old.slot + one_such (is_automatic 31) (symbol_kind_view kind.entry) }
     ensures globals { free.new.globals ≡ free.old.globals + one_global 31 (symbol_kind_view kind.entry) }
+    ensures based { free.new.based ≡ free.old.based + one_such (is_based 31) (symbol_kind_view kind.entry) }
 {
     match kind {
         SymbolKind::Variable {
@@ -147,6 +156,7 @@ pub(crate) fn own_variables<'a>(
     let mut free = Free {
         slot: parameters.len(),
         globals: *globals,
+        based: 0,
     };
     let mut variables = Vec::new(alloc);
     for (number, symbol) in symbols.iter().enumerate() {

@@ -1,5 +1,5 @@
 -- Lists, groups and blocks that the walk goes into and out of.
-use Rattle.std.proofs.Common.{◌≡◌, IfOk, ◌++◌, ◌+◌, ◌-◌, ◌≤◌, ℕ, suc, List, [], ◌∷◌, Option, Some, None, option_map, Result, Ok, Err, map, length, take, refl, ap, sym, ◌∙◌, subst, append_assoc, length-append, arith}
+use Rattle.std.proofs.Common.{◌≡◌, IfOk, ◌++◌, ◌+◌, ◌-◌, ◌≤◌, ℕ, suc, Vec, Global, get_or, List, [], ◌∷◌, Option, Some, None, option_map, Result, Ok, Err, map, length, take, refl, ap, sym, ◌∙◌, subst, append_assoc, length-append, arith}
 use Rattle.std.proofs.lemmas.List.{length-map, take_at}
 use Rattle.pli_base.specs.Statements as tree
 use Rattle.pli_base.specs.declared.token.Fault.{Fault}
@@ -9,7 +9,9 @@ use Rattle.pli_type.specs.StatementTyping.{Enclosing, Surroundings, WithProcedur
 use Rattle.pli_resolve.specs.TreeBlocks.{blocks_among}
 use Rattle.pli_type.specs.Temporaries.{Next, temporaries_among}
 use Rattle.pli_type_names.specs.UnitNaming.{Names, outside, procedure_in}
-use Rattle.pli_type_templates.specs.views.UnitView.{automatic_at}
+use Rattle.pli_type_templates.specs.declared.unit_templates.UnitTemplates.{UnitTemplates}
+use Rattle.pli_type_templates.specs.views.UnitView.{automatic_at, based_at, row_view}
+use Rattle.pli_type_tree.specs.declared.template.VariableGroup.{VariableGroup}
 use Rattle.pli_type_tree.specs.Templates.{Template}
 use Rattle.pli_type_tree.specs.TypedTree as typed
 use Rattle.pli_type_tree.specs.TypedTree.{Form, TypedProcedure, TypedStatements}
@@ -18,14 +20,14 @@ use Rattle.pli_map.specs.views.DescriptionView.{description_view}
 use Rattle.pli_type_tree.specs.views.TypedView.{head_view, procedure_view}
 use Rattle.pli_type_statement.specs.Around.{Around, Listing, blocks_with, blocks_from, blocks_of, surroundings_of}
 use Rattle.pli_type_statement.specs.Parts.{unit_named, given, told, Adds, behind_list}
-use Rattle.pli_type_statement.specs.Walking.{IsDeep, IsPlaced, WalksBody, WalksList, WalksBlock, Enters, Leaves, Finishes, Ends, ended_as, in_list, in_block, unit_at, around, next_at, finished}
+use Rattle.pli_type_statement.specs.Walking.{IsDeep, IsPlaced, WalksBody, WalksList, WalksBlock, Enters, Leaves, Finishes, Ends, ended_as, in_list, in_block, unit_at, around, based_names, next_at, finished}
 use Rattle.pli_type_statement.specs.declared.walk.OpenBlock.{OpenBlock}
 use Rattle.pli_type_statement.specs.declared.surroundings.Surroundings.{Surroundings as Surrounded}
 use Rattle.pli_type_statement.specs.declared.walk.TypingWalk.{TypingWalk}
 use Rattle.pli_type_names.specs.SymbolMeaning.{IsProcedure}
 use Rattle.pli_type_names.specs.declared.naming.NamedProcedure as program
 use Rattle.pli_type_statement.specs.views.AroundView.{around_view, lists_view}
-use Rattle.pli_type_statement.proofs.WalkLemmas.{as_typed, made_walked}
+use Rattle.pli_type_statement.proofs.WalkLemmas.{as_typed, made_walked, same_based}
 
 -- lists
 
@@ -56,6 +58,14 @@ back_around a d n l begins value is lists begun given =
     ∙ ap (λ b. record { lists = a.lists; begins = b; value = n.value }) begun
     ∙ ap (λ v. record { lists = a.lists; begins = a.begins; value = v }) given
 
+-- what BASED variables are made from
+pub same_templates : (t u : UnitTemplates) (block : ℕ) → t.based ≡ u.based → based_at t block ≡ based_at u block
+same_templates t u block e = ap (λ (rows : Vec (Vec VariableGroup Global) Global). get_or (map row_view rows.items) block []) e
+
+same_naming : (m n : Names) (block : ℕ) → m.unit ≡ n.unit
+    → ((unit_named m.unit).naming []).based block ≡ ((unit_named n.unit).naming []).based block
+same_naming m n block e = ap (λ u. ((unit_named u).naming []).based block) e
+
 -- groups
 
 pub group_placed : (old e : TypingWalk) (labels : List ℕ) → IsPlaced old → e.naming ≡ old.naming
@@ -68,6 +78,8 @@ group_placed old e labels placed same is next templates = record {
   templates = λ k le. ap (λ t. automatic_at t k) templates
       ∙ placed.templates k (subst (λ n. n.block ≤ k) next le)
       ∙ sym (ap (λ (n : Names). (unit_named n.unit).automatic k) same);
+  based = λ k. ap (λ t. based_at t k) templates ∙ placed.based k
+      ∙ sym (same_naming e.naming old.naming k (ap (λ (n : Names). n.unit) same));
   deep = subst IsDeep (sym is) (omega (arith, placed.deep, length-append (around_view old.surroundings).lists (record { block = None; labels = labels } ∷ [])));
 }
 
@@ -105,11 +117,14 @@ group_walked old e d new ss list placed same is next templates faults procedures
           templates = λ k le. ap (λ t. automatic_at t k) templates'
               ∙ w.back.placed.templates k (subst (λ n. n.block ≤ k) next' le)
               ∙ sym (ap (λ (n : Names). (unit_named n.unit).automatic k) named);
+          based = λ k. ap (λ t. based_at t k) templates' ∙ w.back.placed.based k
+              ∙ sym (same_naming new.naming d.naming k (ap (λ (n : Names). n.unit) named));
           deep = subst IsDeep (sym outer) placed.deep;
         };
       };
       next = ap (λ n. record { block = n.block; temporary = n.temporary }) next' ∙ w.next
-          ∙ ap (λ n. behind_list (record { block = n.block; temporary = n.temporary }) ss) next;
+          ∙ ap (λ f. behind_list f (next_at e) ss) (same_based old e same)
+          ∙ ap (λ n. behind_list (based_names old) (record { block = n.block; temporary = n.temporary }) ss) next;
       part = w.part ∙ ap given asked;
       faults = ap (λ f. f.items) faults' ∙ w.faults ∙ ap (λ f. f.items ++ told (statements_typed (unit_at e) (around e) (next_at e) ss)) faults
           ∙ ap (λ r. old.faults.items ++ told r) asked;
@@ -131,6 +146,8 @@ block_placed old e block begins value labels few placed in_it = record {
       in_it.templates k (λ e. absurd (omega (arith, le', e)))
       ∙ placed.templates k (omega (arith, le'))
       ∙ sym (ap (λ (n : Names). (unit_named n.unit).automatic k) in_it.naming);
+  based = λ k. same_templates e.templates old.templates k in_it.based ∙ placed.based k
+      ∙ sym (same_naming e.naming old.naming k (ap (λ (n : Names). n.unit) in_it.naming));
   deep = subst IsDeep (sym in_it.around) (omega (arith, few, length-append (around_view old.surroundings).lists (record { block = Some old.next.block; labels = labels } ∷ [])));
 }
 
@@ -165,7 +182,9 @@ block_walked old e d new block begins value number ss list head placed in_it w o
     ap (λ (n : Names). statements_typed (unit_named n.unit) (around e) (next_at e) ss) in_it.naming
     ∙ ap (λ a. statements_typed (unit_at old) (surroundings_of a) (next_at e) ss) in_it.around
     ∙ ap (λ n. statements_typed (unit_at old) (in_block old begins value ss) n ss) in_it.next in
-    let nexts : next_at d ≡ behind_list (record { block = suc old.next.block; temporary = 0 }) ss = w.next ∙ ap (λ n. behind_list n ss) in_it.next in
+    let nexts : next_at d ≡ behind_list (based_names old) (record { block = suc old.next.block; temporary = 0 }) ss =
+    w.next ∙ ap (λ (n : Names). behind_list (unit_named n.unit).compiled.is_based (next_at e) ss) in_it.naming
+    ∙ ap (λ n. behind_list (based_names old) n ss) in_it.next in
     record {
       walked = record {
         back = record {
@@ -177,6 +196,8 @@ block_walked old e d new block begins value number ss list head placed in_it w o
             templates = λ k le. ap (λ t. automatic_at t k) out.templates
                 ∙ w.back.placed.templates k (subst (λ (n : Next). n.block ≤ k) out.next le)
                 ∙ sym (ap (λ (n : Names). (unit_named n.unit).automatic k) out.naming);
+            based = λ k. ap (λ t. based_at t k) out.templates ∙ w.back.placed.based k
+                ∙ sym (same_naming new.naming d.naming k (ap (λ (n : Names). n.unit) out.naming));
             deep = subst IsDeep (sym outer) placed.deep;
           };
         };
@@ -191,7 +212,7 @@ block_walked old e d new block begins value number ss list head placed in_it w o
       };
       head = out.head ∙ same_head _ _ _ _ number _ _ in_it.number
           (in_it.variables ∙ placed.templates old.next.block (omega arith))
-          (ap (λ (n : Next). n.temporary) nexts ∙ without_none (temporaries_among ss));
+          (ap (λ (n : Next). n.temporary) nexts ∙ without_none (temporaries_among (based_names old) ss));
     }
 
 -- a BEGIN block and a procedure
@@ -275,6 +296,8 @@ procedure_walked old mid new number at end heading ss value head list form gives
           templates = λ k le. ap (λ t. automatic_at t k) ended.templates
               ∙ w.walked.back.placed.templates k (subst (λ n. n.block ≤ k) ended.next le)
               ∙ sym (ap (λ (n : Names). (unit_named n.unit).automatic k) ended.naming);
+          based = λ k. ap (λ t. based_at t k) ended.templates ∙ w.walked.back.placed.based k
+              ∙ sym (same_naming new.naming mid.naming k (ap (λ (n : Names). n.unit) ended.naming));
           deep = subst IsDeep (sym (ap around_view ended.surroundings)) w.walked.back.placed.deep;
         };
       };

@@ -24,7 +24,7 @@ use Rattle.pli_map.specs.declared.description.Description as described
 use Rattle.pli_type.specs.FunctionCalls.{Argument, Denoted}
 use Rattle.pli_type.specs.Names.{Naming, NamedAs, NamedProcedure, AVariable, AFunction, AProcedure, ALabel, Untyped}
 use Rattle.pli_type.specs.ProcedureCalls.{arguments_passed}
-use Rattle.pli_type.specs.StatementTyping.{Surroundings, jump, arguments_typed, call_of, call_typed, controls, iteration, limits, no_function, return_typed, returned_value, without_subscripts}
+use Rattle.pli_type.specs.StatementTyping.{Surroundings, jump, arguments_typed, call_of, call_typed, controls, has_locator, iteration, limits, no_function, return_typed, returned_value, without_subscripts}
 use Rattle.pli_type_expression.proofs.BindLemmas.{bind_ok, fails_as, fails_on}
 use Rattle.pli_base.specs.answers.FailureAnswers.{Fails, Gives}
 use Rattle.pli_base.specs.declared.failure.Failure.{Failure}
@@ -100,29 +100,31 @@ token_of r = ap (λ r. first_token (Referred r)) (reference_out r)
 pub iteration_fails : (n : Naming) (temporary : ℕ) (v : syntax.Reference) (equals : ℕ) (first : Expression) (range : Option Range)
     (tested : Option Expression) (a : TypedValue) (k : typed.TypedRange) (d : Denoted) (e : Failure Fault)
     → value_of n first ≡ Ok a → limits n range ≡ Ok k → referred n AsLocator (reference_in v) ≡ Ok d
-    → Fails e (controls (out-Reference v).first.name.at k d)
+    → Fails e (controls (out-Reference v).first.name.at (has_locator (reference_in v)) k d)
     → Fails e (iteration n temporary (reference_in v) equals first range tested)
 iteration_fails n temporary v equals first range tested a k d errors.OutOfMemory x y z h = tt
 iteration_fails n temporary v equals first range tested a k d (errors.Fault f) x y z h =
     let at = first_token (Referred (reference_in v)) in
-    ap (λ r. r >>= λ a. limits n range >>= λ k. referred n AsLocator (reference_in v) >>= λ d. controls at k d >>= λ r. iteration_with n temporary equals a k r range tested) x
-    ∙ ap (λ r. r >>= λ k. referred n AsLocator (reference_in v) >>= λ d. controls at k d >>= λ r. iteration_with n temporary equals a k r range tested) y
-    ∙ ap (λ r. r >>= λ d. controls at k d >>= λ r. iteration_with n temporary equals a k r range tested) z
-    ∙ ap (λ at. controls at k d >>= λ r. iteration_with n temporary equals a k r range tested) (token_of v)
+    let l = has_locator (reference_in v) in
+    ap (λ r. r >>= λ a. limits n range >>= λ k. referred n AsLocator (reference_in v) >>= λ d. controls at l k d >>= λ r. iteration_with n temporary equals a k r range tested) x
+    ∙ ap (λ r. r >>= λ k. referred n AsLocator (reference_in v) >>= λ d. controls at l k d >>= λ r. iteration_with n temporary equals a k r range tested) y
+    ∙ ap (λ r. r >>= λ d. controls at l k d >>= λ r. iteration_with n temporary equals a k r range tested) z
+    ∙ ap (λ at. controls at l k d >>= λ r. iteration_with n temporary equals a k r range tested) (token_of v)
     ∙ ap (λ r. r >>= λ r. iteration_with n temporary equals a k r range tested) h
 
 -- one that may
 pub iteration_goes_on : (n : Naming) (temporary : ℕ) (v : syntax.Reference) (equals : ℕ) (first : Expression) (range : Option Range)
     (tested : Option Expression) (a : TypedValue) (k : typed.TypedRange) (d : Denoted) (r : Referent)
     → value_of n first ≡ Ok a → limits n range ≡ Ok k → referred n AsLocator (reference_in v) ≡ Ok d
-    → controls (out-Reference v).first.name.at k d ≡ Ok r
+    → controls (out-Reference v).first.name.at (has_locator (reference_in v)) k d ≡ Ok r
     → iteration n temporary (reference_in v) equals first range tested ≡ iteration_with n temporary equals a k r range tested
 iteration_goes_on n temporary v equals first range tested a k d r x y z h =
     let at = first_token (Referred (reference_in v)) in
-    ap (λ r. r >>= λ a. limits n range >>= λ k. referred n AsLocator (reference_in v) >>= λ d. controls at k d >>= λ r. iteration_with n temporary equals a k r range tested) x
-    ∙ ap (λ r. r >>= λ k. referred n AsLocator (reference_in v) >>= λ d. controls at k d >>= λ r. iteration_with n temporary equals a k r range tested) y
-    ∙ ap (λ r. r >>= λ d. controls at k d >>= λ r. iteration_with n temporary equals a k r range tested) z
-    ∙ ap (λ at. controls at k d >>= λ r. iteration_with n temporary equals a k r range tested) (token_of v)
+    let l = has_locator (reference_in v) in
+    ap (λ r. r >>= λ a. limits n range >>= λ k. referred n AsLocator (reference_in v) >>= λ d. controls at l k d >>= λ r. iteration_with n temporary equals a k r range tested) x
+    ∙ ap (λ r. r >>= λ k. referred n AsLocator (reference_in v) >>= λ d. controls at l k d >>= λ r. iteration_with n temporary equals a k r range tested) y
+    ∙ ap (λ r. r >>= λ d. controls at l k d >>= λ r. iteration_with n temporary equals a k r range tested) z
+    ∙ ap (λ at. controls at l k d >>= λ r. iteration_with n temporary equals a k r range tested) (token_of v)
     ∙ ap (λ r. r >>= λ r. iteration_with n temporary equals a k r range tested) h
 
 -- labels

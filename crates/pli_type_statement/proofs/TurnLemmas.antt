@@ -10,7 +10,7 @@ use Rattle.pli_base.specs.views.StatementView as source
 use Rattle.pli_type.specs.Names.{Compiled, NamedUnit}
 use Rattle.pli_type.specs.StatementTyping as spec
 use Rattle.pli_type.specs.StatementTyping.{Surroundings, WithProcedures, alone, of_own, together, made, put_before, leaves_nothing, body_typed, statement_typed, statements_typed, naming_at, items, put_form, condition, iteration}
-use Rattle.pli_type.specs.Temporaries.{Next, behind, kept_by}
+use Rattle.pli_type.specs.Temporaries.{Next, behind, kept_by, temporaries_of}
 use Rattle.pli_type.specs.Unbuilt.{later_body, later_statement, later_statements}
 use Rattle.pli_type_tree.specs.TypedTree as typed
 use Rattle.pli_type_tree.specs.TypedTree.{Form, TypedExpression, TypedStatement, TypedStatements, StatementThen, NoStatement}
@@ -20,7 +20,7 @@ use Rattle.pli_type_statement.specs.Headers as headers
 use Rattle.pli_type_statement.specs.Headers.{Header, header_typed, group_of}
 use Rattle.pli_type_statement.specs.Parts.{behind_body, behind_list, both, listed_if}
 use Rattle.pli_type_statement.specs.Simple.{is_compound, simple_typed}
-use Rattle.pli_type_statement.specs.Walking.{IsPlaced, Walks, WalksBody, WalksList, unit_at, around, next_at}
+use Rattle.pli_type_statement.specs.Walking.{IsPlaced, Walks, WalksBody, WalksList, unit_at, around, based_names, next_at}
 use Rattle.pli_type_statement.specs.declared.walk.TypingWalk.{TypingWalk}
 use Rattle.pli_type_statement.proofs.NothingLater.{list_built}
 use Rattle.pli_type_statement.proofs.ItemLists.{front}
@@ -41,7 +41,7 @@ own_put skip (Ok xs) = refl
 own_put skip (Err f) = refl
 
 simple_body : (u : NamedUnit) (s : Surroundings) (x : Next) (number at : ℕ) (b : tree.Body) → is_compound b ≡ false
-    → of_own (simple_typed (naming_at u s) s at b) ≡ body_typed u s x number at b
+    → of_own (simple_typed (naming_at u s) s x.temporary at b) ≡ body_typed u s x number at b
 simple_body u s x number at (tree.Procedure heading ss end) h = impossible _ h
 simple_body u s x number at (tree.Begin ss end) h = impossible _ h
 simple_body u s x number at (tree.Do control ss end) h = impossible _ h
@@ -55,43 +55,51 @@ next_of block temporary = record { block = block; temporary = temporary }
 pub same_next : (x y x' y' : ℕ) → x ≡ x' → y ≡ y' → next_of (x) (y) ≡ next_of x' y'
 same_next x y x' y' e f = ap (λ b. record { block = b; temporary = y }) e ∙ ap (λ t. record { block = x'; temporary = t }) f
 
-simple_next : (n : Compiled) (first : ℕ) (x : Next) (b : tree.Body) → is_compound b ≡ false
-    → later_body n first b ≡ None → next_of (x.block) (x.temporary) ≡ behind_body x b
-simple_next n first x (tree.Procedure heading ss end) h built = impossible _ h
-simple_next n first x (tree.Begin ss end) h built = impossible _ h
-simple_next n first x (tree.Do control ss end) h built = impossible _ h
-simple_next n first x (tree.If e c a) h built = impossible _ h
-simple_next n first x (tree.On tested unit) h built = impossible _ (ap is_some built)
-simple_next n first x other h built = same_next _ _ _ _ (omega arith) (omega arith)
+simple_next : (n : Compiled) (first : ℕ) (f : ℕ → Bool) (x : Next) (b : tree.Body) → is_compound b ≡ false
+    → later_body n first b ≡ None → next_of (x.block) (x.temporary + temporaries_of f b) ≡ behind_body f x b
+simple_next n first f x (tree.Procedure heading ss end) h built = impossible _ h
+simple_next n first f x (tree.Begin ss end) h built = impossible _ h
+simple_next n first f x (tree.Do control ss end) h built = impossible _ h
+simple_next n first f x (tree.If e c a) h built = impossible _ h
+simple_next n first f x (tree.On tested unit) h built = impossible _ (ap is_some built)
+simple_next n first f x other h built = same_next _ _ _ _ (omega arith) refl
 
 pub simple_walked : (old new : TypingWalk) (n : Compiled) (first number at : ℕ) (b : tree.Body) (form : Option Form)
     → is_compound b ≡ false → later_body n first b ≡ None
-    → Walks Form old new (next_at old) (of_own (simple_typed (naming_at (unit_at old) (around old)) (around old) at b)) form
+    → Walks Form old new (next_of old.next.block (old.next.temporary + temporaries_of (based_names old) b))
+    (of_own (simple_typed (naming_at (unit_at old) (around old)) (around old) old.next.temporary at b)) form
     → WalksBody old new number at b form
 simple_walked old new n first number at b form h built w =
-    as_typed old new _ _ _ _ _ _ (simple_next n first (next_at old) b h built)
+    as_typed old new _ _ _ _ _ _ (simple_next n first (based_names old) (next_at old) b h built)
     (simple_body (unit_at old) (around old) (next_at old) number at b h) refl w
 
 pub simple_answer : {X E : Type 0} (view : X → Form) (result : Result (Option X) E) (old new : TypingWalk) (n : Compiled) (first number at : ℕ) (b : tree.Body)
     → is_compound b ≡ false → later_body n first b ≡ None
-    → IfOk result (λ form. Walks Form old new (next_at old) (of_own (simple_typed (naming_at (unit_at old) (around old)) (around old) at b)) (option_map view form))
+    → IfOk result (λ form. Walks Form old new (next_of old.next.block (old.next.temporary + temporaries_of (based_names old) b))
+    (of_own (simple_typed (naming_at (unit_at old) (around old)) (around old) old.next.temporary at b)) (option_map view form))
     → IfOk result (λ form. WalksBody old new number at b (option_map view form))
 simple_answer view (Ok form) old new n first number at b h built w = simple_walked old new n first number at b (option_map view form) h built w
 simple_answer view (Err e) old new n first number at b h built w = tt
 
 -- an IF
 
-pub if_next_none : (w mid new : TypingWalk) (s s' : tree.Statement) → s' ≡ s → (e : Expression) → next_at mid ≡ next_at w → next_at new ≡ behind (next_at mid) s'
-    → next_at new ≡ behind_body (next_at w) (tree.If e s tree.NoElse)
-if_next_none w mid new s s' is e first second =
-    second ∙ ap (λ s. behind (next_at mid) s) is ∙ ap (λ n. behind n s) first
+pub if_next_none : (w mid new : TypingWalk) (s s' : tree.Statement) → s' ≡ s → (e : Expression) → based_names mid ≡ based_names w
+    → next_at mid ≡ next_at w → next_at new ≡ behind (based_names mid) (next_at mid) s'
+    → next_at new ≡ behind_body (based_names w) (next_at w) (tree.If e s tree.NoElse)
+if_next_none w mid new s s' is e based first second =
+    second ∙ ap (λ f. behind f (next_at mid) s') based ∙ ap (λ s. behind (based_names w) (next_at mid) s) is
+    ∙ ap (λ n. behind (based_names w) n s) first
     ∙ same_next _ _ _ _ (omega arith) (omega arith)
 
-pub if_next_some : (w mid there new : TypingWalk) (s s' o o' : tree.Statement) → s' ≡ s → o' ≡ o → (e : Expression) → next_at mid ≡ next_at w
-    → next_at there ≡ behind (next_at mid) s' → next_at new ≡ behind (next_at there) o'
-    → next_at new ≡ behind_body (next_at w) (tree.If e s (tree.Else o))
-if_next_some w mid there new s s' o o' is other e first second third =
-    third ∙ ap (λ o. behind (next_at there) o) other ∙ ap (λ n. behind n o) (second ∙ ap (λ s. behind (next_at mid) s) is ∙ ap (λ n. behind n s) first)
+pub if_next_some : (w mid there new : TypingWalk) (s s' o o' : tree.Statement) → s' ≡ s → o' ≡ o → (e : Expression)
+    → based_names mid ≡ based_names w → based_names there ≡ based_names w → next_at mid ≡ next_at w
+    → next_at there ≡ behind (based_names mid) (next_at mid) s' → next_at new ≡ behind (based_names there) (next_at there) o'
+    → next_at new ≡ behind_body (based_names w) (next_at w) (tree.If e s (tree.Else o))
+if_next_some w mid there new s s' o o' is other e based based' first second third =
+    let f = based_names w in
+    third ∙ ap (λ g. behind g (next_at there) o') based' ∙ ap (λ o. behind f (next_at there) o) other
+    ∙ ap (λ n. behind f n o)
+    (second ∙ ap (λ g. behind g (next_at mid) s') based ∙ ap (λ s. behind f (next_at mid) s) is ∙ ap (λ n. behind f n s) first)
     ∙ same_next _ _ _ _ (omega arith) (omega arith)
 
 -- groups
@@ -131,7 +139,7 @@ pub do_walked : (old mid new : TypingWalk) (number at : ℕ) (control : Option C
     → WalksBody old new number at (tree.Do control ss end) (both group_of header list)
 do_walked old mid new number at control ss end header list first second =
     as_typed old new _ _ _ _ _ _
-    (ap (λ n. behind_list n ss) first.next ∙ same_next _ _ _ _ refl (omega arith))
+    (moved (λ u a x. behind_list u.compiled.is_based x ss) old mid _ first.back first.next ∙ same_next _ _ _ _ refl (omega arith))
     (do_group (unit_at old) (around old) (next_at old) number at control ss end) refl
     (then_walked group_of old mid new _ _ _ _ _ header list first second
     (moved (λ u s x. statements_typed u (spec.in_group ss s) x ss) old mid _ first.back first.next))
@@ -188,14 +196,14 @@ pub goes_on_first : (old : TypingWalk) (all : tree.Statements) → GoesOn old ol
 goes_on_first old all new part w = as_typed old new _ _ _ _ _ _ refl refl (sym (none_in_front part)) w
 
 step_walked : (now mid new : TypingWalk) (s : Statement) (more : tree.Statements) (t : Option TypedStatement) (part : Option TypedStatements)
-    → Walks TypedStatement now mid (behind (next_at now) (source.statement_view s))
+    → Walks TypedStatement now mid (behind (based_names now) (next_at now) (source.statement_view s))
     (statement_typed (unit_at now) (around now) (next_at now) (source.statement_view s)) t
     → WalksList mid new (around mid) more part
     → WalksList now new (around now) (tree.Before (source.statement_view s) more)
     (both (put_before (leaves_nothing (source.body_view s.body))) t part)
 step_walked now mid new s more t part first second =
     as_typed now new _ _ _ _ _ _
-    (ap (λ n. behind_list n more) first.next ∙ same_next _ _ _ _ (omega arith) (omega arith)) refl refl
+    (moved (λ u a x. behind_list u.compiled.is_based x more) now mid _ first.back first.next ∙ same_next _ _ _ _ (omega arith) (omega arith)) refl refl
     (then_walked (put_before (leaves_nothing (source.body_view s.body))) now mid new _ _ _ _ _ t part first second
     (moved (λ u a x. statements_typed u a x more) now mid _ first.back first.next))
 
@@ -203,7 +211,7 @@ pub goes_on_next : (old now mid : TypingWalk) (complete kept still nothing : Boo
     (ss : List Statement) (i : ℕ) (s : Statement) (t : Option TypedStatement)
     → s ≡ get_or ss i s → i < length ss → nothing ≡ leaves_nothing (source.body_view s.body)
     → kept ≡ is_some t → still ≡ (complete && kept) → us ≡ ts ++ listed_if nothing t
-    → Walks TypedStatement now mid (behind (next_at now) (source.statement_view s))
+    → Walks TypedStatement now mid (behind (based_names now) (next_at now) (source.statement_view s))
     (statement_typed (unit_at now) (around now) (next_at now) (source.statement_view s)) t
     → GoesOn old now complete ts all (source.statements_view (drop i ss))
     → GoesOn old mid still us all (source.statements_view (drop (i + 1) ss))

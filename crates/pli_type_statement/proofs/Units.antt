@@ -75,7 +75,7 @@ with_parts u s s' g g' a a' t t' l l' p p' c d e f h i =
     ∙ ap (λ x. unit_with u s' g' a' t' l' x) i
 
 unit_named_with : (u : Procedure) (w : WithProcedures TypedStatements)
-    → unit_with (unit_view u) (outer_signature (unit_named u)) (unit_named u).globals ((unit_named u).automatic 0) (temporaries_among (unit_view u).statements) w.part w.procedures
+    → unit_with (unit_view u) (outer_signature (unit_named u)) (unit_named u).globals ((unit_named u).automatic 0) (temporaries_among (unit_named u).compiled.is_based (unit_view u).statements) w.part w.procedures
     ≡ unit_of (unit_named u) w
 unfolding unit_named
 unit_named_with u w = refl
@@ -83,7 +83,7 @@ unit_named_with u w = refl
 whole : (u : Procedure) (r : Result (WithProcedures TypedStatements) (List Fault)) (signature : Signature) (globals : List Global)
     (automatic : List Template) (temporaries : ℕ) (list : TypedStatements) (procedures : List TypedProcedure)
     → Some list ≡ given r → Adds r [] procedures → signature ≡ outer_signature (unit_named u) → globals ≡ (unit_named u).globals
-    → automatic ≡ (unit_named u).automatic 0 → temporaries ≡ temporaries_among (unit_view u).statements
+    → automatic ≡ (unit_named u).automatic 0 → temporaries ≡ temporaries_among (unit_named u).compiled.is_based (unit_view u).statements
     → typed_as (unit_named u) r ≡ Ok (unit_with (unit_view u) signature globals automatic temporaries list procedures)
 whole u (Ok w) signature globals automatic temporaries list procedures is adds s g a t =
     ap Ok (sym (with_parts (unit_view u) _ _ _ _ _ _ _ _ _ _ _ _ s g a t (inner _ _ is) adds ∙ unit_named_with u w))
@@ -98,10 +98,10 @@ pub typed : (u : Procedure) (signature : Signature) (globals : List Global) (aut
     → Some list ≡ given (typed_list u (statements_view (out-Procedure u).statements.items))
     → Adds (typed_list u (statements_view (out-Procedure u).statements.items)) [] procedures
     → signature ≡ outer_signature (unit_named u) → globals ≡ (unit_named u).globals → automatic ≡ (unit_named u).automatic 0
-    → temporaries ≡ temporaries_among (statements_view (out-Procedure u).statements.items)
+    → temporaries ≡ temporaries_among (unit_named u).compiled.is_based (statements_view (out-Procedure u).statements.items)
     → checked_unit (resolved_unit_of (unit_view u)) ≡ Ok (unit_with (unit_view u) signature globals automatic temporaries list procedures)
 typed u signature globals automatic temporaries list procedures h is adds s g a t =
-    decided u h ∙ whole u _ signature globals automatic temporaries list procedures is adds s g a (t ∙ ap temporaries_among (sym (unit_statements u)))
+    decided u h ∙ whole u _ signature globals automatic temporaries list procedures is adds s g a (t ∙ ap (temporaries_among (unit_named u).compiled.is_based) (sym (unit_statements u)))
 
 -- what the external procedure takes and gives is what its block does
 pub signature_found : (u : Procedure) → outer_signature (unit_named u)

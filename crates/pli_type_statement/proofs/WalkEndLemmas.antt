@@ -9,18 +9,19 @@ use Rattle.pli_base.specs.views.StatementView.{statements_view, unit_view}
 use Rattle.pli_map.specs.Description.{Description}
 use Rattle.pli_resolve.specs.ResolvedUnits.{resolved_unit_of}
 use Rattle.pli_type.specs.Checked.{first_inside, in_unit}
-use Rattle.pli_type.specs.NamedUnits.{named_unit}
+use Rattle.pli_type.specs.NamedUnits.{block_symbols, is_based, named_unit, templates_of}
 use Rattle.pli_type.specs.StatementTyping.{Enclosing, labels_of, statements_typed}
 use Rattle.pli_type.specs.Unbuilt.{first_unbuilt, later_statements}
 use Rattle.pli_type_names.specs.UnitNaming.{Names, compiled_in, inside, unit_compiled}
 use Rattle.pli_type_templates.specs.declared.unit_templates.UnitTemplates.{UnitTemplates}
-use Rattle.pli_type_templates.specs.views.UnitView.{automatic_at}
+use Rattle.pli_type_templates.specs.views.UnitView.{automatic_at, based_at}
 use Rattle.pli_type_tree.specs.TypedTree.{Global, TypedStatements}
 use Rattle.pli_type_statement.specs.Around.{outermost, surroundings_of}
 use Rattle.pli_type_statement.specs.Parts.{behind_list, unit_named}
-use Rattle.pli_type_statement.specs.Walking.{IsDeep, IsPlaced, Walks, WalksList, around, next_at, unit_at}
+use Rattle.pli_type_statement.specs.Walking.{IsDeep, IsPlaced, Walks, WalksList, around, based_names, next_at, unit_at}
 use Rattle.pli_type_statement.specs.declared.walk.TypingWalk.{TypingWalk}
 use Rattle.pli_type_statement.specs.views.AroundView.{around_view}
+use Rattle.pli_type_statement.proofs.Blocks.{same_templates}
 use Rattle.pli_type_statement.proofs.Units.{typed_list, unit_built}
 use Rattle.pli_type_statement.proofs.WalkLemmas.{as_typed}
 
@@ -54,6 +55,16 @@ pub templates_first : (u : Procedure) (t : UnitTemplates) → Templates u t
 unfolding unit_named
 templates_first u t automatic block = automatic block
 
+-- and what the BASED ones are
+abbrev pub BasedTemplates : Procedure → UnitTemplates → Type 0
+BasedTemplates u t =
+    (block : ℕ) → based_at t block ≡ templates_of (is_based 31) (block_symbols (resolved_unit_of (unit_view u)) block)
+
+based_first : (u : Procedure) (t : UnitTemplates) → BasedTemplates u t
+    → (block : ℕ) → based_at t block ≡ ((unit_named u).naming []).based block
+unfolding unit_named
+based_first u t based block = based block
+
 pub globals_first : (u : Procedure) (globals : List Global)
     → globals ≡ (named_unit 31 (resolved_unit_of (unit_view u))).globals → globals ≡ (unit_named u).globals
 unfolding unit_named
@@ -62,13 +73,16 @@ globals_first u globals is = is
 pub placed_first : (u : Procedure) (w : TypingWalk) (labels : List ℕ) (value : Option Description) (t : UnitTemplates)
     → w.naming ≡ first_names u → around_view w.surroundings ≡ outermost labels value → w.next.block ≡ 1
     → Templates u t → ((k : ℕ) → (k ≡ 0 → ⊥) → automatic_at w.templates k ≡ automatic_at t k)
+    → BasedTemplates u t → w.templates.based ≡ t.based
     → IsPlaced w
-placed_first u w labels value t named is first automatic others = record {
+placed_first u w labels value t named is first automatic others based same = record {
   blocks = ap (λ (n : Names). n.blocks) named
       ∙ sym (ap (λ a. map (λ (b : Enclosing). b.number) (surroundings_of a).blocks) is);
   templates = λ k le. others k (not_first k (subst (λ n. n ≤ k) first le))
       ∙ templates_first u t automatic k
       ∙ sym (ap (λ (n : Names). (unit_named n.unit).automatic k) named);
+  based = λ k. same_templates w.templates t k same ∙ based_first u t based k
+      ∙ sym (ap (λ (n : Names). ((unit_named n.unit).naming []).based k) named);
   deep = subst IsDeep (sym is) (omega arith);
 }
 
@@ -90,12 +104,14 @@ pub whole_walked : (u : Procedure) (old new : TypingWalk) (ss : List Statement) 
     → value ≡ (unit_named u).returned 0
     → next_at old ≡ first_inside → ss ≡ (out-Procedure u).statements.items
     → WalksList old new (around old) (statements_view ss) list
-    → Walks TypedStatements old new (behind_list first_inside (all_of u)) (typed_list u (all_of u)) list
+    → Walks TypedStatements old new (behind_list (unit_named u).compiled.is_based first_inside (all_of u)) (typed_list u (all_of u)) list
 whole_walked u old new ss list value named is gives next same w =
     let ts = statements_view ss in
-    as_typed old new (behind_list (next_at old) ts) (behind_list first_inside (all_of u))
+    let f = (unit_named u).compiled.is_based in
+    as_typed old new (behind_list (based_names old) (next_at old) ts) (behind_list f first_inside (all_of u))
     (statements_typed (unit_at old) (around old) (next_at old) ts) (typed_list u (all_of u)) list list
-    (ap (λ x. behind_list x ts) next ∙ ap (λ xs. behind_list first_inside (statements_view xs)) same)
+    (ap (λ (n : Names). behind_list (unit_named n.unit).compiled.is_based (next_at old) ts) named
+    ∙ ap (λ x. behind_list f x ts) next ∙ ap (λ xs. behind_list f first_inside (statements_view xs)) same)
     (ap (λ (n : Names). statements_typed (unit_named n.unit) (around old) (next_at old) ts) named
     ∙ ap (λ a. statements_typed (unit_named u) (surroundings_of a) (next_at old) ts) is
     ∙ ap (λ v. statements_typed (unit_named u) (in_unit v ts) (next_at old) ts) gives

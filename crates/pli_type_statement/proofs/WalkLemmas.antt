@@ -1,5 +1,5 @@
 -- What the walk does at parts of statements, put together.
-use Rattle.std.proofs.Common.{◌≡◌, ◌++◌, List, Option, Some, None, option_map, Result, Ok, Err, IfOk, OnOk, refl, ap, sym, ◌∙◌, subst, append-nil, append_assoc}
+use Rattle.std.proofs.Common.{◌≡◌, ◌++◌, ℕ, List, [], Option, Some, None, option_map, Result, Ok, Err, IfOk, OnOk, refl, ap, sym, ◌∙◌, subst, append-nil, append_assoc}
 use Rattle.pli_base.specs.declared.token.Fault.{Fault}
 use Rattle.pli_type.specs.Names.{Naming, NamedUnit}
 use Rattle.pli_type.specs.NamedUnits.{named_unit}
@@ -10,11 +10,11 @@ use Rattle.pli_type.specs.Temporaries.{Next}
 use Rattle.pli_base.specs.answers.FailureAnswers.{Gives}
 use Rattle.pli_base.specs.declared.failure.Failure.{Failure}
 use Rattle.pli_base.specs.declared.failure.Failure.TheVariants as errors
-use Rattle.pli_type_names.specs.UnitNaming.{naming_in}
+use Rattle.pli_type_names.specs.UnitNaming.{Names, compiled_in, naming_in, unit_compiled}
 use Rattle.pli_type_tree.specs.TypedTree.{TypedExpression, TypedStatement, TypedProcedure, OtherWise, If}
 use Rattle.pli_type_statement.specs.Around.{surroundings_of}
 use Rattle.pli_type_statement.specs.Parts.{unit_named, given, told, Adds, both, if_of, part_in, faults_in, IsKnown}
-use Rattle.pli_type_statement.specs.Walking.{IsPlaced, IsBack, Walks, unit_at, around, next_at, finished}
+use Rattle.pli_type_statement.specs.Walking.{IsPlaced, IsBack, Walks, unit_at, around, based_names, next_at, finished}
 use Rattle.pli_type_statement.specs.declared.walk.TypingWalk.{TypingWalk}
 
 abbrev Typed : Type 0 → Type 0
@@ -42,6 +42,19 @@ own_adds (Err f) xs ys e = tt
 pub named_at : (w : TypingWalk) → IsPlaced w → naming_in w.naming ≡ naming_at (unit_at w) (around w)
 unfolding unit_named naming_in
 named_at w p = ap (named_unit 31 (resolved_unit_of (unit_view w.naming.unit))).naming p.blocks
+
+-- what BASED variables are made from, as names know it
+pub based_named : (n : Names) (block : ℕ) → ((unit_named n.unit).naming []).based block ≡ (naming_in n).based block
+unfolding unit_named naming_in
+based_named n block = refl
+
+-- which names are those of BASED variables
+pub compiled_named : (n : Names) → (compiled_in n).is_based ≡ (unit_named n.unit).compiled.is_based
+unfolding unit_named unit_compiled
+compiled_named n = refl
+
+pub same_based : (old mid : TypingWalk) → mid.naming ≡ old.naming → based_names mid ≡ based_names old
+same_based old mid same = ap (λ (n : Names). (unit_named n.unit).compiled.is_based) same
 
 pub own_walked : {X Y E : Type 0} (old new : TypingWalk) (view : X → Y) (typed : Naming → Result Y Fault)
     (answer : Result X (Failure Fault)) (result : Result (Option X) E) (after : Next) → IsPlaced old
@@ -156,7 +169,7 @@ made_walked make old new after r x w = record {
 }
 
 -- what stands in the surroundings here stands in equal ones
-pub moved : {A : Type 0} (typed : NamedUnit → Surroundings → Next → Typed A) (old mid : TypingWalk) (next : Next)
+pub moved : {A : Type 0} (typed : NamedUnit → Surroundings → Next → A) (old mid : TypingWalk) (next : Next)
     → IsBack old mid → next_at mid ≡ next
     → typed (unit_at mid) (around mid) (next_at mid) ≡ typed (unit_at old) (around old) next
 moved typed old mid next b e =

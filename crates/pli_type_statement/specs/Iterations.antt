@@ -1,9 +1,11 @@
--- The second part of what is typed of a group with a control variable.
-use Rattle.std.specs.Prelude.{ℕ, Option, List, Result, Ok}
+-- The second part of what is typed of a group with a control variable; and arrows in front of its name.
+use Rattle.std.specs.Prelude.{ℕ, Bool, true, false, Option, List, Result, Ok}
 use Rattle.pli_base.specs.Results.{◌>>=◌}
 use Rattle.pli_base.specs.Statements.{Range}
 use Rattle.pli_base.specs.Syntax.{Expression}
 use Rattle.pli_base.specs.declared.code.Code.TheVariants.{CannotAssign}
+use Rattle.pli_base.specs.declared.syntax.Joining.{Joining}
+use Rattle.pli_base.specs.declared.syntax.Joining.TheVariants.{Member, Located}
 use Rattle.pli_base.specs.declared.token.Fault.{Fault}
 use Rattle.pli_type.specs.ExpressionTypes.{TypedValue, conversions}
 use Rattle.pli_type.specs.Names.{Naming}
@@ -32,3 +34,8 @@ iteration_with n temporary equals v kept r range tested = do
   x ← possible_condition n tested
   turns ← with_repeat n r.description kept range
   Ok (iteration_of r operations v turns x temporary)
+
+-- an arrow
+abbrev pub is_arrow : Joining → Bool
+is_arrow Member = false
+is_arrow Located = true

@@ -1,5 +1,5 @@
 -- A part of a unit with its faults apart: what it is where it has none, and those that it has.
-use Rattle.std.specs.Prelude.{◌≡◌, ◌+◌, Bool, true, false, Option, Some, None, Result}
+use Rattle.std.specs.Prelude.{ℕ, ◌≡◌, ◌+◌, Bool, true, false, Option, Some, None, Result}
 use Rattle.std.specs.Prelude.{List, [], ◌∷◌, ◌++◌}
 use Rattle.std.specs.Prelude.{Ok, Err}
 use Rattle.pli_base.specs.Statements as source
@@ -67,18 +67,19 @@ listed_if true (Some x) = []
 listed_if false (Some x) = x ∷ []
 
 -- behind what a statement is
-abbrev pub behind_body : Next → source.Body → Next
-behind_body x b = record { block = x.block + blocks_of b; temporary = x.temporary + temporaries_of b }
+abbrev pub behind_body : (is_based : (at : ℕ) → Bool) → Next → source.Body → Next
+behind_body is_based x b =
+    record { block = x.block + blocks_of b; temporary = x.temporary + temporaries_of is_based b }
 
 -- behind a list
-abbrev pub behind_list : Next → source.Statements → Next
-behind_list x ss =
-    record { block = x.block + blocks_among ss; temporary = x.temporary + temporaries_among ss }
+abbrev pub behind_list : (is_based : (at : ℕ) → Bool) → Next → source.Statements → Next
+behind_list is_based x ss =
+    record { block = x.block + blocks_among ss; temporary = x.temporary + temporaries_among is_based ss }
 
 -- behind an ELSE
-abbrev pub behind_other : Next → source.Alternative → Next
-behind_other x a =
-    record { block = x.block + blocks_behind a; temporary = x.temporary + temporaries_behind a }
+abbrev pub behind_other : (is_based : (at : ℕ) → Bool) → Next → source.Alternative → Next
+behind_other is_based x a =
+    record { block = x.block + blocks_behind a; temporary = x.temporary + temporaries_behind is_based a }
 
 -- a unit as types see it
 unfoldable pub unit_named : Procedure → NamedUnit

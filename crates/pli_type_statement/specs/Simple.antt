@@ -18,19 +18,19 @@ put_typed n skip printed = do
   xs ← items n printed
   Ok (typed.Put skip xs)
 
--- such a statement; any other is not compiled yet
-abbrev pub simple_typed : Naming → Surroundings → (at : ℕ) → tree.Body → Result Form Fault
-simple_typed n s at tree.Null = Ok typed.Null
-simple_typed n s at (tree.Declare declared) = Ok typed.Null
-simple_typed n s at (tree.Assign target equals value) = assignment n at target equals value
-simple_typed n s at tree.Stop = Ok typed.Stop
-simple_typed n s at (tree.Allocate list) = allocate_typed n list
-simple_typed n s at (tree.Free list) = free_typed n list
-simple_typed n s at (tree.Call name arguments) = call_typed n name arguments
-simple_typed n s at (tree.Goto label) = goto_typed n s label
-simple_typed n s at (tree.Return value) = return_typed n s at value
-simple_typed n s at (tree.Put skip printed) = put_typed n skip printed
-simple_typed n s at other = at_fault NotYetBuilt at
+-- such a statement, whose temporaries begin with this one; any other is not compiled yet
+abbrev pub simple_typed : Naming → Surroundings → (temporary at : ℕ) → tree.Body → Result Form Fault
+simple_typed n s temporary at tree.Null = Ok typed.Null
+simple_typed n s temporary at (tree.Declare declared) = Ok typed.Null
+simple_typed n s temporary at (tree.Assign target equals value) = assignment n at target equals value
+simple_typed n s temporary at tree.Stop = Ok typed.Stop
+simple_typed n s temporary at (tree.Allocate list) = allocate_typed n temporary list
+simple_typed n s temporary at (tree.Free list) = free_typed n list
+simple_typed n s temporary at (tree.Call name arguments) = call_typed n name arguments
+simple_typed n s temporary at (tree.Goto label) = goto_typed n s label
+simple_typed n s temporary at (tree.Return value) = return_typed n s at value
+simple_typed n s temporary at (tree.Put skip printed) = put_typed n skip printed
+simple_typed n s temporary at other = at_fault NotYetBuilt at
 
 -- a statement with statements in it; ON is not compiled yet
 abbrev pub is_compound : tree.Body → Bool

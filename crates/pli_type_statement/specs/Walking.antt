@@ -1,5 +1,5 @@
 -- What the walk over a unit's statements does at a part of them.
-use Rattle.std.specs.Prelude.{◌≡◌, ◌≤◌, ◌+◌, ◌*◌, ◌-◌, ℕ, suc, Option, Some, None, Result}
+use Rattle.std.specs.Prelude.{◌≡◌, ◌≤◌, ◌+◌, ◌-◌, ℕ, suc, Bool, Option, Some, None, Result}
 use Rattle.std.specs.Prelude.{List, [], ◌∷◌, ◌++◌, length, map, take}
 use Rattle.pli_base.specs.Statements.{Body, ExternalProcedure, Statements}
 use Rattle.pli_base.specs.declared.token.Fault.{Fault}
@@ -11,7 +11,7 @@ use Rattle.pli_type.specs.StatementTyping.{Enclosing, Surroundings, WithProcedur
 use Rattle.pli_resolve.specs.TreeBlocks.{blocks_among}
 use Rattle.pli_type.specs.Temporaries.{Next}
 use Rattle.pli_type_names.specs.UnitNaming.{inside, outside}
-use Rattle.pli_type_templates.specs.views.UnitView.{automatic_at}
+use Rattle.pli_type_templates.specs.views.UnitView.{automatic_at, based_at}
 use Rattle.pli_type_tree.specs.Templates.{Template}
 use Rattle.pli_type_tree.specs.TypedTree as typed
 use Rattle.pli_type_tree.specs.TypedTree.{Form, Signature, Global, TypedProcedure, TypedStatements, TypedUnit}
@@ -44,18 +44,22 @@ finished w = map procedure_view w.procedures.items
 abbrev pub IsDeep : Around → Type 0
 IsDeep a = a.begins ≤ length a.lists
 
+-- which names are those of BASED variables
+abbrev pub based_names : TypingWalk → (at : ℕ) → Bool
+based_names w = (unit_at w).compiled.is_based
+
 -- names are looked at from the blocks round the place; what the variables of the blocks that begin from here
--- on are made from is still there; and BEGIN blocks round the place are lists
+-- on are made from is still there, and what BASED ones are; and BEGIN blocks round the place are lists
 pub record IsPlaced (w : TypingWalk) : Type 0 where
   pub blocks : w.naming.blocks ≡ map (λ (b : Enclosing). b.number) (around w).blocks
   pub templates : (block : ℕ) → w.next.block ≤ block
       → automatic_at w.templates block ≡ (unit_at w).automatic block
+  pub based : (block : ℕ) → based_at w.templates block ≡ ((unit_at w).naming []).based block
   pub deep : IsDeep (around_view w.surroundings)
 
--- a word has room for the numbers of the blocks and temporaries in so many regions
-pub record HasRoom (x : Next) (regions : ℕ) : Type 0 where
-  pub blocks : x.block + regions ≤ 1152921504606846976
-  pub temporaries : x.temporary + 3 * regions ≤ 3458764513820540928
+-- a word has room for the numbers of the blocks in so many regions
+abbrev pub HasRoom : Next → (regions : ℕ) → Type 0
+HasRoom x regions = x.block + regions ≤ 1152921504606846976
 
 -- it is where it was
 pub record IsBack (old new : TypingWalk) : Type 0 where
@@ -77,13 +81,13 @@ pub record Walks (A : Type 0) (old new : TypingWalk) (after : Next)
 -- over what a statement says
 abbrev pub WalksBody : (old new : TypingWalk) → (number at : ℕ) → Body → Option Form → Type 0
 WalksBody old new number at b form =
-    Walks Form old new (behind_body (next_at old) b)
+    Walks Form old new (behind_body (based_names old) (next_at old) b)
     (spec.body_typed (unit_at old) (around old) (next_at old) number at b) form
 
 -- over a list in other surroundings than those of the place
 abbrev pub WalksList : (old new : TypingWalk) → Surroundings → Statements → Option TypedStatements → Type 0
 WalksList old new s ss list =
-    Walks TypedStatements old new (behind_list (next_at old) ss)
+    Walks TypedStatements old new (behind_list (based_names old) (next_at old) ss)
     (spec.statements_typed (unit_at old) s (next_at old) ss) list
 
 -- a list that the walk has gone into
@@ -100,6 +104,7 @@ pub record Enters (old new : TypingWalk) (block : OpenBlock) (inner : ℕ) (give
   pub next : next_at new ≡ record { block = suc old.next.block; temporary = 0 }
   pub templates : (k : ℕ) → (k ≡ old.next.block → ⊥)
       → automatic_at new.templates k ≡ automatic_at old.templates k
+  pub based : new.templates.based ≡ old.templates.based
   pub globals : new.templates.globals ≡ old.templates.globals
   pub faults : new.faults.items ≡ old.faults.items
   pub procedures : new.procedures.items ≡ old.procedures.items

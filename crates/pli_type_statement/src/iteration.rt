@@ -1,5 +1,6 @@
 //! Groups with a control variable.
 ghost use Rattle.std.specs.Prelude.{◌≡◌, false, map, option_map};
+ghost use Rattle.std.specs.List.{list_any};
 ghost use Rattle.pli_base.specs.views.StatementView.{range_view};
 ghost use Rattle.pli_base.specs.views.SyntaxView as syntax;
 ghost use Rattle.pli_map.specs.views.DescriptionView.{description_view};
@@ -9,12 +10,12 @@ ghost use Rattle.pli_type.specs.views.ValueView.{value_view};
 ghost use Rattle.pli_base.specs.answers.FailureAnswers.{Gives};
 ghost use Rattle.pli_type_expression.specs.views.TypingView.{denoted_view, referent_view};
 ghost use Rattle.pli_type_names.specs.UnitNaming.{compiled_in, naming_in};
-ghost use Rattle.pli_type_statement.specs.Iterations.{iteration_of, iteration_with};
+ghost use Rattle.pli_type_statement.specs.Iterations.{is_arrow, iteration_of, iteration_with};
 ghost use Rattle.pli_type_tree.specs.views.TypedView as typed;
 
 use crate::items::condition;
 use pli_base::statement::Range;
-use pli_base::syntax::{Expression, Reference};
+use pli_base::syntax::{Expression, JoinedPart, Joining, Reference};
 use pli_base::{Code, fault};
 use pli_map::Description;
 use pli_type::{TypedValue, conversions, converted};
@@ -109,21 +110,45 @@ fn suits_range(description: &Description, range: &TypedRange) -> bool
     }
 }
 
-/// The control variable at the token `at`: a variable without subscripts, and a number where TO or BY stands; T12 there
-/// where it is not (X3.74; that subscripts are refused, own).
+/// Whether a part of a reference stands behind an arrow.
+fn is_arrow(part: &JoinedPart) -> bool
+    ensures { result ≡ is_arrow part.now.joining }
+{
+    part.joining == Joining::Located
+}
+
+/// Whether one of the parts does.
+fn any_arrow(joined: &[JoinedPart]) -> bool
+    ensures { result ≡ list_any (λ part. is_arrow part.joining) joined.now }
+{
+    joined.iter().any(|part| is_arrow(part))
+}
+
+/// Whether a locator stands in front of a name of a reference.
+#[tactic(auto, using(pli_base::specs::laws::SyntaxLaws::reference_out, crate::proofs::Arrows::arrows_joined))]
+fn has_locator(reference: &Reference) -> bool
+    ensures { result ≡ spec.has_locator (syntax.reference_view reference.now) }
+{
+    let located = any_arrow(reference.joined.as_slice());
+    located
+}
+
+/// The control variable at the token `at`: a variable without subscripts and without a locator before it, and a number
+/// where TO or BY stands; T12 there where it is not (X3.74; that subscripts and locators are refused, own).
 fn controls<'a>(
     alloc: Global,
     at: u32,
+    is_located: bool,
     range: &TypedRange,
     variable: Denoted<'a>,
 ) -> Result<Box<Referent<'a>>, TypeError>
-    ensures { Gives (λ r. referent_view r.value) result (spec.controls at (typed.range_view range.now) (denoted_view variable.entry)) }
+    ensures { Gives (λ r. referent_view r.value) result (spec.controls at is_located (typed.range_view range.now) (denoted_view variable.entry)) }
 {
     let Denoted::Variable(referent) = variable else {
         drop(variable);
         return Err(fault(Code::NotAVariable, at));
     };
-    if !is_without_subscripts(&referent.reference) {
+    if is_located || !is_without_subscripts(&referent.reference) {
         drop(referent);
         return Err(fault(Code::BadControlVariable, at));
     }
@@ -285,6 +310,13 @@ pub(crate) fn iteration(
     let range = limits(alloc, naming, text.range)?;
     let kept = Box::new(alloc, range)?;
     let variable = referred(alloc, naming, Role::Locator, text.variable)?;
-    let variable = controls(alloc, text.variable.first.name.at, &kept, variable)?;
+    let is_located = has_locator(text.variable);
+    let variable = controls(
+        alloc,
+        text.variable.first.name.at,
+        is_located,
+        &kept,
+        variable,
+    )?;
     iterated(alloc, naming, temporary, text, start, kept, variable)
 }

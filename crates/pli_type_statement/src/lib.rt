@@ -15,6 +15,7 @@ mod outer;
 mod simple;
 mod statement;
 mod surroundings;
+mod temporaries;
 mod walk;
 
 pub use checking::{CheckError, check};

@@ -9,6 +9,7 @@ ghost use Rattle.pli_type_names.specs.UnitNaming.{compiled_in, naming_in};
 ghost use Rattle.pli_type_statement.specs.Around.{surroundings_of};
 ghost use Rattle.pli_type_statement.specs.Simple.{put_typed, simple_typed};
 ghost use Rattle.pli_type_statement.specs.views.AroundView.{around_view};
+ghost use Rattle.pli_type_templates.specs.views.UnitView.{based_at};
 ghost use Rattle.pli_type_tree.specs.views.TypedView.{form_view};
 
 use crate::assignment::assignment;
@@ -22,6 +23,7 @@ use pli_base::{Code, fault};
 use pli_type_allocation::{allocate, free};
 use pli_type_expression::TypeError;
 use pli_type_names::Naming;
+use pli_type_templates::UnitTemplates;
 use pli_type_tree::Form;
 use std::alloc::Global;
 
@@ -40,23 +42,27 @@ fn put(
     Ok(Form::Put { skip, items })
 }
 
-/// A statement without statements in it, which begins at the token `at`. What is not compiled yet is Z1 there.
+/// A statement without statements in it, which begins at the token `at`, and the first of whose temporaries is this one.
+/// What is not compiled yet is Z1 there.
 #[tactic(auto, using(crate::proofs::NothingLater::assignment_built, crate::proofs::NothingLater::call_built, crate::proofs::NothingLater::return_built, crate::proofs::NothingLater::put_built, crate::proofs::NothingLater::allocate_built, crate::proofs::NothingLater::free_built))]
 pub(crate) fn simple(
     alloc: Global,
     naming: &Naming<'_>,
     around: &Surroundings<'_>,
+    templates: &UnitTemplates,
+    temporary: usize,
     at: u32,
     body: &Body,
 ) -> Result<Form, TypeError>
-    requires { (first : ℕ) × (later_body (compiled_in naming.now) first (source.body_view body.now) ≡ None) }
+    requires based { (block : ℕ) → based_at templates.now block ≡ (naming_in naming.now).based block }
+    requires built { (first : ℕ) × (later_body (compiled_in naming.now) first (source.body_view body.now) ≡ None) }
     ensures { Gives form_view result
-        (simple_typed (naming_in naming.now) (surroundings_of (around_view around.now)) at (source.body_view body.now)) }
+        (simple_typed (naming_in naming.now) (surroundings_of (around_view around.now)) temporary at (source.body_view body.now)) }
 {
     match body {
         Body::Null | Body::Declare(_) => Ok(Form::Null),
         Body::Stop => Ok(Form::Stop),
-        Body::Allocate(items) => allocate(alloc, naming, items.as_slice()),
+        Body::Allocate(items) => allocate(alloc, naming, templates, temporary, items.as_slice()),
         Body::Free(references) => free(alloc, naming, references.as_slice()),
         Body::Assign {
             target,

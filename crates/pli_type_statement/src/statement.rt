@@ -5,13 +5,13 @@ ghost use Rattle.pli_base.specs.views.SyntaxView as syntax;
 ghost use Rattle.pli_declare_outline.specs.Outlines.{regions_among, regions_in, regions_of};
 ghost use Rattle.pli_map.specs.views.DescriptionView.{description_view};
 ghost use Rattle.pli_type.specs.StatementTyping as spec;
-ghost use Rattle.pli_type.specs.Temporaries.{behind, kept_by};
+ghost use Rattle.pli_type.specs.Temporaries.{behind, kept_by, temporaries_of};
 ghost use Rattle.pli_type.specs.Unbuilt.{later_body, later_control, later_expression, later_part, later_statement, later_statements};
 ghost use Rattle.pli_type_names.specs.UnitNaming.{compiled_in};
 ghost use Rattle.pli_type_statement.specs.Around.{surroundings_of};
 ghost use Rattle.pli_type_statement.specs.Headers.{Header as PlainHeader, header_typed};
 ghost use Rattle.pli_type_statement.specs.Simple.{is_compound, simple_typed};
-ghost use Rattle.pli_type_statement.specs.Walking.{Finishes, HasRoom, IsPlaced, in_block, Walks, WalksBlock, WalksBody, WalksList, around, next_at, unit_at};
+ghost use Rattle.pli_type_statement.specs.Walking.{Finishes, HasRoom, IsPlaced, in_block, Walks, WalksBlock, WalksBody, WalksList, around, based_names, next_at, unit_at};
 ghost use Rattle.pli_type_statement.specs.views.AroundView.{around_view};
 ghost use Rattle.pli_type_statement.specs.views.HeaderView.{header_view};
 ghost use Rattle.pli_type_tree.specs.TypedTree as plain;
@@ -24,10 +24,12 @@ use crate::items::condition;
 use crate::labels::{labels_of, leaves_nothing};
 use crate::simple::simple;
 use crate::surroundings::innermost;
+use crate::temporaries::kept_in;
 use crate::walk::{TypingWalk, enter_block, leave_block};
 use pli_base::statement::{Body, Control, Statement};
 use pli_base::syntax::Expression;
 use pli_map::Description;
+use pli_type_allocation::counted;
 use pli_type_tree::{BlockHead, Form, TypedExpression, TypedProcedure, TypedStatement};
 use std::alloc::{AllocError, Global};
 
@@ -58,12 +60,23 @@ fn type_simple(
     requires placed { IsPlaced walk.old }
     requires built { (first : ℕ) × (later_body (compiled_in walk.old.naming) first (source.body_view body.now) ≡ None) }
     requires simple { is_compound (source.body_view body.now) ≡ false }
-    ensures walked { IfOk result (λ form. Walks plain.Form walk.old walk.new (next_at walk.old)
-        (spec.of_own (simple_typed (spec.naming_at (unit_at walk.old) (around walk.old)) (around walk.old) at (source.body_view body.now)))
-        (option_map form_view form)) }
+    ensures walked { IfOk result (λ form. Walks plain.Form walk.old walk.new
+        (record { block = walk.old.next.block; temporary = walk.old.next.temporary + temporaries_of (based_names walk.old) (source.body_view body.now) })
+        (spec.of_own (simple_typed (spec.naming_at (unit_at walk.old) (around walk.old)) (around walk.old) walk.old.next.temporary at
+        (source.body_view body.now))) (option_map form_view form)) }
     ensures simple { is_compound (source.body_view body.now) ≡ false }
 {
-    let form = simple(alloc, &walk.naming, &walk.surroundings, at, body);
+    let temporary = walk.next.temporary;
+    walk.next.temporary = counted(temporary, kept_in(&walk.naming, body))?;
+    let form = simple(
+        alloc,
+        &walk.naming,
+        &walk.surroundings,
+        &walk.templates,
+        temporary,
+        at,
+        body,
+    );
     noted(form, &mut walk.faults)
 }
 
@@ -91,14 +104,13 @@ fn type_header(
 ) -> Result<Option<Header>, AllocError>
     requires placed { IsPlaced walk.old }
     requires built { later_part (later_control (compiled_in walk.old.naming)) (option_map source.control_view control.now) ≡ false }
-    requires room { walk.old.next.temporary ≤ 18446744073709551612 }
     ensures { IfOk result (λ header. Walks PlainHeader walk.old walk.new
         (record { block = walk.old.next.block; temporary = walk.old.next.temporary + kept_by (option_map source.control_view control.now) })
         (spec.of_own (header_typed (spec.naming_at (unit_at walk.old) (around walk.old)) walk.old.next.temporary
         (option_map source.control_view control.now))) (option_map header_view header)) }
 {
     let temporary = walk.next.temporary;
-    walk.next.temporary = temporary + kept_by(control);
+    walk.next.temporary = counted(temporary, kept_by(control))?;
     let header = specified(alloc, &walk.naming, temporary, control);
     noted(header, &mut walk.faults)
 }
@@ -143,7 +155,7 @@ fn type_statement(
     requires built { later_statement (compiled_in walk.old.naming) (source.statement_view statement.now) ≡ None }
     requires room { HasRoom (next_at walk.old) (regions_in (source.statement_view statement.now)) }
     ensures { IfOk result (λ typed. Walks plain.TypedStatement walk.old walk.new
-        (behind (next_at walk.old) (source.statement_view statement.now))
+        (behind (based_names walk.old) (next_at walk.old) (source.statement_view statement.now))
         (spec.statement_typed (unit_at walk.old) (around walk.old) (next_at walk.old) (source.statement_view statement.now))
         (option_map statement_view typed)) }
 {

@@ -1,3 +1,4 @@
+pub mod GroupsFound
 pub mod GroupsMade
 pub mod ItemsShared
 pub mod MembersFound

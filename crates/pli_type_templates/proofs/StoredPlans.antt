@@ -40,7 +40,7 @@ mutual
   plain_positive (Character n) h = ltb-true 0 n (and_parts (nat_lt 0 n) (nat_le n 32767) h).0
   plain_positive (Varying n) h = omega arith
   plain_positive (Bit n) h = let some = ltb-true 0 n (and_parts (nat_lt 0 n) (nat_le n 32767) h).0 in omega arith
-  plain_positive Pointer h = cc
+  plain_positive Pointer h = omega arith
   plain_positive Offset h = cc
   plain_positive (Area n) h = cc
   plain_positive (Array bounds element) h =
@@ -152,7 +152,7 @@ mutual
   stored_on (Character n) from path h = record { first = omega arith; over = omega arith; nested = tt; scalar = h }
   stored_on (Varying n) from path h = record { first = omega arith; over = omega arith; nested = tt; scalar = h }
   stored_on (Bit n) from path h = record { first = omega arith; over = omega arith; nested = tt; scalar = h }
-  stored_on Pointer from path h = cc
+  stored_on Pointer from path h = record { first = omega arith; over = omega arith; nested = tt; scalar = h }
   stored_on Offset from path h = cc
   stored_on (Area n) from path h = cc
   stored_on (Array bs e) from path h =

@@ -1,21 +1,24 @@
 -- The templates of blocks, one block after another.
-use Rattle.std.proofs.Common.{◌≡◌, ℕ, ◌<◌, List, [], ◌∷◌, length, map, get_or, refl, ap, subst, sym, ◌∙◌, arith}
+use Rattle.std.proofs.Common.{◌≡◌, ℕ, ◌<◌, Bool, List, [], ◌∷◌, length, map, get_or, refl, ap, subst, sym, ◌∙◌, arith}
 use Rattle.std.specs.List.{All}
 use Rattle.std.proofs.Math.ListN as lists
 use Rattle.std.proofs.lemmas.List.{get_or-map, length-map}
 use Rattle.std.proofs.lemmas.List.Elements.{All-get_or}
+use Rattle.pli_map.specs.Description.{Description}
 use Rattle.pli_resolve.specs.ResolvedUnits.{ResolvedUnit, all_symbols}
+use Rattle.pli_resolve.specs.declared.symbol.StorageClass.{StorageClass}
 use Rattle.pli_type.specs.NamedUnits as units
-use Rattle.pli_type.specs.NamedUnits.{block_symbols, is_automatic, templates_of}
+use Rattle.pli_type.specs.NamedUnits.{block_symbols, templates_of}
 use Rattle.pli_type_templates.specs.declared.placed_globals.PlacedGlobal.{PlacedGlobal}
 use Rattle.pli_type_templates.specs.views.PlacedView.{global_view, placed_view}
 use Rattle.pli_type_tree.specs.Templates.{Template}
 
--- what the AUTOMATIC variables of each block are made from
-pub automatic_rows : (r : ResolvedUnit) (rows : List (List Template)) → rows ≡ map (templates_of (is_automatic 31)) (all_symbols r)
-    → (block : ℕ) → get_or rows block [] ≡ templates_of (is_automatic 31) (block_symbols r block)
-automatic_rows r rows is block =
-    ap (λ xs. get_or xs block []) is ∙ lists.get_or-map (templates_of (is_automatic 31)) (all_symbols r) block []
+-- what the variables of such a class of each block are made from
+pub rows_found : (r : ResolvedUnit) (is_such : StorageClass → Description → Bool) (rows : List (List Template))
+    → rows ≡ map (templates_of is_such) (all_symbols r)
+    → (block : ℕ) → get_or rows block [] ≡ templates_of is_such (block_symbols r block)
+rows_found r is_such rows is block =
+    ap (λ xs. get_or xs block []) is ∙ lists.get_or-map (templates_of is_such) (all_symbols r) block []
 
 -- globals without the tokens of their names
 pub globals_alone : (gs : List PlacedGlobal)

@@ -9,7 +9,8 @@ use Rattle.pli_map.specs.Description.{Description}
 use Rattle.pli_resolve.specs.Symbols.{Symbol, SymbolKind, Variable, Member, Entry}
 use Rattle.pli_resolve.specs.declared.symbol.StorageClass.{StorageClass}
 use Rattle.pli_type.specs.InitialScalars.{InitialItem, template_of}
-use Rattle.pli_type.specs.NamedUnits.{global_of, is_automatic, is_global, kind_of_class, member_items}
+use Rattle.pli_type.specs.NamedUnits.{global_of, is_automatic, is_based, is_global, kind_of_class}
+use Rattle.pli_type.specs.NamedUnits.{member_items}
 use Rattle.pli_type_templates.specs.ItemNames.{HasValues}
 use Rattle.pli_type_templates.specs.declared.lifetime.Lifetime.{Lifetime}
 use Rattle.pli_type_templates.specs.declared.lifetime.Lifetime.TheVariants as lifetimes
@@ -20,6 +21,7 @@ use Rattle.pli_type_tree.specs.TypedTree.{Global, EntryPoint}
 abbrev pub is_such : (wanted : Lifetime) → StorageClass → Description → Bool
 is_such lifetimes.Activation class d = is_automatic 31 class d
 is_such lifetimes.Program class d = is_global 31 class d
+is_such lifetimes.Allocation class d = is_based 31 class d
 
 -- a variable that is made: the token of its name, the values in its INITIAL, and its members
 pub record MadeVariable : Type 0 where

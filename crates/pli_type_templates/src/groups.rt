@@ -29,9 +29,8 @@ fn is_such(wanted: Lifetime, class: StorageClass, description: &Description) -> 
 {
     match (wanted, class) {
         (Lifetime::Activation, StorageClass::Automatic)
-        | (Lifetime::Program, StorageClass::Static | StorageClass::Controlled) => is_stored(
-            description,
-        ),
+        | (Lifetime::Program, StorageClass::Static | StorageClass::Controlled)
+        | (Lifetime::Allocation, StorageClass::Based(_)) => is_stored(description),
         _ => false,
     }
 }

@@ -7,4 +7,6 @@ pub(crate) enum Lifetime {
     Activation,
     /// For the whole program: STATIC and CONTROLLED ones.
     Program,
+    /// From ALLOCATE to FREE by a locator: BASED ones.
+    Allocation,
 }

@@ -1,17 +1,19 @@
 //! What the variables of a unit are made from.
-ghost use Rattle.std.specs.Prelude.{◌≡◌, ℕ, List, IfOk, map};
+ghost use Rattle.std.specs.Prelude.{◌≡◌, ℕ, List, IfOk, map, option_map, slice_get};
 ghost use Rattle.std.specs.List.{All};
 ghost use Rattle.pli_base.specs.views.StatementView.{unit_view};
 ghost use Rattle.pli_declare_outline.specs.Outlines.{PlacedMark};
 ghost use Rattle.pli_resolve.specs.ResolvedUnits.{resolved_unit_of};
-ghost use Rattle.pli_type.specs.NamedUnits.{all_globals, block_globals, is_automatic, named_unit, templates_of};
+ghost use Rattle.pli_type.specs.NamedUnits as units;
+ghost use Rattle.pli_type.specs.NamedUnits.{all_globals, block_globals, is_based, named_unit, templates_of};
+ghost use Rattle.pli_type_templates.specs.Groups.{is_such};
 ghost use Rattle.pli_type_templates.specs.ItemNames.{AreOfItems, HasFewRegions};
 ghost use Rattle.pli_type_templates.specs.views.BlockView.{AreKnown, block_symbols};
 ghost use Rattle.pli_type_templates.specs.views.NumberView.{marks_of};
 ghost use Rattle.pli_type_templates.specs.views.PlacedView.{HasGlobalItem, placed_view};
-ghost use Rattle.pli_type_templates.specs.views.UnitView.{automatic_at, row_view};
+ghost use Rattle.pli_type_templates.specs.views.UnitView.{automatic_at, based_at, row_view};
 ghost use Rattle.pli_type_tree.specs.views.GlobalView.{globals_view};
-ghost use Rattle.pli_type_tree.specs.views.TemplateView.{groups_view};
+ghost use Rattle.pli_type_tree.specs.views.TemplateView.{groups_view, template_view};
 
 use crate::block_names::{BlockNames, block_names};
 use crate::global_groups::groups;
@@ -21,7 +23,7 @@ use crate::item_numbers::ItemNumbers;
 use crate::lifetime::Lifetime;
 use crate::placed_globals::{PlacedGlobal, sort};
 use pli_resolve::ResolvedUnit;
-use pli_type_tree::{GlobalGroup, VariableGroup};
+use pli_type_tree::{GlobalGroup, InitialScalar, Template, VariableGroup};
 use std::alloc::{AllocError, Global};
 use std::mem;
 
@@ -30,6 +32,8 @@ use std::mem;
 pub struct UnitTemplates {
     /// The AUTOMATIC variables of each block, under the block's number.
     pub automatic: Vec<Vec<VariableGroup>>,
+    /// The BASED variables of each block, under the block's number.
+    pub based: Vec<Vec<VariableGroup>>,
     /// The globals of all blocks, in the order of their names in the text.
     pub globals: Vec<GlobalGroup>,
 }
@@ -39,6 +43,7 @@ impl UnitTemplates {
     pub fn take(&mut self, alloc: Global, block: usize) -> Vec<VariableGroup>
         ensures taken { groups_view result.items ≡ automatic_at self.old block }
         ensures others { (k : ℕ) → (k ≡ block → ⊥) → automatic_at self.new k ≡ automatic_at self.old k }
+        ensures based { self.new.based ≡ self.old.based }
         ensures globals { self.new.globals ≡ self.old.globals }
     {
         let nothing = Vec::new(alloc);
@@ -47,21 +52,72 @@ impl UnitTemplates {
         }
         mem::replace(&mut self.automatic[block], nothing)
     }
+
+    /// A copy of what the BASED variable of this number among those of a block is made from, if there is one. Takes time
+    /// for the groups of the block's BASED variables, and for the copy.
+    pub fn based_copy(
+        &self,
+        alloc: Global,
+        block: usize,
+        number: usize,
+    ) -> Result<Option<Template>, AllocError>
+        ensures { IfOk result (λ made. option_map template_view made ≡ slice_get (based_at self.now block) number) }
+    {
+        let Some(groups) = self.based.get(block) else {
+            return Ok(None);
+        };
+        match template_in(groups, number) {
+            Some(template) => Ok(Some(template_copy(alloc, template)?)),
+            None => Ok(None),
+        }
+    }
 }
 
-/// What the AUTOMATIC variables of each block are made from.
-fn automatic_groups<'a>(
+/// What the variable of this number in groups is made from, if there is one.
+#[tactic(auto, using(crate::proofs::GroupsFound::group_here, crate::proofs::GroupsFound::group_past, crate::proofs::GroupsFound::groups_end))]
+fn template_in(groups: &[VariableGroup], number: usize) -> Option<&Template>
+    ensures { option_map (λ t. template_view t.now) result ≡ slice_get (groups_view groups.now) number }
+{
+    let mut left = number;
+    for group in groups {
+        if left < group.count {
+            return Some(&group.template);
+        }
+        left -= group.count;
+    }
+    None
+}
+
+/// What is made from the same.
+fn template_copy(alloc: Global, template: &Template) -> Result<Template, AllocError>
+    ensures { IfOk result (λ made. template_view made ≡ template_view template.now) }
+{
+    let mut scalars = Vec::new(alloc);
+    for scalar in &template.initial {
+        scalars.push(InitialScalar {
+            offset: scalar.offset,
+            value: scalar.value.copy(alloc)?,
+        })?;
+    }
+    Ok(Template {
+        description: template.description.copy(alloc)?,
+        initial: scalars,
+    })
+}
+
+/// What the variables of a lifetime of each block are made from.
+fn lifetime_rows<'a>(
     alloc: Global,
     items: &ItemNumbers<'_>,
+    wanted: Lifetime,
     blocks: &'a [BlockNames<'a>],
 ) -> Result<Vec<Vec<VariableGroup>>, AllocError>
     requires known { All AreKnown blocks.now }
     requires items { All (All (AreOfItems (marks_of items.now))) (map block_symbols blocks.now) }
-    ensures { IfOk result (λ made. map row_view made.items ≡ map (templates_of (is_automatic 31)) (map block_symbols blocks.now)) }
+    ensures { IfOk result (λ made. map row_view made.items ≡ map (templates_of (is_such wanted)) (map block_symbols blocks.now)) }
 {
     let mut made = Vec::new(alloc);
     for block in blocks {
-        let wanted = Lifetime::Activation;
         made.push(lifetime_groups(alloc, items, wanted, &block.symbols, &block.members)?)?;
     }
     Ok(made)
@@ -99,20 +155,27 @@ fn sorted_groups<'a>(
     groups(alloc, items, &globals)
 }
 
-/// What the AUTOMATIC variables of each block of a unit are made from, and its globals (X3.74; the limits own):
-/// variables of numbers and strings alone, of at most 1,000,000 bytes each. Initial values stand in the order of the
-/// text, fitted to their scalars. Those of an item of DECLARE are made once for its names that stand in a row. Takes time
-/// for the text, for the values that are kept, and for sorting the globals.
+/// What the AUTOMATIC and BASED variables of each block of a unit are made from, and its globals (X3.74; the limits own):
+/// variables of numbers, strings and pointers alone, of at most 1,000,000 bytes each. Initial values stand in the order
+/// of the text, fitted to their scalars. Those of an item of DECLARE are made once for its names that stand in a row.
+/// Takes time for the text, for the values that are kept, and for sorting the globals.
 pub fn templates(alloc: Global, resolved: &ResolvedUnit<'_>) -> Result<UnitTemplates, AllocError>
     ensures automatic { IfOk result (λ made. (block : ℕ) → automatic_at made block
         ≡ (named_unit 31 (resolved_unit_of (unit_view resolved.now))).automatic block) }
+    ensures based { IfOk result (λ made. (block : ℕ) → based_at made block
+        ≡ templates_of (is_based 31) (units.block_symbols (resolved_unit_of (unit_view resolved.now)) block)) }
     ensures globals { IfOk result (λ made. globals_view made.globals.items
         ≡ (named_unit 31 (resolved_unit_of (unit_view resolved.now))).globals) }
     ensures regions { IfOk result (λ _. HasFewRegions (unit_view resolved.now)) }
 {
     let blocks = block_names(alloc, resolved)?;
     let items = ItemNumbers::of(alloc, resolved.unit())?;
-    let automatic = automatic_groups(alloc, &items, &blocks)?;
+    let automatic = lifetime_rows(alloc, &items, Lifetime::Activation, &blocks)?;
+    let based = lifetime_rows(alloc, &items, Lifetime::Allocation, &blocks)?;
     let globals = sorted_groups(alloc, &items, &blocks)?;
-    Ok(UnitTemplates { automatic, globals })
+    Ok(UnitTemplates {
+        automatic,
+        based,
+        globals,
+    })
 }

@@ -1,3 +1,4 @@
+pub mod Allocations
 pub mod Globals
 pub mod Iterations
 pub mod Templates

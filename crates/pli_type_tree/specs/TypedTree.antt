@@ -10,14 +10,6 @@ use Rattle.pli_program.specs.declared.kind.VariableKind.{VariableKind}
 use Rattle.pli_value.specs.Value.{Value}
 use Rattle.pli_type_tree.specs.Templates.{Template}
 
--- where a reference begins: at a parameter or an AUTOMATIC variable; at a variable that is made before the
--- program begins, by the number of its global; or at the newest generation of a CONTROLLED variable, by the
--- number of its global
-pub data Root : Type 0 where
-  InSlot : (outward slot : ℕ) → Root
-  OfProgram : (number : ℕ) → Root
-  NewestOf : (number : ℕ) → Root
-
 -- what is called: a procedure of the unit, by its block, or an external one, by the number of its entry among
 -- the globals
 pub data Callee : Type 0 where
@@ -36,14 +28,24 @@ pub record Stride : Type 0 where
   pub multiplier : ℕ
 
 mutual
-  -- a constant, what a variable holds, an operation on its operands, a call of a function, or how many
-  -- generations a CONTROLLED variable has, by the number of its global
+  -- a constant, what a variable holds, an operation on its operands, a call of a function, how many
+  -- generations a CONTROLLED variable has, by the number of its global, or a pointer to a variable
   pub data TypedExpression : Type 0 where
     Literal : (value : Value) → TypedExpression
     Held : (variable : TypedReference) → TypedExpression
     Calculated : (operation : TypedOperation) (operands : Operands) → TypedExpression
     Called : (callee : Callee) (arguments : TypedArguments) → TypedExpression
     Generations : (number : ℕ) → TypedExpression
+    Address : (variable : TypedReference) → TypedExpression
+
+  -- where a reference begins: at a parameter or an AUTOMATIC variable; at a variable that is made before the
+  -- program begins, by the number of its global; at the newest generation of a CONTROLLED variable, by the
+  -- number of its global; or at what a pointer leads to, which is of this whole description
+  pub data Root : Type 0 where
+    InSlot : (outward slot : ℕ) → Root
+    OfProgram : (number : ℕ) → Root
+    NewestOf : (number : ℕ) → Root
+    Located : (locator : TypedExpression) (description : Description) → Root
 
   -- a whole variable; or a part, with its offset where all its subscripts are the lowest, its description,
   -- and the subscripts of all its levels in turn
@@ -93,13 +95,18 @@ pub record BlockHead : Type 0 where
   pub variables : List Template
   pub temporaries : ℕ
 
--- what an item of ALLOCATE makes: a generation of a CONTROLLED variable, by the number of its global
+-- what an item of ALLOCATE makes: a generation of a CONTROLLED variable, by the number of its global; or one
+-- of a BASED variable, to which the target points from then on: the pointer is kept in this temporary while
+-- the target is found
 pub data AllocatedItem : Type 0 where
   AllocatesControlled : (number : ℕ) → AllocatedItem
+  AllocatesBased : (template : Template) (temporary : ℕ) (target : TypedReference) → AllocatedItem
 
--- what an item of FREE ends: the newest generation of a CONTROLLED variable, by the number of its global
+-- what an item of FREE ends: the newest generation of a CONTROLLED variable, by the number of its global; or
+-- the generation of a BASED variable of this whole description to which a pointer leads
 pub data FreedItem : Type 0 where
   FreesControlled : (number : ℕ) → FreedItem
+  FreesBased : (locator : TypedExpression) (description : Description) → FreedItem
 
 mutual
   -- a statement with its number, and the numbers of its labels' statements are its own

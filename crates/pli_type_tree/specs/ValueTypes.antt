@@ -1,8 +1,9 @@
 -- Types of the values that expressions give, and what operations take and give of them (own).
-use Rattle.std.specs.Prelude.{◌≡◌, ℕ, suc, ◌≤◌, ◌<◌, ◌^◌, ◌+◌, min, max, Bool, ℤ, unsigned_abs, Option}
-use Rattle.std.specs.Prelude.{Some, None, List, []}
+use Rattle.std.specs.Prelude.{◌≡◌, ℕ, suc, ◌≤◌, ◌<◌, ◌^◌, ◌+◌, min, max, Bool, IsTrue, ℤ, unsigned_abs}
+use Rattle.std.specs.Prelude.{Option, Some, None, List, []}
 use Rattle.std.specs.Prelude.{◌∷◌, ◌⊎◌, length}
-use Rattle.pli_map.specs.Description.{Description, FixedBinary, Character, Varying, Bit}
+use Rattle.pli_map.specs.Description.{Description, FixedBinary, Character, Varying, Bit, Pointer}
+use Rattle.pli_map.specs.Values.{holds}
 use Rattle.pli_operation.specs.declared.operation.Operation.{Operation}
 use Rattle.pli_operation.specs.declared.operation.Operation.TheVariants.{Negate, Absolute, Sign, Not}
 use Rattle.pli_operation.specs.declared.operation.Operation.TheVariants.{LengthOf, FromBits, ToCharacters}
@@ -10,17 +11,21 @@ use Rattle.pli_operation.specs.declared.operation.Operation.TheVariants.{Add, Su
 use Rattle.pli_operation.specs.declared.operation.Operation.TheVariants.{Greatest, Least, Divide, Compare}
 use Rattle.pli_operation.specs.declared.operation.Operation.TheVariants.{Concatenate, And, Or, Index, Rest}
 use Rattle.pli_operation.specs.declared.operation.Operation.TheVariants.{Substring, Within}
+use Rattle.pli_operation.specs.declared.operation.Relation.{Relation}
+use Rattle.pli_operation.specs.declared.operation.Relation.TheVariants.{Equal, Unequal}
 use Rattle.pli_type_tree.specs.TypedTree.{TypedOperation, Fit, Operate}
-use Rattle.pli_value.specs.Value.{Value, Number, Characters, Bits}
+use Rattle.pli_value.specs.Value.{Value, Number, Characters, Bits, Located}
+use Rattle.pli_value.specs.declared.locator.Locator.{Locator}
 
 -- what a string is made of
 pub data StringKind : Type 0 where
   OfCharacters OfBits : StringKind
 
--- numbers of at most so many binary digits; strings of at least and at most so many elements
+-- numbers of at most so many binary digits; strings of at least and at most so many elements; pointers
 pub data ValueType : Type 0 where
   Numbers : (digits : ℕ) → ValueType
   Strings : (kind : StringKind) (least most : ℕ) → ValueType
+  Pointers : ValueType
 
 -- what a variable of a description holds; nothing yet for other descriptions
 abbrev pub type_held : Description → Option ValueType
@@ -28,13 +33,19 @@ type_held (FixedBinary precision) = Some (Numbers precision)
 type_held (Character n) = Some (Strings OfCharacters n n)
 type_held (Varying n) = Some (Strings OfCharacters 0 n)
 type_held (Bit n) = Some (Strings OfBits n n)
+type_held Pointer = Some Pointers
 type_held d = None
+
+-- a locator is a pointer that a POINTER may hold, null or not
+abbrev pub IsPointer : Locator → Type 0
+IsPointer l = IsTrue (holds Pointer (Located l))
 
 -- a value is of a type
 abbrev pub IsOf : ValueType → Value → Type 0
 IsOf (Numbers p) v = (x : ℤ) × (v ≡ Number x) × (unsigned_abs x < 2 ^ p)
 IsOf (Strings OfCharacters a b) v = (s : List ℕ) × (v ≡ Characters s) × (a ≤ length s) × (length s ≤ b)
 IsOf (Strings OfBits a b) v = (s : List Bool) × (v ≡ Bits s) × (a ≤ length s) × (length s ≤ b)
+IsOf Pointers v = (l : Locator) × (v ≡ Located l) × IsPointer l
 
 -- values are of types, one for one
 abbrev pub AreOf : List ValueType → List Value → Type 0
@@ -47,6 +58,7 @@ abbrev pub IsWithin : (narrow wide : ValueType) → Type 0
 IsWithin (Numbers p) (Numbers q) = p ≤ q
 IsWithin (Strings OfCharacters a b) (Strings OfCharacters c d) = (c ≤ a) × (b ≤ d)
 IsWithin (Strings OfBits a b) (Strings OfBits c d) = (c ≤ a) × (b ≤ d)
+IsWithin Pointers Pointers = Unit {0}
 IsWithin t u = ⊥
 
 -- a variable of the description may hold each value of the type
@@ -100,6 +112,12 @@ OnStrings ts Of =
     (k : StringKind) × (a : ℕ) × (b : ℕ) × (c : ℕ) × (d : ℕ)
     × (ts ≡ Strings k a b ∷ Strings k c d ∷ []) × Of k b d
 
+-- a relation says whether values are equal
+abbrev pub IsEquality : Relation → Type 0
+IsEquality Equal = Unit {0}
+IsEquality Unequal = Unit {0}
+IsEquality relation = ⊥
+
 -- an operation without a description takes operands of these types and gives a value of this one; no number
 -- has more than so many binary digits
 abbrev pub Computes : (greatest : ℕ) → Operation → List ValueType → ValueType → Type 0
@@ -119,7 +137,8 @@ Computes n Greatest ts t = OnNumbers ts (λ p q. t ≡ Numbers (max p q))
 Computes n Least ts t = OnNumbers ts (λ p q. t ≡ Numbers (max p q))
 Computes n (Divide precision) ts t = OnNumbers ts (λ p q. t ≡ Numbers precision)
 Computes n (Compare relation) ts t =
-    (OnNumbers ts (λ p q. Unit {0}) ⊎ OnStrings ts (λ k b d. Unit {0})) × (t ≡ Strings OfBits 1 1)
+    (OnNumbers ts (λ p q. Unit {0}) ⊎ OnStrings ts (λ k b d. Unit {0})
+    ⊎ (IsEquality relation × (ts ≡ Pointers ∷ Pointers ∷ []))) × (t ≡ Strings OfBits 1 1)
 Computes n Concatenate ts t = OnStrings ts (λ k b d. t ≡ Strings k 0 longest)
 Computes n And ts t = OnStrings ts (λ k b d. (k ≡ OfBits) × (t ≡ Strings OfBits 0 (max b d)))
 Computes n Or ts t = OnStrings ts (λ k b d. (k ≡ OfBits) × (t ≡ Strings OfBits 0 (max b d)))

@@ -3,9 +3,9 @@
 -- descriptions of its slots and the labels that a GOTO may lead to.
 use Rattle.std.specs.Prelude.{◌≡◌, ℕ, suc, ◌+◌, ◌*◌, nat_eq, false, ℤ, ◌-ℤ◌, int_le, unsigned_abs, IsTrue}
 use Rattle.std.specs.Prelude.{◌≤◌, Option, Some, None}
-use Rattle.std.specs.Prelude.{List, [], ◌∷◌, ◌++◌, map, slice_get, if◌then◌else◌}
+use Rattle.std.specs.Prelude.{List, [], ◌∷◌, ◌++◌, length, map, slice_get, if◌then◌else◌}
 use Rattle.std.specs.List.{list_any}
-use Rattle.pli_map.specs.Description.{Description}
+use Rattle.pli_map.specs.Description.{Description, Pointer}
 use Rattle.pli_map.specs.Scalars.{first_scalar, is_area, scalars_of}
 use Rattle.pli_map.specs.Sizes.{size_of}
 use Rattle.pli_map.specs.Values.{holds}
@@ -14,21 +14,22 @@ use Rattle.pli_value.specs.Value.{Value}
 use Rattle.pli_program.specs.declared.kind.VariableKind.TheVariants.{Static, Controlled}
 use Rattle.pli_type_tree.specs.Globals.{kind_of, described_as, signature_of}
 use Rattle.pli_type_tree.specs.Templates.{variable_of}
-use Rattle.pli_type_tree.specs.TypedTree.{Root, InSlot, OfProgram, NewestOf, TypedOperation, TypedExpression}
-use Rattle.pli_type_tree.specs.TypedTree.{Literal, Held, Calculated, Generations}
+use Rattle.pli_type_tree.specs.TypedTree.{Root, InSlot, OfProgram, NewestOf, Located, TypedOperation}
+use Rattle.pli_type_tree.specs.TypedTree.{TypedExpression, Literal, Held, Calculated, Generations, Address}
 use Rattle.pli_type_tree.specs.TypedTree.{Callee, OfBlock, OfEntry, Global}
 use Rattle.pli_type_tree.specs.TypedTree.{Called, TypedReference, Whole, Part, Operands, NoOperand}
 use Rattle.pli_type_tree.specs.TypedTree.{OperandThen}
 use Rattle.pli_type_tree.specs.TypedTree.{Subscripts, NoSubscript, SubscriptThen, TypedArguments, NoArgument}
 use Rattle.pli_type_tree.specs.TypedTree.{ByPlace, ByDummy, BlockHead, TypedStatement, Statement, Form}
 use Rattle.pli_type_tree.specs.TypedTree.{Null, Assign, Allocate, Free, AllocatedItem, AllocatesControlled}
-use Rattle.pli_type_tree.specs.TypedTree.{FreedItem, FreesControlled}
+use Rattle.pli_type_tree.specs.TypedTree.{AllocatesBased, FreedItem, FreesControlled, FreesBased}
 use Rattle.pli_type_tree.specs.TypedTree.{AssignAggregate, Put, If, Begin, Group, While, Iterate, TypedRange}
 use Rattle.pli_type_tree.specs.TypedTree.{Once, ToBy, ByTo, Repeated, Iteration, Call, Goto, Return}
 use Rattle.pli_type_tree.specs.TypedTree.{ReturnValue, Stop, OtherWise, NoElse, Else, TypedStatements}
 use Rattle.pli_type_tree.specs.TypedTree.{NoStatement}
 use Rattle.pli_type_tree.specs.TypedTree.{StatementThen}
-use Rattle.pli_type_tree.specs.ValueTypes.{StringKind, OfBits, ValueType, Numbers, Strings, type_held}
+use Rattle.pli_type_tree.specs.ValueTypes.{StringKind, OfBits, ValueType, Numbers, Strings, Pointers}
+use Rattle.pli_type_tree.specs.ValueTypes.{type_held}
 use Rattle.pli_type_tree.specs.ValueTypes.{count_precision}
 use Rattle.pli_type_tree.specs.ValueTypes.{IsOf, IsHeldBy}
 use Rattle.pli_type_tree.specs.ValueTypes.{Operates}
@@ -52,9 +53,11 @@ abbrev pub AreMade : List Variable → Type 0
 AreMade [] = Unit {0}
 AreMade (v ∷ vs) = IsMade v × AreMade vs
 
--- a block around: its number, its slots, and the labels of its lists
+-- a block around: its number; its slots, the first ones, so many, those of its parameters; and the labels of
+-- its lists
 pub record BlockAround : Type 0 where
   pub number : ℕ
+  pub parameters : ℕ
   pub slots : List Description
   pub labels : List ℕ
 
@@ -82,11 +85,16 @@ abbrev pub slot_of : Option BlockAround → (slot : ℕ) → Option Description
 slot_of None slot = None
 slot_of (Some b) slot = slice_get b.slots slot
 
--- what the variable is at which a reference begins
-abbrev pub root_of : TypingContext → Root → Option Description
-root_of s (InSlot outward slot) = slot_of (slice_get s.blocks outward) slot
-root_of s (OfProgram number) = described_as Static (slice_get s.globals number)
-root_of s (NewestOf number) = described_as Controlled (slice_get s.globals number)
+-- how many slots of a block are its parameters'
+abbrev pub parameters_in : Option BlockAround → ℕ
+parameters_in None = 0
+parameters_in (Some b) = b.parameters
+
+-- where a reference begins stands a variable's generation as a whole: it is no parameter, for which a part of
+-- one may stand
+abbrev pub BeginsWhole : TypingContext → Root → Type 0
+BeginsWhole s (InSlot outward slot) = parameters_in (slice_get s.blocks outward) ≤ slot
+BeginsWhole s root = Unit {0}
 
 -- a global is a CONTROLLED variable
 abbrev pub IsControlled : TypingContext → (number : ℕ) → Type 0
@@ -107,7 +115,7 @@ LeadTo whole offset (SubscriptThen stride e more) part =
 abbrev pub AreAround : (here around : List BlockAround) → Type 0
 AreAround [] [] = Unit {0}
 AreAround (b ∷ bs) (c ∷ cs) =
-    (b.number ≡ c.number) × (b.slots ≡ c.slots)
+    (b.number ≡ c.number) × ((b.parameters ≡ c.parameters) × (b.slots ≡ c.slots))
     × ((label : ℕ) → IsTrue (list_any (nat_eq label) c.labels) → IsTrue (list_any (nat_eq label) b.labels))
     × AreAround bs cs
 AreAround bs cs = ⊥
@@ -146,12 +154,25 @@ abbrev mutual
       × IsCallee s.globals s.procedures s.blocks callee parameters (Some d)
       × ArePassed n s arguments parameters × (type_held d ≡ Some t)
   IsTyped n s (Generations number) t = IsControlled s number × (t ≡ Numbers count_precision)
+  IsTyped n s (Address r) t = IsAddressed n s r × (t ≡ Pointers)
+
+  -- a pointer leads to a whole variable that is no parameter
+  pub IsAddressed : (greatest : ℕ) → TypingContext → TypedReference → Type 0
+  IsAddressed n s (Whole root) = BeginsWhole s root × ((d : Description) × IsRooted n s root d)
+  IsAddressed n s (Part root offset part subscripts) = ⊥
+
+  -- what the variable is at which a reference begins; a locator gives pointers
+  pub IsRooted : (greatest : ℕ) → TypingContext → Root → Description → Type 0
+  IsRooted n s (InSlot outward slot) d = slot_of (slice_get s.blocks outward) slot ≡ Some d
+  IsRooted n s (OfProgram number) d = described_as Static (slice_get s.globals number) ≡ Some d
+  IsRooted n s (NewestOf number) d = described_as Controlled (slice_get s.globals number) ≡ Some d
+  IsRooted n s (Located locator whole) d = (whole ≡ d) × IsTyped n s locator Pointers
 
   -- a reference leads to a variable or a part of this description
   pub IsPlaced : (greatest : ℕ) → TypingContext → TypedReference → Description → Type 0
-  IsPlaced n s (Whole root) d = root_of s root ≡ Some d
+  IsPlaced n s (Whole root) d = IsRooted n s root d
   IsPlaced n s (Part root offset part subscripts) d =
-      (part ≡ d) × ((whole : Description) × (root_of s root ≡ Some whole) × LeadTo whole offset subscripts d)
+      (part ≡ d) × ((whole : Description) × IsRooted n s root whole × LeadTo whole offset subscripts d)
       × AreSubscripts n s subscripts
 
   -- operands give values of these types
@@ -190,15 +211,25 @@ abbrev pub AreItems : (greatest : ℕ) → TypingContext → List TypedExpressio
 AreItems n s [] = Unit {0}
 AreItems n s (e ∷ es) = ((kind : StringKind) × IsString n s kind e) × AreItems n s es
 
--- each item of ALLOCATE is of a CONTROLLED variable
-abbrev pub AreAllocated : TypingContext → List AllocatedItem → Type 0
-AreAllocated s [] = Unit {0}
-AreAllocated s (AllocatesControlled number ∷ items) = IsControlled s number × AreAllocated s items
+-- an item of ALLOCATE is of a CONTROLLED variable; or of a BASED one that is made well, and sets a POINTER
+abbrev pub IsAllocated : (greatest : ℕ) → TypingContext → AllocatedItem → Type 0
+IsAllocated n s (AllocatesControlled number) = IsControlled s number
+IsAllocated n s (AllocatesBased t temporary target) = IsMade (variable_of t) × IsPlaced n s target Pointer
 
--- each item of FREE is
-abbrev pub AreFreed : TypingContext → List FreedItem → Type 0
-AreFreed s [] = Unit {0}
-AreFreed s (FreesControlled number ∷ items) = IsControlled s number × AreFreed s items
+-- each item is
+abbrev pub AreAllocated : (greatest : ℕ) → TypingContext → List AllocatedItem → Type 0
+AreAllocated n s [] = Unit {0}
+AreAllocated n s (item ∷ items) = IsAllocated n s item × AreAllocated n s items
+
+-- an item of FREE is of a CONTROLLED variable, or ends what a pointer leads to
+abbrev pub IsFreed : (greatest : ℕ) → TypingContext → FreedItem → Type 0
+IsFreed n s (FreesControlled number) = IsControlled s number
+IsFreed n s (FreesBased locator d) = IsTyped n s locator Pointers
+
+-- each item is
+abbrev pub AreFreed : (greatest : ℕ) → TypingContext → List FreedItem → Type 0
+AreFreed n s [] = Unit {0}
+AreFreed n s (item ∷ items) = IsFreed n s item × AreFreed n s items
 
 -- groups with a control variable
 
@@ -263,6 +294,7 @@ in_group statements s = record s { blocks = with_labels (labels_of statements) s
 abbrev pub block_of : BlockHead → (parameters : List Description) → TypedStatements → BlockAround
 block_of head parameters statements = record {
   number = head.number;
+  parameters = length parameters;
   slots = parameters ++ map (λ v. v.description) head.variables;
   labels = labels_of statements;
 }
@@ -289,8 +321,8 @@ abbrev mutual
   IsTypedForm n s (AssignAggregate target source) =
       (d : Description) × IsPlaced n s target d × IsPlaced n s source d × (is_area d ≡ false)
   IsTypedForm n s (Put skip items) = AreItems n s items
-  IsTypedForm n s (Allocate items) = AreAllocated s items
-  IsTypedForm n s (Free items) = AreFreed s items
+  IsTypedForm n s (Allocate items) = AreAllocated n s items
+  IsTypedForm n s (Free items) = AreFreed n s items
   IsTypedForm n s (If condition consequence alternative) =
       IsString n s OfBits condition × IsTypedStatement n s consequence × IsTypedElse n s alternative
   IsTypedForm n s (Begin head statements) =

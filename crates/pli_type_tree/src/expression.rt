@@ -4,17 +4,30 @@ use pli_operation::Operation;
 use pli_value::Value;
 
 /// Where a reference begins.
-#[derive(Clone, Copy, Debug, PartialEq, Eq)]
+#[cycle(typed_expression)]
+#[derive(Drop)]
 pub enum Root {
     /// At a parameter or an AUTOMATIC variable of the activation so many static links outward. Slots are counted from
     /// 0, the parameters first.
-    InSlot { outward: usize, slot: usize },
+    InSlot {
+        outward: usize,
+        slot: usize,
+    },
     /// At a variable that is made before the program begins, by the number of its global. Those of a unit are counted
     /// from 0.
-    OfProgram { number: usize },
+    OfProgram {
+        number: usize,
+    },
     /// At the newest generation of a CONTROLLED variable, by the number of its global. Those of a unit are counted
     /// from 0.
-    NewestOf { number: usize },
+    NewestOf {
+        number: usize,
+    },
+    /// At what a pointer leads to, which is of this whole description (BASED).
+    Located {
+        locator: Box<TypedExpression>,
+        description: Description,
+    },
 }
 
 /// What is called.
@@ -102,4 +115,6 @@ pub enum TypedExpression {
     Generations {
         number: usize,
     },
+    /// A pointer to a variable (ADDR).
+    Address(TypedReference),
 }

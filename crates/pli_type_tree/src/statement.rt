@@ -2,7 +2,8 @@
 //! the order of the text (own).
 use crate::expression::{Callee, TypedArgument, TypedExpression, TypedReference};
 use crate::iteration::Iteration;
-use crate::template::VariableGroup;
+use crate::template::{Template, VariableGroup};
+use pli_map::Description;
 
 /// What an activation of a block begins with.
 #[derive(Drop)]
@@ -18,18 +19,34 @@ pub struct BlockHead {
 }
 
 /// What an item of ALLOCATE makes.
-#[derive(Clone, Copy)]
+#[derive(Drop)]
 pub enum AllocatedItem {
     /// A generation of a CONTROLLED variable, by the number of its global. Those of a unit are counted from 0.
-    Controlled { number: usize },
+    Controlled {
+        number: usize,
+    },
+    /// A generation of a BASED variable, which is made from this template. The pointer to it is kept in this temporary
+    /// while its target is found.
+    Based {
+        template: Template,
+        temporary: usize,
+        target: TypedReference,
+    },
 }
 
 /// What an item of FREE ends.
-#[derive(Clone, Copy)]
+#[derive(Drop)]
 pub enum FreedItem {
     /// The newest generation of a CONTROLLED variable, by the number of its global. Those of a unit are counted from
     /// 0.
-    Controlled { number: usize },
+    Controlled {
+        number: usize,
+    },
+    /// The generation of a BASED variable of this whole description to which a pointer leads.
+    Based {
+        locator: TypedExpression,
+        description: Description,
+    },
 }
 
 /// A statement, with all the statements inside it.

@@ -1,5 +1,6 @@
 pub mod Activations
 pub mod Ends
+pub mod Locating
 pub mod Stacks
 pub mod Storage
 pub mod World

@@ -6,7 +6,8 @@ ghost use Rattle.pli_world.specs.laws.Operations.{SlotKeeps, DummyKeeps, Enterin
 ghost use Rattle.pli_world.specs.laws.Operations.{ClearingKeeps, StatementKeeps, PrintingKeeps, SteppingCounts};
 ghost use Rattle.pli_world.specs.laws.Operations.{PartsHeldKeep, PartsStoredKeep, CopyingKeeps, SubscriptKeeps};
 ghost use Rattle.pli_world.specs.laws.Operations.{CalculatingKeeps, StaticKeeps, StaticsKeep, LineKeeps, LeadingKeeps};
-ghost use Rattle.pli_world.specs.laws.Operations.{StackingKeeps, UnstackingKeeps, CountingKeeps};
+ghost use Rattle.pli_world.specs.laws.Operations.{StackingKeeps, UnstackingKeeps, CountingKeeps, BasedKeeps};
+ghost use Rattle.pli_world.specs.laws.Operations.{AllocatingKeeps, FreeingKeeps, AddressKeeps};
 ghost use Rattle.pli_world.specs.examples.StorageExamples.{OuterVariable, DummyNumber, DummyEnds, TooLong};
 ghost use Rattle.pli_world.specs.examples.StorageExamples.{DummyDead, PartStored, PartHeld, ElementCopied};
 ghost use Rattle.pli_world.specs.examples.StorageExamples.{AggregateHeld, NoElement, NoPart, StaticStays};
@@ -33,6 +34,10 @@ pub fn operations_keep()
     ensures stacking { StackingKeeps }
     ensures unstacking { UnstackingKeeps }
     ensures counting { CountingKeeps }
+    ensures based { BasedKeeps }
+    ensures allocating { AllocatingKeeps }
+    ensures freeing { FreeingKeeps }
+    ensures address { AddressKeeps }
     ensures dummy { DummyKeeps }
     ensures entering { EnteringAdds }
     ensures leaving { LeavingTakes }

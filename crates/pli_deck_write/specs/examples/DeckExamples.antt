@@ -1,6 +1,8 @@
 -- Worked examples: decks, each with its bytes.
 use Rattle.std.specs.Prelude.{◌≡◌, ℕ, true, false, List, [], ◌∷◌, None, Ok, Err, take, ◌++◌}
-use Rattle.pli_map.specs.Description.{Bit}
+use Rattle.pli_map.specs.Description.{Bit, Pointer}
+use Rattle.pli_value.specs.Value.{Located}
+use Rattle.pli_value.specs.declared.locator.Locator.TheVariants.{Null}
 use Rattle.pli_code.specs.declared.fault.DeckFault.TheVariants.{BadMagic, Truncated, Trailing}
 use Rattle.pli_program.specs.Program.{Procedure}
 use Rattle.pli_code.specs.CodeTables.{CodedTemplate, CodedBlock, CodedSignature, Code, Deck}
@@ -130,17 +132,51 @@ stacking_bytes =
     0 ∷ 0 ∷ 0 ∷ 0 ∷ 1 ∷ 0 ∷ 6 ∷ 1 ∷ 0 ∷ 0 ∷ 0 ∷ 3 ∷ 48 ∷ 0 ∷ 0 ∷ 48 ∷ 0 ∷ 1 ∷ 1 ∷ 0 ∷ 0 ∷ 0 ∷ 4 ∷ 49 ∷
     0 ∷ 0 ∷ 9 ∷ 0 ∷ []
 
+-- M: PROC OPTIONS(MAIN); DCL P POINTER STATIC, X BIT STATIC, B BIT BASED(P); ALLOCATE B; P = ADDR(X); B = X;
+-- P = NULL; FREE B; END;
+abbrev pub pointing_code : Code
+pointing_code = record {
+  signature = without_parameters;
+  descriptions = Pointer ∷ Bit 1 ∷ [];
+  templates = record { description = 0; initial = [] } ∷ record { description = 1; initial = [] } ∷ [];
+  values = Located Null ∷ [];
+  globals = OwnVariable Static 0 ∷ OwnVariable Static 1 ∷ [];
+  blocks = record (outermost 0) { temporaries = 1 } ∷ [];
+  instructions =
+      op.Step 3 ∷ op.AllocateBased 1 ∷ op.SetTemporary 0 ∷ op.Global 0 ∷ op.TakeTemporary 0 ∷ op.Store
+      ∷ op.Step 4 ∷ op.Global 0 ∷ op.Global 1 ∷ op.AddressOf ∷ op.Store
+      ∷ op.Step 5 ∷ op.Global 0 ∷ op.Load ∷ op.Based 1 ∷ op.Global 1 ∷ op.Load ∷ op.Fit 1 ∷ op.Store
+      ∷ op.Step 6 ∷ op.Global 0 ∷ op.Constant 0 ∷ op.Store
+      ∷ op.Step 7 ∷ op.Global 0 ∷ op.Load ∷ op.FreeBased 1 ∷ op.Return 0 ∷ [];
+}
+
+-- its deck
+abbrev pub pointing : Deck
+pointing = record { name = 77 ∷ []; is_main = true; code = pointing_code }
+
+-- its bytes
+abbrev pub pointing_bytes : List ℕ
+pointing_bytes =
+    80 ∷ 76 ∷ 73 ∷ 68 ∷ 1 ∷ 1 ∷ 77 ∷ 1 ∷ 0 ∷ 255 ∷ 255 ∷ 0 ∷ 2 ∷ 5 ∷ 4 ∷ 0 ∷ 1 ∷ 0 ∷ 2 ∷ 0 ∷ 0 ∷ 0 ∷ 0 ∷ 0 ∷
+    0 ∷ 0 ∷ 1 ∷ 0 ∷ 0 ∷ 0 ∷ 0 ∷ 0 ∷ 1 ∷ 4 ∷ 0 ∷ 2 ∷ 0 ∷ 0 ∷ 0 ∷ 0 ∷ 0 ∷ 1 ∷ 0 ∷ 1 ∷ 0 ∷ 255 ∷ 255 ∷ 0 ∷ 0 ∷
+    0 ∷ 0 ∷ 1 ∷ 0 ∷ 0 ∷ 0 ∷ 0 ∷ 0 ∷ 1 ∷ 0 ∷ 28 ∷ 1 ∷ 0 ∷ 0 ∷ 0 ∷ 3 ∷ 51 ∷ 0 ∷ 1 ∷ 61 ∷ 0 ∷ 0 ∷ 14 ∷ 0 ∷ 0 ∷
+    62 ∷ 0 ∷ 0 ∷ 20 ∷ 1 ∷ 0 ∷ 0 ∷ 0 ∷ 4 ∷ 14 ∷ 0 ∷ 0 ∷ 14 ∷ 0 ∷ 1 ∷ 45 ∷ 20 ∷ 1 ∷ 0 ∷ 0 ∷ 0 ∷ 5 ∷ 14 ∷ 0 ∷
+    0 ∷ 19 ∷ 15 ∷ 0 ∷ 1 ∷ 14 ∷ 0 ∷ 1 ∷ 19 ∷ 23 ∷ 0 ∷ 1 ∷ 20 ∷ 1 ∷ 0 ∷ 0 ∷ 0 ∷ 6 ∷ 14 ∷ 0 ∷ 0 ∷ 18 ∷ 0 ∷ 0 ∷
+    20 ∷ 1 ∷ 0 ∷ 0 ∷ 0 ∷ 7 ∷ 14 ∷ 0 ∷ 0 ∷ 19 ∷ 53 ∷ 0 ∷ 1 ∷ 9 ∷ 0 ∷ []
+
 -- how they are written
 abbrev pub WrittenSo : Type 0
 WrittenSo =
     (deck_bytes smallest ≡ smallest_bytes) × (deck_bytes calling ≡ calling_bytes)
     × (deck_bytes called ≡ called_bytes) × (deck_bytes stacking ≡ stacking_bytes)
+    × (deck_bytes pointing ≡ pointing_bytes)
 
 -- how they are read, and what is wrong where a byte is missing or one stands behind
 abbrev pub ReadSo : Type 0
 ReadSo =
     (deck_read smallest_bytes ≡ Ok smallest) × (deck_read calling_bytes ≡ Ok calling)
     × (deck_read called_bytes ≡ Ok called) × (deck_read stacking_bytes ≡ Ok stacking)
+    × (deck_read pointing_bytes ≡ Ok pointing)
     × (deck_read [] ≡ Err BadMagic)
     × (deck_read (take 3 smallest_bytes) ≡ Err BadMagic)
     × (deck_read (take 4 smallest_bytes) ≡ Err Truncated)

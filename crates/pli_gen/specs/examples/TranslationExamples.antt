@@ -1,7 +1,7 @@
 -- Worked examples of the translation.
 use Rattle.std.specs.Prelude.{replicate, ◌≡◌, ℕ, pos, true, false, Some, None, [], ◌∷◌, codes}
 use Rattle.pli_run.specs.declared.ending.RunError.TheVariants.{NoReturnedValue}
-use Rattle.pli_map.specs.Description.{FixedBinary, Character, Bit}
+use Rattle.pli_map.specs.Description.{FixedBinary, Character, Bit, Pointer}
 use Rattle.pli_operation.specs.declared.operation.Operation.TheVariants as calculate
 use Rattle.pli_value.specs.Value.{Number, Characters}
 use Rattle.pli_program.specs.Program.{Instruction, Step, Line, Jump, JumpUnless, Local, Field, Subscript}
@@ -15,7 +15,9 @@ use Rattle.pli_type_tree.specs.TypedTree.{SubscriptThen, NoArgument, ByPlace, By
 use Rattle.pli_type_tree.specs.TypedTree.{Null, Assign, AssignAggregate, Put, If, Begin, While, Call, Goto}
 use Rattle.pli_type_tree.specs.TypedTree.{Iterate, ToBy}
 use Rattle.pli_type_tree.specs.TypedTree.{Stop, Allocate, Free, NoElse, Else, NoStatement, StatementThen}
+use Rattle.pli_type_tree.specs.Templates.{Template}
 use Rattle.pli_type_tree.specs.TypedTree.{NewestOf, Generations, AllocatesControlled, FreesControlled}
+use Rattle.pli_type_tree.specs.TypedTree.{Located, Address, AllocatesBased, FreesBased}
 use Rattle.pli_type_tree.specs.TypedTree.{OfBlock, OfEntry, TypedArguments, OwnVariable, ExternalVariable}
 use Rattle.pli_type_tree.specs.TypedTree.{EntryPoint, TypedUnit, TypedProcedure}
 use Rattle.pli_type_tree.specs.TypedTree as tree
@@ -396,3 +398,62 @@ ControlledLinked =
     ≡ op.OwnVariable Controlled (record { description = FixedBinary 15; initial = Number (pos 7) ∷ [] })
     ∷ op.ExternalVariable 2 Controlled
     (record { description = FixedBinary 15; initial = Number (pos 0) ∷ [] }) ∷ [])
+
+-- the variable in the third slot
+abbrev third : TypedReference
+third = Whole (InSlot 0 2)
+
+-- what a variable that begins with 7 is made from
+abbrev from_seven : Template
+from_seven = record {
+  description = FixedBinary 15;
+  initial = record { offset = 0; value = Number (pos 7) } ∷ [];
+}
+
+-- M: PROC OPTIONS(MAIN); DCL (P, Q) POINTER, V FIXED BIN(15), B FIXED BIN(15) BASED(P) INIT(7);
+-- ALLOCATE B, B SET(Q); V = Q -> B; P = ADDR(V); FREE Q -> B; END M;
+abbrev pointing : TypedProcedure
+pointing = record {
+  head = record {
+    number = 0;
+    statement = 1;
+    variables =
+        record { description = Pointer; initial = [] } ∷ record { description = Pointer; initial = [] }
+        ∷ record { description = FixedBinary 15; initial = [] } ∷ [];
+    temporaries = 2;
+  };
+  parent = None;
+  parameters = 0;
+  function_end = None;
+  statements =
+      StatementThen
+      (Statement 3 (Allocate (AllocatesBased from_seven 0 first ∷ AllocatesBased from_seven 1 second ∷ [])))
+      (StatementThen (Statement 4 (Assign third (Held (Whole (Located (Held second) (FixedBinary 15))))))
+      (StatementThen (Statement 5 (Assign first (Address third)))
+      (StatementThen (Statement 6 (Free (FreesBased (Held second) (FixedBinary 15) ∷ []))) NoStatement)));
+}
+
+-- its unit
+abbrev pointing_unit : TypedUnit
+pointing_unit = record {
+  name = codes "M";
+  procedure = codes "M";
+  is_main = true;
+  signature = record { parameters = []; result = None };
+  globals = [];
+  procedures = pointing ∷ [];
+}
+
+-- a new pointer is kept till its target's place is there; what a BASED variable is made from comes behind the
+-- variables of blocks
+abbrev pub PointersFollowed : Type 0
+PointersFollowed =
+    ((code_of pointing_unit).templates
+    ≡ record { description = 0; initial = [] } ∷ record { description = 1; initial = [] }
+    ∷ record { description = 1; initial = record { offset = 0; value = Number (pos 7) } ∷ [] } ∷ [])
+    × ((code_of pointing_unit).instructions
+    ≡ coded.Step 3 ∷ coded.AllocateBased 2 ∷ coded.SetTemporary 0 ∷ coded.Local 0 0 ∷ coded.TakeTemporary 0
+    ∷ coded.Store ∷ coded.AllocateBased 2 ∷ coded.SetTemporary 1 ∷ coded.Local 0 1 ∷ coded.TakeTemporary 1
+    ∷ coded.Store ∷ coded.Step 4 ∷ coded.Local 0 2 ∷ coded.Local 0 1 ∷ coded.Load ∷ coded.Based 1 ∷ coded.Load
+    ∷ coded.Store ∷ coded.Step 5 ∷ coded.Local 0 0 ∷ coded.Local 0 2 ∷ coded.AddressOf ∷ coded.Store
+    ∷ coded.Step 6 ∷ coded.Local 0 1 ∷ coded.Load ∷ coded.FreeBased 1 ∷ coded.Return 0 ∷ [])

@@ -9,6 +9,8 @@ use Rattle.pli_code.specs.CodeTables.{Code, template_at}
 use Rattle.pli_type_keys.specs.Same.{same_template}
 use Rattle.pli_type_keys.specs.views.KeyView.{templated}
 use Rattle.pli_type_keys.specs.declared.key.TemplateKey.{TemplateKey}
+use Rattle.pli_link.specs.declared.global_fault.GlobalFault.{GlobalFault}
+use Rattle.pli_link.specs.declared.global_fault.GlobalFault.TheVariants.{Unresolved, Mismatch}
 use Rattle.pli_link.specs.declared.names.KnownExternal.{KnownExternal}
 
 -- where the first template stands that is equal to one
@@ -45,6 +47,11 @@ class_at classes number = class_in (slice_get classes number)
 abbrev pub AreClasses : (known : List Template) → Code → (classes : List (Option ℕ)) → Type 0
 AreClasses known code classes =
     (number : ℕ) → IsClass known (template_at code number) (class_at classes number)
+
+-- so they have where a fault is looked for that classes tell: a mismatch
+abbrev pub AreClassesFor : GlobalFault → (known : List Template) → Code → (classes : List (Option ℕ)) → Type 0
+AreClassesFor Unresolved known code classes = Unit {0}
+AreClassesFor Mismatch known code classes = AreClasses known code classes
 
 -- external variables have the classes of their templates
 abbrev pub AreClassed : (known : List Template) → List (Name × KnownExternal) → Type 0

@@ -10,13 +10,13 @@ use Rattle.pli_world.specs.Storage.{Automatic, Place, whole, field_of}
 use Rattle.pli_world.specs.World.{World, nothing, Answer, Wrong, further, made_of, held}
 use Rattle.pli_world.specs.examples.StorageExamples.{result_of, error_of}
 use Rattle.pli_stacks.specs.examples.StackExamples.{number, beginning, with_two}
-use Rattle.pli_locators.specs.Locating.{based, allocated, freed, addressed}
+use Rattle.pli_world.specs.Locating.{based, based_allocated, based_freed, addressed}
 
 -- ---- BASED variables
 
 -- one is allocated, and then
 abbrev pub with_allocated : {A : Type 0} → (Locator → World → Answer A) → Answer A
-with_allocated go = further (allocated (beginning 3) nothing) go
+with_allocated go = further (based_allocated (beginning 3) nothing) go
 
 -- its place is the whole of the new generation, which begins as it should
 abbrev pub AllocatedBegins : Type 0
@@ -27,34 +27,34 @@ AllocatedBegins =
 -- it is freed and another allocated: that has the next number, and the old pointer stays dead
 abbrev pub AllocatedAgain : Type 0
 AllocatedAgain =
-    (result_of (with_allocated (λ l w. further (freed number l w) (λ _ w. allocated (beginning 4) w)))
-    ≡ Some (Pointer 1 0))
-    × (error_of (with_allocated (λ l w. further (freed number l w)
-    (λ _ w. further (allocated (beginning 4) w) (λ _ w. based number l w)))) ≡ Some DeadLocator)
+    (result_of (with_allocated (λ l w. further (based_freed number l w)
+    (λ _ w. based_allocated (beginning 4) w))) ≡ Some (Pointer 1 0))
+    × (error_of (with_allocated (λ l w. further (based_freed number l w)
+    (λ _ w. further (based_allocated (beginning 4) w) (λ _ w. based number l w)))) ≡ Some DeadLocator)
 
 -- what was freed is not freed again
 abbrev pub FreedTwice : Type 0
 FreedTwice =
-    error_of (with_allocated (λ l w. further (freed number l w) (λ _ w. freed number l w)))
+    error_of (with_allocated (λ l w. further (based_freed number l w) (λ _ w. based_freed number l w)))
     ≡ Some DeadLocator
 
 -- null leads nowhere, also in a FREE
 abbrev pub NullIsRefused : Type 0
 NullIsRefused =
     (error_of (with_allocated (λ l w. based number Null w)) ≡ Some NullLocator)
-    × (error_of (with_allocated (λ l w. freed number Null w)) ≡ Some NullLocator)
+    × (error_of (with_allocated (λ l w. based_freed number Null w)) ≡ Some NullLocator)
 
 -- what lives has one whole description, and no part of it or description of the same size is asked for
 abbrev pub OtherIsRefused : Type 0
 OtherIsRefused =
     (error_of (with_allocated (based (FixedBinary 14))) ≡ Some DescriptionMismatch)
     × (error_of (with_allocated (based (Structure (MemberThen number NoMembers)))) ≡ Some DescriptionMismatch)
-    × (error_of (with_allocated (freed (FixedBinary 14))) ≡ Some DescriptionMismatch)
+    × (error_of (with_allocated (based_freed (FixedBinary 14))) ≡ Some DescriptionMismatch)
 
 -- what has ended is dead before its description is asked for
 abbrev pub DeadBeforeOther : Type 0
 DeadBeforeOther =
-    error_of (with_allocated (λ l w. further (freed number l w) (λ _ w. based (FixedBinary 14) l w)))
+    error_of (with_allocated (λ l w. further (based_freed number l w) (λ _ w. based (FixedBinary 14) l w)))
     ≡ Some DeadLocator
 
 -- nothing lives behind the beginning of a generation that is no area
@@ -65,7 +65,7 @@ InsideIsDead = error_of (with_allocated (λ l w. based number (Pointer 0 8) w)) 
 abbrev pub OffsetAlone : Type 0
 OffsetAlone =
     (with_allocated (λ l w. based number (Offset 8) w) ≡ Wrong)
-    × (with_allocated (λ l w. freed number (Offset 0) w) ≡ Wrong)
+    × (with_allocated (λ l w. based_freed number (Offset 0) w) ≡ Wrong)
 
 -- ---- ADDR
 
@@ -87,7 +87,8 @@ AddressLeads =
 -- but it is not freed: no ALLOCATE of a BASED variable has made it
 abbrev pub AddressIsNotFreed : Type 0
 AddressIsNotFreed =
-    error_of (with_pair (λ p w. further (addressed p w) (λ l w. freed pair l w))) ≡ Some DescriptionMismatch
+    error_of (with_pair (λ p w. further (addressed p w) (λ l w. based_freed pair l w)))
+    ≡ Some DescriptionMismatch
 
 -- ADDR of a BASED variable is its pointer
 abbrev pub AddressOfBased : Type 0
@@ -100,10 +101,10 @@ abbrev pub AddressOfPart : Type 0
 AddressOfPart =
     (with_pair (λ p w. addressed (field_of 0 number p) w) ≡ Wrong)
     × (error_of (with_allocated (λ l w. further (based number l w)
-    (λ p w. further (freed number l w) (λ _ w. addressed (field_of 2 number p) w)))) ≡ Some DeadLocator)
+    (λ p w. further (based_freed number l w) (λ _ w. addressed (field_of 2 number p) w)))) ≡ Some DeadLocator)
 
 -- what ADDR of a CONTROLLED variable gives is not freed as BASED
 abbrev pub ControlledIsNotFreed : Type 0
 ControlledIsNotFreed =
     error_of (with_two (λ w. further (newest 0 w)
-    (λ p w. further (addressed p w) (λ l w. freed number l w)))) ≡ Some DescriptionMismatch
+    (λ p w. further (addressed p w) (λ l w. based_freed number l w)))) ≡ Some DescriptionMismatch

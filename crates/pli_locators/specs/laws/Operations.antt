@@ -8,7 +8,7 @@ use Rattle.pli_value.specs.declared.locator.Locator.TheVariants.{Pointer}
 use Rattle.pli_world.specs.Storage.{Place, generation_in}
 use Rattle.pli_world.specs.World.{World, Raises}
 use Rattle.pli_stacks.specs.laws.Operations.{ChangesStorage, IfYields, HasEnded, StaysEnded, LivingStays}
-use Rattle.pli_locators.specs.Locating.{located, based, allocated, freed, addressed}
+use Rattle.pli_world.specs.Locating.{located, based, based_allocated, based_freed, addressed}
 
 -- ---- what stays
 
@@ -22,11 +22,11 @@ BasedStays = (d : Description) (l : Locator) → ChangesStorage (based d l)
 
 -- so is ALLOCATE of one
 abbrev pub AllocatingStays : Type 0
-AllocatingStays = (v : Variable) → ChangesStorage (allocated v)
+AllocatingStays = (v : Variable) → ChangesStorage (based_allocated v)
 
 -- so is FREE of one
 abbrev pub FreeingStays : Type 0
-FreeingStays = (d : Description) (l : Locator) → ChangesStorage (freed d l)
+FreeingStays = (d : Description) (l : Locator) → ChangesStorage (based_freed d l)
 
 -- so is ADDR
 abbrev pub AddressStays : Type 0
@@ -38,7 +38,7 @@ AddressStays = (p : Place) → ChangesStorage (addressed p)
 abbrev pub NumberIsNew : Type 0
 NumberIsNew =
     (v : Variable) (w : World)
-    → IfYields (allocated v w) (λ l u. (l ≡ Pointer w.made 0) × (u.made ≡ suc w.made))
+    → IfYields (based_allocated v w) (λ l u. (l ≡ Pointer w.made 0) × (u.made ≡ suc w.made))
 
 -- a pointer to a generation that has ended is dead, whatever is asked for
 abbrev pub EndedIsDead : Type 0
@@ -50,32 +50,32 @@ EndedIsDead =
 abbrev pub FreedIsDead : Type 0
 FreedIsDead =
     (d e : Description) (l : Locator) (w : World)
-    → IfYields (freed d l w) (λ _ u. based e l u ≡ Raises DeadLocator u)
+    → IfYields (based_freed d l w) (λ _ u. based e l u ≡ Raises DeadLocator u)
 
 -- what has ended stays so behind ALLOCATE of a BASED variable
 abbrev pub EndedBehindAllocating : Type 0
-EndedBehindAllocating = (v : Variable) → StaysEnded (allocated v)
+EndedBehindAllocating = (v : Variable) → StaysEnded (based_allocated v)
 
 -- behind FREE of one
 abbrev pub EndedBehindFreeing : Type 0
-EndedBehindFreeing = (d : Description) (l : Locator) → StaysEnded (freed d l)
+EndedBehindFreeing = (d : Description) (l : Locator) → StaysEnded (based_freed d l)
 
 -- ---- what lives beside
 
 -- what lives stays as it is behind ALLOCATE of a BASED variable
 abbrev pub BesideAllocated : Type 0
-BesideAllocated = (v : Variable) → LivingStays (allocated v)
+BesideAllocated = (v : Variable) → LivingStays (based_allocated v)
 
 -- FREE of a BASED variable ends the generation of its pointer alone
 abbrev pub BesideFreed : Type 0
 BesideFreed =
     (d : Description) (number position other : ℕ) (w : World) → other ≢ number
-    → IfYields (freed d (Pointer number position) w)
+    → IfYields (based_freed d (Pointer number position) w)
     (λ _ u. generation_in u.storage other ≡ generation_in w.storage other)
 
 -- BASED variables leave stacks as they are
 abbrev pub StacksBeside : Type 0
 StacksBeside =
     (v : Variable) (d : Description) (l : Locator) (w : World)
-    → IfYields (allocated v w) (λ _ u. u.stacks ≡ w.stacks)
-    × IfYields (freed d l w) (λ _ u. u.stacks ≡ w.stacks)
+    → IfYields (based_allocated v w) (λ _ u. u.stacks ≡ w.stacks)
+    × IfYields (based_freed d l w) (λ _ u. u.stacks ≡ w.stacks)

@@ -2,7 +2,7 @@
 use Rattle.pli_store.specs.declared.living.LivingGeneration.{LivingGeneration}
 use Rattle.pli_store.specs.views.GenerationView.{made_view}
 use Rattle.pli_store.specs.views.StorageView.{place_view}
-use Rattle.pli_locators.specs.Locating.{Target}
+use Rattle.pli_world.specs.Locating.{Target}
 
 -- the place of the whole of it, and how it was made
 abbrev pub target_view : LivingGeneration → Target

@@ -5,13 +5,15 @@ use Rattle.pli_base.specs.Name.{Name}
 use Rattle.pli_run.specs.declared.ending.Ending.{Ending}
 use Rattle.pli_run.specs.declared.ending.Ending.TheVariants.{Ended, OutOfSteps, Error, MachineFault}
 use Rattle.pli_run.specs.declared.ending.RunError.TheVariants.{TooManyActivations, SubscriptRange}
-use Rattle.pli_run.specs.declared.ending.RunError.TheVariants.{StringRange, NoGeneration}
-use Rattle.pli_map.specs.Description.{FixedBinary, Array}
+use Rattle.pli_run.specs.declared.ending.RunError.TheVariants.{StringRange, NoGeneration, NullLocator}
+use Rattle.pli_run.specs.declared.ending.RunError.TheVariants.{DeadLocator, DescriptionMismatch}
+use Rattle.pli_map.specs.Description.{Description, FixedBinary, Array, Pointer}
 use Rattle.pli_operation.specs.declared.operation.Operation.{Operation}
 use Rattle.pli_operation.specs.declared.operation.Operation.TheVariants.{ToCharacters, Add, Compare}
 use Rattle.pli_operation.specs.declared.operation.Operation.TheVariants.{Substring}
 use Rattle.pli_operation.specs.declared.operation.Relation.TheVariants.{AtMost, Less}
-use Rattle.pli_value.specs.Value.{Value, Number, Characters, Bits}
+use Rattle.pli_value.specs.Value.{Value, Number, Characters, Bits, Located}
+use Rattle.pli_value.specs.declared.locator.Locator.TheVariants.{Null}
 use Rattle.pli_map.specs.Values.{first_values}
 use Rattle.pli_map.specs.Variables.{Variable}
 use Rattle.pli_program.specs.Program.{Instruction, Step, Line, Jump, JumpUnless, Goto, Call}
@@ -21,7 +23,9 @@ use Rattle.pli_program.specs.Program.{Constant}
 use Rattle.pli_program.specs.Program.{Load, Store, Operate, Put, Skip}
 use Rattle.pli_program.specs.Program.{BlockKind, Procedure, BeginBlock, Block, GlobalCode, OwnVariable}
 use Rattle.pli_program.specs.Program.{ExternalVariable, EntryPoint, UnitCode, Program, AllocateControlled}
-use Rattle.pli_program.specs.Program.{FreeControlled, CountGenerations}
+use Rattle.pli_program.specs.Program.{FreeControlled, CountGenerations, Based, AddressOf, AllocateBased}
+use Rattle.pli_program.specs.Program.{FreeBased}
+use Rattle.pli_program.specs.Templates.{Template}
 use Rattle.pli_program.specs.declared.kind.VariableKind.TheVariants.{Static, Controlled}
 use Rattle.pli_machine_step.specs.Machine.{State, At, Over, iterate}
 use Rattle.pli_machine_step.specs.Runs.{Outcome, outcome_of, names_of, start, ProgramRunsTo}
@@ -419,3 +423,71 @@ abbrev pub OthersFault : Type 0
 OthersFault =
     (after (units 1 (AllocateControlled 0 ∷ [])) 2 2 ≡ Some (gives [] MachineFault 1))
     × (after (controlled (AllocateControlled 1 ∷ [])) 1 1 ≡ Some (gives [] MachineFault 1))
+
+-- a program with a pointer that begins as null, and a variable that begins with 5
+abbrev pub pointing : List Instruction → Program
+pointing instructions = record {
+  units =
+      unit (codes "M")
+      (OwnVariable Static (record { description = Pointer; initial = Located Null ∷ [] })
+      ∷ OwnVariable Static five ∷ []) instructions ∷ [];
+  main = 0;
+  greatest = 31;
+}
+
+-- what the pointer leads to, where that is of this description, and what comes then
+abbrev pub at_pointer : Description → List Instruction → List Instruction
+at_pointer d more = Global 0 ∷ Load ∷ Based d ∷ more
+
+-- what a variable that begins with 5 is made from
+abbrev pub made_as_five : Template
+made_as_five = record {
+  description = FixedBinary 15;
+  initial = record { offset = 0; value = Number (pos 5) } ∷ [];
+}
+
+-- a generation is made, and the pointer leads to it; and what comes then
+abbrev pub with_generation : List Instruction → List Instruction
+with_generation more = Global 0 ∷ AllocateBased made_as_five ∷ Store ∷ more
+
+-- what it leads to is printed at the end
+abbrev pub printing_pointed : List Instruction
+printing_pointed =
+    at_pointer (FixedBinary 15) (Load ∷ Operate (ToCharacters 1) ∷ Put ∷ Return 0 ∷ [])
+
+-- the generation begins with 5, and then it holds 7
+abbrev pub BasedPrints : Type 0
+BasedPrints =
+    (after (pointing (with_generation printing_pointed)) 1 10 ≡ Some (gives (codes "5 ") Ended 3))
+    × (after
+    (pointing (with_generation (at_pointer (FixedBinary 15) (number 7 ∷ Store ∷ printing_pointed)))) 1 15
+    ≡ Some (gives (codes "7 ") Ended 3))
+
+-- the pointer to a variable leads to what that holds
+abbrev pub AddressPrints : Type 0
+AddressPrints =
+    after (pointing (Global 0 ∷ Global 1 ∷ AddressOf ∷ Store ∷ printing_pointed)) 1 11
+    ≡ Some (gives (codes "5 ") Ended 3)
+
+-- null leads nowhere; nor does a pointer to what was freed; what has another description is not meant
+abbrev pub LocatorsFail : Type 0
+LocatorsFail =
+    (after (pointing (Line 2 ∷ at_pointer (FixedBinary 15) [])) 1 4
+    ≡ Some (gives [] (Error NullLocator (codes "M") 2) 1))
+    × (after
+    (pointing (with_generation (Global 0 ∷ Load ∷ FreeBased (FixedBinary 15) ∷ Line 2
+    ∷ at_pointer (FixedBinary 15) []))) 1 10 ≡ Some (gives [] (Error DeadLocator (codes "M") 2) 1))
+    × (after (pointing (with_generation (Line 2 ∷ at_pointer (FixedBinary 31) []))) 1 7
+    ≡ Some (gives [] (Error DescriptionMismatch (codes "M") 2) 1))
+
+-- what ALLOCATE of a BASED variable has not made is not freed so
+abbrev pub AddressIsNotFreed : Type 0
+AddressIsNotFreed =
+    after (pointing (Line 2 ∷ Global 1 ∷ AddressOf ∷ FreeBased (FixedBinary 15) ∷ [])) 1 4
+    ≡ Some (gives [] (Error DescriptionMismatch (codes "M") 2) 1)
+
+-- a number leads nowhere, and has no address
+abbrev pub NumbersFault : Type 0
+NumbersFault =
+    (after (pointing (number 7 ∷ Based (FixedBinary 15) ∷ [])) 1 2 ≡ Some (gives [] MachineFault 1))
+    × (after (pointing (number 7 ∷ AddressOf ∷ [])) 1 2 ≡ Some (gives [] MachineFault 1))

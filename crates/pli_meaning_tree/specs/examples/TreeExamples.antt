@@ -3,9 +3,12 @@ use Rattle.std.specs.Prelude.{◌≡◌, ℕ, pos, neg_ℤ, true, false, Option,
 use Rattle.std.specs.Prelude.{map, codes}
 use Rattle.pli_run.specs.declared.ending.Ending.{Ending}
 use Rattle.pli_run.specs.declared.ending.Ending.TheVariants.{Ended, OutOfSteps, Error}
+use Rattle.pli_run.specs.declared.ending.RunError.{RunError}
 use Rattle.pli_run.specs.declared.ending.RunError.TheVariants.{SubscriptRange, FixedOverflow}
-use Rattle.pli_run.specs.declared.ending.RunError.TheVariants.{NoReturnedValue, NoGeneration}
-use Rattle.pli_map.specs.Description.{Description, FixedBinary, Array}
+use Rattle.pli_run.specs.declared.ending.RunError.TheVariants.{NoReturnedValue, NoGeneration, NullLocator}
+use Rattle.pli_run.specs.declared.ending.RunError.TheVariants.{DeadLocator, DescriptionMismatch}
+use Rattle.pli_map.specs.Description.{Description, FixedBinary, Array, Pointer, Structure, NoMembers}
+use Rattle.pli_map.specs.Description.{MemberThen}
 use Rattle.pli_operation.specs.declared.operation.Operation.{Operation}
 use Rattle.pli_operation.specs.declared.operation.Operation.TheVariants.{Add, Subtract, Compare, ToCharacters}
 use Rattle.pli_operation.specs.declared.operation.Relation.TheVariants.{Less}
@@ -23,7 +26,8 @@ use Rattle.pli_type_tree.specs.TypedTree.{Return, Null, TypedRange, Once, ToBy, 
 use Rattle.pli_type_tree.specs.TypedTree.{ReturnValue, Stop, NoElse, Else, TypedStatements, NoStatement}
 use Rattle.pli_type_tree.specs.TypedTree.{StatementThen, TypedProcedure, Signature, Global, OwnVariable}
 use Rattle.pli_type_tree.specs.TypedTree.{ExternalVariable, EntryPoint, TypedUnit, NewestOf, Generations}
-use Rattle.pli_type_tree.specs.TypedTree.{Allocate, AllocatesControlled, Free, FreesControlled}
+use Rattle.pli_type_tree.specs.TypedTree.{Allocate, AllocatesControlled, Free, FreesControlled, Located}
+use Rattle.pli_type_tree.specs.TypedTree.{Address, AllocatesBased, FreesBased}
 use Rattle.pli_meaning_tree.specs.Effects.{Label, Effect, Gives, Jumps, Flow, Next, Doing}
 use Rattle.pli_meaning_tree.specs.TreeMeaning.{TypedProgram, as_list, whole_run}
 
@@ -456,3 +460,82 @@ NoneIsLeft =
     × HasNone 2 (Statement 2 (Free (FreesControlled 0 ∷ [])) ∷ [])
     × HasNone 3 (Statement 2 (Allocate (AllocatesControlled 0 ∷ []))
     ∷ Statement 3 (Free (FreesControlled 0 ∷ FreesControlled 0 ∷ [])) ∷ [])
+
+-- `1 N BASED, 2 V FIXED BIN(31), 2 NEXT PTR`
+abbrev pub node : Description
+node = Structure (MemberThen (FixedBinary 31) (MemberThen Pointer NoMembers))
+
+-- V and NEXT by a locator
+abbrev pub number_by : TypedExpression → TypedReference
+number_by e = Part (Located e node) 0 (FixedBinary 31) NoSubscript
+
+abbrev pub next_by : TypedExpression → TypedReference
+next_by e = Part (Located e node) 4 Pointer NoSubscript
+
+-- `ALLOCATE N SET(P); P -> V = n; P -> NEXT = H; H = P;`
+abbrev pub links : (first second third fourth n : ℕ) → List TypedStatement
+links first second third fourth n =
+    Statement first (Allocate (AllocatesBased (of node) 0 (slot 0 0) ∷ []))
+    ∷ Statement second (Assign (number_by (held_in 0 0)) (number n))
+    ∷ Statement third (Assign (next_by (held_in 0 0)) (held_in 0 1))
+    ∷ Statement fourth (Assign (slot 0 1) (held_in 0 0)) ∷ []
+
+-- so with 1 and with 2; `PUT LIST(P -> V, P -> NEXT -> V);`
+abbrev pub ListIsLinked : Type 0
+ListIsLinked =
+    Prints
+    (main_of (of Pointer ∷ of Pointer ∷ [])
+    (listed (links 2 3 4 5 1 ++ links 6 7 8 9 2
+    ++ Statement 10 (Put false (shown (Held (number_by (held_in 0 0)))
+    ∷ shown (Held (number_by (Held (next_by (held_in 0 0))))) ∷ [])) ∷ [])) ∷ []) 10
+    (codes "   2 " ++ codes "                   " ++ codes "   1 ") Ended 30
+
+-- a procedure with a POINTER variable P and an X of FIXED BINARY(31)
+abbrev pub pointing : List TypedStatement → List TypedProcedure
+pointing statements = main_of (of Pointer ∷ of (FixedBinary 31) ∷ []) (listed statements) ∷ []
+
+-- `P -> Y`, Y BASED of a description
+abbrev pub by_pointer : Description → TypedReference
+by_pointer d = Whole (Located (held_in 0 0) d)
+
+-- `P = ADDR(X);`
+abbrev pub takes_address : (statement : ℕ) → TypedStatement
+takes_address statement = Statement statement (Assign (slot 0 0) (Address (slot 0 1)))
+
+-- `ALLOCATE Y SET(P);`
+abbrev pub allocates_number : (statement : ℕ) → TypedStatement
+allocates_number statement =
+    Statement statement (Allocate (AllocatesBased (of (FixedBinary 31)) 0 (slot 0 0) ∷ []))
+
+-- `FREE P -> Y;`
+abbrev pub frees_number : (statement : ℕ) → TypedStatement
+frees_number statement = Statement statement (Free (FreesBased (held_in 0 0) (FixedBinary 31) ∷ []))
+
+-- `P = ADDR(X); P -> Y = 5; PUT LIST(X);`
+abbrev pub AddressIsMeant : Type 0
+AddressIsMeant =
+    Prints
+    (pointing (takes_address 2 ∷ Statement 3 (Assign (by_pointer (FixedBinary 31)) (number 5))
+    ∷ Statement 4 (prints_number (held_in 0 1)) ∷ [])) 4 (codes "   5 ") Ended 6
+
+-- what ends by an error at a statement
+abbrev pub FailsBy : RunError → (statement : ℕ) → List TypedStatement → Type 0
+FailsBy e statement statements = Prints (pointing statements) 9 [] (Error e (codes "M") statement) 1
+
+-- `PUT LIST(P -> Y);` where P is null; where what it led to was freed; and where X is there instead, which is
+-- FIXED BINARY(31), but Y is FIXED BINARY(15)
+abbrev pub LeadsNowhere : Type 0
+LeadsNowhere =
+    FailsBy NullLocator 2 (Statement 2 (prints_number (Held (by_pointer (FixedBinary 31)))) ∷ [])
+    × FailsBy DeadLocator 4
+    (allocates_number 2 ∷ frees_number 3
+    ∷ Statement 4 (prints_number (Held (by_pointer (FixedBinary 31)))) ∷ [])
+    × FailsBy DescriptionMismatch 3
+    (takes_address 2 ∷ Statement 3 (prints_number (Held (by_pointer (FixedBinary 15)))) ∷ [])
+
+-- FREE of null, of what was freed, and of X
+abbrev pub IsNotFreed : Type 0
+IsNotFreed =
+    FailsBy NullLocator 2 (frees_number 2 ∷ [])
+    × FailsBy DeadLocator 4 (allocates_number 2 ∷ frees_number 3 ∷ frees_number 4 ∷ [])
+    × FailsBy DescriptionMismatch 3 (takes_address 2 ∷ frees_number 3 ∷ [])

@@ -1,15 +1,16 @@
 -- Worked examples of well-typed programs.
 use Rattle.std.specs.Prelude.{ℕ, nat_eq, true, false, pos, Option, Some, None, [], ◌∷◌, codes, if◌then◌else◌}
-use Rattle.pli_map.specs.Description.{Description, FixedBinary}
+use Rattle.pli_map.specs.Description.{Description, FixedBinary, Pointer}
 use Rattle.pli_operation.specs.declared.operation.Operation.TheVariants.{Add, Compare, ToCharacters}
 use Rattle.pli_operation.specs.declared.operation.Relation.TheVariants.{Less}
 use Rattle.pli_value.specs.Value.{Number}
 use Rattle.pli_program.specs.declared.kind.VariableKind.TheVariants.{Static, Controlled}
 use Rattle.pli_type_tree.specs.Templates.{Template}
-use Rattle.pli_type_tree.specs.TypedTree.{Fit, Operate, InSlot, OfProgram, NewestOf, OfBlock, OfEntry}
+use Rattle.pli_type_tree.specs.TypedTree.{Fit, Operate, InSlot, OfProgram, NewestOf, Located}
+use Rattle.pli_type_tree.specs.TypedTree.{OfBlock, OfEntry}
 use Rattle.pli_type_tree.specs.TypedTree.{Signature, Global, OwnVariable, ExternalVariable, EntryPoint}
-use Rattle.pli_type_tree.specs.TypedTree.{TypedUnit, TypedExpression, Generations}
-use Rattle.pli_type_tree.specs.TypedTree.{AllocatesControlled, FreesControlled}
+use Rattle.pli_type_tree.specs.TypedTree.{TypedUnit, TypedExpression, Generations, Address}
+use Rattle.pli_type_tree.specs.TypedTree.{AllocatesControlled, AllocatesBased, FreesControlled, FreesBased}
 use Rattle.pli_type_tree.specs.TypedTree.{Allocate, Free}
 use Rattle.pli_type_tree.specs.TypedTree.{Literal, Held, Calculated, Called, TypedReference, Whole, NoOperand}
 use Rattle.pli_type_tree.specs.TypedTree.{OperandThen, NoArgument, ByPlace, BlockHead, Statement, Assign, Put}
@@ -162,6 +163,31 @@ allocating =
 -- they are well typed in P, where X is declared
 abbrev pub StackIsWellTyped : Type 0
 StackIsWellTyped = AreTypedStatements 31 (context_in (stacked ∷ []) signatures of_caller caller) allocating
+
+-- P, STATIC, in P: PROCEDURE; DECLARE P POINTER STATIC, X FIXED BINARY(31) BASED(P);
+abbrev pub pointing : Global
+pointing = OwnVariable Static (record { description = Pointer; initial = [] })
+
+-- P, where it is used
+abbrev pub pointer : TypedReference
+pointer = Whole (OfProgram 0)
+
+-- X, where it is used
+abbrev pub pointed : TypedReference
+pointed = Whole (Located (Held pointer) number)
+
+-- ALLOCATE X; X = X; P = ADDR(X); FREE X;
+abbrev pub following : TypedStatements
+following =
+    StatementThen (Statement 2 (Allocate (AllocatesBased plain 0 pointer ∷ [])))
+    (StatementThen (Statement 3 (Assign pointed (Held pointed)))
+    (StatementThen (Statement 4 (Assign pointer (Address pointed)))
+    (StatementThen (Statement 5 (Free (FreesBased (Held pointer) number ∷ []))) NoStatement)))
+
+-- they are well typed in P
+abbrev pub PointersAreWellTyped : Type 0
+PointersAreWellTyped =
+    AreTypedStatements 31 (context_in (pointing ∷ []) signatures of_caller caller) following
 
 -- X, EXTERNAL
 abbrev pub shared : Global

@@ -2,7 +2,7 @@
 -- of the other examples there are
 --
 --     DCL K FIXED BIN(31) CTL, G(2) BIT CTL, 1 H CTL, 2 Y BIT;
-use Rattle.std.specs.Prelude.{◌≡◌, ℕ, Option, Some, None, List, [], ◌∷◌, codes}
+use Rattle.std.specs.Prelude.{◌≡◌, ℕ, false, Option, Some, None, List, [], ◌∷◌, codes}
 use Rattle.pli_base.specs.Statements.{Statement, Numbered, Allocate, Free, Allocation}
 use Rattle.pli_base.specs.Syntax.{Referred, Parenthesized, Reference, Named, Alone, Joined, Absent}
 use Rattle.pli_base.specs.Syntax.{Given, Expressions, Empty, Listed}
@@ -14,7 +14,7 @@ use Rattle.pli_base.specs.declared.syntax.Joining.TheVariants.{Member, Located}
 use Rattle.pli_map.specs.Description.{Description, FixedBinary, Bit, Structure, NoMembers, MemberThen}
 use Rattle.pli_resolve.specs.declared.built_in.BuiltInFunction.TheVariants as functions
 use Rattle.pli_type.specs.ExpressionTypes.{with_one}
-use Rattle.pli_type.specs.Names.{NamedAs, AVariable, AFunction}
+use Rattle.pli_type.specs.Names.{Begins, NamedAs, AVariable, AFunction}
 use Rattle.pli_type.specs.examples.ExampleTrees.{array, faults, one, good, form_of, called, alone_named}
 use Rattle.pli_type.specs.examples.ExampleTrees.{named, decimal, assign, x, n, a, label}
 use Rattle.pli_type_tree.specs.TypedTree as typed
@@ -23,7 +23,8 @@ use Rattle.pli_type_tree.specs.TypedTree.{FreesControlled}
 
 -- a CONTROLLED variable, or a member, by the number of its global
 abbrev pub controlled : (number : ℕ) → Description → (path : List ℕ) → NamedAs
-controlled number d path = AVariable (record { root = NewestOf number; whole = d; path = path })
+controlled number d path =
+    AVariable (record { storage = Begins (NewestOf number) false; whole = d; path = path })
 
 -- K
 abbrev pub k : NamedAs

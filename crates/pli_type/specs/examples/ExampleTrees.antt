@@ -22,11 +22,13 @@ use Rattle.pli_type.specs.ExpressionTypes.{width_of}
 use Rattle.pli_type.specs.Checked.{in_unit, first_inside}
 use Rattle.pli_type.specs.FunctionCalls.{Denoted, DenotesVariable, DenotesResult}
 use Rattle.pli_type.specs.Names.{NamedAs, AVariable, AFunction, AProcedure, ALabel, Untyped, Naming}
-use Rattle.pli_type.specs.Names.{Compiled, NamedUnit}
+use Rattle.pli_type.specs.Names.{Begins, Compiled, NamedUnit}
+use Rattle.pli_type.specs.NamedUnits.{names_based}
 use Rattle.pli_type.specs.References.{AsTarget}
 use Rattle.pli_type.specs.StatementTyping.{WithProcedures, statement_typed}
 use Rattle.pli_type.specs.Typing.{value_of, referred}
 use Rattle.pli_type.specs.Unbuilt.{is_later_function}
+use Rattle.pli_type_tree.specs.Templates.{Template}
 use Rattle.pli_type_tree.specs.TypedTree.{InSlot, TypedExpression, Literal, Held, TypedReference, Whole}
 use Rattle.pli_type_tree.specs.TypedTree.{OfBlock, Stride}
 use Rattle.pli_type_tree.specs.TypedTree.{TypedStatement, Form}
@@ -46,7 +48,8 @@ array high d = Array (between 1 high ∷ []) d
 
 -- a variable of its own, or a member, of the variable in a slot
 abbrev pub variable : (slot : ℕ) → Description → (path : List ℕ) → NamedAs
-variable slot d path = AVariable (record { root = InSlot 0 slot; whole = d; path = path })
+variable slot d path =
+    AVariable (record { storage = Begins (InSlot 0 slot) false; whole = d; path = path })
 
 -- a variable of its own, in a slot
 abbrev pub alone : (slot : ℕ) → Description → NamedAs
@@ -179,9 +182,14 @@ abbrev pub meaning_in : List (ℕ × NamedAs) → (at : ℕ) → NamedAs
 meaning_in [] at = Untyped
 meaning_in (m ∷ ms) at = if nat_eq m.0 at then m.1 else meaning_in ms at
 
+-- the BASED variable of block 1 is a FIXED BIN(15); no other block has any
+abbrev pub based_in : (block : ℕ) → List Template
+based_in block =
+    if nat_eq block 1 then record { description = FixedBinary 15; initial = [] } ∷ [] else []
+
 -- what names mean, where numbers have at most 31 binary digits
 abbrev pub naming : List (ℕ × NamedAs) → Naming
-naming meanings = record { greatest = 31; meaning = meaning_in meanings }
+naming meanings = record { greatest = 31; based = based_in; meaning = meaning_in meanings }
 
 -- the name at a token means a function that is not compiled yet
 abbrev pub is_later_in : List (ℕ × NamedAs) → (at : ℕ) → Bool
@@ -193,7 +201,11 @@ is_later_in meanings at = later (meaning_in meanings at)
 
 -- what is compiled, where names mean such
 abbrev pub compiled : List (ℕ × NamedAs) → Compiled
-compiled meanings = record { greatest = 31; is_later = is_later_in meanings }
+compiled meanings = record {
+  greatest = 31;
+  is_later = is_later_in meanings;
+  is_based = λ at. names_based (meaning_in meanings at);
+}
 
 -- a unit of this tree, whose names mean the same in all its blocks, and which has no variables
 abbrev pub unit_of : ExternalProcedure → List (ℕ × NamedAs) → NamedUnit

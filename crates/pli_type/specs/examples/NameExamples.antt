@@ -2,9 +2,10 @@
 --
 --     M: PROC OPTIONS(MAIN);
 --     DCL 1 S STATIC, 2 A BIT, 2 B BIT INIT('1'B), X BIT, Y FIXED BIN(15) INIT(3), E ENTRY(BIT), Z BIT EXT,
---         C BIT CTL INIT('1'B), D BIT CTL EXT;
+--         C BIT CTL INIT('1'B), D BIT CTL EXT, P PTR, F BIT BASED, 1 G BASED(P), 2 H BIT INIT('1'B);
 --
--- where B, Y, the built-in function ABS, M, E, Z and C are used at tokens 50, 52, 54, 56, 58, 60 and 62.
+-- where B, Y, the built-in function ABS, M, E, Z, C, F and H are used at tokens 50, 52, 54, 56, 58, 60, 62,
+-- 64 and 66.
 use Rattle.std.specs.Prelude.{◌≡◌, ℕ, nat_eq, true, false, pos, Option, Some, None, List, [], ◌∷◌, codes}
 use Rattle.std.specs.Prelude.{if◌then◌else◌}
 use Rattle.pli_base.specs.Name.{Name}
@@ -12,7 +13,8 @@ use Rattle.pli_base.specs.Statements.{Main, Ended}
 use Rattle.pli_base.specs.declared.declaration.InitialValue.{InitialValue}
 use Rattle.pli_base.specs.declared.declaration.InitialValue.TheVariants as initial
 use Rattle.pli_declare_attributes.specs.declared.completed.ScopeAttribute.TheVariants as scopes
-use Rattle.pli_map.specs.Description.{Description, FixedBinary, Bit, Structure, NoMembers, MemberThen}
+use Rattle.pli_map.specs.Description.{Description, FixedBinary, Bit, Pointer, Structure, NoMembers}
+use Rattle.pli_map.specs.Description.{MemberThen}
 use Rattle.pli_program.specs.declared.kind.VariableKind.TheVariants.{Static, Controlled}
 use Rattle.pli_resolve.specs.ResolvedUnits.{ResolvedUnit}
 use Rattle.pli_resolve.specs.Symbols.{Symbol, SymbolKind, Variable, Member, Procedure, Entry}
@@ -23,10 +25,10 @@ use Rattle.pli_resolve.specs.declared.symbol.NameMeaning.TheVariants as meanings
 use Rattle.pli_resolve.specs.declared.symbol.StorageClass.{StorageClass}
 use Rattle.pli_resolve.specs.declared.symbol.StorageClass.TheVariants as classes
 use Rattle.pli_type.specs.NamedUnits.{named_as, named_unit}
-use Rattle.pli_type.specs.Names.{NamedAs, AVariable, AFunction, AProcedure}
+use Rattle.pli_type.specs.Names.{Begins, IsBased, NamedAs, AVariable, AFunction, AProcedure}
 use Rattle.pli_type.specs.examples.ExampleTrees.{called}
 use Rattle.pli_type_tree.specs.TypedTree.{OwnVariable, ExternalVariable, EntryPoint, OfBlock, OfEntry}
-use Rattle.pli_type_tree.specs.TypedTree.{InSlot, OfProgram, NewestOf}
+use Rattle.pli_type_tree.specs.TypedTree.{InSlot, OfProgram, NewestOf, Whole}
 use Rattle.pli_value.specs.Value.{Number, Bits}
 
 -- a declared name
@@ -41,6 +43,10 @@ own d class values = Variable d class scopes.Internal values None
 abbrev pub pair : Description
 pair = Structure (MemberThen (Bit 1) (MemberThen (Bit 1) NoMembers))
 
+-- a structure of one bit, as G
+abbrev pub single : Description
+single = Structure (MemberThen (Bit 1) NoMembers)
+
 -- what M declares
 abbrev pub declared : List Symbol
 declared =
@@ -54,7 +60,11 @@ declared =
     ∷ symbol (codes "E") (Entry (Bit 1 ∷ []) None)
     ∷ symbol (codes "Z") (Variable (Bit 1) classes.Static scopes.External [] None)
     ∷ symbol (codes "C") (own (Bit 1) classes.Controlled (initial.Bits (true ∷ []) ∷ []))
-    ∷ symbol (codes "D") (Variable (Bit 1) classes.Controlled scopes.External [] None) ∷ []
+    ∷ symbol (codes "D") (Variable (Bit 1) classes.Controlled scopes.External [] None)
+    ∷ symbol (codes "P") (own Pointer classes.Automatic [])
+    ∷ symbol (codes "F") (own (Bit 1) (classes.Based None) [])
+    ∷ symbol (codes "G") (own single (classes.Based (Some (record { block = 0; number = 9 }))) [])
+    ∷ symbol (codes "H") (Member 11 (0 ∷ []) (initial.Bits (true ∷ []) ∷ []) None) ∷ []
 
 -- what the names at tokens are, by their symbols
 abbrev pub used : (at : ℕ) → Option NameMeaning
@@ -66,6 +76,8 @@ used at =
     else if nat_eq at 58 then Some (meanings.Symbol (record { block = 0; number = 5 }))
     else if nat_eq at 60 then Some (meanings.Symbol (record { block = 0; number = 6 }))
     else if nat_eq at 62 then Some (meanings.Symbol (record { block = 0; number = 7 }))
+    else if nat_eq at 64 then Some (meanings.Symbol (record { block = 0; number = 10 }))
+    else if nat_eq at 66 then Some (meanings.Symbol (record { block = 0; number = 12 }))
     else None
 
 -- the unit M, resolved
@@ -94,24 +106,33 @@ abbrev pub meant_at : (at : ℕ) → NamedAs
 meant_at at = named_as 31 resolved (0 ∷ []) (used at)
 
 -- B is a member of a global, Y stands in the second slot, ABS is a built-in function, M the procedure, E an
--- entry, Z a global, C the newest generation of one
+-- entry, Z a global, C the newest generation of one; F is the first BASED variable of the block, without a
+-- locator, and H a member of the second one, whose locator is in the third slot
 abbrev pub NamesOfUnit : Type 0
 NamesOfUnit =
-    (meant_at 50 ≡ AVariable (record { root = OfProgram 0; whole = pair; path = 1 ∷ [] }))
-    × (meant_at 52 ≡ AVariable (record { root = InSlot 0 1; whole = FixedBinary 15; path = [] }))
+    (meant_at 50 ≡ AVariable (record { storage = Begins (OfProgram 0) false; whole = pair; path = 1 ∷ [] }))
+    × (meant_at 52
+    ≡ AVariable (record { storage = Begins (InSlot 0 1) false; whole = FixedBinary 15; path = [] }))
     × (meant_at 54 ≡ AFunction functions.Abs)
     × (meant_at 56 ≡ AProcedure (record { callee = OfBlock 0; parameters = []; returned = None }))
     × (meant_at 58 ≡ AProcedure (record { callee = OfEntry 1; parameters = Bit 1 ∷ []; returned = None }))
-    × (meant_at 60 ≡ AVariable (record { root = OfProgram 2; whole = Bit 1; path = [] }))
-    × (meant_at 62 ≡ AVariable (record { root = NewestOf 3; whole = Bit 1; path = [] }))
+    × (meant_at 60 ≡ AVariable (record { storage = Begins (OfProgram 2) false; whole = Bit 1; path = [] }))
+    × (meant_at 62 ≡ AVariable (record { storage = Begins (NewestOf 3) false; whole = Bit 1; path = [] }))
+    × (meant_at 64 ≡ AVariable (record { storage = IsBased 0 0 None; whole = Bit 1; path = [] }))
+    × (meant_at 66
+    ≡ AVariable (record { storage = IsBased 0 1 (Some (Whole (InSlot 0 2))); whole = single; path = 0 ∷ [] }))
 
--- AUTOMATIC: X without initial values, Y with 3; globals: S, whose second byte is B, E, Z, C, and D
+-- AUTOMATIC: X without initial values, Y with 3, and P; BASED: F, and G, whose only byte is H; globals: S,
+-- whose second byte is B, E, Z, C, and D
 abbrev pub VariablesOfUnit : Type 0
 VariablesOfUnit =
     ((named_unit 31 resolved).automatic 0
     ≡ record { description = Bit 1; initial = [] }
     ∷ record { description = FixedBinary 15; initial = record { offset = 0; value = Number (pos 3) } ∷ [] }
-    ∷ [])
+    ∷ record { description = Pointer; initial = [] } ∷ [])
+    × (((named_unit 31 resolved).naming []).based 0
+    ≡ record { description = Bit 1; initial = [] }
+    ∷ record { description = single; initial = record { offset = 0; value = Bits (true ∷ []) } ∷ [] } ∷ [])
     × ((named_unit 31 resolved).globals
     ≡ OwnVariable Static
     (record { description = pair; initial = record { offset = 1; value = Bits (true ∷ []) } ∷ [] })

@@ -3,7 +3,7 @@
 --     M: PROC OPTIONS(MAIN); BEGIN; DCL Z BIT EXT; END; DCL Z CHAR EXT; END;
 --
 -- The inner Z stands at token 11, and the outer one at token 18. The tree leaves out what is declared.
-use Rattle.std.specs.Prelude.{◌≡◌, ℕ, Some, None, [], ◌∷◌, codes}
+use Rattle.std.specs.Prelude.{◌≡◌, ℕ, false, Some, None, [], ◌∷◌, codes}
 use Rattle.pli_base.specs.Statements.{Main, Numbered, Declare, Begin, Ended, Before}
 use Rattle.pli_declare_attributes.specs.declared.completed.ScopeAttribute.TheVariants as scopes
 use Rattle.pli_map.specs.Description.{Description, Character, Bit}
@@ -13,7 +13,7 @@ use Rattle.pli_resolve.specs.Symbols.{Symbol, Variable, Procedure}
 use Rattle.pli_resolve.specs.declared.block_numbers.ResolvedBlockKind.TheVariants as kinds
 use Rattle.pli_resolve.specs.declared.symbol.StorageClass.TheVariants as classes
 use Rattle.pli_type.specs.NamedUnits.{declared_as, named_unit}
-use Rattle.pli_type.specs.Names.{NamedAs, AVariable}
+use Rattle.pli_type.specs.Names.{Begins, NamedAs, AVariable}
 use Rattle.pli_type.specs.TextOrder.{text_order, text_places}
 use Rattle.pli_type.specs.examples.ExampleTrees.{called}
 use Rattle.pli_type.specs.examples.NameExamples.{symbol}
@@ -66,8 +66,9 @@ GlobalsOfUnit =
     ((named_unit 31 nested).globals
     ≡ ExternalVariable (codes "Z") Static (record { description = Bit 1; initial = [] })
     ∷ ExternalVariable (codes "Z") Static (record { description = Character 1; initial = [] }) ∷ [])
-    × (shared_in 0 ≡ AVariable (record { root = OfProgram 1; whole = Character 1; path = [] }))
-    × (shared_in 1 ≡ AVariable (record { root = OfProgram 0; whole = Bit 1; path = [] }))
+    × (shared_in 0
+    ≡ AVariable (record { storage = Begins (OfProgram 1) false; whole = Character 1; path = [] }))
+    × (shared_in 1 ≡ AVariable (record { storage = Begins (OfProgram 0) false; whole = Bit 1; path = [] }))
 
 -- by numbers alone: the tokens 30, 10, 20 and 10
 abbrev pub TokensInOrder : Type 0

@@ -1,8 +1,8 @@
 -- Worked examples of whole units: Z1, initial values, and a typed unit.
 use Rattle.std.specs.Prelude.{◌+◌, Bool, map, ◌≡◌, ℕ, true, false, pos, Some, None, Ok, Err, List, [], ◌∷◌}
 use Rattle.std.specs.Prelude.{codes}
-use Rattle.pli_base.specs.Declarations.{Attribute, Simple, Entry, SimpleAttribute, Bit, Pointer, Static}
-use Rattle.pli_base.specs.Declarations.{Controlled, External, Builtin, Plain}
+use Rattle.pli_base.specs.Declarations.{Attribute, Simple, Entry, SimpleAttribute, Bit, Pointer, Offset}
+use Rattle.pli_base.specs.Declarations.{Static, Based, Controlled, External, Builtin, Plain}
 use Rattle.pli_base.specs.Statements.{ProcedureOption, Main, Returns, Statement, Numbered, Statements, Ended}
 use Rattle.pli_base.specs.Statements.{Before}
 use Rattle.pli_base.specs.Statements.{Declare, Stop, Begin, Signal, Allocate, Free, If, NoElse}
@@ -62,33 +62,34 @@ declare attributes = declare_as (map Simple attributes)
 abbrev pub entry_of : SimpleAttribute → Attribute
 entry_of attribute = Entry (Some (record { dimensions = []; attributes = Plain attribute ∷ [] } ∷ []))
 
--- `ALLOCATE X SET(NULL)`, whose names stand at tokens 9 and 12
+-- `ALLOCATE X SET(EMPTY)`, whose names stand at tokens 9 and 12
 abbrev pub allocation : Allocation
 allocation =
-    record { name = called (codes "X") 9; area = None; target = Some (alone_named (codes "NULL") 12) }
+    record { name = called (codes "X") 9; area = None; target = Some (alone_named (codes "EMPTY") 12) }
 
 -- no name means anything
 abbrev pub no_names : List (ℕ × NamedAs)
 no_names = []
 
 -- DCL X BIT; null statements
--- DCL X POINTER; Z1 at DCL
+-- DCL X OFFSET; Z1 at DCL, but not DCL X POINTER BASED;
 -- DCL X BIT STATIC; in a unit that is not MAIN, and EXTERNAL, and CONTROLLED
--- DCL X ENTRY; DCL X ENTRY(BIT); and DCL X ENTRY(POINTER); with Z1
+-- DCL X ENTRY; DCL X ENTRY(BIT); and DCL X ENTRY(OFFSET); with Z1
 -- a labelled SIGNAL, at its label; SIGNAL behind THEN, at SIGNAL; none in `BEGIN; STOP; END;`;
--- RETURNS(POINTER), at the procedure's name
--- ADDR and not ALLOCATION, where the name means the function, at the statement; FREE X; and FREE NULL; and
--- ALLOCATE X SET(NULL), where NULL means the function
+-- RETURNS(OFFSET), at the procedure's name
+-- EMPTY and not ADDR, where the name means the function, at the statement; FREE X; and FREE EMPTY; and
+-- ALLOCATE X SET(EMPTY), where EMPTY means the function
 abbrev pub FirstUnbuilt : Type 0
 FirstUnbuilt =
     (first_unbuilt (compiled no_names) (main (declare (Bit None ∷ []) ∷ null 3 12 ∷ [])) ≡ None)
-    × (first_unbuilt (compiled no_names) (main (declare (Pointer ∷ []) ∷ null 3 12 ∷ [])) ≡ Some 8)
+    × (first_unbuilt (compiled no_names) (main (declare (Offset None ∷ []) ∷ null 3 12 ∷ [])) ≡ Some 8)
+    × (first_unbuilt (compiled no_names) (main (declare (Pointer ∷ Based None ∷ []) ∷ [])) ≡ None)
     × (first_unbuilt (compiled no_names) (unit [] (declare (Bit None ∷ Static ∷ []) ∷ [])) ≡ None)
     × (first_unbuilt (compiled no_names) (unit [] (declare (Bit None ∷ External ∷ []) ∷ [])) ≡ None)
     × (first_unbuilt (compiled no_names) (unit [] (declare (Bit None ∷ Controlled ∷ []) ∷ [])) ≡ None)
     × (first_unbuilt (compiled no_names) (main (declare_as (Entry None ∷ []) ∷ [])) ≡ None)
     × (first_unbuilt (compiled no_names) (main (declare_as (entry_of (Bit None) ∷ []) ∷ [])) ≡ None)
-    × (first_unbuilt (compiled no_names) (main (declare_as (entry_of Pointer ∷ []) ∷ [])) ≡ Some 8)
+    × (first_unbuilt (compiled no_names) (main (declare_as (entry_of (Offset None) ∷ []) ∷ [])) ≡ Some 8)
     × (first_unbuilt (compiled no_names) (main (declare (Builtin ∷ []) ∷ [])) ≡ None)
     × (first_unbuilt (compiled no_names)
     (main (null 2 8 ∷ Numbered 3 (Some (called (codes "L") 9)) 11 (Signal AreaCondition) ∷ [])) ≡ Some 9)
@@ -98,16 +99,16 @@ FirstUnbuilt =
     × (first_unbuilt (compiled no_names)
     (main (Numbered 2 None 8 (Begin (Before (Numbered 3 None 10 Stop) Ended) 4) ∷ [])) ≡ None)
     × (first_unbuilt (compiled no_names) (unit (Returns (Plain (Bit None) ∷ []) ∷ []) []) ≡ None)
-    × (first_unbuilt (compiled no_names) (unit (Returns (Plain Pointer ∷ []) ∷ []) []) ≡ Some 0)
+    × (first_unbuilt (compiled no_names) (unit (Returns (Plain (Offset None) ∷ []) ∷ []) []) ≡ Some 0)
+    × (first_unbuilt (compiled ((8, x) ∷ (10, AFunction functions.Empty) ∷ []))
+    (main (assign 2 8 (alone_named (codes "X") 8) 9 (named (codes "EMPTY") 10) ∷ [])) ≡ Some 8)
     × (first_unbuilt (compiled ((8, x) ∷ (10, AFunction functions.Address) ∷ []))
-    (main (assign 2 8 (alone_named (codes "X") 8) 9 (named (codes "ADDR") 10) ∷ [])) ≡ Some 8)
-    × (first_unbuilt (compiled ((8, x) ∷ (10, AFunction functions.Allocation) ∷ []))
-    (main (assign 2 8 (alone_named (codes "X") 8) 9 (named (codes "ALLOCATION") 10) ∷ [])) ≡ None)
+    (main (assign 2 8 (alone_named (codes "X") 8) 9 (named (codes "ADDR") 10) ∷ [])) ≡ None)
     × (first_unbuilt (compiled ((9, x) ∷ []))
     (main (Numbered 2 None 8 (Free (alone_named (codes "X") 9 ∷ [])) ∷ [])) ≡ None)
-    × (first_unbuilt (compiled ((9, AFunction functions.Null) ∷ []))
-    (main (Numbered 2 None 8 (Free (alone_named (codes "NULL") 9 ∷ [])) ∷ [])) ≡ Some 8)
-    × (first_unbuilt (compiled ((9, x) ∷ (12, AFunction functions.Null) ∷ []))
+    × (first_unbuilt (compiled ((9, AFunction functions.Empty) ∷ []))
+    (main (Numbered 2 None 8 (Free (alone_named (codes "EMPTY") 9 ∷ [])) ∷ [])) ≡ Some 8)
+    × (first_unbuilt (compiled ((9, x) ∷ (12, AFunction functions.Empty) ∷ []))
     (main (Numbered 2 None 8 (Allocate (allocation ∷ [])) ∷ [])) ≡ Some 8)
 
 -- FIXED BINARY values without a factor

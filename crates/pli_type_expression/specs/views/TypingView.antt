@@ -1,5 +1,5 @@
 -- What references and expressions with their types say, apart from where they lie in memory.
-use Rattle.std.specs.Prelude.{ℕ, Bool, List, map}
+use Rattle.std.specs.Prelude.{ℕ, List, map}
 use Rattle.pli_map.specs.views.DescriptionView.{description_view}
 use Rattle.pli_type.specs.FunctionCalls as calls
 use Rattle.pli_type.specs.Names as names
@@ -9,6 +9,8 @@ use Rattle.pli_type.specs.views.ValueView.{value_view}
 use Rattle.pli_type_tree.specs.TypedTree as tree
 use Rattle.pli_type_tree.specs.views.TypedView.{expression_view, reference_view}
 use Rattle.pli_type_expression.specs.declared.argument.Argument.{Argument}
+use Rattle.pli_type_expression.specs.declared.locator.LocatorBefore.{LocatorBefore}
+use Rattle.pli_type_expression.specs.declared.locator.LocatorBefore.TheVariants as locators
 use Rattle.pli_type_expression.specs.declared.meaning.Denoted.{Denoted}
 use Rattle.pli_type_expression.specs.declared.meaning.Denoted.TheVariants as denoted
 use Rattle.pli_type_expression.specs.declared.meaning.ExpressionMeaning.{ExpressionMeaning}
@@ -29,7 +31,11 @@ role_view roles.Locator = references.AsLocator
 -- a variable or a part of one
 abbrev pub referent_view : Referent → references.Referent
 referent_view r =
-    record { reference = reference_view r.reference; description = description_view r.description.now }
+    record {
+      reference = reference_view r.reference;
+      description = description_view r.description.now;
+      is_parameter = r.is_parameter;
+    }
 
 -- one value or a whole aggregate
 abbrev pub meant_view : ExpressionMeaning → calls.Meant
@@ -45,13 +51,20 @@ denoted_view (denoted.Result v) = calls.DenotesResult (value_view v)
 abbrev pub argument_view : Argument → calls.Argument
 argument_view a = record { denoted = denoted_view a.denoted; written = a.written }
 
+-- what stands in front of a name
+abbrev pub locator_view : LocatorBefore → references.LocatorBefore
+locator_view locators.NotLocated = references.NotLocated
+locator_view (locators.LocatedBy locator) = references.LocatedBy (expression_view locator.value)
+locator_view locators.LocatedWrongly = references.LocatedWrongly
+
 -- a segment whose first name stands at a token, by what that name means
-abbrev pub of_name : names.NamedAs → (located : Bool) (at : ℕ) → List tree.TypedExpression → typing.Segment
-of_name (names.AVariable v) located at xs = typing.OfVariable located at v xs
-of_name other located at xs = typing.OfNoVariable at
+abbrev pub of_name : names.NamedAs → references.LocatorBefore → (at : ℕ) → List tree.TypedExpression
+    → typing.Segment
+of_name (names.AVariable v) locator at xs = typing.OfVariable locator at v xs
+of_name other locator at xs = typing.OfNoVariable at
 
 -- what stands between arrows
 abbrev pub segment_view : names.Naming → Segment → typing.Segment
-segment_view n (segments.Named located at subscripts) =
-    of_name (n.meaning at) located at (map expression_view subscripts.items)
+segment_view n (segments.Named locator at subscripts) =
+    of_name (n.meaning at) (locator_view locator) at (map expression_view subscripts.items)
 segment_view n (segments.Function value) = typing.OfFunction (value_view value)

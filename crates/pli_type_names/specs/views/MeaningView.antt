@@ -16,7 +16,8 @@ use Rattle.pli_type_names.specs.declared.naming.NamedAs.{NamedAs}
 use Rattle.pli_type_names.specs.declared.naming.NamedAs.TheVariants as answers
 use Rattle.pli_type_names.specs.declared.naming.NamedProcedure.{NamedProcedure}
 use Rattle.pli_type_names.specs.views.NameView.{part_view}
-use Rattle.pli_type_tree.specs.views.TypedView.{callee_view, root_view}
+use Rattle.pli_type_names.specs.views.StorageView.{storage_view}
+use Rattle.pli_type_tree.specs.views.TypedView.{callee_view}
 
 -- a procedure that a name means
 abbrev pub procedure_view : NamedProcedure → plain.NamedProcedure
@@ -29,7 +30,8 @@ procedure_view p = record {
 -- what a name means where it is used
 abbrev pub answer_view : NamedAs → Seen
 answer_view (answers.Variable v) =
-    SeenVariable (root_view v.root) v.is_member (option_map part_view v.part.now)
+    SeenVariable (storage_view v.storage) (description_view v.whole.now) v.is_member
+    (option_map part_view v.part.now)
 answer_view (answers.Function f) = SeenFunction f
 answer_view (answers.Procedure p) = SeenProcedure (procedure_view p)
 answer_view (answers.Label statement) = SeenLabel statement
@@ -37,8 +39,8 @@ answer_view answers.Untyped = SeenUntyped
 
 -- what a name means wherever it is used
 abbrev pub meant_view : SymbolMeaning → Kept
-meant_view (meanings.Variable begins is_member part) =
-    KeptVariable begins is_member (option_map part_view part)
+meant_view (meanings.Variable begins whole is_member part) =
+    KeptVariable begins (description_view whole.now) is_member (option_map part_view part)
 meant_view (meanings.Procedure block) = KeptProcedure block
 meant_view (meanings.Entry number parameters returned) =
     KeptEntry number (map (λ d. description_view d.now) parameters.items)

@@ -6,10 +6,14 @@ use Rattle.pli_type_tree.specs.Templates.{Template}
 use Rattle.pli_type_tree.specs.declared.template.VariableGroup.{VariableGroup}
 use Rattle.pli_type_tree.specs.views.TemplateView.{groups_view}
 
--- the AUTOMATIC variables of one block
+-- variables of one block
 abbrev pub row_view : Vec VariableGroup Global → List Template
 row_view v = groups_view v.items
 
--- those of the block of this number
+-- the AUTOMATIC variables of the block of this number
 abbrev pub automatic_at : UnitTemplates → (block : ℕ) → List Template
 automatic_at t block = get_or (map row_view t.automatic.items) block []
+
+-- the BASED variables of the block of this number
+abbrev pub based_at : UnitTemplates → (block : ℕ) → List Template
+based_at t block = get_or (map row_view t.based.items) block []

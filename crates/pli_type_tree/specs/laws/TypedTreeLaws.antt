@@ -9,14 +9,14 @@ use Rattle.pli_type_tree.specs.views.TypedView.{operand_row, subscript_row, argu
 use Rattle.pli_type_tree.specs.views.TypedView.{operands_view, subscripts_view, arguments_view, head_view}
 use Rattle.pli_type_tree.specs.views.TypedView.{iteration_view, form_view, statement_row}
 use Rattle.pli_type_tree.specs.views.TypedView.{statement_view, statements_view}
-use Rattle.pli_type_tree.specs.declared.expression.Root.{Root}
+use Rattle.pli_type_tree.specs.declared.expression.Root.{Root, Located}
 use Rattle.pli_type_tree.specs.declared.expression.Callee.{Callee}
 use Rattle.pli_type_tree.specs.declared.expression.TypedExpression.{TypedExpression, Calculated, Called}
 use Rattle.pli_type_tree.specs.declared.expression.TypedOperation.{TypedOperation}
 use Rattle.pli_type_tree.specs.declared.expression.TypedReference.{Part}
 use Rattle.pli_type_tree.specs.declared.expression.TypedSubscript.{TypedSubscript}
 use Rattle.pli_type_tree.specs.declared.expression.TypedArgument.{TypedArgument}
-use Rattle.pli_type_tree.specs.declared.expression.TypedArgument.TheBlock as block
+use Rattle.pli_type_tree.specs.declared.expression.Root.TheBlock as block
 use Rattle.pli_type_tree.specs.declared.iteration.Iteration.{Iteration}
 use Rattle.pli_type_tree.specs.declared.statement.BlockHead.{BlockHead}
 use Rattle.pli_type_tree.specs.declared.statement.TypedStatement.{TypedStatement}
@@ -67,6 +67,12 @@ part_made root offset description subscripts =
     ap (plain.Part (root_view root) offset (description_view description))
     (subscripts_row _ (block.hidden-the_row-TypedSubscript-2 subscripts)
     ∙ ap subscripts_view (block.items_hidden-the_row-TypedSubscript-2 subscripts))
+
+-- at what a pointer leads to
+pub located_made : (locator : Box TypedExpression Global) (description : Description)
+    → root_view (Located locator description)
+    ≡ plain.Located (expression_view locator.value) (description_view description)
+located_made locator description = refl
 
 statements_row : (n : _) (k : form_block.Row_of-TypedStatement n) → statement_row k
     ≡ statements_view (form_block.items-the_row-TypedStatement n k)

@@ -3,7 +3,7 @@ use Rattle.std.specs.Prelude.{List, map, replicate}
 use Rattle.std.specs.List.{flat_map}
 use Rattle.pli_map.specs.views.DescriptionView.{description_view}
 use Rattle.pli_value.specs.Value.{value_view}
-use Rattle.pli_type_tree.specs.Templates as plain
+use Rattle.pli_program.specs.Templates as plain
 use Rattle.pli_type_tree.specs.declared.template.InitialScalar.{InitialScalar}
 use Rattle.pli_type_tree.specs.declared.template.Template.{Template}
 use Rattle.pli_type_tree.specs.declared.template.VariableGroup.{VariableGroup}

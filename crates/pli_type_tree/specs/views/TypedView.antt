@@ -3,24 +3,24 @@ use Rattle.std.specs.Prelude.{List, [], ◌∷◌, option_map, map}
 use Rattle.pli_map.specs.views.DescriptionView.{description_view}
 use Rattle.pli_value.specs.Value.{value_view}
 use Rattle.pli_type_tree.specs.TypedTree as plain
-use Rattle.pli_type_tree.specs.views.TemplateView.{groups_view}
+use Rattle.pli_type_tree.specs.views.TemplateView.{groups_view, template_view}
 use Rattle.pli_type_tree.specs.views.GlobalView.{signature_view, globals_view}
 use Rattle.pli_type_tree.specs.declared.expression.Callee.{Callee}
 use Rattle.pli_type_tree.specs.declared.expression.Callee.TheVariants as callees
-use Rattle.pli_type_tree.specs.declared.expression.Root.{Root}
-use Rattle.pli_type_tree.specs.declared.expression.Root.TheVariants as roots
+use Rattle.pli_type_tree.specs.declared.expression.Root.{Root, InSlot, OfProgram, NewestOf, Located'}
 use Rattle.pli_type_tree.specs.declared.expression.Stride.{Stride}
-use Rattle.pli_type_tree.specs.declared.expression.TypedExpression.{TypedExpression, Literal, Held, Generations}
+use Rattle.pli_type_tree.specs.declared.expression.TypedExpression.{TypedExpression, Literal, Held}
+use Rattle.pli_type_tree.specs.declared.expression.TypedExpression.{Generations, Address}
 use Rattle.pli_type_tree.specs.declared.expression.TypedExpression.{Calculated', Called'}
-use Rattle.pli_type_tree.specs.declared.expression.TypedArgument.TheBlock.{Row_of-TypedExpression}
-use Rattle.pli_type_tree.specs.declared.expression.TypedArgument.TheBlock.{end_of-TypedExpression}
-use Rattle.pli_type_tree.specs.declared.expression.TypedArgument.TheBlock.{more_of-TypedExpression}
-use Rattle.pli_type_tree.specs.declared.expression.TypedArgument.TheBlock.{Row_of-TypedSubscript}
-use Rattle.pli_type_tree.specs.declared.expression.TypedArgument.TheBlock.{end_of-TypedSubscript}
-use Rattle.pli_type_tree.specs.declared.expression.TypedArgument.TheBlock.{more_of-TypedSubscript}
-use Rattle.pli_type_tree.specs.declared.expression.TypedArgument.TheBlock.{Row_of-TypedArgument}
-use Rattle.pli_type_tree.specs.declared.expression.TypedArgument.TheBlock.{end_of-TypedArgument}
-use Rattle.pli_type_tree.specs.declared.expression.TypedArgument.TheBlock.{more_of-TypedArgument}
+use Rattle.pli_type_tree.specs.declared.expression.Root.TheBlock.{Row_of-TypedExpression}
+use Rattle.pli_type_tree.specs.declared.expression.Root.TheBlock.{end_of-TypedExpression}
+use Rattle.pli_type_tree.specs.declared.expression.Root.TheBlock.{more_of-TypedExpression}
+use Rattle.pli_type_tree.specs.declared.expression.Root.TheBlock.{Row_of-TypedSubscript}
+use Rattle.pli_type_tree.specs.declared.expression.Root.TheBlock.{end_of-TypedSubscript}
+use Rattle.pli_type_tree.specs.declared.expression.Root.TheBlock.{more_of-TypedSubscript}
+use Rattle.pli_type_tree.specs.declared.expression.Root.TheBlock.{Row_of-TypedArgument}
+use Rattle.pli_type_tree.specs.declared.expression.Root.TheBlock.{end_of-TypedArgument}
+use Rattle.pli_type_tree.specs.declared.expression.Root.TheBlock.{more_of-TypedArgument}
 use Rattle.pli_type_tree.specs.declared.expression.TypedOperation.{TypedOperation}
 use Rattle.pli_type_tree.specs.declared.expression.TypedOperation.TheVariants as operations
 use Rattle.pli_type_tree.specs.declared.expression.TypedSubscript.{TypedSubscript}
@@ -42,12 +42,6 @@ use Rattle.pli_type_tree.specs.declared.statement.Form.{Held-Form-If-2, None', S
 use Rattle.pli_type_tree.specs.declared.statement.Form.{end_of-TypedStatement, more_of-TypedStatement}
 use Rattle.pli_type_tree.specs.declared.unit.TypedProcedure.{TypedProcedure}
 use Rattle.pli_type_tree.specs.declared.unit.TypedUnit.{TypedUnit}
-
--- where a reference begins
-abbrev pub root_view : Root → plain.Root
-root_view (roots.InSlot outward slot) = plain.InSlot outward slot
-root_view (roots.OfProgram number) = plain.OfProgram number
-root_view (roots.NewestOf number) = plain.NewestOf number
 
 -- what is called
 abbrev pub callee_view : Callee → plain.Callee
@@ -73,6 +67,15 @@ abbrev mutual
   expression_view (Called' callee shape arguments) =
       plain.Called (callee_view callee) (argument_row arguments)
   expression_view (Generations number) = plain.Generations number
+  expression_view (Address variable) = plain.Address (reference_view variable)
+
+  -- where a reference begins
+  pub root_view : Root → plain.Root
+  root_view (InSlot outward slot) = plain.InSlot outward slot
+  root_view (OfProgram number) = plain.OfProgram number
+  root_view (NewestOf number) = plain.NewestOf number
+  root_view (Located' p locator description) =
+      plain.Located (expression_view locator) (description_view description)
 
   -- a reference
   pub reference_view : TypedReference → plain.TypedReference
@@ -150,10 +153,14 @@ iteration_view i =
 -- an item of ALLOCATE
 abbrev pub allocated_view : AllocatedItem → plain.AllocatedItem
 allocated_view (allocated.Controlled number) = plain.AllocatesControlled number
+allocated_view (allocated.Based template temporary target) =
+    plain.AllocatesBased (template_view template) temporary (reference_view target)
 
 -- an item of FREE
 abbrev pub freed_view : FreedItem → plain.FreedItem
 freed_view (freed.Controlled number) = plain.FreesControlled number
+freed_view (freed.Based locator description) =
+    plain.FreesBased (expression_view locator) (description_view description)
 
 abbrev mutual
   -- what a statement is, apart from its number

@@ -11,11 +11,14 @@ use Rattle.pli_run.specs.declared.ending.RunError.TheVariants.{DescriptionMismat
 use Rattle.pli_map.specs.Same.{same}
 use Rattle.pli_map.specs.Scalars.{is_area, is_scalar, scalars_of}
 use Rattle.pli_map.specs.Sizes.{size_of}
-use Rattle.pli_value.specs.Value.{Value}
+use Rattle.pli_value.specs.Value.{Value, Located}
+use Rattle.pli_value.specs.declared.locator.Locator.{Locator}
+use Rattle.pli_value.specs.declared.locator.Locator.TheVariants.{Null, Pointer, Offset}
 use Rattle.pli_value.specs.declared.number.Raised.TheVariants as raised
 use Rattle.pli_operation.specs.Operations.{Calculates, RaisesCondition, OutOfString, Misfits}
 use Rattle.pli_world.specs.Activations.{Activation, activation_at, outward_from, with_newest, without_newest}
-use Rattle.pli_world.specs.Storage.{Block, Generation, Automatic, Static as AsStatic, Controlled, Dummy}
+use Rattle.pli_world.specs.Storage.{Block, Generation, Automatic, Static as AsStatic, Controlled, Based}
+use Rattle.pli_world.specs.Storage.{Dummy}
 use Rattle.pli_world.specs.Storage.{Place, Contents, contents_of, whole, field_of, generation_in, block_at}
 use Rattle.pli_world.specs.Storage.{scalar_at}
 use Rattle.pli_world.specs.Storage.{with_values, with_contents, live_bytes, generation_limit}
@@ -25,7 +28,7 @@ use Rattle.pli_map.specs.Values.{holds, are_held}
 use Rattle.pli_program.specs.declared.kind.VariableKind.{VariableKind}
 use Rattle.pli_program.specs.declared.kind.VariableKind.TheVariants as kinds
 use Rattle.pli_world.specs.World.{Standing, Lies, Stacked, Stack, World, Answer, Yields, Raises, Wrong}
-use Rattle.pli_world.specs.World.{further, known, height}
+use Rattle.pli_world.specs.World.{further, known, height, generation_ended}
 use Rattle.pli_map.specs.Variables.{Variable}
 use Rattle.pli_world.specs.World.{made_of, unless_dead, unless_gone, unless_replaced, living, led_into, used}
 use Rattle.pli_world.specs.World.{parts_held, parts_stored, single, held}
@@ -36,6 +39,9 @@ use Rattle.pli_world.specs.World.{slot_in, slot_place, newest_unit, static_in, n
 use Rattle.pli_world.specs.World.{static_place, made_before}
 use Rattle.pli_world.specs.World.{made_as, made_once, with_shared, with_static, statics_made}
 use Rattle.pli_world.specs.World.{dummy_of, printed, line_ended}
+use Rattle.pli_world.specs.Locating.{Target, target_at, unless_ended, unless_other, located, based}
+use Rattle.pli_world.specs.Locating.{pointer_to, based_allocated, is_allocated, based_freed, is_whole_of}
+use Rattle.pli_world.specs.Locating.{addressed, locator_of, place_by, freed_by, pointer_made, address_of}
 use Rattle.pli_world.specs.Stacks.{stack_of, stacked, without_newest_of, unstacked}
 use Rattle.pli_world.specs.Stacks.{count_limit, counted, stack_standing, stack_named}
 use Rattle.pli_world.specs.Stacks.{generation_stacked, generation_unstacked, generations_counted}
@@ -44,7 +50,8 @@ use Rattle.pli_world.specs.laws.Operations.{StoringKeeps, PartsHeldKeep, PartsSt
 use Rattle.pli_world.specs.laws.Operations.{LeadingKeeps, SubscriptKeeps, CalculatingKeeps, WalkingKeeps}
 use Rattle.pli_world.specs.laws.Operations.{SlotKeeps}
 use Rattle.pli_world.specs.laws.Operations.{StaticKeeps, StaticsKeep, StackingKeeps, UnstackingKeeps}
-use Rattle.pli_world.specs.laws.Operations.{CountingKeeps, DummyKeeps, EnteringAdds}
+use Rattle.pli_world.specs.laws.Operations.{CountingKeeps, BasedKeeps, AllocatingKeeps, FreeingKeeps}
+use Rattle.pli_world.specs.laws.Operations.{AddressKeeps, DummyKeeps, EnteringAdds}
 use Rattle.pli_world.specs.laws.Operations.{LeavingTakes, ClearingKeeps, StatementKeeps, PrintingKeeps}
 use Rattle.pli_world.specs.laws.Operations.{LineKeeps, SteppingCounts}
 
@@ -426,6 +433,68 @@ unfolding generations_counted
 counting_keeps number =
     one_after_another (stack_named number) _ (stack_named_keeps number)
     (λ stack. one_after_another (counted stack) _ (counted_keeps stack) (λ count v. follows_same v))
+
+-- BASED variables, and ADDR
+
+unless_ended_keeps : (o : Option Target) (w : World) → AnswerFollows (height w) w (unless_ended o w)
+unless_ended_keeps None w = follows_same w
+unless_ended_keeps (Some t) w = follows_same w
+
+unless_other_keeps : (d : Description) (t : Target) (w : World)
+    → AnswerFollows (height w) w (unless_other d t w)
+unless_other_keeps d t w = by (same t.place.description d)
+  where
+    by : (b : Bool) → AnswerFollows (height w) w (if b then Yields t w else Raises DescriptionMismatch w)
+    by true = follows_same w
+    by false = follows_same w
+
+located_keeps : (d : Description) (l : Locator) (w : World) → AnswerFollows (height w) w (located d l w)
+unfolding located
+located_keeps d Null w = follows_same w
+located_keeps d (Pointer generation position) w =
+    one_after_another (λ w. unless_ended (target_at generation position w.storage) w) (unless_other d)
+    (λ w. unless_ended_keeps (target_at generation position w.storage) w) (unless_other_keeps d) w
+located_keeps d (Offset position) w = tt
+
+locator_keeps : (v : Value) (w : World) → AnswerFollows (height w) w (locator_of v w)
+locator_keeps (Located l) w = follows_same w
+locator_keeps v w = tt
+
+pub based_keeps : BasedKeeps
+unfolding based place_by
+based_keeps d v =
+    one_after_another (locator_of v) (based d) (locator_keeps v)
+    (λ l. one_after_another (located d l) _ (located_keeps d l) (λ t u. follows_same u))
+
+pub allocating_keeps : AllocatingKeeps
+unfolding based_allocated pointer_made
+allocating_keeps v =
+    one_after_another (based_allocated v) _
+    (one_after_another (made_of v.description Based v.initial) _
+    (making_keeps v.description Based v.initial) (λ p u. follows_same u))
+    (λ l u. follows_same u)
+
+pub freeing_keeps : FreeingKeeps
+unfolding based_freed freed_by
+freeing_keeps d v =
+    one_after_another (locator_of v) (based_freed d) (locator_keeps v)
+    (λ l. one_after_another (located d l) _ (located_keeps d l) (λ t. by t (is_allocated t.made)))
+  where
+    by : (t : Target) (b : Bool) (u : World)
+        → AnswerFollows (height u) u
+        (if b then Yields (tt {0}) (generation_ended t.place.generation u)
+        else Raises DescriptionMismatch u)
+    by t true u = record { steps = refl; heights = refl; output = prefix_same u.output }
+    by t false u = follows_same u
+
+pub address_keeps : AddressKeeps
+unfolding addressed address_of
+address_keeps p =
+    one_after_another (addressed p) _
+    (one_after_another (λ w. unless_ended (target_at p.generation p.position w.storage) w) _
+    (λ w. unless_ended_keeps (target_at p.generation p.position w.storage) w)
+    (λ t u. guarded (height u) u (is_whole_of t p) (Yields (pointer_to p) u) (follows_same u)))
+    (λ l u. follows_same u)
 
 -- variables that are made before the program begins
 

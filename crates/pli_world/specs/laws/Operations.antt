@@ -12,7 +12,9 @@ use Rattle.pli_world.specs.World.{parts_held, parts_stored, held, stored, copied
 use Rattle.pli_world.specs.World.{calculation}
 use Rattle.pli_world.specs.World.{entered, left_by, cleared, at_statement, stepped, height_of, slot_place}
 use Rattle.pli_world.specs.World.{static_place, statics_made, dummy_of, printed, line_ended}
+use Rattle.pli_world.specs.Locating.{place_by, freed_by, pointer_made, address_of}
 use Rattle.pli_world.specs.Stacks.{generation_stacked, generation_unstacked, generations_counted}
+use Rattle.pli_map.specs.Variables.{Variable}
 
 -- a list begins another
 pub record IsPrefix (short long : List ℕ) : Type 0 where
@@ -106,6 +108,22 @@ UnstackingKeeps = (number : ℕ) → Keeps (generation_unstacked number)
 -- ALLOCATION is such an operation
 abbrev pub CountingKeeps : Type 0
 CountingKeeps = (number : ℕ) → Keeps (generations_counted number)
+
+-- asking for the place of a BASED variable by a value is such an operation
+abbrev pub BasedKeeps : Type 0
+BasedKeeps = (d : Description) (v : Value) → Keeps (place_by d v)
+
+-- ALLOCATE of a BASED variable is such an operation
+abbrev pub AllocatingKeeps : Type 0
+AllocatingKeeps = (v : Variable) → Keeps (pointer_made v)
+
+-- FREE of one is such an operation
+abbrev pub FreeingKeeps : Type 0
+FreeingKeeps = (d : Description) (v : Value) → Keeps (freed_by d v)
+
+-- ADDR is such an operation
+abbrev pub AddressKeeps : Type 0
+AddressKeeps = (p : Place) → Keeps (address_of p)
 
 -- entering a block adds an activation, also where there is no room for its variables
 abbrev pub EnteringAdds : Type 0

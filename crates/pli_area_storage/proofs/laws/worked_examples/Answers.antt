@@ -1,12 +1,12 @@
 use Rattle.std.specs.Prelude.{refl}
 use Rattle.pli_world.specs.World.{nothing, made_of, held, stored, parts_held, parts_stored}
-use Rattle.pli_locators.specs.Locating.{located, based, allocated, freed, addressed}
+use Rattle.pli_world.specs.Locating.{located, based, based_allocated, based_freed, addressed}
 use Rattle.pli_area_storage.specs.InAreas.{area_used, area_found, begun, allocated_in, block_living, block_found, based_in, freed_in, block_addressed, block_held, block_stored, emptied, assigned, offset_in, pointer_in}
 use Rattle.pli_area_storage.proofs.laws.worked_examples.Goals as goal
 
 -- each by computing it
 pub returns : goal.returns
-unfolding nothing made_of held stored parts_held parts_stored located based allocated freed addressed area_used area_found
+unfolding nothing made_of held stored parts_held parts_stored located based based_allocated based_freed addressed area_used area_found
     begun allocated_in block_living block_found based_in freed_in block_addressed block_held block_stored emptied assigned
     offset_in pointer_in
 returns c = record {

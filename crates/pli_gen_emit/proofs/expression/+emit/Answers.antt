@@ -6,7 +6,7 @@ use Rattle.pli_type_tree.specs.declared.expression.TypedSubscript.{TypedSubscrip
 use Rattle.pli_type_tree.specs.views.TypedView.{root_view, callee_view, operation_view, argument_before, expression_view, reference_view, operands_view, arguments_view, subscripts_view}
 use Rattle.pli_gen_emit.specs.TreeTranslation.{root_code, call_instruction, operation_code, arguments_code, operands_code, subscripts_code, value_code, place_code}
 use Rattle.pli_gen_emit.proofs.EmitLemmas.{emits_both, then_emits, amid_next}
-use Rattle.pli_gen_emit.proofs.TreeCode.{argument_first, operation_code_made, call_code_made, part_code_made}
+use Rattle.pli_gen_emit.proofs.TreeCode.{argument_first, operation_code_made, call_code_made, located_code_made, part_code_made}
 use Rattle.pli_gen_emit.proofs.expression.+emit.Goals as goal
 
 pub emit_arguments-loop-argument-preserved : goal.emit_arguments-loop-argument-preserved
@@ -48,17 +48,25 @@ emit_value-returns-in-Called t c =
     (ap (λ xs. arguments_code (arguments_view xs) ++ call_instruction (callee_view b.callee) (length xs) ∷ []) c.as_slice-arguments.ensures.value
     ∙ sym (ap (λ e. value_code (expression_view e)) b.is ∙ call_code_made b.callee b.arguments))
 
+pub emit_root-returns-in-Located : goal.emit_root-returns-in-Located
+emit_root-returns-in-Located t c =
+    let b = c.in-Located in
+    let last = op.Based (description_view b.description) ∷ [] in
+    then_emits c.args.code.now c.emit_value.new.code c.based.new.self _ last _ c.emit_value.ensures c.based.ensures
+    (ap (λ e. value_code (expression_view e) ++ last) c.deref.ensures
+    ∙ sym (ap (λ r. root_code (root_view r)) b.is ∙ located_code_made b.locator b.description))
+
 pub emit_place-returns-in-Part : goal.emit_place-returns-in-Part
 emit_place-returns-in-Part t c =
     let b = c.in-Part in
     let old = c.args.code.now in
-    let first = c.root-in-Part.new.self in
+    let first = c.emit_root-in-Part.new.code in
     let second = c.field.new.self in
     let root = root_code (root_view b.root) in
     let field = op.Field b.offset (description_view b.description) ∷ [] in
     let subscripts = subscripts_code (subscripts_view c.as_slice.result.now) in
     then_emits old second c.emit_subscripts.new.code (root ++ field) subscripts _
-    (emits_both old first second root field c.root-in-Part.ensures c.field.ensures)
+    (emits_both old first second root field c.emit_root-in-Part.ensures c.field.ensures)
     c.emit_subscripts.ensures
     (append_assoc root field subscripts ∙ ap (λ xs. root ++ (field ++ subscripts_code (subscripts_view xs))) c.as_slice.ensures.value
     ∙ sym (ap (λ r. place_code (reference_view r)) b.is ∙ part_code_made b.root b.offset b.description b.subscripts))

@@ -1,12 +1,12 @@
 use Rattle.std.specs.Prelude.{refl}
 use Rattle.pli_world.specs.Stacks.{newest, stacked}
 use Rattle.pli_world.specs.World.{nothing, made_of, held, stored, parts_held, parts_stored}
-use Rattle.pli_locators.specs.Locating.{located, based, allocated, freed, addressed}
+use Rattle.pli_world.specs.Locating.{located, based, based_allocated, based_freed, addressed}
 use Rattle.pli_locators.proofs.laws.worked_examples.Goals as goal
 
 -- each by computing it
 pub returns : goal.returns
-unfolding nothing made_of held stored parts_held parts_stored located based allocated freed addressed newest stacked
+unfolding nothing made_of held stored parts_held parts_stored located based based_allocated based_freed addressed newest stacked
 returns c = record {
   allocated_begins = (refl, refl);
   allocated_again = (refl, refl);

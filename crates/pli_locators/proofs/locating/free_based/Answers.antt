@@ -4,7 +4,7 @@ use Rattle.pli_map.specs.views.DescriptionView.{description_view}
 use Rattle.pli_store.specs.views.StorageView.{storage_view, with_storage}
 use Rattle.pli_store.specs.views.GenerationView.{made_view}
 use Rattle.pli_world.specs.World.{Yields}
-use Rattle.pli_locators.specs.Locating.{is_allocated}
+use Rattle.pli_world.specs.Locating.{is_allocated}
 use Rattle.pli_locators.proofs.TargetsFound.{freed_refused, freed_there, freed_other, not_allocated}
 use Rattle.pli_locators.proofs.locating.free_based.Goals as goal
 

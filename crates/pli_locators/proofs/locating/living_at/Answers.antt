@@ -1,6 +1,6 @@
 use Rattle.std.proofs.Common.{ap}
 use Rattle.pli_store.specs.views.StorageView.{storage_view}
-use Rattle.pli_locators.specs.Locating.{unless_ended}
+use Rattle.pli_world.specs.Locating.{unless_ended}
 use Rattle.pli_locators.proofs.TargetsFound.{target_found}
 use Rattle.pli_locators.proofs.locating.living_at.Goals as goal
 

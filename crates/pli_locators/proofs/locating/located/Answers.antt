@@ -2,7 +2,7 @@ use Rattle.std.proofs.Common.{refl}
 use Rattle.std.proofs.lemmas.Result.{err_from_is_err_and}
 use Rattle.pli_map.specs.views.DescriptionView.{description_view}
 use Rattle.pli_store.specs.views.StorageView.{with_storage}
-use Rattle.pli_locators.specs.Locating.{located}
+use Rattle.pli_world.specs.Locating.{located}
 use Rattle.pli_locators.proofs.TargetsFound.{located_dead, located_there}
 use Rattle.pli_locators.proofs.locating.located.Goals as goal
 

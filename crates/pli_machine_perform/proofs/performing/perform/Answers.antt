@@ -135,3 +135,19 @@ pub returns-in-CountGenerations : goal.returns-in-CountGenerations
 returns-in-CountGenerations c =
     same_performs (image_of c.args.unit.now.loaded.now) (member_view c.args.unit.now.linked.now) c.args.instruction (coded.CountGenerations c.in-CountGenerations.global) c.args.machine.now c.count_generations.new.machine c.count_generations.result c.in-CountGenerations.is
     (IfOk-weaker c.count_generations.result _ _ (λ s moves. moves (unit_of (member_view c.args.unit.now.linked.now))) c.count_generations.ensures)
+
+pub returns-in-Based : goal.returns-in-Based
+returns-in-Based c =
+    does_performs (image_of c.args.unit.now.loaded.now) (member_view c.args.unit.now.linked.now) c.args.instruction (coded.Based c.in-Based.description) c.args.machine.now c.based.new.machine c.based.result c.in-Based.is c.based.ensures
+
+pub returns-in-AddressOf : goal.returns-in-AddressOf
+returns-in-AddressOf c =
+    does_performs (image_of c.args.unit.now.loaded.now) (member_view c.args.unit.now.linked.now) c.args.instruction coded.AddressOf c.args.machine.now c.address_of.new.machine c.address_of.result c.in-AddressOf.is c.address_of.ensures
+
+pub returns-in-AllocateBased : goal.returns-in-AllocateBased
+returns-in-AllocateBased c =
+    does_performs (image_of c.args.unit.now.loaded.now) (member_view c.args.unit.now.linked.now) c.args.instruction (coded.AllocateBased c.in-AllocateBased.template) c.args.machine.now c.allocate_based.new.machine c.allocate_based.result c.in-AllocateBased.is c.allocate_based.ensures
+
+pub returns-in-FreeBased : goal.returns-in-FreeBased
+returns-in-FreeBased c =
+    does_performs (image_of c.args.unit.now.loaded.now) (member_view c.args.unit.now.linked.now) c.args.instruction (coded.FreeBased c.in-FreeBased.description) c.args.machine.now c.free_based.new.machine c.free_based.result c.in-FreeBased.is c.free_based.ensures

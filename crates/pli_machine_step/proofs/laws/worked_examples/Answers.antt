@@ -114,3 +114,18 @@ returns-clause-none_is_error c = run.none_is_error
 
 pub returns-clause-others_fault : goal.returns-clause-others_fault
 returns-clause-others_fault c = run.others_fault
+
+pub returns-clause-based_prints : goal.returns-clause-based_prints
+returns-clause-based_prints c = run.based_prints
+
+pub returns-clause-address_prints : goal.returns-clause-address_prints
+returns-clause-address_prints c = run.address_prints
+
+pub returns-clause-locators_fail : goal.returns-clause-locators_fail
+returns-clause-locators_fail c = run.locators_fail
+
+pub returns-clause-address_is_not_freed : goal.returns-clause-address_is_not_freed
+returns-clause-address_is_not_freed c = run.address_is_not_freed
+
+pub returns-clause-numbers_fault : goal.returns-clause-numbers_fault
+returns-clause-numbers_fault c = run.numbers_fault

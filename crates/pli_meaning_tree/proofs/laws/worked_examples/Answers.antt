@@ -81,3 +81,15 @@ returns-clause-newest_is_meant c = holds.newest_is_meant
 
 pub returns-clause-none_is_left : goal.returns-clause-none_is_left
 returns-clause-none_is_left c = holds.none_is_left
+
+pub returns-clause-list_is_linked : goal.returns-clause-list_is_linked
+returns-clause-list_is_linked c = holds.list_is_linked
+
+pub returns-clause-address_is_meant : goal.returns-clause-address_is_meant
+returns-clause-address_is_meant c = holds.address_is_meant
+
+pub returns-clause-leads_nowhere : goal.returns-clause-leads_nowhere
+returns-clause-leads_nowhere c = holds.leads_nowhere
+
+pub returns-clause-is_not_freed : goal.returns-clause-is_not_freed
+returns-clause-is_not_freed c = holds.is_not_freed

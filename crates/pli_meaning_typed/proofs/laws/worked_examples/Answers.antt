@@ -10,5 +10,8 @@ returns-clause-groups c = law.groups_are
 pub returns-clause-stack : goal.returns-clause-stack
 returns-clause-stack c = law.stack_is
 
+pub returns-clause-pointers : goal.returns-clause-pointers
+returns-clause-pointers c = law.pointers_are
+
 pub returns-clause-units : goal.returns-clause-units
 returns-clause-units c = law.units_are

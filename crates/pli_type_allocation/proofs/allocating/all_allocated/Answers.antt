@@ -1,24 +1,25 @@
-use Rattle.std.proofs.Common.{◌<◌, length, map, ap, ◌∙◌, arith}
+use Rattle.std.proofs.Common.{◌<◌, ◌+◌, length, map, ap, ◌∙◌, arith}
 use Rattle.std.proofs.lemmas.List.{map_push}
 use Rattle.pli_base.specs.views.StatementView.{allocation_view}
-use Rattle.pli_type.specs.AllocationTyping.{allocated, in_turn}
+use Rattle.pli_type.specs.AllocationTyping.{all_allocated}
 use Rattle.pli_type.specs.Unbuilt.{later_allocation}
 use Rattle.pli_type_expression.proofs.BindLemmas.{exits}
 use Rattle.pli_type_names.specs.UnitNaming.{compiled_in, naming_in}
 use Rattle.pli_type_tree.specs.views.TypedView.{allocated_view}
-use Rattle.pli_type_allocation.proofs.InTurn.{behind, each_built, each_stops, each_typed, all_typed, none_behind}
+use Rattle.pli_type_allocation.proofs.AllocatedInTurn.{item_stops, item_typed, items_typed}
+use Rattle.pli_type_allocation.proofs.InTurn.{behind, each_built, none_behind}
 use Rattle.pli_type_allocation.proofs.allocating.all_allocated.Goals as goal
 
 pub loop-item-init : goal.loop-item-init
 loop-item-init c =
-    let whole = in_turn (allocated (naming_in c.args.naming.now)) (map allocation_view c.args.items.now) in
+    let whole = all_allocated (naming_in c.args.naming.now) c.args.temporary (map allocation_view c.args.items.now) in
     record {
       typed = ap (λ xs. behind (map allocated_view xs) whole) c.new-made.ensures.items ∙ none_behind whole;
-      built = c.requires;
+      built = c.requires.built;
     }
 
-pub allocated-requires : goal.allocated-requires
-allocated-requires c =
+pub allocated-requires-clause-built : goal.allocated-requires-clause-built
+allocated-requires-clause-built c =
     let l = c.loop-item in
     (each_built (later_allocation (compiled_in c.args.naming.now)) allocation_view c.args.items.now l.item-index c.item-item.result c.item-item.is
     (omega arith) l.invariant.built).0
@@ -29,25 +30,26 @@ loop-item-preserved c =
     let l = c.loop-item in
     let inside : l.item-index < length es = omega arith in
     record {
-      typed = each_typed allocation_view (allocated (naming_in c.args.naming.now)) es l.item-index c.item-item.result
-          (map allocated_view l.made.items) (map allocated_view c.push.new.self.items) (allocated_view c.in_ok-next.next) _
-          c.item-item.is inside c.in_ok-next.ensures
-          (ap (map allocated_view) c.in_ok-push.ensures.items ∙ map_push allocated_view l.made.items c.in_ok-next.next)
+      typed = item_typed (naming_in c.args.naming.now) es l.item-index c.item-item.result
+          (map allocated_view l.made.items) (map allocated_view c.push.new.self.items) (allocated_view c.in_ok-one.one) l.next c.in_ok-next.next _
+          c.item-item.is inside c.in_ok-one.ensures
+          (ap (map allocated_view) c.in_ok-push.ensures.items ∙ map_push allocated_view l.made.items c.in_ok-one.one)
+          (c.in_ok-next.ensures ∙ ap (λ k. l.next + k) c.kept_for-kept.ensures)
           l.invariant.typed;
       built = (each_built (later_allocation (compiled_in c.args.naming.now)) allocation_view es l.item-index c.item-item.result c.item-item.is
           inside l.invariant.built).1;
     }
 
-pub returns-in_err-next : goal.returns-in_err-next
-returns-in_err-next c =
+pub returns-in_err-one : goal.returns-in_err-one
+returns-in_err-one c =
     let l = c.loop-item in
-    exits _ c.from_residual.result c.in_err-next.field-0.0 _ c.from_residual.ensures.1
-    (each_stops allocation_view (allocated (naming_in c.args.naming.now)) c.args.items.now l.item-index c.item-item.result
-    (map allocated_view l.made.items) c.in_err-next.field-0.0 _ c.item-item.is (omega arith) c.in_err-next.ensures
+    exits _ c.from_residual.result c.in_err-one.field-0.0 _ c.from_residual.ensures.1
+    (item_stops (naming_in c.args.naming.now) c.args.items.now l.item-index c.item-item.result
+    (map allocated_view l.made.items) l.next c.in_err-one.field-0.0 _ c.item-item.is (omega arith) c.in_err-one.ensures
     l.invariant.typed)
 
 pub returns : goal.returns
 returns c =
     let l = c.loop-item in
-    all_typed allocation_view (allocated (naming_in c.args.naming.now)) c.args.items.now l.item-index (map allocated_view l.made.items) _
+    items_typed (naming_in c.args.naming.now) c.args.items.now l.item-index (map allocated_view l.made.items) l.next _
     (omega arith) l.invariant.typed

@@ -1,4 +1,4 @@
-use Rattle.std.proofs.Common.{rules, ◌≡◌, map, drop, length, false, true, [], Some, None, Ok, ap, ◌∙◌, sym, arith, Vec, Global}
+use Rattle.std.proofs.Common.{rules, ◌≡◌, map, drop, length, false, [], Some, None, Ok, ap, ◌∙◌, sym, arith, Vec, Global}
 use Rattle.std.proofs.lemmas.Bool.{or_parts}
 use Rattle.pli_base.specs.views.SyntaxView as syntax
 use Rattle.pli_base.specs.Syntax.{Given}
@@ -7,16 +7,16 @@ use Rattle.pli_base.specs.declared.code.Code.TheVariants.{WrongOperandType}
 use Rattle.pli_base.specs.declared.syntax.Expression.{Expression}
 use Rattle.pli_type.specs.ExpressionTypes as types
 use Rattle.pli_type.specs.FunctionCalls as calls
-use Rattle.pli_type.specs.References.{AsLocator, AsValue}
+use Rattle.pli_type.specs.References.{AsLocator, AsValue, NotLocated}
 use Rattle.pli_type.specs.Unbuilt.{later_expression, later_arguments, later_joined, later_list}
 use Rattle.pli_type.specs.views.ValueView.{value_view}
 use Rattle.pli_type.specs.Typing as typing
 use Rattle.pli_type_names.specs.UnitNaming.{compiled_in, naming_in}
 use Rattle.pli_type_tree.specs.views.TypedView.{expression_view}
-use Rattle.pli_type_expression.specs.views.TypingView.{argument_view, denoted_view, of_name, role_view, segment_view}
+use Rattle.pli_type_expression.specs.views.TypingView.{argument_view, denoted_view, locator_view, of_name, role_view, segment_view}
 use Rattle.pli_type_expression.proofs.BindLemmas.{exits, fails_as, fails_on, bind_ok}
 use Rattle.pli_type_expression.proofs.WrittenCalls.{gives_as, call_unmeant, call_typed}
-use Rattle.pli_type_expression.proofs.MeaningLemmas.{begun_at_variable, begun_at_function, call_given, begun_beside_function, begun_beside_procedure, begun_alone, procedure_unmeant}
+use Rattle.pli_type_expression.proofs.MeaningLemmas.{begun_at_variable, begun_at_function, call_given, begun_beside_function, begun_beside_procedure, procedure_unmeant}
 use Rattle.pli_type_expression.proofs.SizeLemmas.{item_size, part_size, expression_size, reference_size, arguments_size, list_size, parts_size}
 use Rattle.pli_type_expression.proofs.WalkLemmas.{written_ends, written_unbegun, written_unended, parenthesized_typed, parenthesized_unmeant, prefix_typed, prefix_unmeant, prefix_refused, infix_typed, left_unmeant, right_unmeant, infix_refused}
 use Rattle.pli_type_expression.specs.Segments.{next_segment, function_typed}
@@ -186,15 +186,15 @@ begun-begun_with-requires t c =
 pub begun-returns-in-None : goal.begun-returns-in-None
 begun-returns-in-None t c =
     let n = naming_in c.args.naming.now in
-    ap (λ o. typing.begun n (n.meaning c.args.part.now.name.at) c.args.call c.args.located c.args.part.now.name.at (syntax.arguments_view o)) c.in-None.is
-    ∙ begun_alone n (n.meaning c.args.part.now.name.at) c.args.call c.args.located c.args.part.now.name.at ∙ ap (λ s. Ok s) (sym (c.named.ensures n))
+    ap (λ o. typing.begun n (n.meaning c.args.part.now.name.at) c.args.call (locator_view c.args.locator) c.args.part.now.name.at (syntax.arguments_view o)) c.in-None.is
+    ∙ sym c.begun_alone.ensures
 
 pub begun-returns-in-Some : goal.begun-returns-in-Some
 begun-returns-in-Some t c =
     let n = naming_in c.args.naming.now in
     gives_as (segment_view n) c.begun_with.result _ _
-    (ap (λ o. typing.begun n (n.meaning c.args.part.now.name.at) c.args.call c.args.located c.args.part.now.name.at (syntax.arguments_view o)) c.in-Some.is
-    ∙ sym (ap (λ xs. typing.begun n (n.meaning c.args.part.now.name.at) c.args.call c.args.located c.args.part.now.name.at (Given (syntax.expressions_view xs))) c.as_slice.ensures.value)) c.begun_with.ensures
+    (ap (λ o. typing.begun n (n.meaning c.args.part.now.name.at) c.args.call (locator_view c.args.locator) c.args.part.now.name.at (syntax.arguments_view o)) c.in-Some.is
+    ∙ sym (ap (λ xs. typing.begun n (n.meaning c.args.part.now.name.at) c.args.call (locator_view c.args.locator) c.args.part.now.name.at (Given (syntax.expressions_view xs))) c.as_slice.ensures.value)) c.begun_with.ensures
 
 pub begun_with-all_subscripts-requires : goal.begun_with-all_subscripts-requires
 begun_with-all_subscripts-requires t c =
@@ -231,15 +231,15 @@ begun_with-returns-in_err-subscripts-in-Variable t c =
     let list = syntax.expressions_view c.args.list.now in
     let e = c.in_err-subscripts-in-Variable.field-0.0 in
     exits _ c.from_residual.result e _ c.from_residual.ensures.1
-    (fails_as e _ _ (begun_at_variable n w c.in-Variable.field-0 c.in-Variable.ensures c.args.call c.args.located c.args.at list) (fails_on e (typing.all_subscripts n list) (λ xs. Ok (of_name w c.args.located c.args.at xs)) c.in_err-subscripts-in-Variable.ensures))
+    (fails_as e _ _ (begun_at_variable n w c.in-Variable.field-0 c.in-Variable.ensures c.args.call (locator_view c.args.locator) c.args.at list) (fails_on e (typing.all_subscripts n list) (λ xs. Ok (of_name w (locator_view c.args.locator) c.args.at xs)) c.in_err-subscripts-in-Variable.ensures))
 
 pub begun_with-returns-in_ok-subscripts-in-Variable : goal.begun_with-returns-in_ok-subscripts-in-Variable
 begun_with-returns-in_ok-subscripts-in-Variable t c =
     let n = naming_in c.args.naming.now in
     let w = n.meaning c.args.at in
     let list = syntax.expressions_view c.args.list.now in
-    begun_at_variable n w c.in-Variable.field-0 c.in-Variable.ensures c.args.call c.args.located c.args.at list
-    ∙ bind_ok (typing.all_subscripts n list) (map expression_view c.in_ok-subscripts-in-Variable.subscripts.items) (λ xs. Ok (of_name w c.args.located c.args.at xs)) c.in_ok-subscripts-in-Variable.ensures
+    begun_at_variable n w c.in-Variable.field-0 c.in-Variable.ensures c.args.call (locator_view c.args.locator) c.args.at list
+    ∙ bind_ok (typing.all_subscripts n list) (map expression_view c.in_ok-subscripts-in-Variable.subscripts.items) (λ xs. Ok (of_name w (locator_view c.args.locator) c.args.at xs)) c.in_ok-subscripts-in-Variable.ensures
 
 pub begun_with-returns-in_err-value-in-Function : goal.begun_with-returns-in_err-value-in-Function
 begun_with-returns-in_err-value-in-Function t c =
@@ -248,16 +248,16 @@ begun_with-returns-in_err-value-in-Function t c =
     let list = syntax.expressions_view c.args.list.now in
     let e = c.in_err-value-in-Function.field-0.0 in
     exits _ c.from_residual-in_err-value-in-Function.result e _ c.from_residual-in_err-value-in-Function.ensures.1
-    (fails_as e _ _ (ap (λ k. typing.begun n w k c.args.located c.args.at (Given list)) c.if-call.true
-    ∙ begun_at_function n w c.in-Function.function c.in-Function.ensures c.args.located c.args.at list) (fails_on e (function_typed n c.in-Function.function c.args.at list) (λ v. Ok (typing.OfFunction v)) c.in_err-value-in-Function.ensures))
+    (fails_as e _ _ (ap (λ k. typing.begun n w k (locator_view c.args.locator) c.args.at (Given list)) c.if-call.true
+    ∙ begun_at_function n w c.in-Function.function c.in-Function.ensures (locator_view c.args.locator) c.args.at list) (fails_on e (function_typed n c.in-Function.function c.args.at list) (λ v. Ok (typing.OfFunction v)) c.in_err-value-in-Function.ensures))
 
 pub begun_with-returns-then-call : goal.begun_with-returns-then-call
 begun_with-returns-then-call t c =
     let n = naming_in c.args.naming.now in
     let w = n.meaning c.args.at in
     let list = syntax.expressions_view c.args.list.now in
-    ap (λ k. typing.begun n w k c.args.located c.args.at (Given list)) c.if-call.true
-    ∙ begun_at_function n w c.in-Function.function c.in-Function.ensures c.args.located c.args.at list
+    ap (λ k. typing.begun n w k (locator_view c.args.locator) c.args.at (Given list)) c.if-call.true
+    ∙ begun_at_function n w c.in-Function.function c.in-Function.ensures (locator_view c.args.locator) c.args.at list
     ∙ bind_ok (function_typed n c.in-Function.function c.args.at list) (value_view c.in_ok-value-in-Function.value) (λ v. Ok (typing.OfFunction v)) c.in_ok-value-in-Function.ensures
 
 pub begun_with-returns-in_err-all_arguments-in-Function : goal.begun_with-returns-in_err-all_arguments-in-Function
@@ -267,17 +267,17 @@ begun_with-returns-in_err-all_arguments-in-Function t c =
     let list = syntax.expressions_view c.args.list.now in
     let e = c.in_err-all_arguments-in-Function.field-0.0 in
     exits _ c.from_residual-in_err-all_arguments-in-Function.result e _ c.from_residual-in_err-all_arguments-in-Function.ensures.1
-    (fails_as e _ _ (ap (λ k. typing.begun n w k c.args.located c.args.at (Given list)) c.if-call.false
-    ∙ begun_beside_function n w c.in-Function.function c.in-Function.ensures c.args.located c.args.at list) (fails_on e (typing.all_arguments n [] list) (λ gs. Ok (of_name w c.args.located c.args.at [])) c.in_err-all_arguments-in-Function.ensures))
+    (fails_as e _ _ (ap (λ k. typing.begun n w k (locator_view c.args.locator) c.args.at (Given list)) c.if-call.false
+    ∙ begun_beside_function n w c.in-Function.function c.in-Function.ensures (locator_view c.args.locator) c.args.at list) (fails_on e (typing.all_arguments n [] list) (λ gs. Ok (of_name w NotLocated c.args.at [])) c.in_err-all_arguments-in-Function.ensures))
 
 pub begun_with-returns-in_ok-all_arguments-in-Function : goal.begun_with-returns-in_ok-all_arguments-in-Function
 begun_with-returns-in_ok-all_arguments-in-Function t c =
     let n = naming_in c.args.naming.now in
     let w = n.meaning c.args.at in
     let list = syntax.expressions_view c.args.list.now in
-    ap (λ k. typing.begun n w k c.args.located c.args.at (Given list)) c.if-call.false
-    ∙ begun_beside_function n w c.in-Function.function c.in-Function.ensures c.args.located c.args.at list
-    ∙ bind_ok (typing.all_arguments n [] list) (map argument_view c.in_ok-all_arguments-in-Function.field-0.items) (λ gs. Ok (of_name w c.args.located c.args.at [])) c.in_ok-all_arguments-in-Function.ensures
+    ap (λ k. typing.begun n w k (locator_view c.args.locator) c.args.at (Given list)) c.if-call.false
+    ∙ begun_beside_function n w c.in-Function.function c.in-Function.ensures (locator_view c.args.locator) c.args.at list
+    ∙ bind_ok (typing.all_arguments n [] list) (map argument_view c.in_ok-all_arguments-in-Function.field-0.items) (λ gs. Ok (of_name w NotLocated c.args.at [])) c.in_ok-all_arguments-in-Function.ensures
     ∙ ap (λ s. Ok s) (sym (c.named.ensures n))
 
 pub begun_with-returns-else-call-2 : goal.begun_with-returns-else-call-2
@@ -285,9 +285,9 @@ begun_with-returns-else-call-2 t c =
     let n = naming_in c.args.naming.now in
     let w = n.meaning c.args.at in
     let list = syntax.expressions_view c.args.list.now in
-    ap (λ k. typing.begun n w k c.args.located c.args.at (Given list)) c.if-call-2.false
-    ∙ begun_beside_procedure n w c.in-Procedure.procedure c.in-Procedure.ensures c.args.located c.args.at list
-    ∙ bind_ok (typing.all_arguments n [] list) (map argument_view c.in_ok-arguments-in-Procedure.arguments.items) (λ gs. Ok (of_name w c.args.located c.args.at [])) c.in_ok-arguments-in-Procedure.ensures
+    ap (λ k. typing.begun n w k (locator_view c.args.locator) c.args.at (Given list)) c.if-call-2.false
+    ∙ begun_beside_procedure n w c.in-Procedure.procedure c.in-Procedure.ensures (locator_view c.args.locator) c.args.at list
+    ∙ bind_ok (typing.all_arguments n [] list) (map argument_view c.in_ok-arguments-in-Procedure.arguments.items) (λ gs. Ok (of_name w NotLocated c.args.at [])) c.in_ok-arguments-in-Procedure.ensures
     ∙ ap (λ s. Ok s) (sym (c.named-in-Procedure.ensures n))
 
 pub begun_with-returns-in_err-arguments-in-Procedure : goal.begun_with-returns-in_err-arguments-in-Procedure
@@ -297,7 +297,7 @@ begun_with-returns-in_err-arguments-in-Procedure t c =
     let list = syntax.expressions_view c.args.list.now in
     let e = c.in_err-arguments-in-Procedure.field-0.0 in
     exits _ c.from_residual-in_err-arguments-in-Procedure.result e _ c.from_residual-in_err-arguments-in-Procedure.ensures.1
-    (procedure_unmeant n w c.in-Procedure.procedure c.in-Procedure.ensures c.args.call c.args.located c.args.at list e c.in_err-arguments-in-Procedure.ensures)
+    (procedure_unmeant n w c.in-Procedure.procedure c.in-Procedure.ensures c.args.call (locator_view c.args.locator) c.args.at list e c.in_err-arguments-in-Procedure.ensures)
 
 pub begun_with-returns-then-call-2 : goal.begun_with-returns-then-call-2
 begun_with-returns-then-call-2 t c =
@@ -306,8 +306,8 @@ begun_with-returns-then-call-2 t c =
     let list = syntax.expressions_view c.args.list.now in
     let gs = map argument_view c.in_ok-arguments-in-Procedure.arguments.items in
     let result = c.procedure_called.result in
-    gives_as (segment_view n) result _ _ (ap (λ k. typing.begun n w k c.args.located c.args.at (Given list)) c.if-call-2.true)
-    (call_given (segment_view n) result n w c.in-Procedure.procedure c.in-Procedure.ensures c.args.located c.args.at list gs c.in_ok-arguments-in-Procedure.ensures
+    gives_as (segment_view n) result _ _ (ap (λ k. typing.begun n w k (locator_view c.args.locator) c.args.at (Given list)) c.if-call-2.true)
+    (call_given (segment_view n) result n w c.in-Procedure.procedure c.in-Procedure.ensures (locator_view c.args.locator) c.args.at list gs c.in_ok-arguments-in-Procedure.ensures
     (λ q is. gives_as (segment_view n) result _ _ (ap (λ g. typing.procedure_called g q c.args.at gs) (sym c.greatest.ensures)) (c.procedure_called.ensures n q is)))
 
 pub called-returns-in_err-all_arguments : goal.called-returns-in_err-all_arguments
@@ -394,24 +394,30 @@ with_part-returns-in_ok-longer-in-Member t c =
     ap (λ j. next_segment n s j name given) c.in-Member.is
     ∙ bind_ok (typing.subscripts_in n given) xs (λ xs. Ok (typing.with_more s xs)) c.in-Ok.ensures ∙ ap (λ t. Ok t) (sym (c.in_ok-longer-in-Member.ensures n))
 
-pub with_part-returns-in_err-ended-in-Located : goal.with_part-returns-in_err-ended-in-Located
-with_part-returns-in_err-ended-in-Located t c =
+pub with_part-returns-in_err-denoted-in-Located : goal.with_part-returns-in_err-denoted-in-Located
+with_part-returns-in_err-denoted-in-Located t c =
     let n = naming_in c.args.naming.now in
     let s = segment_view n c.args.segment in
     let name = c.args.joined.now.part.name in
     let given = syntax.arguments_view c.args.joined.now.part.arguments in
-    let e = c.in_err-ended-in-Located.field-0.0 in
-    exits _ c.from_residual-in_err-ended-in-Located.result e _ c.from_residual-in_err-ended-in-Located.ensures.1
-    (fails_as e _ _ (ap (λ j. next_segment n s j name given) c.in-Located.is) (fails_on e (typing.ended AsLocator s) (λ l. typing.begun n (n.meaning name.at) false true name.at given) c.in_err-ended-in-Located.ensures))
+    let e = c.in_err-denoted-in-Located.field-0.0 in
+    exits _ c.from_residual-in_err-denoted-in-Located.result e _ c.from_residual-in_err-denoted-in-Located.ensures.1
+    (fails_as e _ _ (ap (λ j. next_segment n s j name given) c.in-Located.is) (fails_on e (typing.ended AsLocator s) (λ l. typing.begun n (n.meaning name.at) false (typing.as_locator l) name.at given) c.in_err-denoted-in-Located.ensures))
 
-pub with_part-returns-in_ok-ended-in-Located : goal.with_part-returns-in_ok-ended-in-Located
-with_part-returns-in_ok-ended-in-Located t c =
+pub with_part-returns-in_err-locator-in-Located : goal.with_part-returns-in_err-locator-in-Located
+with_part-returns-in_err-locator-in-Located t c =
+    exits _ c.from_residual-in_err-locator-in-Located.result OutOfMemory _ c.from_residual-in_err-locator-in-Located.ensures.1 tt
+
+pub with_part-returns-in_ok-locator-in-Located : goal.with_part-returns-in_ok-locator-in-Located
+with_part-returns-in_ok-locator-in-Located t c =
     let n = naming_in c.args.naming.now in
     let s = segment_view n c.args.segment in
     let name = c.args.joined.now.part.name in
     let given = syntax.arguments_view c.args.joined.now.part.arguments in
     gives_as (segment_view n) c.begun.result _ _
-    (ap (λ j. next_segment n s j name given) c.in-Located.is ∙ bind_ok (typing.ended AsLocator s) (denoted_view c.in_ok-ended-in-Located.field-0) (λ l. typing.begun n (n.meaning name.at) false true name.at given) c.in_ok-ended-in-Located.ensures)
+    (ap (λ j. next_segment n s j name given) c.in-Located.is
+    ∙ bind_ok (typing.ended AsLocator s) (denoted_view c.in_ok-denoted-in-Located.denoted) (λ l. typing.begun n (n.meaning name.at) false (typing.as_locator l) name.at given) c.in_ok-denoted-in-Located.ensures
+    ∙ ap (λ l. typing.begun n (n.meaning name.at) false l name.at given) (sym c.in_ok-locator-in-Located.ensures))
     c.begun.ensures
 
 pub referred-begun-requires : goal.referred-begun-requires

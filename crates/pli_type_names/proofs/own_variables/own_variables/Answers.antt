@@ -1,7 +1,7 @@
 use Rattle.std.proofs.Common.{◌≡◌, ◌+◌, ◌++◌, ℕ, Option, drop, get_or, map, option_map, refl, ap, ◌∙◌, arith}
 use Rattle.pli_resolve.specs.Symbols as plain
 use Rattle.pli_resolve.specs.views.SymbolView.{symbol_view, symbol_kind_view}
-use Rattle.pli_type.specs.NamedUnits.{is_automatic, one_global, one_such}
+use Rattle.pli_type.specs.NamedUnits.{is_automatic, is_based, one_global, one_such}
 use Rattle.pli_type_names.specs.BlockFacts.{BlockFacts}
 use Rattle.pli_type_names.specs.Numbered.{each_from}
 use Rattle.pli_type_names.specs.OwnVariables as spec
@@ -17,6 +17,7 @@ loop-number-init c =
     record {
       slots = omega (arith, none_before (is_automatic 31) all);
       globals = omega (arith, no_global_before all);
+      based = omega (arith, none_before (is_based 31) all);
       numbers = refl;
       variables = ap (λ xs. map (option_map own_view) xs ++ spec.own_variables f) c.new-variables.ensures.items;
     }
@@ -32,6 +33,12 @@ own_variable-variable-requires-clause-global c =
     let l = c.loop-number in
     let all = map symbol_view c.args.symbols.now in
     omega (arith, c.requires, l.invariant.globals, globals_within all l.number, c.loop-number-test.true)
+
+pub own_variable-variable-requires-clause-based : goal.own_variable-variable-requires-clause-based
+own_variable-variable-requires-clause-based c =
+    let l = c.loop-number in
+    let all = map symbol_view c.args.symbols.now in
+    omega (arith, l.invariant.based, before_within (is_based 31) all l.number, c.loop-number-test.true)
 
 pub loop-number-preserved : goal.loop-number-preserved
 loop-number-preserved c =
@@ -51,19 +58,23 @@ loop-number-preserved c =
     c.own_variable-variable.ensures.slots ∙ ap (λ k. a + one_such (is_automatic 31) k) same in
     let globals : c.own_variable-variable.new.free.globals ≡ b + one_global 31 (symbol_kind_view (get_or ss n s).kind) =
     c.own_variable-variable.ensures.globals ∙ ap (λ k. b + one_global 31 k) same in
+    let based : c.own_variable-variable.new.free.based ≡ l.free.based + one_such (is_based 31) (symbol_kind_view (get_or ss n s).kind) =
+    c.own_variable-variable.ensures.based ∙ ap (λ k. l.free.based + one_such (is_based 31) k) same in
+    let more_based = before_more (is_based 31) ss n s c.loop-number-test.true in
     let more_slots = before_more (is_automatic 31) ss n s c.loop-number-test.true in
     let more_globals = global_more ss n s c.loop-number-test.true in
     let g : ℕ → plain.Symbol → ℕ = λ number x. spec.global_at facts number in
     let numbered : next ≡ spec.global_at facts n = ap (λ k. get_or c.args.places.now k 0) l.invariant.globals in
-    let is = c.own_variable-variable.ensures.variable ∙ ap (λ k. spec.own_behind c.args.parameters.now a next n k) same in
+    let is = c.own_variable-variable.ensures.variable ∙ ap (λ k. spec.own_behind c.args.parameters.now a next l.free.based n k) same in
     record {
       slots = omega (arith, slots, more_slots, l.invariant.slots);
       globals = omega (arith, globals, more_globals, l.invariant.globals);
+      based = omega (arith, based, more_based, l.invariant.based);
       numbers = ap (λ xs. xs ++ each_from g (n + 1) (map symbol_view (drop (n + 1) ss))) c.in_ok-push.ensures.items
           ∙ number_more g ss n s l.numbers.items c.under.result _ c.loop-number-test.true (c.under.ensures ∙ numbered) l.invariant.numbers;
       variables = ap (λ xs. map (option_map own_view) xs ++ each_from f (n + 1) (map symbol_view (drop (n + 1) ss))) c.in_ok-push-2.ensures.items
           ∙ numbered_more (option_map own_view) f ss n s l.variables.items c.own_variable-variable.result (spec.own_variables facts)
           c.loop-number-test.true
-          (is ∙ own_is facts n a next (symbol_kind_view (get_or ss n s).kind) l.invariant.slots numbered)
+          (is ∙ own_is facts n a next l.free.based (symbol_kind_view (get_or ss n s).kind) l.invariant.slots numbered l.invariant.based)
           l.invariant.variables;
     }

@@ -1,6 +1,6 @@
 use Rattle.std.proofs.Common.{◌≡◌, ◌+◌, ◌++◌, drop, get_or, length, map, option_map}
 use Rattle.pli_resolve.specs.views.SymbolView.{symbol_view}
-use Rattle.pli_type.specs.NamedUnits.{globals_before, is_automatic, such_before}
+use Rattle.pli_type.specs.NamedUnits.{globals_before, is_automatic, is_based, such_before}
 use Rattle.pli_type_names.specs.Numbered.{each_from}
 use Rattle.pli_type_names.specs.OwnVariables as spec
 use Rattle.pli_type_names.specs.views.VariableView.{own_view}
@@ -10,6 +10,7 @@ use Rattle.pli_type_names.proofs.own_variables.own_variables.Given as goal
 abbrev pub invariant-loop-number : goal.invariant-loop-number
 invariant-loop-number l = record {
   slots : l.free.slot ≡ length l.parameters + such_before (is_automatic 31) (map symbol_view l.symbols) l.number;
+  based : l.free.based ≡ such_before (is_based 31) (map symbol_view l.symbols) l.number;
   globals : l.free.globals ≡ l.fn.globals + globals_before 31 (map symbol_view l.symbols) l.number;
   numbers : l.numbers.items
       ++ each_from (λ number s. get_or l.places (l.fn.globals + globals_before 31 (map symbol_view l.symbols) number) 0) l.number (map symbol_view (drop l.number l.symbols))

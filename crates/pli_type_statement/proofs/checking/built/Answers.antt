@@ -30,7 +30,8 @@ type_statements-requires c =
     record {
       placed =
           placed_first u _ _ _ c.in_ok-templates.templates named c.in_ok-surroundings.ensures refl
-          c.in_ok-templates.ensures.automatic c.take-variables.ensures.others;
+          c.in_ok-templates.ensures.automatic c.take-variables.ensures.others
+          c.in_ok-templates.ensures.based c.take-variables.ensures.based;
       built = built_first u c.enter.new.self c.as_slice-statements.result.now named same built;
       room = room_at_first u c.as_slice-statements.result.now same c.in_ok-templates.ensures.regions;
     }

@@ -3,9 +3,10 @@ use Rattle.std.proofs.lemmas.Result.{err_from_is_err_and}
 use Rattle.pli_base.specs.declared.syntax.Reference.{out-Reference}
 use Rattle.pli_base.specs.views.StatementView.{range_view}
 use Rattle.pli_base.specs.views.SyntaxView as syntax
-use Rattle.pli_type.specs.StatementTyping.{controls}
+use Rattle.pli_type.specs.StatementTyping.{controls, has_locator}
 use Rattle.pli_type.specs.views.ValueView.{value_view}
 use Rattle.pli_base.specs.answers.FailureAnswers.{Gives}
+use Rattle.pli_type_expression.proofs.BindLemmas.{fails_as}
 use Rattle.pli_type_expression.specs.views.TypingView.{denoted_view, referent_view}
 use Rattle.pli_type_names.specs.UnitNaming.{naming_in}
 use Rattle.pli_type_tree.specs.views.TypedView as typed
@@ -22,7 +23,10 @@ returns-in_err-variable-2 c =
     (typed.range_view c.deref.result.now) (denoted_view c.in_ok-variable.variable) c.in_err-variable-2.field-0.0
     c.in_ok-first.ensures
     (c.in_ok-range.ensures ∙ ap (λ r. Ok (typed.range_view r)) (sym c.in_ok-kept.ensures.ok ∙ sym c.deref.ensures))
-    c.in_ok-variable.ensures c.in_err-variable-2.ensures)
+    c.in_ok-variable.ensures
+    (fails_as c.in_err-variable-2.field-0.0 _ _
+    (ap (λ b. controls (out-Reference x.variable.now).first.name.at b (typed.range_view c.deref.result.now) (denoted_view c.in_ok-variable.variable)) (sym c.has_locator-is_located.ensures))
+    c.in_err-variable-2.ensures))
 
 pub returns : goal.returns
 returns c =
@@ -35,5 +39,7 @@ returns c =
     (c.in_ok-first.ensures ∙ ap (λ v. Ok (value_view v)) (sym c.in_ok-start.ensures.ok))
     (c.in_ok-range.ensures ∙ ap (λ r. Ok (typed.range_view r)) (sym c.in_ok-kept.ensures.ok))
     c.in_ok-variable.ensures
-    (ap (λ k. controls (out-Reference x.variable.now).first.name.at (typed.range_view k) d) (sym c.deref.ensures) ∙ c.in_ok-variable-2.ensures)))
+    (ap (λ k. controls (out-Reference x.variable.now).first.name.at (has_locator (syntax.reference_view x.variable.now)) (typed.range_view k) d) (sym c.deref.ensures)
+    ∙ ap (λ b. controls (out-Reference x.variable.now).first.name.at b (typed.range_view c.deref.result.now) d) (sym c.has_locator-is_located.ensures)
+    ∙ c.in_ok-variable-2.ensures)))
     c.iterated.ensures

@@ -4,7 +4,7 @@ use Rattle.pli_base.specs.declared.statement.Procedure.{out-Procedure}
 use Rattle.pli_base.specs.laws.StatementLaws as laws
 use Rattle.pli_base.specs.views.StatementView as source
 use Rattle.pli_base.specs.views.SyntaxView as syntax
-use Rattle.pli_declare_outline.specs.Outlines.{regions_among, regions_else, regions_of}
+use Rattle.pli_declare_outline.specs.Outlines.{regions_among, regions_else, regions_in, regions_of}
 use Rattle.pli_map.specs.views.DescriptionView.{description_view}
 use Rattle.pli_type.specs.StatementTyping as spec
 use Rattle.pli_type.specs.StatementTyping.{labels_of}
@@ -14,14 +14,14 @@ use Rattle.pli_type_names.specs.UnitNaming.{Names, compiled_in}
 use Rattle.pli_type_tree.specs.TypedTree as plain
 use Rattle.pli_type_tree.specs.declared.statement.TypedStatement.{TypedStatement}
 use Rattle.pli_type_tree.specs.views.TypedView.{form_view, statement_view, statements_view}
-use Rattle.pli_type_statement.specs.Walking.{HasRoom, WalksBody, WalksList, around, next_at, unit_at}
+use Rattle.pli_type_statement.specs.Walking.{HasRoom, WalksBody, WalksList, around, based_names, next_at, unit_at}
 use Rattle.pli_type_statement.specs.views.HeaderView.{header_view}
 use Rattle.pli_type_statement.proofs.Blocks.{begin_walked, block_placed, block_walked, group_placed, group_walked, in_group_around, procedure_answer, returned_is}
 use Rattle.pli_type_statement.proofs.NothingLater.{statement_built, procedure_built, do_built, if_built}
 use Rattle.pli_type_statement.proofs.RoomLeft.{room_behind, room_controlled, room_else, room_first, room_if, room_inside, room_next}
 use Rattle.pli_type_statement.proofs.SizeLemmas.{statement_size, body_size, alternative_size, item_size}
 use Rattle.pli_type_statement.proofs.TurnLemmas.{all_walked, do_walked, goes_on_first, goes_on_next, if_next_none, if_next_some, in_front, next_built, none_walked, simple_answer}
-use Rattle.pli_type_statement.proofs.WalkLemmas.{as_typed, if_walked, made_walked, back_then, moved, nothing_walked}
+use Rattle.pli_type_statement.proofs.WalkLemmas.{as_typed, if_walked, made_walked, back_then, moved, nothing_walked, same_based}
 use Rattle.pli_type_statement.proofs.statement.+typed.Goals as goal
 use Rattle.pli_type_statement.proofs.statement.+typed.Goals.{type_statements-then-complete, type_statements-else-complete, type_statements-then-complete-2, type_statements-else-complete-2}
 
@@ -148,9 +148,6 @@ type_body-type_header-requires-clause-built t c =
     (do_built (compiled_in n) c.requires.built.0 (option_map source.control_view b.control) (source.statements_view b.statements.items) b.end
     (ap (later_body (compiled_in n) c.requires.built.0) (sym is) ∙ c.requires.built.1)).0
 
-pub type_body-type_header-requires-clause-room : goal.type_body-type_header-requires-clause-room
-type_body-type_header-requires-clause-room t c = omega (arith, c.requires.room.temporaries)
-
 pub type_body-type_group-requires : goal.type_body-type_group-requires
 type_body-type_group-requires t c =
     let n = c.args.walk.now.naming in
@@ -233,7 +230,7 @@ type_body-type_statement-requires t c =
         back.placed,
         (
           ap (λ (n : Names). later_statement (compiled_in n) (source.statement_view c.deref.result.now)) back.naming ∙ ap (λ s. later_statement (compiled_in n) (source.statement_view s)) c.deref.ensures ∙ parts.consequence,
-          room_first _ _ (regions_else (laws.boxed_view b.alternative))
+          room_first (next_at c.type_condition.new.walk) (regions_in (source.statement_view c.deref.result.now)) (regions_else (laws.boxed_view b.alternative))
               (room_if (next_at c.args.walk.now) _ _ (syntax.expression_view b.condition) (source.statement_view b.consequence.value) _ (laws.boxed_view b.alternative) is
               c.in_ok-tested-in-If.ensures.next (ap source.statement_view c.deref.ensures) c.requires.room),
         ),
@@ -253,7 +250,7 @@ type_body-type_statement-requires-in-Some t c =
         c.in_ok-typed-in-If.ensures.back.placed,
         (
           ap (λ (n : Names). later_statement (compiled_in n) (source.statement_view c.deref-in-Some.result.now)) naming ∙ ap (λ s. later_statement (compiled_in n) (source.statement_view s)) c.deref-in-Some.ensures ∙ ap (λ a. later_alternative (compiled_in n) (laws.boxed_view a)) (sym c.in-Some.is) ∙ parts.alternative,
-          room_else _ _ (source.statement_view c.deref.result.now) (laws.boxed_view b.alternative) (source.statement_view c.in-Some.statement.value) _ c.in_ok-typed-in-If.ensures.next
+          room_else _ _ _ (source.statement_view c.deref.result.now) (laws.boxed_view b.alternative) (source.statement_view c.in-Some.statement.value) _ c.in_ok-typed-in-If.ensures.next
               (ap laws.boxed_view c.in-Some.is) (ap source.statement_view c.deref-in-Some.ensures)
               (room_if (next_at c.args.walk.now) _ _ (syntax.expression_view b.condition) (source.statement_view b.consequence.value) _ (laws.boxed_view b.alternative) is
               c.in_ok-tested-in-If.ensures.next (ap source.statement_view c.deref.ensures) c.requires.room),
@@ -293,7 +290,8 @@ type_statements-type_statement-requires t c =
         l.invariant.back.placed,
         (
           ap (λ (n : Names). later_statement (compiled_in n) (source.statement_view c.statement-item.result)) l.invariant.back.naming ∙ built,
-          room_first _ _ _ (room_next (next_at l.walk) ss l.statement-index c.statement-item.result c.statement-item.is inside l.invariant.room),
+          room_first (next_at l.walk) (regions_in (source.statement_view c.statement-item.result)) (regions_among (source.statements_view (drop (l.statement-index + 1) ss)))
+              (room_next (next_at l.walk) ss l.statement-index c.statement-item.result c.statement-item.is inside l.invariant.room),
         ),
       ),
     )
@@ -317,7 +315,7 @@ type_statements-loop-statement-preserved t c =
           c.in_ok-kept.ensures l.invariant.goes;
       built = (next_built (compiled_in n) ss i s c.statement-item.is inside l.invariant.built).1;
       room = subst (λ x. HasRoom x (regions_among (source.statements_view (drop (i + 1) ss)))) (sym c.in_ok-kept.ensures.next)
-          (room_behind (next_at l.walk) (source.statement_view s) _ (room_next (next_at l.walk) ss i s c.statement-item.is inside l.invariant.room));
+          (room_behind (based_names l.walk) (next_at l.walk) (source.statement_view s) _ (room_next (next_at l.walk) ss i s c.statement-item.is inside l.invariant.room));
     }
 
 pub type_statements-returns : goal.type_statements-returns
@@ -342,7 +340,7 @@ type_body-returns-in-None t c =
     let mid = c.type_condition.new.walk in
     let new = c.type_statement.new.walk in
     subst (λ x. WalksBody w new c.args.number c.args.at x (option_map form_view c.if_form.result)) (sym is)
-    (as_typed w new _ _ _ _ _ _ (if_next_none w mid new s s' (ap source.statement_view c.deref.ensures) e tested.next done.next) refl c.if_form.ensures
+    (as_typed w new _ _ _ _ _ _ (if_next_none w mid new s s' (ap source.statement_view c.deref.ensures) e (same_based w mid tested.back.naming) tested.next done.next) refl c.if_form.ensures
     (if_walked w mid new new _ _ (next_at new) (spec.condition (spec.naming_at (unit_at w) (around w)) e) _ _ _ _ _ _ _ tested done
     (nothing_walked new (next_at new) plain.NoElse done.back.placed refl)
     (moved (λ u a x. spec.statement_typed u a x s') w mid _ tested.back tested.next
@@ -367,11 +365,13 @@ type_body-returns-in_ok-other-in-Some-2 t c =
     let new = c.type_statement-in-Some.new.walk in
     subst (λ x. WalksBody w new c.args.number c.args.at x (option_map form_view c.if_form-in-Some.result)) (sym is)
     (as_typed w new _ _ _ _ _ _ (sym other.next ∙ if_next_some w mid there new s s' o o'
-    (ap source.statement_view c.deref.ensures) (ap source.statement_view c.deref-in-Some.ensures) e tested.next done.next other.next) refl c.if_form-in-Some.ensures
+    (ap source.statement_view c.deref.ensures) (ap source.statement_view c.deref-in-Some.ensures) e (same_based w mid tested.back.naming)
+    (same_based w there (done.back.naming ∙ tested.back.naming)) tested.next done.next other.next) refl c.if_form-in-Some.ensures
     (if_walked w mid there new _ _ _ (spec.condition (spec.naming_at (unit_at w) (around w)) e) _ _ _ _ _ _ _ tested done
     (as_typed there new _ _ _ _ _ _ refl refl c.in_ok-other-in-Some-2.ensures (made_walked plain.Else there new _ _ _ other))
     (moved (λ u a x. spec.statement_typed u a x s') w mid _ tested.back tested.next
     ∙ ap (λ s. spec.statement_typed (unit_at w) (around w) (next_at w) (source.statement_view s)) c.deref.ensures)
-    (ap (spec.made plain.Else) (moved (λ u a x. spec.statement_typed u a x o') w there (behind (next_at w) s) (back_then w mid there tested.back done.back)
-    (done.next ∙ ap (λ s. behind (next_at mid) (source.statement_view s)) c.deref.ensures ∙ ap (λ n. behind n s) tested.next)
-    ∙ ap (λ z. spec.statement_typed (unit_at w) (around w) (behind (next_at w) s) (source.statement_view z)) c.deref-in-Some.ensures))))
+    (ap (spec.made plain.Else) (moved (λ u a x. spec.statement_typed u a x o') w there (behind (based_names w) (next_at w) s) (back_then w mid there tested.back done.back)
+    (done.next ∙ ap (λ f. behind f (next_at mid) s') (same_based w mid tested.back.naming)
+    ∙ ap (λ s. behind (based_names w) (next_at mid) (source.statement_view s)) c.deref.ensures ∙ ap (λ n. behind (based_names w) n s) tested.next)
+    ∙ ap (λ z. spec.statement_typed (unit_at w) (around w) (behind (based_names w) (next_at w) s) (source.statement_view z)) c.deref-in-Some.ensures))))

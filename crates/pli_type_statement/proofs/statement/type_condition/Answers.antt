@@ -13,5 +13,5 @@ pub returns : goal.returns
 returns c =
     own_walked c.args.walk.now _ (λ (x : Box TypedExpression Global). expression_view x.value) (λ n. spec.condition n (syntax.expression_view c.args.expression.now)) c.condition-tested.result c.noted.result _
     c.requires.placed c.condition-tested.ensures c.noted.ensures.part c.noted.ensures.faults c.noted.ensures.known
-    (record { naming = refl; around = refl; globals = refl; placed = record { blocks = c.requires.placed.blocks; templates = c.requires.placed.templates; deep = c.requires.placed.deep } })
+    (record { naming = refl; around = refl; globals = refl; placed = record { blocks = c.requires.placed.blocks; templates = c.requires.placed.templates; based = c.requires.placed.based; deep = c.requires.placed.deep } })
     refl refl

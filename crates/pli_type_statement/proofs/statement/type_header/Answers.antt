@@ -1,4 +1,4 @@
-use Rattle.std.proofs.Common.{◌+◌, refl, ap, option_map}
+use Rattle.std.proofs.Common.{◌∙◌, ◌+◌, refl, ap, option_map}
 use Rattle.pli_base.specs.views.StatementView as source
 use Rattle.pli_type_statement.specs.Headers.{header_typed}
 use Rattle.pli_type_statement.specs.views.HeaderView.{header_view}
@@ -13,5 +13,5 @@ returns c =
     let w = c.args.walk.now in
     own_walked w _ header_view (λ n. header_typed n w.next.temporary (option_map source.control_view c.args.control.now)) c.specified-header.result c.noted.result _
     c.requires.placed c.specified-header.ensures c.noted.ensures.part c.noted.ensures.faults c.noted.ensures.known
-    (record { naming = refl; around = refl; globals = refl; placed = record { blocks = c.requires.placed.blocks; templates = c.requires.placed.templates; deep = c.requires.placed.deep } })
-    refl (ap (λ t. record { block = w.next.block; temporary = t }) (ap (λ k. w.next.temporary + k) c.kept_by.ensures.value))
+    (record { naming = refl; around = refl; globals = refl; placed = record { blocks = c.requires.placed.blocks; templates = c.requires.placed.templates; based = c.requires.placed.based; deep = c.requires.placed.deep } })
+    refl (ap (λ t. record { block = w.next.block; temporary = t }) (c.in_ok-walk.ensures ∙ ap (λ k. w.next.temporary + k) c.kept_by.ensures.value))

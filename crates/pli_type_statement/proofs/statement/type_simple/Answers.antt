@@ -1,18 +1,24 @@
-use Rattle.std.proofs.Common.{refl}
+use Rattle.std.proofs.Common.{◌+◌, refl, ap, ◌∙◌}
 use Rattle.pli_base.specs.views.StatementView as source
+use Rattle.pli_type.specs.Temporaries.{temporaries_of}
 use Rattle.pli_type_tree.specs.views.TypedView.{form_view}
 use Rattle.pli_type_statement.specs.Simple.{simple_typed}
 use Rattle.pli_type_statement.specs.Walking.{around}
-use Rattle.pli_type_statement.proofs.WalkLemmas.{own_walked}
+use Rattle.pli_type_statement.proofs.WalkLemmas.{based_named, compiled_named, own_walked}
 use Rattle.pli_type_statement.proofs.statement.type_simple.Goals as goal
 
-pub simple-form-requires : goal.simple-form-requires
-simple-form-requires c = c.requires.built
+pub simple-form-requires-clause-based : goal.simple-form-requires-clause-based
+simple-form-requires-clause-based c = λ block. c.requires.placed.based block ∙ based_named c.args.walk.now.naming block
+
+pub simple-form-requires-clause-built : goal.simple-form-requires-clause-built
+simple-form-requires-clause-built c = c.requires.built
 
 pub returns-clause-walked : goal.returns-clause-walked
 returns-clause-walked c =
     let w = c.args.walk.now in
-    own_walked w _ form_view (λ n. simple_typed n (around w) c.args.at (source.body_view c.args.body.now)) c.simple-form.result c.noted.result _
+    own_walked w _ form_view (λ n. simple_typed n (around w) w.next.temporary c.args.at (source.body_view c.args.body.now)) c.simple-form.result c.noted.result _
     c.requires.placed c.simple-form.ensures c.noted.ensures.part c.noted.ensures.faults c.noted.ensures.known
-    (record { naming = refl; around = refl; globals = refl; placed = record { blocks = c.requires.placed.blocks; templates = c.requires.placed.templates; deep = c.requires.placed.deep } })
-    refl refl
+    (record { naming = refl; around = refl; globals = refl; placed = record { blocks = c.requires.placed.blocks; templates = c.requires.placed.templates; based = c.requires.placed.based; deep = c.requires.placed.deep } })
+    refl (ap (λ t. record { block = w.next.block; temporary = t })
+    (c.in_ok-walk.ensures ∙ ap (λ k. w.next.temporary + k)
+    (c.kept_in.ensures ∙ ap (λ f. temporaries_of f (source.body_view c.args.body.now)) (compiled_named w.naming))))

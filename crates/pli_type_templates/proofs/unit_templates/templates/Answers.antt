@@ -5,13 +5,13 @@ use Rattle.pli_base.specs.declared.statement.Procedure.{Procedure}
 use Rattle.pli_base.specs.views.StatementView.{unit_view}
 use Rattle.pli_declare_outline.specs.Outlines.{outline_of}
 use Rattle.pli_resolve.specs.ResolvedUnits.{all_symbols, resolved_unit_of}
-use Rattle.pli_type.specs.NamedUnits.{all_globals, is_automatic, templates_of}
+use Rattle.pli_type.specs.NamedUnits.{all_globals, is_automatic, is_based, templates_of}
 use Rattle.pli_type_templates.specs.ItemNames.{AreOfItems, HasFewRegions}
 use Rattle.pli_type_templates.specs.declared.block_names.BlockNames.{BlockNames}
 use Rattle.pli_type_templates.specs.views.BlockView.{block_symbols}
 use Rattle.pli_type_templates.specs.views.UnitView.{row_view}
 use Rattle.pli_type_templates.proofs.SymbolsOfItems.{symbols_of_items}
-use Rattle.pli_type_templates.proofs.UnitsMade.{automatic_rows}
+use Rattle.pli_type_templates.proofs.UnitsMade.{rows_found}
 use Rattle.pli_type_templates.proofs.unit_templates.templates.Goals as goal
 
 -- an item says what each symbol of a unit is
@@ -21,24 +21,32 @@ all_said u unit blocks same symbols =
     subst (λ (p : Procedure). All (All (AreOfItems (outline_of (unit_view p)).marks)) (map block_symbols blocks)) (sym same)
     (All-same (All (AreOfItems (outline_of (unit_view u)).marks)) (map block_symbols blocks) (all_symbols (resolved_unit_of (unit_view u))) symbols (symbols_of_items (unit_view u)))
 
-pub automatic_groups-requires-clause-items : goal.automatic_groups-requires-clause-items
-automatic_groups-requires-clause-items c =
+pub lifetime_rows-requires-clause-items : goal.lifetime_rows-requires-clause-items
+lifetime_rows-requires-clause-items c =
     all_said c.args.resolved.now c.in_ok-items.items.unit.now c.deref.result.now (c.in_ok-items.ensures.unit ∙ c.unit.ensures)
     (ap (map block_symbols) c.deref.ensures.value ∙ c.in_ok-blocks.ensures.symbols)
 
-pub sorted_groups-requires-clause-items : goal.sorted_groups-requires-clause-items
-sorted_groups-requires-clause-items c =
+pub lifetime_rows-requires-2-clause-items : goal.lifetime_rows-requires-2-clause-items
+lifetime_rows-requires-2-clause-items c =
     all_said c.args.resolved.now c.in_ok-items.items.unit.now c.deref-2.result.now (c.in_ok-items.ensures.unit ∙ c.unit.ensures)
     (ap (map block_symbols) c.deref-2.ensures.value ∙ c.in_ok-blocks.ensures.symbols)
+
+pub sorted_groups-requires-clause-items : goal.sorted_groups-requires-clause-items
+sorted_groups-requires-clause-items c =
+    all_said c.args.resolved.now c.in_ok-items.items.unit.now c.deref-3.result.now (c.in_ok-items.ensures.unit ∙ c.unit.ensures)
+    (ap (map block_symbols) c.deref-3.ensures.value ∙ c.in_ok-blocks.ensures.symbols)
 
 pub returns : goal.returns
 returns c =
     let u = unit_view c.args.resolved.now in
     let first = ap (map block_symbols) c.deref.ensures.value ∙ c.in_ok-blocks.ensures.symbols in
     let second = ap (map block_symbols) c.deref-2.ensures.value ∙ c.in_ok-blocks.ensures.symbols in
+    let third = ap (map block_symbols) c.deref-3.ensures.value ∙ c.in_ok-blocks.ensures.symbols in
     record {
-      automatic = automatic_rows (resolved_unit_of u) (map row_view c.in_ok-automatic.automatic.items)
+      automatic = rows_found (resolved_unit_of u) (is_automatic 31) (map row_view c.in_ok-automatic.automatic.items)
           (c.in_ok-automatic.ensures ∙ ap (map (templates_of (is_automatic 31))) first);
-      globals = c.in_ok-globals.ensures ∙ ap (all_globals 31) second;
+      based = rows_found (resolved_unit_of u) (is_based 31) (map row_view c.in_ok-based.based.items)
+          (c.in_ok-based.ensures ∙ ap (map (templates_of (is_based 31))) second);
+      globals = c.in_ok-globals.ensures ∙ ap (all_globals 31) third;
       regions = subst (λ (p : Procedure). HasFewRegions (unit_view p)) c.unit.ensures c.in_ok-items.ensures.regions;
     }

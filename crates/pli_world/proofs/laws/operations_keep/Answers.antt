@@ -73,5 +73,17 @@ returns-clause-unstacking c = law.unstacking_keeps
 pub returns-clause-counting : goal.returns-clause-counting
 returns-clause-counting c = law.counting_keeps
 
+pub returns-clause-based : goal.returns-clause-based
+returns-clause-based c = law.based_keeps
+
+pub returns-clause-allocating : goal.returns-clause-allocating
+returns-clause-allocating c = law.allocating_keeps
+
+pub returns-clause-freeing : goal.returns-clause-freeing
+returns-clause-freeing c = law.freeing_keeps
+
+pub returns-clause-address : goal.returns-clause-address
+returns-clause-address c = law.address_keeps
+
 pub returns-clause-line : goal.returns-clause-line
 returns-clause-line c = law.line_keeps

@@ -1,5 +1,5 @@
 use Rattle.std.proofs.lemmas.Result.{err_from_is_err_and}
-use Rattle.pli_locators.specs.Locating.{based}
+use Rattle.pli_world.specs.Locating.{based}
 use Rattle.pli_area_storage.specs.InAreas.{based_in}
 use Rattle.pli_area_storage.specs.views.AreasView.{areas_view, table_of}
 use Rattle.pli_area_storage.specs.views.InhabitedView.{block_view}

@@ -1,7 +1,7 @@
 use Rattle.std.proofs.Common.{is_some, map, sym, ap, subst, ◌∙◌}
 use Rattle.std.proofs.lemmas.Result.{err_from_is_err_and}
 use Rattle.pli_area.specs.Areas as area
-use Rattle.pli_locators.specs.Locating.{freed}
+use Rattle.pli_world.specs.Locating.{based_freed}
 use Rattle.pli_area_storage.specs.Blocks.{without_block, with_blocks}
 use Rattle.pli_area_storage.specs.InAreas.{freed_in}
 use Rattle.pli_area_storage.specs.answers.Known.{AreKnown}
@@ -71,7 +71,7 @@ returns-in_err-free_based-in-None-clause-answer c = λ w.
     let f = c.in_err-free_based-in-None.field-0.0 in
     rw (p.1, p.2) (refused_answer {T = Unit {0}} (λ x. areas_view c.args.self.now) f before (with_storage c.free_based.new.storage w) (freed_in d c.args.locator areas before)
     (freed_outside_refused d c.args.locator areas before c.in-None.ensures f
-    (answer_refused {T = Unit {0}} (λ x. tt) f before (with_storage c.free_based.new.storage w) (freed d c.args.locator before)
+    (answer_refused {T = Unit {0}} (λ x. tt) f before (with_storage c.free_based.new.storage w) (based_freed d c.args.locator before)
     (c.in_err-free_based-in-None.ensures.answer w))))
 
 pub returns-in_ok-free_based-in-None-clause-answer : goal.returns-in_ok-free_based-in-None-clause-answer

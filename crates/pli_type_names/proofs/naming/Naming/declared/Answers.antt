@@ -18,11 +18,12 @@ returns c =
     let r = resolved_unit_of (unit_view inside.resolved.now) in
     let entries = map entry_view inside.entries.items in
     let kept = get_or (get_or (map row_view inside.meanings.items) key.block []) key.number KeptNothing in
+    let rows = map row_view inside.meanings.items in
     c.symbol_seen.ensures
-    ∙ ap (λ xs. kept_seen (reverse xs) (map entry_view c.deref-2.result.now) key.block (get_or (get_or (map row_view c.deref-3.result.now) key.block []) key.number KeptNothing)) c.deref.ensures.value
-    ∙ ap (λ es. kept_seen (reverse inside.around.items) (map entry_view es) key.block (get_or (get_or (map row_view c.deref-3.result.now) key.block []) key.number KeptNothing)) c.deref-2.ensures.value
-    ∙ ap (λ rows. kept_seen (reverse inside.around.items) entries key.block (get_or (get_or (map row_view rows) key.block []) key.number KeptNothing)) c.deref-3.ensures.value
-    ∙ declared_seen r (reverse inside.around.items) entries key kept c.self.invariant.1.found
+    ∙ ap (λ xs. kept_seen (map row_view c.deref-3.result.now) (reverse xs) (map entry_view c.deref-2.result.now) key.block (get_or (get_or (map row_view c.deref-3.result.now) key.block []) key.number KeptNothing)) c.deref.ensures.value
+    ∙ ap (λ es. kept_seen (map row_view c.deref-3.result.now) (reverse inside.around.items) (map entry_view es) key.block (get_or (get_or (map row_view c.deref-3.result.now) key.block []) key.number KeptNothing)) c.deref-2.ensures.value
+    ∙ ap (λ ms. kept_seen (map row_view ms) (reverse inside.around.items) entries key.block (get_or (get_or (map row_view ms) key.block []) key.number KeptNothing)) c.deref-3.ensures.value
+    ∙ declared_seen r (reverse inside.around.items) entries rows c.self.invariant.0.found key kept c.self.invariant.1.found
     (ap (λ row. get_or row key.number KeptNothing) (c.self.invariant.0.found key.block))
     ∙ ap (λ u. seen (declared_as 31 (resolved_unit_of (unit_view u)) (reverse inside.around.items) key)) unit
     ∙ ap (λ bs. seen (declared_as 31 (resolved_unit_of (unit_view names.unit)) bs key)) blocks

@@ -1,0 +1,73 @@
+-- The machine does what ALLOCATE and FREE mean.
+use Rattle.std.specs.Prelude.{◌≡◌, ℕ, suc, Some, List, [], ◌∷◌, slice_get, refl}
+use Rattle.std.proofs.Common.{◌∙◌, arith}
+use Rattle.pli_world.specs.Locating.{freed_by, pointer_made}
+use Rattle.pli_world.specs.Stacks.{generation_stacked, generation_unstacked}
+use Rattle.pli_world.specs.World.{World, stored}
+use Rattle.pli_value.specs.Value.{Value}
+use Rattle.pli_program.specs.Program.{UnitCode, Program}
+use Rattle.pli_machine_step.specs.Machine.{OfValue, AtPlace, Locals, Frame, At}
+use Rattle.pli_type_tree.specs.Templates.{Template, variable_of}
+use Rattle.pli_type_tree.specs.TypedTree.{TypedReference, AllocatedItem, AllocatesControlled, AllocatesBased, FreedItem, FreesControlled, FreesBased}
+use Rattle.pli_meaning_tree.specs.Effects.{Label, Gives, Flow, Next, Doing, and_then, answered}
+use Rattle.pli_meaning_tree.specs.TreeMeaning.{Calls, value_of, place_of, allocates_item, allocates, frees_item, frees}
+use Rattle.pli_meaning_simulation.specs.CodeStands.{Context, using, AllocationStands, AllocationsStand, FreeingStands, FreeingsStand}
+use Rattle.pli_meaning_simulation.proofs.ReachesLemmas.{Fine, stays, frame, pushes, flows, Reaches, gives, passes, then_reaches, reach_out, bound, goes_on, answers}
+use Rattle.pli_meaning_simulation.proofs.ExpressionsReach.{CallsRun, value_run, place_run}
+use Rattle.pli_meaning_simulation.proofs.FormsReach.{Runs}
+use Rattle.pli_meaning_simulation.proofs.TemporariesReach.{using_fine, set_run, taken_run}
+
+module _ (p : Program) (number : ℕ) (u : UnitCode) (at : Label → ℕ) (there : slice_get p.units number ≡ Some u) (call : Calls) (calls_run : CallsRun p number u at call) where
+  -- what is left to do with a pointer
+  abbrev goes_into : TypedReference → Value → Doing Flow
+  goes_into target v w left =
+      and_then (place_of p.greatest call target w left)
+      (λ q w left. and_then (answered (stored q v w) left) (λ _ w left. Gives Next w left))
+
+  -- a generation of a BASED variable, the pointer to which is kept till the target's place is known
+  based_run : (template : Template) (t : ℕ) (target : TypedReference) {c : Context} {a b : ℕ} → AllocationStands u (AllocatesBased template t target) c a b
+      → (l : Locals) → Fine (using t c) l → (fs : List Frame) (w : World) (left : ℕ)
+      → Reaches p number u at (using t c) (At (frame p number u a [] l) fs w left) l (flows p number u b fs) fs (allocates_item p.greatest call (AllocatesBased template t target) w left)
+  based_run template t target {c} {b = b} is l fine fs w left =
+      let made = pointer_made (variable_of template) w in
+      bound p number u at {to = pushes p number u OfValue is.1.middle [] fs} {to2 = flows p number u b fs} (answered made left) _
+      (answers p number u at there (λ v. OfValue v ∷ []) made is.1.fst fine w left refl)
+      (λ m k v w left. set_run p number u at there {to = flows p number u b fs} c t v is.1.snd.fst [] m k.fine is.0.room fs w left (goes_into target v w left)
+      (λ n kept here. bound p number u at {to2 = flows p number u b fs} (place_of p.greatest call target w left) _
+      (place_run p number u at there call calls_run (using (suc t) c) target is.1.snd.snd.fst [] n (using_fine (suc t) (using t c) n kept.fine) fs w left)
+      (λ o k q w left. then_reaches p number u at
+      (taken_run p number u at there t v is.1.snd.snd.snd.fst (AtPlace q ∷ []) o (k.agree t (omega arith) ∙ here) fs w left)
+      (bound p number u at {to2 = flows p number u b fs} (answered (stored q v w) left) _
+      (answers p number u at there (λ _. []) (stored q v w) is.1.snd.snd.snd.snd k.fine w left refl)
+      (λ m k _ w left. gives p number u at Next w left k.fine (stays p _))))))
+
+  allocation_run : (item : AllocatedItem) {c : Context} {a b : ℕ} → AllocationStands u item c a b → Runs p number u at there c (allocates_item p.greatest call item) a b
+  allocation_run (AllocatesControlled n) is l fine fs w left =
+      bound p number u at (answered (generation_stacked n w) left) _ (answers p number u at there (λ _. []) (generation_stacked n w) is fine w left refl)
+      (λ m k _ w left. gives p number u at Next w left k.fine (stays p _))
+  allocation_run (AllocatesBased template t target) {c} {a} {b} is l fine fs w left =
+      record {
+        by = reach_out p number u at (using t c) c (At (frame p number u a [] l) fs w left) l (flows p number u b fs) fs
+            (allocates_item p.greatest call (AllocatesBased template t target) w left)
+            (record { size = refl; depth = is.0.free; bound = omega arith; some = fine.some })
+            (based_run template t target is l (using_fine t c l fine) fs w left).by;
+      }
+
+  pub allocations_run : (items : List AllocatedItem) {c : Context} {a b : ℕ} → AllocationsStand u items c a b → Runs p number u at there c (allocates p.greatest call items) a b
+  allocations_run [] is l fine fs w left = passes p number u at is fine w left
+  allocations_run (item ∷ items) is l fine fs w left =
+      goes_on p number u at (allocates_item p.greatest call item w left) _ (allocation_run item is.fst l fine fs w left) (λ m k w left. allocations_run items is.snd m k.fine fs w left)
+
+  freeing_run : (item : FreedItem) {c : Context} {a b : ℕ} → FreeingStands u item a b → Runs p number u at there c (frees_item p.greatest call item) a b
+  freeing_run (FreesControlled n) is l fine fs w left =
+      bound p number u at (answered (generation_unstacked n w) left) _ (answers p number u at there (λ _. []) (generation_unstacked n w) is fine w left refl)
+      (λ m k _ w left. gives p number u at Next w left k.fine (stays p _))
+  freeing_run (FreesBased e d) {c} is l fine fs w left =
+      bound p number u at (value_of p.greatest call e w left) _ (value_run p number u at there call calls_run c e is.fst [] l fine fs w left)
+      (λ m k v w left. bound p number u at (answered (freed_by d v w) left) _ (answers p number u at there (λ _. []) (freed_by d v w) is.snd k.fine w left refl)
+      (λ m k _ w left. gives p number u at Next w left k.fine (stays p _)))
+
+  pub freeings_run : (items : List FreedItem) {c : Context} {a b : ℕ} → FreeingsStand u items a b → Runs p number u at there c (frees p.greatest call items) a b
+  freeings_run [] is l fine fs w left = passes p number u at is fine w left
+  freeings_run (item ∷ items) is l fine fs w left =
+      goes_on p number u at (frees_item p.greatest call item w left) _ (freeing_run item is.fst l fine fs w left) (λ m k w left. freeings_run items is.snd m k.fine fs w left)
