@@ -39,7 +39,8 @@ impl SpelledDeck {
     pub fn new(alloc: Global, deck: Deck) -> Result<SpelledDeck, AllocError>
         ensures { IfOk result (λ spelled. spelled ≡ deck) }
     {
-        let bytes = write_deck(alloc, &deck)?;
+        let mut bytes = write_deck(alloc, &deck)?;
+        bytes.shrink_to_fit();
         Ok(SpelledDeck { deck, bytes })
     }
 

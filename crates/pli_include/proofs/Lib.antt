@@ -1,4 +1,5 @@
 pub mod LevelNeverMet
+pub mod OriginsAppended
 pub mod PieceIsRead
 pub mod StepsKeep
 pub mod TextsHeld

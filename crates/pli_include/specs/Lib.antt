@@ -4,3 +4,4 @@ pub mod Pieces
 pub mod answers
 pub mod examples
 pub mod laws
+pub mod views

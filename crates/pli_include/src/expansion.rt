@@ -1,6 +1,7 @@
 //! What an expansion gives.
 ghost use Rattle.std.specs.Prelude.{◌≡◌, ◌≤◌, [], length, Some, None};
 
+use crate::origins::Origins;
 use crate::progress::Texts;
 use pli_base::{Code, Name, Origin, TokenText};
 use pli_members::Members;
@@ -27,7 +28,7 @@ pub struct ExpansionFault {
 pub struct Expansion {
     trace: Vec<TraceEntry>,
     texts: Vec<TokenText>,
-    origins: Vec<Origin>,
+    origins: Origins,
     fault: Option<ExpansionFault>,
 }
 
@@ -37,9 +38,9 @@ impl Model for Expansion {
 
     ghost Value = { Expanded };
 
-    ghost view = { λ e. record { trace = e.trace.items; texts = e.texts.items; origins = e.origins.items; fault = e.fault } };
+    ghost view = { λ e. record { trace = e.trace.items; texts = e.texts.items; origins = e.origins; fault = e.fault } };
 
-    ghost invariant = { λ e. (length e.origins.items ≡ length e.texts.items) × (length e.texts.items ≤ 200000) };
+    ghost invariant = { λ e. (length e.origins ≡ length e.texts.items) × (length e.texts.items ≤ 200000) };
 }
 
 impl Expansion {
@@ -47,9 +48,9 @@ impl Expansion {
 
     /// An expansion without a fault.
     pub(crate) fn whole(trace: Vec<TraceEntry>, texts: Texts) -> Expansion
-        requires origins { length texts.origins.items ≡ length texts.texts.items }
+        requires origins { length texts.origins ≡ length texts.texts.items }
         requires few { length texts.texts.items ≤ 200000 }
-        ensures { result ≡ record { trace = trace.items; texts = texts.texts.items; origins = texts.origins.items; fault = None } }
+        ensures { result ≡ record { trace = trace.items; texts = texts.texts.items; origins = texts.origins; fault = None } }
     {
         Expansion {
             trace,
@@ -66,7 +67,7 @@ impl Expansion {
         Expansion {
             trace,
             texts: Vec::new(alloc),
-            origins: Vec::new(alloc),
+            origins: Origins::new(alloc),
             fault: Some(fault),
         }
     }
@@ -87,11 +88,11 @@ impl Expansion {
     }
 
     /// Where each of the texts stands; none where there is a fault.
-    pub fn origins(&self) -> &[Origin]
+    pub fn origins(&self) -> &Origins
         ensures origins { result.now ≡ self.now.origins }
         ensures each { length result.now ≡ length self.now.texts }
     {
-        self.origins.as_slice()
+        &self.origins
     }
 
     /// Whether the members answer each name that was looked up as they did then: with the same version, or with no

@@ -3,6 +3,7 @@ ghost use Rattle.std.specs.Prelude.{◌≡◌, ◌<◌, ◌≤◌, ◌-◌, ◌+
 ghost use Rattle.pli_base.specs.Words.{is_among};
 ghost use Rattle.pli_include.specs.Expansion.{started, kept, directed, looking};
 
+use crate::origins::Origins;
 use indexmap::IndexSet;
 use pli_base::{Name, Origin, Token, TokenText};
 use std::alloc::{AllocError, Global};
@@ -17,7 +18,7 @@ const TOKEN_LIMIT: usize = 200_000;
 pub struct Progress {
     read: usize,
     texts: Vec<TokenText>,
-    origins: Vec<Origin>,
+    origins: Origins,
     looked: IndexSet<Name>,
 }
 
@@ -27,7 +28,7 @@ impl Model for Progress {
 
     ghost Value = { expansion.Progress };
 
-    ghost view = { λ p. record { read = p.read; texts = p.texts.items; origins = p.origins.items; looked = p.looked.keys } };
+    ghost view = { λ p. record { read = p.read; texts = p.texts.items; origins = p.origins; looked = p.looked.keys } };
 
     ghost invariant = { λ p. p.read ≤ 200000 };
 }
@@ -36,7 +37,7 @@ impl Model for Progress {
 #[derive(Drop)]
 pub struct Texts {
     pub texts: Vec<TokenText>,
-    pub origins: Vec<Origin>,
+    pub origins: Origins,
 }
 
 impl Progress {
@@ -47,7 +48,7 @@ impl Progress {
         Progress {
             read: 0,
             texts: Vec::new(alloc),
-            origins: Vec::new(alloc),
+            origins: Origins::new(alloc),
             looked: IndexSet::new(alloc),
         }
     }
@@ -99,11 +100,13 @@ impl Progress {
         self.looked.as_slice()
     }
 
-    /// The texts and their origins.
-    pub fn into_texts(self) -> Texts
+    /// The texts and their origins, in no more memory than they take.
+    pub fn into_texts(mut self) -> Texts
         ensures texts { result.texts.items ≡ self.texts }
-        ensures origins { result.origins.items ≡ self.origins }
+        ensures origins { result.origins ≡ self.origins }
     {
+        self.texts.shrink_to_fit();
+        self.origins.shrink_to_fit();
         Texts {
             texts: self.texts,
             origins: self.origins,

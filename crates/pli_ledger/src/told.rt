@@ -6,6 +6,7 @@ ghost use Rattle.pli_meaning.specs.Scratch.{code_line, diagnostic_line, diagnost
 
 use crate::kept::KeptUnit;
 use pli_base::{Code, Fault, Name, Origin};
+use pli_include::Origins;
 use pli_link::{LinkFault, LinkedName};
 use std::alloc::{AllocError, Global};
 use std::fmt::Write;
@@ -23,11 +24,11 @@ fn write_diagnostic(
 }
 
 /// The origin of the token at a place, or the unit's line 1 where there is none.
-fn origin_at(unit: Name, origins: &[Origin], place: usize) -> Origin
+fn origin_at(unit: Name, origins: &Origins, place: usize) -> Origin
     ensures { result ≡ origin_of unit (slice_get origins.now place) }
 {
     match origins.get(place) {
-        Some(origin) => *origin,
+        Some(origin) => origin,
         None => Origin {
             member: unit,
             line: 1,
@@ -39,7 +40,7 @@ fn origin_at(unit: Name, origins: &[Origin], place: usize) -> Origin
 fn write_faults(
     text: &mut String,
     unit: Name,
-    origins: &[Origin],
+    origins: &Origins,
     faults: &[Fault],
 ) -> Result<(), AllocError>
     ensures { OnOk result (text.new.bytes.items ≡ text.old.bytes.items ++ flat_map (diagnostic_line unit) (map (located unit origins.now) faults.now)) }

@@ -36,7 +36,8 @@ fn is_so(expansion: &Expansion, count: usize, last: Name, versions: [Option<u64>
         [first, second] => [first.version, second.version] == versions,
         _ => false,
     };
-    let ends = match expansion.origins().last() {
+    let last_place = expansion.texts().len().saturating_sub(1);
+    let ends = match expansion.origins().get(last_place) {
         Some(origin) => origin.member == last && origin.line == 1,
         None => count == 0,
     };
