@@ -10,7 +10,7 @@ use Rattle.pli_gen.specs.WellNumbered.{next_temporary, KeepsApart, KeepsApartFor
 use Rattle.pli_program.specs.Program as op
 use Rattle.pli_type_tree.specs.Iterations.{is_iterated}
 use Rattle.pli_type_tree.specs.TypedTree.{TypedExpression, TypedStatement, Statement, TypedStatements, NoStatement, StatementThen, NoElse, Else, TypedUnit}
-use Rattle.pli_type_tree.specs.TypedTree.{Form, Null, Assign, AssignAggregate, Put, If, Begin, Group, While, Iterate, Call, Goto, Return, ReturnValue, Stop, Allocate, Free}
+use Rattle.pli_type_tree.specs.TypedTree.{Form, Null, Assign, AssignAggregate, AssignArea, EmptyArea, Put, If, Begin, Group, While, Iterate, Call, Goto, Return, ReturnValue, Stop, Allocate, Free}
 use Rattle.pli_deck_laws.specs.Limits.{parameter_limit, word_limit, IfThere}
 use Rattle.pli_deck_laws.specs.WellFormed.{IsHead, HasBlock, HasSlot, IsExpression, IsStatement, IsForm, AreStatements}
 use Rattle.pli_deck_laws.proofs.CodeGrows.{end_is_some}
@@ -80,6 +80,12 @@ module _ (globals blocks last : ℕ) (t : TypedUnit) (counted : length t.globals
         joined globals blocks last (place_code target ++ place_code source) (op.Copy ∷ [])
         (joined globals blocks last (place_code target) (place_code source) (place_allowed globals blocks last t counted named slotted target h.0) (place_allowed globals blocks last t counted named slotted source h.1))
         (tt, tt)
+    form_allowed number (AssignArea target source) parent used room p most n h apart inner end =
+        joined globals blocks last (place_code target ++ place_code source) (op.AssignArea ∷ [])
+        (joined globals blocks last (place_code target) (place_code source) (place_allowed globals blocks last t counted named slotted target h.0) (place_allowed globals blocks last t counted named slotted source h.1))
+        (tt, tt)
+    form_allowed number (EmptyArea target) parent used room p most n h apart inner end =
+        joined globals blocks last (place_code target) (op.EmptyArea ∷ []) (place_allowed globals blocks last t counted named slotted target h) (tt, tt)
     form_allowed number (Put skip items) parent used room p most n h apart inner end =
         joined globals blocks last (skip_code skip) (items_code items) (skip_allowed globals blocks last t counted named slotted skip) (items_allowed globals blocks last t counted named slotted items h)
     form_allowed number (Begin head statements) parent used room p most n h apart inner end = (inner.0, tt)
@@ -89,7 +95,7 @@ module _ (globals blocks last : ℕ) (t : TypedUnit) (counted : length t.globals
     form_allowed number (ReturnValue outward value) parent used room p most n h apart inner end =
         joined globals blocks last (value_code value) (op.ReturnValue outward ∷ []) (value_allowed globals blocks last t counted named slotted value h.1) (h.0, tt)
     form_allowed number Stop parent used room p most n h apart inner end = (tt, tt)
-    form_allowed number (Allocate items) parent used room p most n h apart inner end = allocations_allowed globals blocks last t counted named slotted items used room most h apart
+    form_allowed number (Allocate items) parent used room p most n h apart inner end = allocations_allowed globals blocks last t counted named slotted items used room p most h apart end
     form_allowed number (Free items) parent used room p most n h apart inner end = freeings_allowed globals blocks last t counted named slotted items h
 
     list_allowed : (ss : TypedStatements) (parent used room p : ℕ) → room ≤ 65535 → AreStatements t ss → KeepApart used room ss → AreBelow blocks (blocks_among parent ss)

@@ -1,18 +1,19 @@
 -- Instructions whose numbers are within limits, and the code of expressions and of groups with a control variable.
 use Rattle.std.proofs.Common.{◌≡◌, ℕ, suc, ◌+◌, ◌<◌, ◌≤◌, Bool, true, false, Option, Some, None, List, [], ◌∷◌, ◌++◌, length, arith}
 use Rattle.std.specs.List.{AllByRecursion}
-use Rattle.pli_gen_emit.specs.TreeTranslation.{argument_count, operation_code, root_code, call_instruction, value_code, place_code, operands_code, subscripts_code, arguments_code, call_code, skip_code, items_code, allocation_code, allocations_code, freeing_code, freeings_code}
-use Rattle.pli_gen_emit.specs.TreeTranslation.{keeps_code, conversion_code, sets_code, start_code, test_against, limit_test, while_test, guarded, tests_code, counted_code, advances_code, back_code}
+use Rattle.pli_gen_emit.specs.TreeTranslation.{argument_count, operation_code, root_code, call_instruction, value_code, place_code, operands_code, subscripts_code, arguments_code, call_code, skip_code, items_code, allocation_code, allocations_code, freeing_code, freeings_code, behind}
+use Rattle.pli_gen_emit.specs.TreeTranslation.{keeps_code, operations_code, conversion_code, sets_code, start_code, test_against, limit_test, while_test, guarded, tests_code, counted_code, advances_code, back_code}
+use Rattle.pli_gen.proofs.CodeEnds.{grows, both_within}
 use Rattle.pli_gen.proofs.SimpleCode.{all_both}
 use Rattle.pli_gen.specs.WellNumbered.{next_temporary, KeepsTemporary}
 use Rattle.pli_program.specs.Program as op
 use Rattle.pli_operation.specs.declared.operation.Operation.TheVariants as calculate
 use Rattle.pli_type_tree.specs.Iterations.{kept_by, limit_number, step_number, temporaries_of}
-use Rattle.pli_type_tree.specs.TypedTree.{Root, InSlot, OfProgram, NewestOf, Located, Callee, OfBlock, OfEntry, TypedExpression, Literal, TypedOperation, Fit, Operate, Held, Calculated, Called, Generations, Address, TypedReference, Whole, Part}
+use Rattle.pli_type_tree.specs.TypedTree.{Root, InSlot, OfProgram, NewestOf, Located, Callee, OfBlock, OfEntry, TypedExpression, Literal, TypedOperation, Fit, Operate, Held, Calculated, Called, Generations, Address, AsPointer, AsOffset, TypedReference, Whole, Part}
 use Rattle.pli_type_tree.specs.TypedTree.{Operands, NoOperand, OperandThen, Subscripts, NoSubscript, SubscriptThen, TypedArguments, NoArgument, ByPlace, ByDummy}
-use Rattle.pli_type_tree.specs.TypedTree.{TypedRange, Once, ToBy, ByTo, Repeated, Iteration, TypedUnit, AllocatedItem, AllocatesControlled, AllocatesBased, FreedItem, FreesControlled, FreesBased}
+use Rattle.pli_type_tree.specs.TypedTree.{TypedRange, Once, ToBy, ByTo, Repeated, Iteration, TypedUnit, Conversion, ByOperations, AsPointerIn, AsOffsetIn, AllocatedItem, AllocatesControlled, AllocatesBased, AllocatesInArea, FreedItem, FreesControlled, FreesBased}
 use Rattle.pli_deck_laws.specs.Limits.{link_limit, parameter_limit, word_limit, IfThere, IsBound, IsDescription, IsConstant, IsMade, IsTemplate, IsOperation}
-use Rattle.pli_deck_laws.specs.WellFormed.{HasBlock, HasSlot, IsRoot, IsCallee, IsExpression, IsReference, AreOperands, AreSubscripts, AreArguments, IsRange, IsIteration, IsAllocated, IsFreed}
+use Rattle.pli_deck_laws.specs.WellFormed.{HasBlock, HasSlot, IsRoot, IsCallee, IsExpression, IsReference, AreOperands, AreSubscripts, AreArguments, IsConversion, IsRange, IsIteration, IsAllocated, IsFreed}
 
 -- in a unit of so many globals and blocks, whose code has a last instruction
 module _ (globals blocks last : ℕ) where
@@ -42,11 +43,16 @@ module _ (globals blocks last : ℕ) where
   Allowed (op.Fit d) = IsDescription d
   Allowed (op.Operate operation) = IsOperation (Operate operation)
   Allowed op.AddressOf = Unit {0}
+  Allowed op.ToPointer = Unit {0}
+  Allowed op.ToOffset = Unit {0}
   Allowed (op.AllocateControlled global) = global < globals
   Allowed (op.FreeControlled global) = global < globals
   Allowed (op.CountGenerations global) = global < globals
   Allowed (op.AllocateBased template) = IsTemplate template
+  Allowed (op.AllocateInArea template after) = IsTemplate template × (after ≤ last)
   Allowed (op.FreeBased d) = IsDescription d
+  Allowed op.AssignArea = Unit {0}
+  Allowed op.EmptyArea = Unit {0}
   Allowed op.Put = Unit {0}
   Allowed op.Skip = Unit {0}
   Allowed (op.SetTemporary number) = number ≤ 65535
@@ -81,6 +87,10 @@ module _ (globals blocks last : ℕ) where
           (call_allowed callee (argument_count arguments) h.0 h.1, tt)
       value_allowed (Generations number) h = (there number h, tt)
       value_allowed (Address r) h = joined (place_code r) (op.AddressOf ∷ []) (place_allowed r h) (tt, tt)
+      value_allowed (AsPointer area e) h =
+          joined (value_code e ++ place_code area) (op.ToPointer ∷ []) (joined (value_code e) (place_code area) (value_allowed e h.1) (place_allowed area h.0)) (tt, tt)
+      value_allowed (AsOffset area e) h =
+          joined (value_code e ++ place_code area) (op.ToOffset ∷ []) (joined (value_code e) (place_code area) (value_allowed e h.1) (place_allowed area h.0)) (tt, tt)
 
       root_allowed : (r : Root) → IsRoot t r → AllAllowed (root_code r)
       root_allowed (InSlot outward slot) h = ((h.0, slotted slot h.1), tt)
@@ -120,17 +130,39 @@ module _ (globals blocks last : ℕ) where
     items_allowed [] h = tt
     items_allowed (e ∷ es) h = joined (value_code e) (op.Put ∷ items_code es) (value_allowed e h.0) (tt, items_allowed es h.1)
 
-    allocation_allowed : (item : AllocatedItem) (used room : ℕ) → room ≤ 65535 → IsAllocated t item → KeepsTemporary used room item → AllAllowed (allocation_code item)
-    allocation_allowed (AllocatesControlled number) used room most h apart = (there number h, tt)
-    allocation_allowed (AllocatesBased template temporary target) used room most h apart =
+    operations_allowed : (os : List TypedOperation) → AllByRecursion IsOperation os → AllAllowed (operations_code os)
+    operations_allowed [] h = tt
+    operations_allowed (o ∷ os) h = (operation_allowed o h.0, operations_allowed os h.1)
+
+    conversion_allowed : (conversion : Conversion) → IsConversion t conversion → AllAllowed (conversion_code conversion)
+    conversion_allowed (ByOperations operations) h = operations_allowed operations h
+    conversion_allowed (AsPointerIn area) h = joined (place_code area) (op.ToPointer ∷ []) (place_allowed area h) (tt, tt)
+    conversion_allowed (AsOffsetIn area) h = joined (place_code area) (op.ToOffset ∷ []) (place_allowed area h) (tt, tt)
+
+    allocation_allowed : (item : AllocatedItem) (used room p : ℕ) → room ≤ 65535 → IsAllocated t item → KeepsTemporary used room item → p ≤ last
+        → AllAllowed (allocation_code item p)
+    allocation_allowed (AllocatesControlled number) used room p most h apart to = (there number h, tt)
+    allocation_allowed (AllocatesInArea area template temporary target conversion) used room p most h apart to =
+        let enough : temporary ≤ 65535 = let k = apart.1 in omega (arith, k, most) in
+        let store = conversion_code conversion ++ op.Store ∷ [] in
+        let kept = op.SetTemporary temporary ∷ (place_code target ++ (op.TakeTemporary temporary ∷ store)) in
+        let stores : AllAllowed store = joined (conversion_code conversion) (op.Store ∷ []) (conversion_allowed conversion h.3) (tt, tt) in
+        joined (place_code area) (op.AllocateInArea template p ∷ kept) (place_allowed area h.0)
+        ((h.1, to), (enough, joined (place_code target) (op.TakeTemporary temporary ∷ store) (place_allowed target h.2) (enough, stores)))
+    allocation_allowed (AllocatesBased template temporary target) used room p most h apart to =
         let enough : temporary ≤ 65535 = let k = apart.1 in omega (arith, k, most) in
         (h.0, (enough, joined (place_code target) (op.TakeTemporary temporary ∷ op.Store ∷ []) (place_allowed target h.1) (enough, (tt, tt))))
 
-    pub allocations_allowed : (items : List AllocatedItem) (used room : ℕ) → room ≤ 65535 → AllByRecursion (IsAllocated t) items → AllByRecursion (KeepsTemporary used room) items
-        → AllAllowed (allocations_code items)
-    allocations_allowed [] used room most h apart = tt
-    allocations_allowed (item ∷ items) used room most h apart =
-        joined (allocation_code item) (allocations_code items) (allocation_allowed item used room most h.0 apart.0) (allocations_allowed items used room most h.1 apart.1)
+    pub allocations_allowed : (items : List AllocatedItem) (used room p : ℕ) → room ≤ 65535 → AllByRecursion (IsAllocated t) items → AllByRecursion (KeepsTemporary used room) items
+        → behind (allocations_code items p) p ≤ last → AllAllowed (allocations_code items p)
+    allocations_allowed [] used room p most h apart end = tt
+    allocations_allowed (item ∷ items) used room p most h apart end =
+        let code = allocation_code item p in
+        let q = behind code p in
+        let w = both_within code (allocations_code items q) p last end in
+        let g : p ≤ q = grows code p in
+        let to : p ≤ last = let k = w.0 in omega (arith, g, k) in
+        joined code (allocations_code items q) (allocation_allowed item used room p most h.0 apart.0 to) (allocations_allowed items used room q most h.1 apart.1 w.1)
 
     freeing_allowed : (item : FreedItem) → IsFreed t item → AllAllowed (freeing_code item)
     freeing_allowed (FreesControlled number) h = (there number h, tt)
@@ -147,11 +179,7 @@ module _ (globals blocks last : ℕ) where
         joined (value_code e) (op.SetTemporary temporary ∷ keeps_code (suc temporary) es) (value_allowed e h.0)
         (omega (arith, room), keeps_allowed (suc temporary) es (omega (arith, room)) h.1)
 
-    conversion_allowed : (os : List TypedOperation) → AllByRecursion IsOperation os → AllAllowed (conversion_code os)
-    conversion_allowed [] h = tt
-    conversion_allowed (o ∷ os) h = (operation_allowed o h.0, conversion_allowed os h.1)
-
-    sets_allowed : (i : Iteration) (value : List op.Instruction) → IsReference t i.control → AllByRecursion IsOperation i.conversion → AllAllowed value
+    sets_allowed : (i : Iteration) (value : List op.Instruction) → IsReference t i.control → IsConversion t i.conversion → AllAllowed value
         → AllAllowed (sets_code i value)
     sets_allowed i value r c v =
         let store = conversion_code i.conversion ++ op.Store ∷ [] in
@@ -211,13 +239,13 @@ module _ (globals blocks last : ℕ) where
         (against_allowed i (limit_number i.range) (step_number i.range) (temporaries_of i.range) target h.0 room (step_within i.range) (limit_within i.range) to)
         (while_allowed i.condition target h.4 to)
 
-    counted_allowed : (i : Iteration) (step : ℕ) → i.temporary + step ≤ 65535 → IsReference t i.control → AllByRecursion IsOperation i.conversion → AllAllowed (counted_code i step)
+    counted_allowed : (i : Iteration) (step : ℕ) → i.temporary + step ≤ 65535 → IsReference t i.control → IsConversion t i.conversion → AllAllowed (counted_code i step)
     counted_allowed i step room r c =
         let place = place_code i.control in
         let rest = op.Load ∷ op.TakeTemporary (i.temporary + step) ∷ op.Operate calculate.Add ∷ [] in
         sets_allowed i (place ++ rest) r c (joined place rest (place_allowed i.control r) (tt, (room, (tt, tt))))
 
-    advances_allowed : (range : TypedRange) (i : Iteration) → IsReference t i.control → AllByRecursion IsOperation i.conversion → IsRange t range
+    advances_allowed : (range : TypedRange) (i : Iteration) → IsReference t i.control → IsConversion t i.conversion → IsRange t range
         → i.temporary + temporaries_of range ≤ 65535 → AllAllowed (advances_code range i)
     advances_allowed Once i r c h room = tt
     advances_allowed (ToBy to by) i r c h room = let step = step_within (ToBy to by) in counted_allowed i 2 (omega (arith, room, step)) r c

@@ -134,6 +134,17 @@ module _ (tables : NumberedTables) (globals blocks last : ℕ) where
     instruction_good (op.FreeControlled number) h to ds ts vs = record { fits = global_fits number h; jumps = tt; names = (h, tt) }
     instruction_good (op.CountGenerations number) h to ds ts vs = record { fits = global_fits number h; jumps = tt; names = (h, tt) }
     instruction_good op.AddressOf h to ds ts vs = record { fits = refl; jumps = tt; names = tt }
+    instruction_good op.ToPointer h to ds ts vs = record { fits = refl; jumps = tt; names = tt }
+    instruction_good op.ToOffset h to ds ts vs = record { fits = refl; jumps = tt; names = tt }
+    instruction_good op.AssignArea h to ds ts vs = record { fits = refl; jumps = tt; names = tt }
+    instruction_good op.EmptyArea h to ds ts vs = record { fits = refl; jumps = tt; names = tt }
+    instruction_good (op.AllocateInArea t after) h to ds ts vs =
+        let has = ts.0 in
+        record {
+          fits = fits_pair u2 u2 (template_number tables t) after (fits_short (template_number tables t) (omega (arith, has, few_templates))) (target after h.1);
+          jumps = (h.1, tt);
+          names = (has, tt);
+        }
     instruction_good (op.AllocateBased t) h to ds ts vs =
         let has = ts.0 in
         record { fits = fits_short (template_number tables t) (omega (arith, has, few_templates)); jumps = tt; names = (has, tt) }

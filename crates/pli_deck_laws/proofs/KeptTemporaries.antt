@@ -1,6 +1,6 @@
 -- The temporaries that the iterations of a block, and its items of ALLOCATE, keep are no more than its instructions.
 use Rattle.std.proofs.Common.{◌≡◌, ℕ, suc, ◌+◌, ◌≤◌, List, [], ◌∷◌, ◌++◌, length, refl, arith}
-use Rattle.pli_gen_emit.specs.TreeTranslation.{BlockTree, value_code, place_code, behind, keeps_code, sets_code, tests_code, advances_code, back_code, turn_place, list_place, allocation_code, allocations_code, statement_code, form_code, list_code, end_code, block_code}
+use Rattle.pli_gen_emit.specs.TreeTranslation.{BlockTree, value_code, place_code, behind, keeps_code, sets_code, tests_code, advances_code, back_code, turn_place, list_place, conversion_code, allocation_code, allocations_code, statement_code, form_code, list_code, end_code, block_code}
 use Rattle.pli_gen.proofs.CodeEnds.{grows, one_way_ends, two_ways_ends, turns_ends}
 use Rattle.pli_gen.proofs.IterationCode.{iterate_ends}
 use Rattle.pli_gen.proofs.SimpleCode.{behind_both}
@@ -8,7 +8,7 @@ use Rattle.pli_program.specs.Program as op
 use Rattle.pli_type_tree.specs.Allocations.{kept_for, all_kept_for}
 use Rattle.pli_type_tree.specs.Iterations.{kept_by, temporaries_of, is_iterated}
 use Rattle.pli_type_tree.specs.TypedTree.{TypedExpression, TypedStatement, Statement, TypedStatements, NoStatement, StatementThen, NoElse, Else, Iteration}
-use Rattle.pli_type_tree.specs.TypedTree.{Form, If, Group, While, Iterate, Allocate, AllocatedItem, AllocatesControlled, AllocatesBased}
+use Rattle.pli_type_tree.specs.TypedTree.{Form, If, Group, While, Iterate, Allocate, AllocatedItem, AllocatesControlled, AllocatesBased, AllocatesInArea}
 use Rattle.pli_deck_laws.specs.WellFormed.{kept_in, kept_in_form, kept_among}
 
 keeps_long : (t : ℕ) (es : List TypedExpression) (p : ℕ) → p + length es ≤ behind (keeps_code t es) p
@@ -30,20 +30,29 @@ start_long i p =
     let k = keeps_long i.temporary (i.start ∷ kept_by i.range) p in
     omega (arith, a, g, k)
 
-allocation_long : (item : AllocatedItem) (p : ℕ) → p + kept_for item ≤ behind (allocation_code item) p
+allocation_long : (item : AllocatedItem) (p : ℕ) → p + kept_for item ≤ behind (allocation_code item p) p
 allocation_long (AllocatesControlled number) p = omega arith
 allocation_long (AllocatesBased template temporary target) p =
     let rest = place_code target ++ op.TakeTemporary temporary ∷ op.Store ∷ [] in
-    let e : behind (allocation_code (AllocatesBased template temporary target)) p ≡ behind rest (suc (suc p)) = refl in
+    let e : behind (allocation_code (AllocatesBased template temporary target) p) p ≡ behind rest (suc (suc p)) = refl in
     let g : suc (suc p) ≤ behind rest (suc (suc p)) = grows rest (suc (suc p)) in
     omega (arith, e, g)
+allocation_long (AllocatesInArea area template temporary target conversion) p =
+    let q = behind (place_code area) p in
+    let rest = op.SetTemporary temporary ∷ (place_code target ++ (op.TakeTemporary temporary ∷ (conversion_code conversion ++ op.Store ∷ []))) in
+    let e : behind (allocation_code (AllocatesInArea area template temporary target conversion) p) p ≡ behind rest (suc q) =
+    behind_both (place_code area) (op.AllocateInArea template p ∷ rest) p in
+    let g : p ≤ q = grows (place_code area) p in
+    let k : suc q ≤ behind rest (suc q) = grows rest (suc q) in
+    omega (arith, e, g, k)
 
-allocations_long : (items : List AllocatedItem) (p : ℕ) → p + all_kept_for items ≤ behind (allocations_code items) p
+allocations_long : (items : List AllocatedItem) (p : ℕ) → p + all_kept_for items ≤ behind (allocations_code items p) p
 allocations_long [] p = omega arith
 allocations_long (item ∷ items) p =
-    let q = behind (allocation_code item) p in
-    let rest = allocations_code items in
-    let e : behind (allocation_code item ++ rest) p ≡ behind rest q = behind_both (allocation_code item) rest p in
+    let code = allocation_code item p in
+    let q = behind code p in
+    let rest = allocations_code items q in
+    let e : behind (code ++ rest) p ≡ behind rest q = behind_both code rest p in
     let k : p + kept_for item ≤ q = allocation_long item p in
     let l : q + all_kept_for items ≤ behind rest q = allocations_long items q in
     omega (arith, e, k, l)

@@ -7,17 +7,19 @@ use Rattle.pli_type_tree.specs.Allocations.{all_kept_for}
 use Rattle.pli_type_tree.specs.Iterations.{temporaries_of}
 use Rattle.pli_type_tree.specs.TypedTree.{Root, InSlot, OfProgram, NewestOf, Located, Callee, OfBlock}
 use Rattle.pli_type_tree.specs.TypedTree.{OfEntry, TypedExpression, Literal, Held, Calculated, Called}
-use Rattle.pli_type_tree.specs.TypedTree.{Generations, Address}
+use Rattle.pli_type_tree.specs.TypedTree.{Generations, Address, AsPointer, AsOffset}
 use Rattle.pli_type_tree.specs.TypedTree.{TypedReference, Whole, Part, Operands, NoOperand, OperandThen}
 use Rattle.pli_type_tree.specs.TypedTree.{Subscripts, NoSubscript, SubscriptThen}
 use Rattle.pli_type_tree.specs.TypedTree.{TypedArguments, NoArgument, ByPlace, ByDummy}
+use Rattle.pli_type_tree.specs.TypedTree.{Conversion, ByOperations, AsPointerIn, AsOffsetIn}
 use Rattle.pli_type_tree.specs.TypedTree.{TypedRange, Once, ToBy, ByTo, Repeated, Iteration, BlockHead}
 use Rattle.pli_type_tree.specs.TypedTree.{TypedStatement, Statement, TypedStatements, NoStatement}
 use Rattle.pli_type_tree.specs.TypedTree.{StatementThen, OtherWise, NoElse, Else}
-use Rattle.pli_type_tree.specs.TypedTree.{Form, Null, Assign, AssignAggregate, Put, If, Begin, Group, While}
-use Rattle.pli_type_tree.specs.TypedTree.{Iterate, Call, Goto, Return, ReturnValue, Stop, Allocate, Free}
-use Rattle.pli_type_tree.specs.TypedTree.{AllocatedItem, AllocatesControlled, AllocatesBased, FreedItem}
-use Rattle.pli_type_tree.specs.TypedTree.{FreesControlled, FreesBased}
+use Rattle.pli_type_tree.specs.TypedTree.{Form, Null, Assign, AssignAggregate, AssignArea, EmptyArea, Put, If}
+use Rattle.pli_type_tree.specs.TypedTree.{Begin, Group, While, Iterate, Call, Goto, Return, ReturnValue, Stop}
+use Rattle.pli_type_tree.specs.TypedTree.{Allocate, Free}
+use Rattle.pli_type_tree.specs.TypedTree.{AllocatedItem, AllocatesControlled, AllocatesBased, AllocatesInArea}
+use Rattle.pli_type_tree.specs.TypedTree.{FreedItem, FreesControlled, FreesBased}
 use Rattle.pli_type_tree.specs.TypedTree.{TypedProcedure, TypedUnit}
 use Rattle.pli_deck_laws.specs.Limits.{link_limit, parameter_limit, word_limit, IfThere}
 use Rattle.pli_deck_laws.specs.Limits.{IsDescription, IsConstant, IsMade, IsTemplate, IsOperation}
@@ -91,6 +93,8 @@ module _ (t : TypedUnit) where
         IsCallee callee × (argument_count arguments ≤ parameter_limit) × AreArguments arguments
     IsExpression (Generations number) = HasGlobal number
     IsExpression (Address r) = IsReference r
+    IsExpression (AsPointer area e) = IsReference area × IsExpression e
+    IsExpression (AsOffset area e) = IsReference area × IsExpression e
 
     -- a reference begins at what the unit has, or at what a locator leads to
     pub IsRoot : Root → Type 0
@@ -121,6 +125,12 @@ module _ (t : TypedUnit) where
     AreArguments (ByPlace r more) = IsReference r × AreArguments more
     AreArguments (ByDummy d e more) = IsMade d × IsExpression e × AreArguments more
 
+  -- a conversion of a value to a variable
+  abbrev pub IsConversion : Conversion → Type 0
+  IsConversion (ByOperations operations) = AllByRecursion IsOperation operations
+  IsConversion (AsPointerIn area) = IsReference area
+  IsConversion (AsOffsetIn area) = IsReference area
+
   -- groups with a control variable
   abbrev pub IsRange : TypedRange → Type 0
   IsRange Once = Unit {0}
@@ -131,13 +141,15 @@ module _ (t : TypedUnit) where
   -- what controls an iteration
   abbrev pub IsIteration : Iteration → Type 0
   IsIteration i =
-      IsReference i.control × AllByRecursion IsOperation i.conversion × IsExpression i.start
+      IsReference i.control × IsConversion i.conversion × IsExpression i.start
       × IsRange i.range × IfThere IsExpression i.condition
 
-  -- an item of ALLOCATE is of a global of the unit, or of a BASED variable
+  -- an item of ALLOCATE is of a global of the unit, or of a BASED variable, which an area may hold
   abbrev pub IsAllocated : AllocatedItem → Type 0
   IsAllocated (AllocatesControlled number) = HasGlobal number
   IsAllocated (AllocatesBased template temporary target) = IsTemplate template × IsReference target
+  IsAllocated (AllocatesInArea area template temporary target conversion) =
+      IsReference area × IsTemplate template × IsReference target × IsConversion conversion
 
   -- an item of FREE is
   abbrev pub IsFreed : FreedItem → Type 0
@@ -154,6 +166,8 @@ module _ (t : TypedUnit) where
     IsForm Null = Unit {0}
     IsForm (Assign target e) = IsReference target × IsExpression e
     IsForm (AssignAggregate target source) = IsReference target × IsReference source
+    IsForm (AssignArea target source) = IsReference target × IsReference source
+    IsForm (EmptyArea target) = IsReference target
     IsForm (Put skip items) = AllByRecursion IsExpression items
     IsForm (If condition consequence alternative) =
         IsExpression condition × IsStatement consequence × IsElse alternative

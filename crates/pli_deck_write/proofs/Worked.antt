@@ -13,8 +13,8 @@ use Rattle.pli_deck_write.specs.examples.ModuleExamples.{ModulesWrittenSo, Modul
 worked : WrittenSo × ReadSo × ModulesWrittenSo × ModulesReadSo × ModuleFaultsAre
 unfolding byte_at number_at many description_within instruction name optional bits_at bit_string characters constant initial template signature global block code contents deck deck_read external_behind many_behind deck_in member module_field module_read
 worked = (
-  (refl, refl, refl, refl, refl),
-  (refl, refl, refl, refl, refl, refl, refl, refl, refl, refl),
+  (refl, refl, refl, refl, refl, refl),
+  (refl, refl, refl, refl, refl, refl, refl, refl, refl, refl, refl),
   (refl, refl),
   (refl, refl),
   (refl, refl, refl, refl, refl, refl, refl),

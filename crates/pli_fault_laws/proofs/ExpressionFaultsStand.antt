@@ -19,9 +19,9 @@ use Rattle.pli_type.specs.ProcedureCalls.{arguments_passed, or_wrong_argument, r
 use Rattle.pli_type.specs.References.{Role, AsValue, AsArgument, AsLocator, Referent, StridedPart}
 use Rattle.pli_type.specs.References.{settled, begins_somewhere, LocatorBefore, NotLocated}
 use Rattle.pli_type.specs.Typing as typing
-use Rattle.pli_type.specs.Typing.{Segment, OfVariable, OfFunction, OfNoVariable, or_fault, first_token, denoted}
+use Rattle.pli_type.specs.Typing.{Segment, OfVariable, OfFunction, OfEmpty, OfNoVariable, or_fault, first_token, denoted}
 use Rattle.pli_type.specs.Typing.{referred, joined, begun, is_call, all_subscripts, subscripts_in, all_arguments}
-use Rattle.pli_type.specs.Typing.{as_value, one_value, ended, with_more, as_locator, named_alone}
+use Rattle.pli_type.specs.Typing.{as_value, one_value, ended, with_more, as_locator, named_alone, given_by}
 use Rattle.pli_type.specs.declared.expression_type.ExpressionType.{ExpressionType}
 use Rattle.pli_type_tree.specs.TypedTree.{Callee, TypedExpression, TypedArguments}
 use Rattle.pli_fault_laws.proofs.BelowLemmas.{Below, below_left, below_right}
@@ -92,16 +92,23 @@ first_below high (Infix operator at left right) h =
 abbrev Stands : (high : ℕ) → Segment → Type 0
 Stands high (OfVariable locator at v xs) = at < high
 Stands high (OfFunction value) = Unit {0}
+Stands high OfEmpty = Unit {0}
 Stands high (OfNoVariable at) = at < high
 
 more_stands : (high : ℕ) (s : Segment) (xs : List TypedExpression) → Stands high s → Stands high (with_more s xs)
 more_stands high (OfVariable locator at v ys) xs h = h
 more_stands high (OfFunction value) xs h = h
+more_stands high OfEmpty xs h = h
 more_stands high (OfNoVariable at) xs h = h
 
 alone_stands : (high at : ℕ) (function : BuiltInFunction) → at < high → Stands high (named_alone at function)
 alone_stands high at functions.Null h = tt
+alone_stands high at functions.Empty h = tt
 alone_stands high at function h = h
+
+given_stands : (high : ℕ) (function : BuiltInFunction) (v : TypedValue) → Stands high (given_by function v)
+given_stands high functions.Empty v = tt
+given_stands high function v = tt
 
 only_somewhere : (high at : ℕ) (o : Option Referent) → at < high → Only high (begins_somewhere at o)
 only_somewhere high at None h = told high _ _ h
@@ -116,6 +123,7 @@ only_ended : (high : ℕ) (role : Role) (s : Segment) → Stands high s → Only
 only_ended high role (OfVariable locator at v xs) h =
     only_then high _ _ (only_settled high role locator at v xs _ h) (λ r. fine high _)
 only_ended high role (OfFunction value) h = fine high _
+only_ended high role OfEmpty h = fine high _
 only_ended high role (OfNoVariable at) h = told high _ _ h
 
 -- expressions
@@ -140,10 +148,10 @@ only_result : (high at : ℕ) (callee : Callee) (arguments : TypedArguments) (o 
 only_result high at callee arguments None h = told high _ _ h
 only_result high at callee arguments (Some kind) h = fine high _
 
-procedure_stands : (high greatest : ℕ) (p : NamedProcedure) (at : ℕ) (gs : List Argument) → at < high
-    → Gives high (Stands high) (typing.procedure_called greatest p at gs)
-procedure_stands high greatest p at gs h =
-    then_gives high (Stands high) _ _ (only_passed high greatest p at gs h)
+procedure_stands : (high : ℕ) (n : Naming) (p : NamedProcedure) (at : ℕ) (gs : List Argument) → at < high
+    → Gives high (Stands high) (typing.procedure_called n p at gs)
+procedure_stands high n p at gs h =
+    then_gives high (Stands high) _ _ (only_passed high n.greatest p at gs h)
     (λ passed. then_gives high (Stands high) _ _ (only_result high at p.callee passed _ h) (λ v. gives high (Stands high) _ tt))
 
 only_given : (high at : ℕ) (o : Option TypedValue) → at < high → Only high (or_bad_argument at o)
@@ -207,14 +215,14 @@ mutual
   begun_stands high n (AFunction function) true locator at (Given list) p h =
       then_gives high (Stands high) _ _ (only_arguments high n _ list h)
       (λ gs. then_gives high (Stands high) _ _ (only_function high n.greatest function at _ gs p)
-      (λ v. gives high (Stands high) _ tt))
+      (λ v. gives high (Stands high) _ (given_stands high function v)))
   begun_stands high n (AFunction function) false locator at (Given list) p h =
       then_gives high (Stands high) _ _ (only_arguments high n [] list h) (λ gs. gives high (Stands high) _ p)
   begun_stands high n (AFunction function) true locator at Absent p h = gives high (Stands high) _ (alone_stands high at function p)
   begun_stands high n (AFunction function) false locator at Absent p h = gives high (Stands high) _ p
   begun_stands high n (AProcedure q) true locator at (Given list) p h =
       then_gives high (Stands high) _ _ (only_arguments high n [] list h)
-      (λ gs. procedure_stands high n.greatest q at gs p)
+      (λ gs. procedure_stands high n q at gs p)
   begun_stands high n (AProcedure q) false locator at (Given list) p h =
       then_gives high (Stands high) _ _ (only_arguments high n [] list h) (λ gs. gives high (Stands high) _ p)
   begun_stands high n (AProcedure q) true locator at Absent p h = gives high (Stands high) _ p

@@ -3,25 +3,27 @@ use Rattle.std.proofs.Common.{◌≡◌, ℕ, ◌+◌, ◌<◌, nat_lt, if◌the
 use Rattle.pli_base.specs.Statements as tree
 use Rattle.pli_base.specs.Statements.{Allocation, Statement, Numbered, Body, Statements, Ended, Before, Alternative}
 use Rattle.pli_base.specs.Syntax as syntax
-use Rattle.pli_base.specs.Syntax.{Expression, Referred, Reference, Named, Arguments, Absent, Given}
-use Rattle.pli_base.specs.TreeTokens.{tokens_of_each, tokens_of_some, name_tokens, expression_tokens, reference_tokens, argument_tokens, range_tokens, control_tokens, placed_tokens, allocation_tokens, statement_tokens, begun_tokens, statements_tokens, alternative_tokens, unit_tokens}
+use Rattle.pli_base.specs.Syntax.{Expression, Reference, Named, JoinedParts, Alone, Joined, Arguments, Absent, Given}
+use Rattle.pli_base.specs.TreeTokens.{tokens_of_each, tokens_of_some, name_tokens, expression_tokens, reference_tokens, joined_tokens, argument_tokens, range_tokens, control_tokens, placed_tokens, allocation_tokens, statement_tokens, begun_tokens, statements_tokens, alternative_tokens, unit_tokens}
 use Rattle.pli_base.specs.Words.{Tokens}
 use Rattle.pli_base.specs.FaultPlaces.{StandsAtToken}
 use Rattle.pli_base.specs.declared.code.Code.TheVariants.{WrongOperandType, CannotAssign, CannotPrint, CannotAllocateOrFree, NotYetBuilt}
 use Rattle.pli_base.specs.declared.syntax.Identifier.{Identifier}
+use Rattle.pli_base.specs.declared.syntax.Joining.TheVariants.{Member, Located}
 use Rattle.pli_base.specs.declared.token.Fault.{Fault}
 use Rattle.pli_map.specs.Description.{Description}
 use Rattle.pli_parse.proofs.StatementTokens.{unit_read_rises}
 use Rattle.pli_type.specs.AllocationTyping.{in_turn, only_variable, place_given, kept_for, allocated, all_allocated, freed}
 use Rattle.pli_type.specs.Checked.{checked, unless_unbuilt, typed_as}
 use Rattle.pli_type.specs.ExpressionTypes.{TypedValue}
-use Rattle.pli_type.specs.FunctionCalls.{Denoted, DenotesVariable, DenotesResult, Meant, OneValue, WholeAggregate, Argument}
+use Rattle.pli_type.specs.FunctionCalls.{Denoted, DenotesVariable, DenotesResult, DenotesEmpty, Meant, OneValue, WholeAggregate, Argument}
 use Rattle.pli_type.specs.Names.{NamedAs, AVariable, AFunction, AProcedure, ALabel, Untyped, NamedUnit, Naming}
-use Rattle.pli_type.specs.References.{AsArgument, AsTarget, AsLocator, Referent}
+use Rattle.pli_type.specs.References.{AsValue, AsArgument, AsTarget, AsLocator, Referent}
 use Rattle.pli_type.specs.StatementTyping as statements
 use Rattle.pli_type.specs.StatementTyping.{WithProcedures}
 use Rattle.pli_type.specs.Temporaries.{Next}
-use Rattle.pli_type.specs.Typing.{first_token}
+use Rattle.pli_type.specs.Typing.{first_token, behind_arrows, own_token}
+use Rattle.pli_type.specs.declared.beginning.Beginning.{Beginning}
 use Rattle.pli_type_tree.specs.TypedTree.{Callee, TypedArguments, TypedRange, TypedStatements, TypedProcedure, TypedUnit}
 use Rattle.pli_fault_laws.specs.StatementStarts.{Begins, BodyBegins, AllBegin, ElseBegins}
 use Rattle.pli_fault_laws.specs.TypeFaultPlaces.{AllStand, TypeFaultsStandAtTokens}
@@ -43,9 +45,12 @@ only_assigned high n at equals (DenotesVariable target) e a q h =
     only_if high _ _ _
     (only_then high _ _ (only_then high _ _ (only_denoted high n AsArgument e h) (λ d. fine high _))
     (λ m. only_aggregate high equals target m q))
+    (only_if high _ _ _
+    (only_then high _ _ (only_denoted high n AsValue e h) (λ d. only_or high CannotAssign equals _ q))
     (only_then high _ _ (only_value_of high n e h)
-    (λ v. only_then high _ _ (only_or high CannotAssign equals _ q) (λ x. fine high _)))
+    (λ v. only_then high _ _ (only_or high CannotAssign equals _ q) (λ x. fine high _))))
 only_assigned high n at equals (DenotesResult value) e a q h = told high _ _ a
+only_assigned high n at equals DenotesEmpty e a q h = told high _ _ a
 
 only_items : (high : ℕ) (n : Naming) (es : List Expression) → Below high (tokens_of_each expression_tokens es)
     → Only high (statements.items n es)
@@ -92,10 +97,10 @@ only_call high n name arguments p h =
     only_then high _ _ (only_given_arguments high n arguments h)
     (λ gs. only_call_of high n.greatest name.at (n.meaning name.at) gs p)
 
-only_returned : (high greatest at first begins : ℕ) (d : Option Description) (v : TypedValue) → at < high → first < high
-    → Only high (statements.returned_value greatest at first begins d v)
-only_returned high greatest at first begins None v a f = told high _ _ a
-only_returned high greatest at first begins (Some d) v a f =
+only_returned : (high greatest : ℕ) (area : Option Beginning) (at first begins : ℕ) (d : Option Description) (v : TypedValue) → at < high → first < high
+    → Only high (statements.returned_value greatest area at first begins d v)
+only_returned high greatest area at first begins None v a f = told high _ _ a
+only_returned high greatest area at first begins (Some d) v a f =
     only_then high _ _ (only_or high CannotAssign first _ f) (λ x. fine high _)
 
 only_return : (high : ℕ) (n : Naming) (s : statements.Surroundings) (at : ℕ) (value : Option Expression) → at < high
@@ -103,7 +108,7 @@ only_return : (high : ℕ) (n : Naming) (s : statements.Surroundings) (at : ℕ)
 only_return high n s at None a h = only_if high _ _ _ (fine high _) (told high _ _ a)
 only_return high n s at (Some e) a h =
     only_then high _ _ (only_value_of high n e h)
-    (λ v. only_returned high n.greatest at (first_token e) s.begins s.value v a (first_below high e h))
+    (λ v. only_returned high n.greatest (statements.area_here n s) at (first_token e) s.begins s.value v a (first_below high e h))
 
 only_limit : (high : ℕ) (n : Naming) (e : Expression) → Below high (expression_tokens e) → Only high (statements.limit n e)
 only_limit high n e h =
@@ -134,6 +139,7 @@ only_suited high at r false h = told high _ _ h
 only_controls : (high at : ℕ) (is_located : Bool) (range : TypedRange) (d : Denoted) → at < high
     → Only high (statements.controls at is_located range d)
 only_controls high at is_located range (DenotesResult value) h = told high _ _ h
+only_controls high at is_located range DenotesEmpty h = told high _ _ h
 only_controls high at is_located range (DenotesVariable r) h = only_if high _ _ _ (only_suited high at r _ h) (told high _ _ h)
 
 only_possible_condition : (high : ℕ) (n : Naming) (o : Option Expression) → Below high (tokens_of_some expression_tokens o)
@@ -141,12 +147,12 @@ only_possible_condition : (high : ℕ) (n : Naming) (o : Option Expression) → 
 only_possible_condition high n None h = fine high _
 only_possible_condition high n (Some e) h = only_then high _ _ (only_condition high n e h) (λ x. fine high _)
 
-only_repeat : (high : ℕ) (n : Naming) (d : Description) (kept : TypedRange) (range : Option tree.Range)
-    → Below high (tokens_of_some range_tokens range) → Only high (statements.with_repeat n d kept range)
-only_repeat high n d kept None h = fine high _
-only_repeat high n d kept (Some (tree.To to by)) h = fine high _
-only_repeat high n d kept (Some (tree.By by to)) h = fine high _
-only_repeat high n d kept (Some (tree.Repeat next)) h =
+only_repeat : (high : ℕ) (n : Naming) (r : Referent) (kept : TypedRange) (range : Option tree.Range)
+    → Below high (tokens_of_some range_tokens range) → Only high (statements.with_repeat n r kept range)
+only_repeat high n r kept None h = fine high _
+only_repeat high n r kept (Some (tree.To to by)) h = fine high _
+only_repeat high n r kept (Some (tree.By by to)) h = fine high _
+only_repeat high n r kept (Some (tree.Repeat next)) h =
     only_then high _ _ (only_value_of high n next h)
     (λ v. only_then high _ _ (only_or high CannotAssign (first_token next) _ (first_below high next h)) (λ x. fine high _))
 
@@ -159,19 +165,28 @@ in_turn_stands high tokens each stands (x ∷ xs) h =
     (λ y. only_then high _ _ (in_turn_stands high tokens each stands xs (below_right high (tokens x) (tokens_of_each tokens xs) h))
     (λ ys. fine high _))
 
-started_below : (high : ℕ) (r : Reference) → Below high (reference_tokens r) → syntax.first_token r < high
-started_below high (Named name arguments more) h = h.0
+arrows_below : (high at : ℕ) (more : JoinedParts) → at < high → Below high (joined_tokens more) → behind_arrows at more < high
+arrows_below high at Alone a h = a
+arrows_below high at (Joined Member name arguments more) a h =
+    arrows_below high at more a (below_right high (argument_tokens arguments) (joined_tokens more) h.1)
+arrows_below high at (Joined Located name arguments more) a h =
+    arrows_below high name.at more h.0 (below_right high (argument_tokens arguments) (joined_tokens more) h.1)
+
+own_below : (high : ℕ) (r : Reference) → Below high (reference_tokens r) → own_token r < high
+own_below high (Named name arguments more) h =
+    arrows_below high name.at more h.0 (below_right high (argument_tokens arguments) (joined_tokens more) h.1)
 
 only_a_variable : (high at : ℕ) (d : Denoted) → at < high → Only high (only_variable at d)
 only_a_variable high at (DenotesVariable r) h = fine high _
 only_a_variable high at (DenotesResult value) h = told high _ _ h
+only_a_variable high at DenotesEmpty h = told high _ _ h
 
 only_place : (high : ℕ) (n : Naming) (o : Option Reference) → Below high (tokens_of_some reference_tokens o)
     → Only high (place_given n o)
 only_place high n None h = fine high _
 only_place high n (Some reference) h =
     only_then high _ _ (only_referred high n AsLocator reference h)
-    (λ d. only_then high _ _ (only_a_variable high _ d (started_below high reference h)) (λ r. fine high _))
+    (λ d. only_then high _ _ (only_a_variable high _ d (own_below high reference h)) (λ r. fine high _))
 
 -- IN and SET stand in either order
 both_below : (high : ℕ) (area target : Option Reference) → Below high (placed_tokens area target)
@@ -196,9 +211,9 @@ only_allocated high n temporary a h =
 only_freed : (high : ℕ) (n : Naming) (reference : Reference) → Below high (reference_tokens reference)
     → Only high (freed n reference)
 only_freed high n reference h =
-    let first = started_below high reference h in
+    let own = own_below high reference h in
     only_then high _ _ (only_referred high n AsTarget reference h)
-    (λ d. only_then high _ _ (only_a_variable high _ d first) (λ r. only_or high CannotAllocateOrFree _ _ first))
+    (λ d. only_then high _ _ (only_a_variable high _ d own) (λ r. only_or high CannotAllocateOrFree _ _ own))
 
 only_all_allocated : (high : ℕ) (n : Naming) (temporary : ℕ) (list : List Allocation)
     → Below high (tokens_of_each allocation_tokens list) → Only high (all_allocated n temporary list)
@@ -218,9 +233,6 @@ only_free : (high : ℕ) (n : Naming) (list : List Reference) → Below high (to
 only_free high n list h =
     only_then high _ _ (in_turn_stands high reference_tokens (freed n) (only_freed high n) list h) (λ xs. fine high _)
 
-reference_below : (high : ℕ) (r : Reference) → Below high (reference_tokens r) → first_token (Referred r) < high
-reference_below high (Named name arguments more) h = h.0
-
 only_iteration : (high : ℕ) (n : Naming) (temporary : ℕ) (variable : Reference) (equals : ℕ) (first : Expression)
     (range : Option tree.Range) (tested : Option Expression)
     → Below high (control_tokens (tree.Iterate variable equals first range tested))
@@ -237,10 +249,10 @@ only_iteration high n temporary variable equals first range tested h =
     only_then high _ _ (only_value_of high n first fs)
     (λ v. only_then high _ _ (only_limits high n range rs)
     (λ kept. only_then high _ _ (only_referred high n AsLocator variable vs)
-    (λ d. only_then high _ _ (only_controls high (first_token (Referred variable)) (statements.has_locator variable) kept d (reference_below high variable vs))
+    (λ d. only_then high _ _ (only_controls high (own_token variable) (statements.has_locator variable) kept d (own_below high variable vs))
     (λ r. only_then high _ _ (only_or high CannotAssign equals _ es.0)
-    (λ operations. only_then high _ _ (only_possible_condition high n tested cs)
-    (λ x. only_then high _ _ (only_repeat high n r.description kept range rs) (λ turns. fine high _)))))))
+    (λ convert. only_then high _ _ (only_possible_condition high n tested cs)
+    (λ x. only_then high _ _ (only_repeat high n r kept range rs) (λ turns. fine high _)))))))
 
 -- faults of a statement and of those in it
 

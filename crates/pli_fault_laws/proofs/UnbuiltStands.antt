@@ -1,14 +1,13 @@
 -- Z1 stands at a token of the text.
 use Rattle.std.proofs.Common.{◌≡◌, ◌<◌, ℕ, Bool, true, false, ◌++◌, Option, Some, None, length, sym, subst}
-use Rattle.std.specs.List.{list_any}
 use Rattle.pli_base.specs.Syntax.{Named}
 use Rattle.pli_base.specs.Statements as tree
-use Rattle.pli_base.specs.Statements.{Heading, Statement, Numbered, Body, Statements, Ended, Before, Alternative, ExternalProcedure}
+use Rattle.pli_base.specs.Statements.{Statement, Numbered, Body, Statements, Ended, Before, Alternative, ExternalProcedure}
 use Rattle.pli_base.specs.TreeTokens.{tokens_of_each, tokens_of_some, name_tokens, expression_tokens, control_tokens, statement_tokens, begun_tokens, statements_tokens, alternative_tokens, unit_tokens}
 use Rattle.pli_base.specs.declared.syntax.Identifier.{Identifier}
 use Rattle.pli_parse.proofs.StatementTokens.{unit_read_rises}
 use Rattle.pli_type.specs.Names.{Compiled}
-use Rattle.pli_type.specs.Unbuilt.{first_of, or_else, token_if, later_expression, later_control, later_part, later_option, later_body, later_statement, later_statements, later_alternative, later_heading, first_unbuilt}
+use Rattle.pli_type.specs.Unbuilt.{first_of, or_else, token_if, later_expression, later_control, later_part, later_body, later_statement, later_statements, later_alternative, first_unbuilt}
 use Rattle.pli_fault_laws.specs.StatementStarts.{Begins, BodyBegins, AllBegin, ElseBegins}
 use Rattle.pli_fault_laws.specs.TypeFaultPlaces.{UnbuiltStandsAtToken}
 use Rattle.pli_fault_laws.proofs.BelowLemmas.{Below, rising_below, below_left, below_right}
@@ -63,46 +62,40 @@ start_below high label at (tree.Goto name) b h = h.0
 start_below high label at (tree.Return value) b h = h.0
 start_below high label at (tree.Put skip items) b h = h.0
 
--- a procedure's name is its label
-pub name_below : (high : ℕ) (label : Option Identifier) (heading : Heading) → label ≡ Some heading.name → Below high (tokens_of_some name_tokens label) → heading.name.at < high
-name_below high label heading e h = (subst (λ l. Below high (tokens_of_some name_tokens l)) e h).0
-
 mutual
   statement_below : (n : Compiled) (high : ℕ) (s : Statement) → Begins s → Below high (statement_tokens s) → AtBelow high (later_statement n s)
   statement_below n high (Numbered number label at body) b h =
       let ls = below_left high (tokens_of_some name_tokens label) (begun_tokens at body) h in
       let bs = below_right high (tokens_of_some name_tokens label) (begun_tokens at body) h in
-      body_below n high label at (first_of label at) body b (first_below high label at ls (start_below high label at body b bs)) ls bs
+      body_below n high label at (first_of label at) body b (first_below high label at ls (start_below high label at body b bs)) bs
 
   body_below : (n : Compiled) (high : ℕ) (label : Option Identifier) (at first : ℕ) (body : Body) → BodyBegins label at body → first < high
-      → Below high (tokens_of_some name_tokens label) → Below high (begun_tokens at body) → AtBelow high (later_body n first body)
-  body_below n high label at first (tree.Procedure heading statements end) b f l h =
-      either_below high (token_if (list_any later_option heading.options) heading.name.at) (later_statements n statements)
-      (if_below high _ heading.name.at (name_below high label heading b.0 l))
-      (list_below n high statements b.1 (below_right high (tokens_of_each name_tokens heading.parameters) (statements_tokens statements) h.1))
-  body_below n high label at first (tree.Begin statements end) b f l h = list_below n high statements b h.1
-  body_below n high label at first (tree.Do control statements end) b f l h =
+      → Below high (begun_tokens at body) → AtBelow high (later_body n first body)
+  body_below n high label at first (tree.Procedure heading statements end) b f h =
+      list_below n high statements b.1 (below_right high (tokens_of_each name_tokens heading.parameters) (statements_tokens statements) h.1)
+  body_below n high label at first (tree.Begin statements end) b f h = list_below n high statements b h.1
+  body_below n high label at first (tree.Do control statements end) b f h =
       either_below high (token_if (later_part (later_control n) control) first) (later_statements n statements) (if_below high _ first f)
       (list_below n high statements b (below_right high (tokens_of_some control_tokens control) (statements_tokens statements) h.1))
-  body_below n high label at first (tree.If condition consequence alternative) b f l h =
+  body_below n high label at first (tree.If condition consequence alternative) b f h =
       let inner = below_right high (expression_tokens condition) (statement_tokens consequence ++ alternative_tokens alternative) h.1 in
       either_below high (token_if (later_expression n condition) first) (or_else (later_statement n consequence) (later_alternative n alternative)) (if_below high _ first f)
       (either_below high (later_statement n consequence) (later_alternative n alternative)
       (statement_below n high consequence b.0 (below_left high (statement_tokens consequence) (alternative_tokens alternative) inner))
       (else_below n high alternative b.1 (below_right high (statement_tokens consequence) (alternative_tokens alternative) inner)))
-  body_below n high label at first (tree.Assign target equals value) b f l h = if_below high _ first f
-  body_below n high label at first (tree.Declare items) b f l h = if_below high _ first f
-  body_below n high label at first (tree.Call name arguments) b f l h = if_below high _ first f
-  body_below n high label at first (tree.Return value) b f l h = if_below high _ first f
-  body_below n high label at first (tree.Put skip items) b f l h = if_below high _ first f
-  body_below n high label at first tree.Null b f l h = none_below high
-  body_below n high label at first tree.Stop b f l h = none_below high
-  body_below n high label at first (tree.Goto name) b f l h = none_below high
-  body_below n high label at first (tree.On condition unit) b f l h = some_below high first f
-  body_below n high label at first (tree.Revert condition) b f l h = some_below high first f
-  body_below n high label at first (tree.Signal condition) b f l h = some_below high first f
-  body_below n high label at first (tree.Allocate allocations) b f l h = if_below high _ first f
-  body_below n high label at first (tree.Free references) b f l h = if_below high _ first f
+  body_below n high label at first (tree.Assign target equals value) b f h = if_below high _ first f
+  body_below n high label at first (tree.Declare items) b f h = none_below high
+  body_below n high label at first (tree.Call name arguments) b f h = if_below high _ first f
+  body_below n high label at first (tree.Return value) b f h = if_below high _ first f
+  body_below n high label at first (tree.Put skip items) b f h = if_below high _ first f
+  body_below n high label at first tree.Null b f h = none_below high
+  body_below n high label at first tree.Stop b f h = none_below high
+  body_below n high label at first (tree.Goto name) b f h = none_below high
+  body_below n high label at first (tree.On condition unit) b f h = some_below high first f
+  body_below n high label at first (tree.Revert condition) b f h = some_below high first f
+  body_below n high label at first (tree.Signal condition) b f h = some_below high first f
+  body_below n high label at first (tree.Allocate allocations) b f h = if_below high _ first f
+  body_below n high label at first (tree.Free references) b f h = if_below high _ first f
 
   list_below : (n : Compiled) (high : ℕ) (ss : Statements) → AllBegin ss → Below high (statements_tokens ss) → AtBelow high (later_statements n ss)
   list_below n high Ended b h = none_below high
@@ -118,8 +111,7 @@ mutual
 -- in a whole unit
 pub unit_below : (n : Compiled) (high : ℕ) (u : ExternalProcedure) → AllBegin u.statements → Below high (unit_tokens u) → AtBelow high (first_unbuilt n u)
 unit_below n high u b h =
-    either_below high (later_heading u.heading) (later_statements n u.statements) (if_below high _ u.heading.name.at h.0)
-    (list_below n high u.statements b (below_right high (tokens_of_each name_tokens u.heading.parameters) (statements_tokens u.statements) h.1))
+    list_below n high u.statements b (below_right high (tokens_of_each name_tokens u.heading.parameters) (statements_tokens u.statements) h.1)
 
 pub unbuilt_stands_at_token : UnbuiltStandsAtToken
 unbuilt_stands_at_token n ts u at read e =

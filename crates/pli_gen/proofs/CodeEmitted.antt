@@ -71,6 +71,9 @@ kept t (op.Based d) is n h = ap (λ k. coded.Based (min k 65535)) (sym (first_nu
 kept t (op.FreeBased d) is n h = ap (λ k. coded.FreeBased (min k 65535)) (sym (first_number same same_decides t.descriptions d (flat_map descriptions_named is)))
 kept t (op.AllocateBased u) is n h =
     ap (λ k. coded.AllocateBased (min k 65535)) (sym (first_number same_template template_decides t.templates u (flat_map templates_named is)))
+kept t (op.AllocateInArea u after) is n h =
+    ap (λ k. coded.AllocateInArea (min k 65535) (min after 65535))
+    (sym (first_number same_template template_decides t.templates u (flat_map templates_named is)))
 kept t op.Nothing is n h = absurd h
 kept t (op.Operate operation) is n h = refl
 kept t i is n h = refl
@@ -188,6 +191,8 @@ module _ (t : NumberedTables) (place : ℕ → ℕ) where
     whole (op.Fit d) h f = ap coded.Fit (description_cut d)
     whole (op.FreeBased d) h f = ap coded.FreeBased (description_cut d)
     whole (op.AllocateBased u) h f = ap coded.AllocateBased (template_cut u)
+    whole (op.AllocateInArea u after) h f =
+        ap (λ n. coded.AllocateInArea n (min after 65535)) (template_cut u) ∙ ap (coded.AllocateInArea (number_in same_template t.templates u)) (cut after h)
     whole (op.MakeDummy d) h f = ap coded.MakeDummy (template_cut (dummy d))
     whole (op.Constant v) h f = let k = number_within same_value t.values v in ap coded.Constant (cut _ (omega (arith, k, few_values)))
     whole (op.AllocateControlled global) h f = ap coded.AllocateControlled (cut_short global f)

@@ -7,13 +7,14 @@ use Rattle.pli_type_tree.specs.TypedTree.{Form, If, Group, While, Iterate}
 use Rattle.pli_type_tree.specs.Iterations.{is_iterated}
 use Rattle.pli_gen_emit.specs.TreeTranslation.{start_code, tests_code, advances_code, back_code, turn_place, list_place}
 use Rattle.pli_gen_emit.specs.TreeTranslation.{BlockTree, behind, value_code, statement_code, form_code, list_code, end_code, block_code, blocks_code}
-use Rattle.pli_gen_emit.specs.answers.Pieces.{simple_code, entries_of}
+use Rattle.pli_gen_emit.specs.answers.Pieces.{entries_of}
 use Rattle.pli_gen_emit.specs.answers.Instructions.{step_place}
 use Rattle.pli_gen.specs.answers.Pieces.{Fits}
 use Rattle.pli_gen.proofs.IterationCode.{start_simple, advances_simple, tests_fit, back_fits}
 use Rattle.pli_gen.proofs.CodeEnds.{grows, both_within, one_way_within, two_ways_within, turns_within, iterate_within}
 use Rattle.pli_gen_emit.proofs.JumpLemmas.{behind_is}
-use Rattle.pli_gen.proofs.SimpleCode.{all_both, value_simple, form_simple, simple_fits}
+use Rattle.pli_gen.proofs.FormCode.{simple_form_fits}
+use Rattle.pli_gen.proofs.SimpleCode.{all_both, value_simple, simple_fits}
 
 abbrev AllFit : (limit : ℕ) → List op.Instruction → Type 0
 AllFit n is = AllByRecursion (Fits n) is
@@ -60,7 +61,7 @@ mutual
         all_both (Fits n) code back (list_fits statements q n w.2)
             (back_fits (is_iterated i.range) number (advances_code i.range i) turn n w.0 (advances_simple i.range i)),
       )
-  form_fits number f p n h = simple_fits (simple_code f) n (form_simple f)
+  form_fits number f p n h = simple_form_fits f p n h
 
   list_fits : (ss : TypedStatements) (p n : ℕ) → behind (list_code ss p) p ≤ n → AllFit n (list_code ss p)
   list_fits NoStatement p n h = tt

@@ -4,21 +4,17 @@ use Rattle.std.specs.List.{AllByRecursion}
 use Rattle.pli_program.specs.Program as op
 use Rattle.pli_operation.specs.declared.operation.Operation.TheVariants as calculate
 use Rattle.pli_type_tree.specs.Iterations.{kept_by, limit_number, step_number, is_iterated}
-use Rattle.pli_type_tree.specs.TypedTree.{TypedOperation, TypedExpression, Iteration, TypedRange, Once, ToBy, ByTo, Repeated}
+use Rattle.pli_type_tree.specs.TypedTree.{TypedExpression, Iteration, TypedRange, Once, ToBy, ByTo, Repeated}
 use Rattle.pli_gen_emit.specs.TreeTranslation.{value_code, place_code, behind, keeps_code, conversion_code, sets_code, start_code, test_against, limit_test, while_test, guarded}
 use Rattle.pli_gen_emit.specs.TreeTranslation.{tests_code, counted_code, advances_code, back_code, turn_place, list_place, iterate_code}
 use Rattle.pli_gen_emit.specs.answers.Instructions.{step_place}
 use Rattle.pli_gen.specs.answers.Pieces.{Fits}
-use Rattle.pli_gen.proofs.SimpleCode.{AllSimple, all_both, simple_both, operation_simple, value_simple, place_simple, simple_fits, none_begins}
+use Rattle.pli_gen.proofs.SimpleCode.{AllSimple, all_both, simple_both, value_simple, place_simple, conversion_simple, simple_fits, none_begins}
 use Rattle.pli_gen.proofs.SimpleCode.{step_place_behind, behind_both}
 
 keeps_simple : (t : ℕ) (es : List TypedExpression) → AllSimple (keeps_code t es)
 keeps_simple t [] = tt
 keeps_simple t (e ∷ es) = simple_both (value_code e) (op.SetTemporary t ∷ keeps_code (suc t) es) (value_simple e) (tt, keeps_simple (suc t) es)
-
-conversion_simple : (os : List TypedOperation) → AllSimple (conversion_code os)
-conversion_simple [] = tt
-conversion_simple (o ∷ os) = (operation_simple o, conversion_simple os)
 
 sets_simple : (i : Iteration) (value : List op.Instruction) → AllSimple value → AllSimple (sets_code i value)
 sets_simple i value simple =

@@ -2,6 +2,7 @@ pub mod CodeEmitted
 pub mod CodeEnds
 pub mod CodeFits
 pub mod FieldLemmas
+pub mod FormCode
 pub mod IterationCode
 pub mod LimitLemmas
 pub mod SimpleCode

@@ -1,22 +1,21 @@
--- Code without steps and jumps: that of expressions, and of statements in which no other stands.
+-- Code without steps that leads nowhere: that of expressions, conversions and items.
 use Rattle.std.proofs.Common.{◌≡◌, ℕ, suc, nat_eq, if◌then◌else◌, List, [], ◌∷◌, ◌++◌, Bool, true, false, refl, ap}
 use Rattle.std.specs.List.{AllByRecursion}
 use Rattle.pli_program.specs.Program as op
 use Rattle.pli_type_tree.specs.TypedTree.{Callee, OfBlock, OfEntry}
-use Rattle.pli_type_tree.specs.TypedTree.{Root, InSlot, OfProgram, NewestOf, Located, TypedOperation, Fit, Operate, TypedExpression, Literal, Held, Calculated, Called, Generations, Address, TypedReference, Whole, Part}
+use Rattle.pli_type_tree.specs.TypedTree.{Root, InSlot, OfProgram, NewestOf, Located, TypedOperation, Fit, Operate, TypedExpression, Literal, Held, Calculated, Called, Generations, Address, AsPointer, AsOffset, TypedReference, Whole, Part}
 use Rattle.pli_type_tree.specs.TypedTree.{Operands, NoOperand, OperandThen, Subscripts, NoSubscript, SubscriptThen, TypedArguments, NoArgument, ByPlace, ByDummy}
-use Rattle.pli_type_tree.specs.TypedTree.{Form, Null, Assign, AssignAggregate, Put, If, Begin, Group, While, Iterate, Call, Goto, Return, ReturnValue, Stop, Allocate, Free}
-use Rattle.pli_type_tree.specs.TypedTree.{AllocatedItem, AllocatesControlled, AllocatesBased, FreedItem, FreesControlled, FreesBased}
-use Rattle.pli_gen_emit.specs.TreeTranslation.{argument_count, root_code, call_instruction, operation_code, value_code, place_code, operands_code, subscripts_code, arguments_code, skip_code, items_code, allocation_code, allocations_code, freeing_code, freeings_code, behind}
-use Rattle.pli_gen_emit.specs.answers.Pieces.{simple_code}
+use Rattle.pli_type_tree.specs.TypedTree.{Conversion, ByOperations, AsPointerIn, AsOffsetIn, FreedItem, FreesControlled, FreesBased}
+use Rattle.pli_gen_emit.specs.TreeTranslation.{argument_count, root_code, call_instruction, operation_code, value_code, place_code, operands_code, subscripts_code, arguments_code, skip_code, items_code, operations_code, conversion_code, freeing_code, freeings_code, behind}
 use Rattle.pli_gen_emit.specs.answers.Instructions.{step_place}
 use Rattle.pli_gen.specs.answers.Pieces.{Fits}
 
--- no step and no jump
+-- no step, and nothing that leads to an instruction
 abbrev pub IsSimple : op.Instruction → Type 0
 IsSimple (op.Step s) = ⊥
 IsSimple (op.Jump target) = ⊥
 IsSimple (op.JumpUnless target) = ⊥
+IsSimple (op.AllocateInArea t after) = ⊥
 IsSimple op.Nothing = ⊥
 IsSimple i = Unit {0}
 
@@ -31,11 +30,15 @@ all_both P (x ∷ xs) ys h k = (h.0, all_both P xs ys h.1 k)
 pub simple_both : (xs ys : List op.Instruction) → AllSimple xs → AllSimple ys → AllSimple (xs ++ ys)
 simple_both xs ys h k = all_both IsSimple xs ys h k
 
+-- two codes and an instruction
+pub both_then : (front back : List op.Instruction) (last : op.Instruction) → AllSimple front → AllSimple back → IsSimple last → AllSimple (front ++ back ++ last ∷ [])
+both_then front back last first second simple = simple_both (front ++ back) (last ∷ []) (simple_both front back first second) (simple, tt)
+
 call_simple : (callee : Callee) (arguments : ℕ) → IsSimple (call_instruction callee arguments)
 call_simple (OfBlock block) arguments = tt
 call_simple (OfEntry number) arguments = tt
 
-pub operation_simple : (o : TypedOperation) → IsSimple (operation_code o)
+operation_simple : (o : TypedOperation) → IsSimple (operation_code o)
 operation_simple (Fit d) = tt
 operation_simple (Operate o) = tt
 
@@ -49,6 +52,8 @@ mutual
       simple_both (arguments_code arguments) (call_instruction callee count ∷ []) (arguments_simple arguments) (call_simple callee count, tt)
   value_simple (Generations number) = (tt, tt)
   value_simple (Address variable) = simple_both (place_code variable) (op.AddressOf ∷ []) (place_simple variable) (tt, tt)
+  value_simple (AsPointer area offset) = both_then (value_code offset) (place_code area) op.ToPointer (value_simple offset) (place_simple area) tt
+  value_simple (AsOffset area pointer) = both_then (value_code pointer) (place_code area) op.ToOffset (value_simple pointer) (place_simple area) tt
 
   root_simple : (r : Root) → AllSimple (root_code r)
   root_simple (InSlot outward slot) = (tt, tt)
@@ -76,57 +81,36 @@ mutual
   arguments_simple (ByDummy description value more) =
       simple_both (value_code value) (op.MakeDummy description ∷ arguments_code more) (value_simple value) (tt, arguments_simple more)
 
-items_simple : (es : List TypedExpression) → AllSimple (items_code es)
+operations_simple : (os : List TypedOperation) → AllSimple (operations_code os)
+operations_simple [] = tt
+operations_simple (o ∷ os) = (operation_simple o, operations_simple os)
+
+pub conversion_simple : (conversion : Conversion) → AllSimple (conversion_code conversion)
+conversion_simple (ByOperations operations) = operations_simple operations
+conversion_simple (AsPointerIn area) = simple_both (place_code area) (op.ToPointer ∷ []) (place_simple area) (tt, tt)
+conversion_simple (AsOffsetIn area) = simple_both (place_code area) (op.ToOffset ∷ []) (place_simple area) (tt, tt)
+
+pub items_simple : (es : List TypedExpression) → AllSimple (items_code es)
 items_simple [] = tt
 items_simple (e ∷ es) = simple_both (value_code e) (op.Put ∷ items_code es) (value_simple e) (tt, items_simple es)
-
-allocation_simple : (item : AllocatedItem) → AllSimple (allocation_code item)
-allocation_simple (AllocatesControlled number) = (tt, tt)
-allocation_simple (AllocatesBased template temporary target) =
-    (tt, (tt, simple_both (place_code target) (op.TakeTemporary temporary ∷ op.Store ∷ []) (place_simple target) (tt, (tt, tt))))
-
-allocations_simple : (items : List AllocatedItem) → AllSimple (allocations_code items)
-allocations_simple [] = tt
-allocations_simple (item ∷ items) = simple_both (allocation_code item) (allocations_code items) (allocation_simple item) (allocations_simple items)
 
 freeing_simple : (item : FreedItem) → AllSimple (freeing_code item)
 freeing_simple (FreesControlled number) = (tt, tt)
 freeing_simple (FreesBased locator description) = simple_both (value_code locator) (op.FreeBased description ∷ []) (value_simple locator) (tt, tt)
 
-freeings_simple : (items : List FreedItem) → AllSimple (freeings_code items)
+pub freeings_simple : (items : List FreedItem) → AllSimple (freeings_code items)
 freeings_simple [] = tt
 freeings_simple (item ∷ items) = simple_both (freeing_code item) (freeings_code items) (freeing_simple item) (freeings_simple items)
 
-skip_simple : (b : Bool) → AllSimple (skip_code b)
+pub skip_simple : (b : Bool) → AllSimple (skip_code b)
 skip_simple true = (tt, tt)
 skip_simple false = tt
-
--- two codes and an instruction
-both_then : (front back : List op.Instruction) (last : op.Instruction) → AllSimple front → AllSimple back → IsSimple last → AllSimple (front ++ back ++ last ∷ [])
-both_then front back last first second simple = simple_both (front ++ back) (last ∷ []) (simple_both front back first second) (simple, tt)
-
-pub form_simple : (f : Form) → AllSimple (simple_code f)
-form_simple (Assign target value) = both_then (place_code target) (value_code value) op.Store (place_simple target) (value_simple value) tt
-form_simple (AssignAggregate target source) = both_then (place_code target) (place_code source) op.Copy (place_simple target) (place_simple source) tt
-form_simple (Put skip items) = simple_both (skip_code skip) (items_code items) (skip_simple skip) (items_simple items)
-form_simple (Call callee arguments) = value_simple (Called callee arguments)
-form_simple (ReturnValue outward value) = simple_both (value_code value) (op.ReturnValue outward ∷ []) (value_simple value) (tt, tt)
-form_simple (Begin head statements) = (tt, tt)
-form_simple (Goto outward label) = (tt, tt)
-form_simple (Return outward) = (tt, tt)
-form_simple Stop = (tt, tt)
-form_simple (Allocate items) = allocations_simple items
-form_simple (Free items) = freeings_simple items
-form_simple Null = tt
-form_simple (If condition consequence alternative) = tt
-form_simple (Group statements) = tt
-form_simple (While condition statements) = tt
-form_simple (Iterate iteration statements) = tt
 
 -- such code fits
 one_fits : (i : op.Instruction) (n : ℕ) → IsSimple i → Fits n i
 one_fits (op.Jump target) n h = absurd h
 one_fits (op.JumpUnless target) n h = absurd h
+one_fits (op.AllocateInArea t after) n h = absurd h
 one_fits op.Nothing n h = absurd h
 one_fits i n h = tt
 
@@ -142,9 +126,6 @@ none_begins (i ∷ is) p m d h = none_begins is (suc p) m d h.1
 
 pub none_in_value : (e : TypedExpression) (p m d : ℕ) → step_place (value_code e) p m d ≡ d
 none_in_value e p m d = none_begins (value_code e) p m d (value_simple e)
-
-pub none_in_form : (f : Form) (p m d : ℕ) → step_place (simple_code f) p m d ≡ d
-none_in_form f p m d = none_begins (simple_code f) p m d (form_simple f)
 
 -- where a statement begins in code behind code
 pub step_place_behind : (xs ys : List op.Instruction) (p m d : ℕ) → step_place (xs ++ ys) p m d ≡ step_place xs p m (step_place ys (behind xs p) m d)

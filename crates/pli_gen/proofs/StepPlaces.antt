@@ -5,7 +5,7 @@ use Rattle.pli_program.specs.Program as op
 use Rattle.pli_code.specs.declared.instruction.Instruction.{Instruction}
 use Rattle.pli_code.specs.declared.instruction.Instruction.TheVariants as coded
 use Rattle.pli_type_tree.specs.TypedTree.{TypedExpression, TypedStatement, Statement, TypedStatements, NoStatement, StatementThen, NoElse, Else}
-use Rattle.pli_type_tree.specs.TypedTree.{Form, Null, Assign, AssignAggregate, Put, If, Begin, Group, While, Iterate, Call, Goto, Return, ReturnValue, Stop, Allocate, Free}
+use Rattle.pli_type_tree.specs.TypedTree.{Form, Null, Assign, AssignAggregate, AssignArea, EmptyArea, Put, If, Begin, Group, While, Iterate, Call, Goto, Return, ReturnValue, Stop, Allocate, Free}
 use Rattle.pli_gen_emit.specs.TreeTranslation.{BlockTree, behind, value_code, statement_code, form_code, list_code, end_code, block_code, blocks_code}
 use Rattle.pli_gen_emit.specs.TreeTranslation.{places_in, places_in_form, places_among, places_of, statement_place, list_place}
 use Rattle.pli_gen_emit.specs.answers.Instructions.{step_place}
@@ -13,7 +13,8 @@ use Rattle.pli_gen_emit.specs.Encoding.{NumberedTables}
 use Rattle.pli_gen_emit.specs.answers.Emitting.{emitted}
 use Rattle.pli_gen.specs.answers.Pieces.{first_step}
 use Rattle.pli_gen.proofs.IterationCode.{iterate_passed}
-use Rattle.pli_gen.proofs.SimpleCode.{none_in_value, none_in_form, step_place_behind, behind_both}
+use Rattle.pli_gen.proofs.FormCode.{none_in_form}
+use Rattle.pli_gen.proofs.SimpleCode.{none_in_value, step_place_behind, behind_both}
 
 -- one instruction more
 first_then : (x : Instruction) (rest : List Instruction) (p n : ℕ) → first_step (x ∷ rest) p n 0 ≡ first_step (x ∷ []) p n (first_step rest (suc p) n 0)
@@ -109,6 +110,8 @@ mutual
   form_begins number Null p m d e = none_in_form Null p m d
   form_begins number (Assign target value) p m d e = none_in_form (Assign target value) p m d
   form_begins number (AssignAggregate target source) p m d e = none_in_form (AssignAggregate target source) p m d
+  form_begins number (AssignArea target source) p m d e = none_in_form (AssignArea target source) p m d
+  form_begins number (EmptyArea target) p m d e = none_in_form (EmptyArea target) p m d
   form_begins number (Put skip items) p m d e = none_in_form (Put skip items) p m d
   form_begins number (Begin head statements) p m d e = refl
   form_begins number (Call callee arguments) p m d e = none_in_form (Call callee arguments) p m d

@@ -83,6 +83,7 @@ module _ (tables : NumberedTables) (u : TypedUnit) (bs : List BlockTree) (code :
   instruction_there (op.Fit d) ds ts vs = ap (naming op.Fit) (description_there d ds.0)
   instruction_there (op.Based d) ds ts vs = ap (naming op.Based) (description_there d ds.0)
   instruction_there (op.AllocateBased t) ds ts vs = ap (naming op.AllocateBased) (template_there t ts.0 ds.0)
+  instruction_there (op.AllocateInArea t after) ds ts vs = ap (naming (λ t. op.AllocateInArea t after)) (template_there t ts.0 ds.0)
   instruction_there (op.FreeBased d) ds ts vs = ap (naming op.FreeBased) (description_there d ds.0)
   instruction_there op.Nothing ds ts vs = ap (naming op.Constant) (none_behind tables.values)
   instruction_there i ds ts vs = refl

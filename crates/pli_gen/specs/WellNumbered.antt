@@ -7,7 +7,7 @@ use Rattle.pli_type_tree.specs.Iterations.{temporaries_of, is_iterated}
 use Rattle.pli_type_tree.specs.TypedTree.{TypedStatement, Statement, Form, If, Group, While, Iterate}
 use Rattle.pli_type_tree.specs.TypedTree.{Iteration, OtherWise, NoElse, Else, TypedStatements, NoStatement}
 use Rattle.pli_type_tree.specs.TypedTree.{StatementThen, TypedUnit, Allocate, AllocatedItem}
-use Rattle.pli_type_tree.specs.TypedTree.{AllocatesControlled, AllocatesBased}
+use Rattle.pli_type_tree.specs.TypedTree.{AllocatesControlled, AllocatesBased, AllocatesInArea}
 use Rattle.pli_gen_emit.specs.TreeTranslation.{BlockTree, blocks_of_procedure, blocks_of}
 
 -- no number stands twice in a list
@@ -83,6 +83,8 @@ next_temporary i = i.temporary + temporaries_of i.range
 abbrev pub KeepsTemporary : (used size : ℕ) → AllocatedItem → Type 0
 KeepsTemporary used size (AllocatesControlled number) = Unit {0}
 KeepsTemporary used size (AllocatesBased template temporary target) =
+    (used ≤ temporary) × (suc temporary ≤ size)
+KeepsTemporary used size (AllocatesInArea area template temporary target conversion) =
     (used ≤ temporary) × (suc temporary ≤ size)
 
 -- where so many of a block's temporaries are in use, iterations and items of ALLOCATE have others, and the

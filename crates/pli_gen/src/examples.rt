@@ -5,11 +5,11 @@ ghost use Rattle.pli_gen.specs.examples.TranslationExamples.{JumpsAndBlocks, Who
 ghost use Rattle.pli_gen.specs.examples.TranslationExamples.{TablesNumbered, InstructionsNumbered, LimitsKept};
 ghost use Rattle.pli_gen.specs.examples.TranslationExamples.{GlobalsNumbered, EntriesCalled, EntriesLinked};
 ghost use Rattle.pli_gen.specs.examples.TranslationExamples.{GenerationsStacked, ControlledLinked};
-ghost use Rattle.pli_gen.specs.examples.TranslationExamples.{PointersFollowed};
+ghost use Rattle.pli_gen.specs.examples.TranslationExamples.{PointersFollowed, AreasUsed};
 
 /// Worked examples: an assignment and PUT; a reference with subscripts; a call; an aggregate; a group with a control
 /// variable; jumps between blocks; tables; globals and calls of entries; ALLOCATE, FREE and ALLOCATION; what
-/// pointers lead to.
+/// pointers lead to; what areas hold.
 pub fn worked_examples()
     ensures assigned_and_printed { AssignedAndPrinted }
     ensures part_of_structure { PartOfStructure }
@@ -28,4 +28,5 @@ pub fn worked_examples()
     ensures generations_stacked { GenerationsStacked }
     ensures controlled_linked { ControlledLinked }
     ensures pointers_followed { PointersFollowed }
+    ensures areas_used { AreasUsed }
 {}

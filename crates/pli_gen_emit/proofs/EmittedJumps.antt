@@ -1,20 +1,17 @@
 -- Code with jumps that was emitted, unless memory was wanting.
-use Rattle.std.proofs.Common.{◌≡◌, ◌<◌, ◌+◌, ◌∷◌, [], ℕ, List, false, length, min, drop, get_or, ap, ◌∙◌, sym}
+use Rattle.std.proofs.Common.{◌≡◌, ◌∷◌, [], ℕ, List, false, length, min, ap, ◌∙◌, sym}
 use Rattle.pli_program.specs.Program as op
 use Rattle.pli_type_tree.specs.Iterations.{is_iterated}
 use Rattle.pli_type_tree.specs.TypedTree.{Iteration}
-use Rattle.pli_type_tree.specs.declared.statement.TypedStatement.{TypedStatement}
-use Rattle.pli_type_tree.specs.views.TypedView.{statement_view, statements_view}
 use Rattle.pli_code.specs.declared.instruction.Instruction.{Instruction}
 use Rattle.pli_code.specs.declared.instruction.Instruction.TheVariants as coded
-use Rattle.pli_gen_emit.specs.TreeTranslation.{one_way, two_ways, turns_code, start_code, tests_code, advances_code, back_code, iterate_code, statement_code, list_code}
-use Rattle.pli_gen_emit.specs.answers.Emitting.{emission, extended, landed, Emits, Lands}
+use Rattle.pli_gen_emit.specs.TreeTranslation.{one_way, two_ways, turns_code, start_code, tests_code, advances_code, back_code, iterate_code}
+use Rattle.pli_gen_emit.specs.answers.Emitting.{emission, landed, Emits, Lands}
 use Rattle.pli_gen_emit.specs.answers.Pieces.{IsTurn, LandsTurn}
 use Rattle.pli_gen_emit.specs.declared.emitter.Emitter.{Emitter}
 use Rattle.pli_gen_emit.specs.declared.iteration.Turn.{Turn}
-use Rattle.pli_gen_emit.proofs.EmitLemmas.{IsAmid}
 use Rattle.pli_gen_emit.proofs.IterationLemmas.{iterate_made}
-use Rattle.pli_gen_emit.proofs.JumpLemmas.{one_way_made, two_ways_made, turns_made, more_statements}
+use Rattle.pli_gen_emit.proofs.JumpLemmas.{one_way_made, two_ways_made, turns_made}
 
 -- where a jump lands, in other words
 pub lands_as : (old new : Emitter) (p q m n : ℕ) (jump : ℕ → Instruction) → Lands old new p (jump (min m 65535)) → p ≡ q → m ≡ n → Lands old new q (jump (min n 65535))
@@ -84,15 +81,4 @@ iterate_emitted old started tested stepping done back all number i list turn s t
       let one = j.0 two in
       iterate_made (emission old) (emission started) (emission tested) (emission stepping) (emission done) (emission back) (emission all) number i list turn
       (s.1 (t.0 one)) (t.1 one) (is one) (j.1 two) (d.1 three) (b.1 four) a.1,
-)
-
--- one statement more
-pub statements_amid : (initial now new : Emitter) (xs : List TypedStatement) (i : ℕ) (d : TypedStatement) (whole : List op.Instruction) → i < length xs → d ≡ get_or xs i d
-    → Emits now new (statement_code (statement_view d) (length now.code.items))
-    → IsAmid initial now (list_code (statements_view (drop i xs)) (length now.code.items)) whole
-    → IsAmid initial new (list_code (statements_view (drop (i + 1) xs)) (length new.code.items)) whole
-statements_amid initial now new xs i d whole lt read e was = (
-  λ h. was.0 (e.0 h),
-  λ h. more_statements xs i d (emission now) (emission new) _ lt
-      (e.1 h ∙ ap (λ s. extended (emission now) (statement_code (statement_view s) (length now.code.items))) read) (was.1 (e.0 h)),
 )

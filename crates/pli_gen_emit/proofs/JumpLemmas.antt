@@ -2,16 +2,15 @@
 use Rattle.std.proofs.Common.{◌≡◌, ◌<◌, ◌+◌, ◌++◌, ◌||◌, ◌∷◌, [], ℕ, false, zero, suc, min, List, length, slice_set, drop, get_or, refl, ap, ◌∙◌, sym, arith}
 use Rattle.std.proofs.lemmas.List.{at_drop_more, append_assoc}
 use Rattle.pli_program.specs.Program as op
-use Rattle.pli_type_tree.specs.declared.statement.TypedStatement.{TypedStatement}
-use Rattle.pli_type_tree.specs.views.TypedView.{statement_view, statements_view}
 use Rattle.pli_code.specs.declared.instruction.Instruction.{Instruction}
 use Rattle.pli_code.specs.declared.instruction.Instruction.TheVariants as coded
-use Rattle.pli_gen_emit.specs.TreeTranslation.{BlockTree, behind, one_way, two_ways, turns_code, statement_code, list_code, block_code, blocks_code}
+use Rattle.pli_gen_emit.specs.TreeTranslation.{BlockTree, behind, one_way, two_ways, turns_code, block_code, blocks_code}
 use Rattle.pli_gen_emit.specs.answers.Emitting.{Emission, emitted, tables_with, gotos_with, with_instruction, extended, landed}
 use Rattle.pli_gen_emit.specs.answers.Pieces.{entries_of}
 use Rattle.pli_gen_emit.specs.views.BlockView.{block_tree, block_trees}
 use Rattle.pli_gen_emit.specs.declared.block.BlockSource.{BlockSource}
 use Rattle.pli_gen_emit.proofs.EmitLemmas.{extended_both, one_longer, longer, counted}
+use Rattle.pli_gen_emit.proofs.PlacedLemmas.{more_placed}
 
 -- the place behind code is so many further
 pub behind_is : (is : List op.Instruction) (p : ℕ) → behind is p ≡ p + length is
@@ -163,20 +162,6 @@ turns_made old lined tested jumping stepping done back all number test list n t 
     ∙ ap (λ s. with_instruction s (op.Jump p)) (ap (λ s. extended s front) begun ∙ sym (extended_both old (op.Line number ∷ test) front))
     ∙ sym (extended_both old ((op.Line number ∷ test) ++ front) (op.Jump p ∷ []))
 
--- one statement more
-pub more_statements : (xs : List TypedStatement) (i : ℕ) (d : TypedStatement) (old new whole : Emission) → i < length xs
-    → new ≡ extended old (statement_code (statement_view (get_or xs i d)) (length old.code))
-    → extended old (list_code (statements_view (drop i xs)) (length old.code)) ≡ whole
-    → extended new (list_code (statements_view (drop (i + 1) xs)) (length new.code)) ≡ whole
-more_statements xs i d old new whole lt added all =
-    let p = length old.code in
-    let here = statement_code (statement_view (get_or xs i d)) p in
-    let rest = statements_view (drop (i + 1) xs) in
-    let step : extended old (list_code (statements_view (drop i xs)) p) ≡ extended old (here ++ list_code rest (behind here p)) =
-    at_drop_more (λ ys. extended old (list_code (statements_view ys) p)) xs i d lt in
-    ap (λ n. extended new (list_code rest n)) (longer old new here added) ∙ ap (λ s. extended s (list_code rest (behind here p))) added
-    ∙ sym (extended_both old here (list_code rest (behind here p))) ∙ sym step ∙ all
-
 -- one block more
 module _ (bs : List BlockSource) (i : ℕ) (d : BlockSource) (old new : Emission) (lt : i < length bs)
     (added : new ≡ extended old (block_code (block_tree (get_or bs i d)) (length old.code))) where
@@ -189,10 +174,7 @@ module _ (bs : List BlockSource) (i : ℕ) (d : BlockSource) (old new : Emission
   pub more_blocks : (whole : Emission) → extended old (blocks_code (block_trees (drop i bs)) (length old.code)) ≡ whole
       → extended new (blocks_code rest (length new.code)) ≡ whole
   more_blocks whole all =
-      let step : extended old (blocks_code (block_trees (drop i bs)) (length old.code)) ≡ extended old (here ++ blocks_code rest (behind here (length old.code))) =
-      at_drop_more (λ ys. extended old (blocks_code (block_trees ys) (length old.code))) bs i d lt in
-      ap (λ n. extended new (blocks_code rest n)) (longer old new here added) ∙ ap (λ s. extended s (blocks_code rest (behind here (length old.code)))) added
-      ∙ sym (extended_both old here (blocks_code rest (behind here (length old.code)))) ∙ sym step ∙ all
+      more_placed (λ bs p. blocks_code (block_trees bs) p) (λ b p. block_code (block_tree b) p) (λ b bs p. refl) bs i d old new whole lt added all
 
   pub more_entries : (before now whole : List ℕ) → now ≡ before ++ length old.code ∷ [] → before ++ entries_of (block_trees (drop i bs)) (length old.code) ≡ whole
       → now ++ entries_of rest (length new.code) ≡ whole

@@ -10,5 +10,6 @@ pub mod LoopLemmas
 pub mod NamedLemmas
 pub mod NumberLemmas
 pub mod NumberingLemmas
+pub mod PlacedLemmas
 pub mod TableNumbers
 pub mod TreeCode

@@ -6,12 +6,12 @@ use Rattle.pli_map.specs.views.DescriptionView.{description_view}
 use Rattle.pli_program.specs.Program as op
 use Rattle.pli_type_tree.specs.TypedTree.{TypedArguments, NoArgument}
 use Rattle.pli_type_tree.specs.views.TypedView.{root_view, callee_view, operation_view, expression_view, reference_view, argument_before, operands_view, subscripts_view, arguments_view}
-use Rattle.pli_type_tree.specs.laws.TypedTreeLaws.{calculated_made, called_made, part_made}
+use Rattle.pli_type_tree.specs.laws.TypedTreeLaws.{calculated_made, called_made, part_made, as_pointer_made, as_offset_made}
 use Rattle.pli_type_tree.specs.declared.expression.Callee.{Callee}
 use Rattle.pli_type_tree.specs.declared.expression.Root.{Root, Located}
-use Rattle.pli_type_tree.specs.declared.expression.TypedExpression.{TypedExpression, Calculated, Called}
+use Rattle.pli_type_tree.specs.declared.expression.TypedExpression.{TypedExpression, Calculated, Called, AsPointer, AsOffset}
 use Rattle.pli_type_tree.specs.declared.expression.TypedOperation.{TypedOperation}
-use Rattle.pli_type_tree.specs.declared.expression.TypedReference.{Part}
+use Rattle.pli_type_tree.specs.declared.expression.TypedReference.{TypedReference, Part}
 use Rattle.pli_type_tree.specs.declared.expression.TypedSubscript.{TypedSubscript}
 use Rattle.pli_type_tree.specs.declared.expression.TypedArgument.{TypedArgument, ByPlace, ByDummy}
 use Rattle.pli_gen_emit.specs.TreeTranslation.{argument_count, root_code, call_instruction, operation_code, value_code, place_code, operands_code, subscripts_code, arguments_code}
@@ -33,6 +33,15 @@ pub call_code_made : (callee : Callee) (arguments : Vec TypedArgument Global)
 call_code_made callee arguments =
     ap value_code (called_made callee arguments)
     ∙ ap (λ n. arguments_code (arguments_view arguments.items) ++ call_instruction (callee_view callee) n ∷ []) (arguments_counted arguments.items)
+
+-- an offset as a pointer into an area, and a pointer as an offset of one
+pub as_pointer_code_made : (area : TypedReference) (offset : Box TypedExpression Global)
+    → value_code (expression_view (AsPointer area offset)) ≡ value_code (expression_view offset.value) ++ place_code (reference_view area) ++ op.ToPointer ∷ []
+as_pointer_code_made area offset = ap value_code (as_pointer_made area offset)
+
+pub as_offset_code_made : (area : TypedReference) (pointer : Box TypedExpression Global)
+    → value_code (expression_view (AsOffset area pointer)) ≡ value_code (expression_view pointer.value) ++ place_code (reference_view area) ++ op.ToOffset ∷ []
+as_offset_code_made area pointer = ap value_code (as_offset_made area pointer)
 
 -- what is at the place to which a locator leads
 pub located_code_made : (locator : Box TypedExpression Global) (description : Description)

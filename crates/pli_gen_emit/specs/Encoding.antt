@@ -41,6 +41,7 @@ descriptions_named (op.Based d) = d ∷ []
 descriptions_named (op.MakeDummy d) = d ∷ []
 descriptions_named (op.Fit d) = d ∷ []
 descriptions_named (op.AllocateBased t) = t.description ∷ []
+descriptions_named (op.AllocateInArea t after) = t.description ∷ []
 descriptions_named (op.FreeBased d) = d ∷ []
 descriptions_named i = []
 
@@ -48,6 +49,7 @@ descriptions_named i = []
 abbrev pub templates_named : op.Instruction → List Template
 templates_named (op.MakeDummy d) = dummy d ∷ []
 templates_named (op.AllocateBased t) = t ∷ []
+templates_named (op.AllocateInArea t after) = t ∷ []
 templates_named i = []
 
 -- the values that it names
@@ -132,11 +134,16 @@ module _ (tables : NumberedTables) where
   instruction_code (op.Fit d) = coded.Fit (description_number d)
   instruction_code (op.Operate operation) = coded.Operate operation
   instruction_code op.AddressOf = coded.AddressOf
+  instruction_code op.ToPointer = coded.ToPointer
+  instruction_code op.ToOffset = coded.ToOffset
   instruction_code (op.AllocateControlled global) = coded.AllocateControlled global
   instruction_code (op.FreeControlled global) = coded.FreeControlled global
   instruction_code (op.CountGenerations global) = coded.CountGenerations global
   instruction_code (op.AllocateBased t) = coded.AllocateBased (template_number t)
+  instruction_code (op.AllocateInArea t after) = coded.AllocateInArea (template_number t) after
   instruction_code (op.FreeBased d) = coded.FreeBased (description_number d)
+  instruction_code op.AssignArea = coded.AssignArea
+  instruction_code op.EmptyArea = coded.EmptyArea
   instruction_code op.Put = coded.Put
   instruction_code op.Skip = coded.Skip
   instruction_code (op.SetTemporary number) = coded.SetTemporary number

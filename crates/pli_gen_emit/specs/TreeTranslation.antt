@@ -14,17 +14,17 @@ use Rattle.pli_operation.specs.declared.operation.Operation.TheVariants.{Add, Wi
 use Rattle.pli_type_tree.specs.Iterations.{kept_by, limit_number, step_number, is_iterated}
 use Rattle.pli_type_tree.specs.Templates.{variable_of}
 use Rattle.pli_type_tree.specs.TypedTree.{Root, InSlot, OfProgram, NewestOf, Located, TypedExpression}
-use Rattle.pli_type_tree.specs.TypedTree.{Literal, Held, Calculated, Called, Generations, Address}
-use Rattle.pli_type_tree.specs.TypedTree.{TypedReference, Whole, Part}
-use Rattle.pli_type_tree.specs.TypedTree.{Operands, NoOperand}
+use Rattle.pli_type_tree.specs.TypedTree.{Literal, Held, Calculated, Called, Generations, Address, AsPointer}
+use Rattle.pli_type_tree.specs.TypedTree.{AsOffset, TypedReference, Whole, Part, Operands, NoOperand}
 use Rattle.pli_type_tree.specs.TypedTree.{OperandThen, Subscripts, NoSubscript, SubscriptThen, TypedArguments}
-use Rattle.pli_type_tree.specs.TypedTree.{NoArgument, ByPlace, ByDummy, BlockHead, TypedStatement, Statement}
-use Rattle.pli_type_tree.specs.TypedTree.{Form, Null, Assign, AssignAggregate, Put, If, Begin, Group, While}
-use Rattle.pli_type_tree.specs.TypedTree.{Iterate, TypedRange, Once, ToBy, ByTo, Repeated, Iteration}
-use Rattle.pli_type_tree.specs.TypedTree.{Call, Goto, Return, ReturnValue, Stop, Allocate, Free, OtherWise}
-use Rattle.pli_type_tree.specs.TypedTree.{NoElse, Else}
-use Rattle.pli_type_tree.specs.TypedTree.{AllocatedItem, AllocatesControlled, AllocatesBased, FreedItem}
-use Rattle.pli_type_tree.specs.TypedTree.{FreesControlled, FreesBased}
+use Rattle.pli_type_tree.specs.TypedTree.{NoArgument, ByPlace, ByDummy, Conversion, ByOperations}
+use Rattle.pli_type_tree.specs.TypedTree.{AsPointerIn, AsOffsetIn, BlockHead, TypedStatement, Statement}
+use Rattle.pli_type_tree.specs.TypedTree.{Form, Null, Assign, AssignAggregate, AssignArea, EmptyArea, Put, If}
+use Rattle.pli_type_tree.specs.TypedTree.{Begin, Group, While, Iterate, TypedRange, Once, ToBy, ByTo}
+use Rattle.pli_type_tree.specs.TypedTree.{Repeated, Iteration, Call, Goto, Return, ReturnValue, Stop}
+use Rattle.pli_type_tree.specs.TypedTree.{Allocate, Free, OtherWise, NoElse, Else}
+use Rattle.pli_type_tree.specs.TypedTree.{AllocatedItem, AllocatesControlled, AllocatesBased, AllocatesInArea}
+use Rattle.pli_type_tree.specs.TypedTree.{FreedItem, FreesControlled, FreesBased}
 use Rattle.pli_type_tree.specs.TypedTree.{TypedStatements, NoStatement, StatementThen, TypedProcedure}
 use Rattle.pli_type_tree.specs.TypedTree.{Callee, OfBlock, OfEntry, Global, OwnVariable, ExternalVariable}
 use Rattle.pli_type_tree.specs.TypedTree.{EntryPoint, TypedUnit, TypedOperation}
@@ -50,7 +50,8 @@ operation_code (tree.Operate operation) = Operate operation
 
 abbrev mutual
   -- the value of an expression: a constant; a variable's place and what it holds; the operands and the
-  -- operation; the arguments and the call; the count of generations; a variable's place and the pointer to it
+  -- operation; the arguments and the call; the count of generations; a variable's place and the pointer to
+  -- it; a locator's value, the place of an area, and the conversion
   pub value_code : TypedExpression → List Instruction
   value_code (Literal value) = Constant value ∷ []
   value_code (Held variable) = place_code variable ++ Load ∷ []
@@ -59,6 +60,8 @@ abbrev mutual
       arguments_code arguments ++ call_instruction callee (argument_count arguments) ∷ []
   value_code (Generations number) = op.CountGenerations number ∷ []
   value_code (Address variable) = place_code variable ++ op.AddressOf ∷ []
+  value_code (AsPointer area offset) = value_code offset ++ place_code area ++ op.ToPointer ∷ []
+  value_code (AsOffset area pointer) = value_code pointer ++ place_code area ++ op.ToOffset ∷ []
 
   -- the place at which a reference begins; the global of a CONTROLLED variable is the place of its newest
   -- generation; a locator's value leads to that of a BASED one
@@ -107,17 +110,39 @@ abbrev pub items_code : List TypedExpression → List Instruction
 items_code [] = []
 items_code (e ∷ es) = value_code e ++ op.Put ∷ items_code es
 
--- an item of ALLOCATE; the pointer to a BASED variable's generation is kept till its target's place is there
-abbrev pub allocation_code : AllocatedItem → List Instruction
-allocation_code (AllocatesControlled number) = op.AllocateControlled number ∷ []
-allocation_code (AllocatesBased template temporary target) =
+-- one operation after the other
+abbrev pub operations_code : List TypedOperation → List Instruction
+operations_code [] = []
+operations_code (operation ∷ more) = operation_code operation ∷ operations_code more
+
+-- a value becomes that of a variable that gets it: by operations, or by the place of an area
+abbrev pub conversion_code : Conversion → List Instruction
+conversion_code (ByOperations operations) = operations_code operations
+conversion_code (AsPointerIn area) = place_code area ++ op.ToPointer ∷ []
+conversion_code (AsOffsetIn area) = place_code area ++ op.ToOffset ∷ []
+
+-- the place behind code that begins at a place
+abbrev pub behind : List Instruction → ℕ → ℕ
+behind [] p = p
+behind (i ∷ is) p = behind is (suc p)
+
+-- an item of ALLOCATE; the pointer to a BASED variable's generation or block is kept till its target's place
+-- is there. A block of an area is made behind the area's place, and leads to where the item begins
+abbrev pub allocation_code : AllocatedItem → (at : ℕ) → List Instruction
+allocation_code (AllocatesControlled number) p = op.AllocateControlled number ∷ []
+allocation_code (AllocatesBased template temporary target) p =
     op.AllocateBased template ∷ op.SetTemporary temporary
     ∷ place_code target ++ op.TakeTemporary temporary ∷ Store ∷ []
+allocation_code (AllocatesInArea area template temporary target conversion) p =
+    place_code area
+    ++ (op.AllocateInArea template p ∷ op.SetTemporary temporary
+    ∷ (place_code target ++ (op.TakeTemporary temporary ∷ (conversion_code conversion ++ Store ∷ []))))
 
 -- its items, one after the other
-abbrev pub allocations_code : List AllocatedItem → List Instruction
-allocations_code [] = []
-allocations_code (item ∷ items) = allocation_code item ++ allocations_code items
+abbrev pub allocations_code : List AllocatedItem → (at : ℕ) → List Instruction
+allocations_code [] p = []
+allocations_code (item ∷ items) p =
+    let code = allocation_code item p in code ++ allocations_code items (behind code p)
 
 -- an item of FREE
 abbrev pub freeing_code : FreedItem → List Instruction
@@ -130,11 +155,6 @@ freeings_code [] = []
 freeings_code (item ∷ items) = freeing_code item ++ freeings_code items
 
 -- statements
-
--- the place behind code that begins at a place
-abbrev pub behind : List Instruction → ℕ → ℕ
-behind [] p = p
-behind (i ∷ is) p = behind is (suc p)
 
 -- a test, a jump past the part that is executed where it holds, and that part
 abbrev pub one_way : (test : List Instruction) (part : ℕ → List Instruction) → ℕ → List Instruction
@@ -166,11 +186,6 @@ turns_code number test list p =
 abbrev pub keeps_code : (temporary : ℕ) → List TypedExpression → List Instruction
 keeps_code temporary [] = []
 keeps_code temporary (e ∷ es) = value_code e ++ op.SetTemporary temporary ∷ keeps_code (suc temporary) es
-
--- one operation after the other
-abbrev pub conversion_code : List TypedOperation → List Instruction
-conversion_code [] = []
-conversion_code (operation ∷ more) = operation_code operation ∷ conversion_code more
 
 -- the control variable gets a value, converted to it
 abbrev pub sets_code : Iteration → (value : List Instruction) → List Instruction
@@ -253,6 +268,9 @@ abbrev mutual
   form_code number Null p = []
   form_code number (Assign target value) p = place_code target ++ value_code value ++ Store ∷ []
   form_code number (AssignAggregate target source) p = place_code target ++ place_code source ++ Copy ∷ []
+  form_code number (AssignArea target source) p =
+      place_code target ++ place_code source ++ op.AssignArea ∷ []
+  form_code number (EmptyArea target) p = place_code target ++ op.EmptyArea ∷ []
   form_code number (Put skip items) p = skip_code skip ++ items_code items
   form_code number (If condition consequence alternative) p =
       if_code (value_code condition) (statement_code consequence) alternative p
@@ -266,7 +284,7 @@ abbrev mutual
   form_code number (Return outward) p = op.Return outward ∷ []
   form_code number (ReturnValue outward value) p = value_code value ++ op.ReturnValue outward ∷ []
   form_code number Stop p = op.Stop ∷ []
-  form_code number (Allocate items) p = allocations_code items
+  form_code number (Allocate items) p = allocations_code items p
   form_code number (Free items) p = freeings_code items
 
   -- the test of an IF and its parts

@@ -21,7 +21,8 @@ pub struct BlockSource<'a> {
     pub statements: &'a [TypedStatement],
 }
 
-/// Blocks as they are collected, and the error of one for which memory was refused, which is asked for once, at the end.
+/// Blocks as they are collected, and the error of one for which memory was refused, which is asked for once, at the
+/// end.
 #[derive(Drop)]
 pub(crate) struct Collected<'a> {
     pub blocks: Vec<BlockSource<'a>>,
@@ -82,6 +83,8 @@ fn collect_in<'a>(parent: usize, statement: &'a TypedStatement, blocks: &mut Col
         Form::Null
         | Form::Assign { .. }
         | Form::AssignAggregate { .. }
+        | Form::AssignArea { .. }
+        | Form::EmptyArea(_)
         | Form::Put { .. }
         | Form::Call { .. }
         | Form::Goto { .. }

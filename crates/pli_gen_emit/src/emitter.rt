@@ -15,7 +15,7 @@ ghost use Rattle.pli_gen_emit.specs.answers.Emitting.{Puts, Emits, Lands, LandsG
 use crate::fields::{BYTE_LIMIT, SHORT_LIMIT, byte, short, temporary, temporary_fits};
 use crate::one::One;
 use crate::table::{
-    NumberedTables, number_description, number_template, number_value, template_key,
+    NumberedTables, number_description, number_template, number_used, number_value,
 };
 use pli_code::Instruction;
 use pli_map::Description;
@@ -214,9 +214,18 @@ impl<'a> Emitter<'a> {
     pub(crate) fn allocate_based(&mut self, template: &'a Template)
         ensures { Emits self.old self.new (op.AllocateBased (template_view template.now) ∷ []) }
     {
-        number_description(&mut self.tables, &template.description);
-        let template = number_template(&mut self.tables, template_key(template));
+        let template = number_used(&mut self.tables, template);
         self.put(true, Instruction::AllocateBased { template });
+    }
+
+    /// Appends what makes a block of an area for a BASED variable. Behind a unit of the AREA condition the code at this
+    /// place goes on.
+    pub(crate) fn allocate_in_area(&mut self, template: &'a Template, after: usize)
+        ensures { Emits self.old self.new (op.AllocateInArea (template_view template.now) after ∷ []) }
+    {
+        let template = number_used(&mut self.tables, template);
+        let target = short(after);
+        self.put(true, Instruction::AllocateInArea { template, target });
     }
 
     /// Appends what ends the generation to which a locator leads, of this whole description.

@@ -40,6 +40,16 @@ pub(crate) fn emit_value<'a>(expression: &'a TypedExpression, code: &mut Emitter
             emit_place(variable, code);
             code.emit(Instruction::AddressOf)
         }
+        TypedExpression::AsPointer { area, offset } => {
+            emit_value(offset, code);
+            emit_place(area, code);
+            code.emit(Instruction::ToPointer)
+        }
+        TypedExpression::AsOffset { area, pointer } => {
+            emit_value(pointer, code);
+            emit_place(area, code);
+            code.emit(Instruction::ToOffset)
+        }
     }
 }
 

@@ -1,22 +1,22 @@
 //! The code of groups with a control variable, round their lists.
 #![tactic(auto, using(crate::proofs::EmitLemmas::extended_both))]
 
-ghost use Rattle.std.specs.Prelude.{◌≡◌, ◌++◌, ◌∷◌, [], false, suc, map, length};
-ghost use Rattle.pli_program.specs.Program as op;
+ghost use Rattle.std.specs.Prelude.{◌≡◌, false, suc, length};
 ghost use Rattle.pli_type_tree.specs.Iterations as plain;
 ghost use Rattle.pli_type_tree.specs.Iterations.{kept_by};
-ghost use Rattle.pli_type_tree.specs.views.TypedView.{iteration_view, operation_view, range_view};
-ghost use Rattle.pli_gen_emit.specs.TreeTranslation.{keeps_code, conversion_code, start_code};
+ghost use Rattle.pli_type_tree.specs.views.TypedView.{iteration_view, range_view};
+ghost use Rattle.pli_gen_emit.specs.TreeTranslation.{keeps_code, start_code};
 ghost use Rattle.pli_gen_emit.specs.TreeTranslation.{limit_test, while_test, guarded, tests_code};
 ghost use Rattle.pli_gen_emit.specs.TreeTranslation.{counted_code, advances_code, back_code};
 ghost use Rattle.pli_gen_emit.specs.answers.Emitting.{Emits};
 ghost use Rattle.pli_gen_emit.specs.answers.Pieces.{jump_place, IsTurn, LandsTurn};
 
+use crate::conversion::emit_store;
 use crate::emitter::Emitter;
 use crate::expression::{emit_place, emit_value};
 use pli_code::Instruction;
 use pli_operation::Operation;
-use pli_type_tree::{Iteration, TypedOperation, TypedRange};
+use pli_type_tree::{Iteration, TypedRange};
 
 /// Where the tests before a turn stand, and the jumps out of the group behind the limit's and behind WHILE's.
 #[derive(Clone, Copy)]
@@ -52,23 +52,6 @@ fn emit_kept<'a>(range: &'a TypedRange, first: usize, code: &mut Emitter<'a>)
     }
 }
 
-/// Emits the conversion to the control variable.
-fn emit_conversion<'a>(conversion: &'a [TypedOperation], code: &mut Emitter<'a>)
-    ensures { Emits code.old code.new (conversion_code (map operation_view conversion.now)) }
-{
-    for operation in conversion {
-        code.operation(operation);
-    }
-}
-
-/// Emits the conversion to the control variable and the store.
-fn emit_store<'a>(conversion: &'a [TypedOperation], code: &mut Emitter<'a>)
-    ensures { Emits code.old code.new (conversion_code (map operation_view conversion.now) ++ op.Store ∷ []) }
-{
-    emit_conversion(conversion, code);
-    code.emit(Instruction::Store);
-}
-
 /// Emits what is done before the first turn.
 pub(crate) fn emit_start<'a>(iteration: &'a Iteration, code: &mut Emitter<'a>)
     ensures { Emits code.old code.new (start_code (iteration_view iteration.now)) }
@@ -79,7 +62,7 @@ pub(crate) fn emit_start<'a>(iteration: &'a Iteration, code: &mut Emitter<'a>)
     emit_kept(&iteration.range, first, code);
     emit_place(&iteration.control, code);
     code.take_temporary(first, 0);
-    emit_store(iteration.conversion.as_slice(), code);
+    emit_store(&iteration.conversion, code);
 }
 
 /// The number of the limit among what is kept, if there is a limit.
@@ -170,7 +153,7 @@ fn emit_count<'a>(iteration: &'a Iteration, step: u8, code: &mut Emitter<'a>)
     code.emit(Instruction::Load);
     code.take_temporary(iteration.temporary, step);
     code.emit(Instruction::Operate(Operation::Add));
-    emit_store(iteration.conversion.as_slice(), code);
+    emit_store(&iteration.conversion, code);
 }
 
 /// Emits what gives the control variable its next value.

@@ -2,6 +2,7 @@
 #![tactic(auto)]
 
 mod block;
+mod conversion;
 mod emitter;
 mod emitting;
 mod expression;

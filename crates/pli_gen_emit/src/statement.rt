@@ -94,6 +94,8 @@ fn emit_form<'a>(number: u32, form: &'a Form, code: &mut Emitter<'a>)
         Form::Null
         | Form::Assign { .. }
         | Form::AssignAggregate { .. }
+        | Form::AssignArea { .. }
+        | Form::EmptyArea(_)
         | Form::Put { .. }
         | Form::Begin { .. }
         | Form::Call { .. }

@@ -36,7 +36,8 @@ pub struct NumberedTables<'a> {
     pub lacks_memory: bool,
 }
 
-/// Puts a description at the end of its table, if that lacks it, and gives its number, cut to the greatest of two bytes.
+/// Puts a description at the end of its table, if that lacks it, and gives its number, cut to the greatest of two
+/// bytes.
 pub(crate) fn number_description<'a>(
     tables: &mut NumberedTables<'a>,
     description: &'a Description,
@@ -89,13 +90,16 @@ pub fn template_key(template: &Template) -> TemplateKey<'_>
     }
 }
 
-/// Numbers a template that is used, and its description.
-fn number_used<'a>(tables: &mut NumberedTables<'a>, template: &'a Template)
-    ensures { let used = template_view template.now in
+/// Numbers a template that is used, and its description, and gives the template's number, cut to the greatest of two
+/// bytes.
+pub(crate) fn number_used<'a>(tables: &mut NumberedTables<'a>, template: &'a Template) -> u16
+    ensures numbers { let used = template_view template.now in
         Numbers tables.old tables.new (used.description ∷ []) (used ∷ []) [] }
+    ensures number { tables.new.lacks_memory ≡ false →
+        result ≡ min (template_number (tables_view tables.old) (template_view template.now)) 65535 }
 {
     number_description(tables, &template.description);
-    number_template(tables, template_key(template));
+    number_template(tables, template_key(template))
 }
 
 /// Numbers the description and the template of so many variables, if there is one.

@@ -9,17 +9,17 @@ use Rattle.pli_program.specs.Program as op
 use Rattle.pli_base.specs.Name.{Name}
 use Rattle.pli_operation.specs.declared.operation.Operation.TheVariants.{Add, Within}
 use Rattle.pli_program.specs.Program.{Instruction, Block, UnitCode}
-use Rattle.pli_type_tree.specs.TypedTree.{TypedOperation, Fit, Operate, Root, InSlot, OfProgram, NewestOf, Located, TypedExpression, Literal, Held, Calculated, Called, Generations, Address, TypedReference, Whole, Part, Operands, NoOperand, OperandThen}
+use Rattle.pli_type_tree.specs.TypedTree.{TypedOperation, Fit, Operate, Root, InSlot, OfProgram, NewestOf, Located, TypedExpression, Literal, Held, Calculated, Called, Generations, Address, AsPointer, AsOffset, TypedReference, Whole, Part, Operands, NoOperand, OperandThen}
 use Rattle.pli_type_tree.specs.TypedTree.{Subscripts, NoSubscript, SubscriptThen, TypedArguments, NoArgument, ByPlace, ByDummy, TypedStatement, Statement}
-use Rattle.pli_type_tree.specs.TypedTree.{AllocatedItem, AllocatesControlled, AllocatesBased, FreedItem, FreesControlled, FreesBased, Form, Null, Assign, AssignAggregate, Put, Allocate, Free, If, Begin, Group, While, Iterate, Call, Goto, Return, ReturnValue, Stop}
+use Rattle.pli_type_tree.specs.TypedTree.{Conversion, ByOperations, AsPointerIn, AsOffsetIn, AllocatedItem, AllocatesControlled, AllocatesBased, AllocatesInArea, FreedItem, FreesControlled, FreesBased, Form, Null, Assign, AssignAggregate, AssignArea, EmptyArea, Put, Allocate, Free, If, Begin, Group, While, Iterate, Call, Goto, Return, ReturnValue, Stop}
 use Rattle.pli_type_tree.specs.Iterations.{kept_by, limit_number, step_number, is_iterated}
 use Rattle.pli_type_tree.specs.TypedTree.{Iteration, TypedRange, Once, ToBy, ByTo, Repeated}
 use Rattle.pli_type_tree.specs.TypedTree.{Callee, OfBlock, OfEntry, Global, OwnVariable, ExternalVariable, EntryPoint}
 use Rattle.pli_type_tree.specs.TypedTree.{OtherWise, NoElse, Else, TypedStatements, NoStatement, StatementThen, TypedProcedure, TypedUnit}
-use Rattle.pli_gen_emit.specs.TreeTranslation.{argument_count, root_code, call_instruction, operation_code, value_code, place_code, operands_code, subscripts_code, arguments_code, call_code, skip_code, items_code, allocation_code, allocations_code, freeing_code, freeings_code, behind}
+use Rattle.pli_gen_emit.specs.TreeTranslation.{argument_count, root_code, call_instruction, operation_code, value_code, place_code, operands_code, subscripts_code, arguments_code, call_code, skip_code, items_code, operations_code, conversion_code, allocation_code, allocations_code, freeing_code, freeings_code, behind}
 use Rattle.pli_gen_emit.specs.TreeTranslation.{statement_code, form_code, list_code, places_in, places_in_form, places_in_else, places_among, statement_place, with_target, BlockTree, begin_block}
 use Rattle.pli_gen_emit.specs.TreeTranslation.{blocks_in, blocks_of_form, blocks_among, blocks_of_procedure, blocks_of, end_code, block_code, blocks_code, places_of, block_at, blocks_at, globals_code, unit_code}
-use Rattle.pli_gen_emit.specs.TreeTranslation.{keeps_code, conversion_code, sets_code, start_code, test_against, limit_test, while_test, guarded, tests_code, advances_code, back_code}
+use Rattle.pli_gen_emit.specs.TreeTranslation.{keeps_code, sets_code, start_code, test_against, limit_test, while_test, guarded, tests_code, advances_code, back_code}
 use Rattle.pli_gen_emit.specs.TreeTranslation.{turn_place, list_place}
 use Rattle.pli_gen.proofs.IterationCode.{tests_length, iterate_ends}
 use Rattle.pli_gen.specs.laws.ListLaws.{all_front, all_back}
@@ -126,6 +126,10 @@ module _ (u : UnitCode) (places : List (ℕ × ℕ)) (unit : ℕ) (at : Label �
     value_stands (Generations number) p h = one (op.CountGenerations number) p h
     value_stands (Address r) p h =
         joined (place_code r) (op.AddressOf ∷ []) (stand.PlaceStands u r) (stand.Is u op.AddressOf) (λ p h. place_stands r p h) (one op.AddressOf) p h
+    value_stands (AsPointer area e) p h =
+        two_parts (value_code e) (place_code area) op.ToPointer (stand.ValueStands u e) (stand.PlaceStands u area) (λ p h. value_stands e p h) (λ p h. place_stands area p h) p h
+    value_stands (AsOffset area e) p h =
+        two_parts (value_code e) (place_code area) op.ToOffset (stand.ValueStands u e) (stand.PlaceStands u area) (λ p h. value_stands e p h) (λ p h. place_stands area p h) p h
 
     operands_stand : (es : Operands) → Made (operands_code es) (stand.OperandsStand u es)
     operands_stand NoOperand p h = refl
@@ -182,7 +186,33 @@ module _ (u : UnitCode) (places : List (ℕ × ℕ)) (unit : ℕ) (at : Label �
             (items_stand es (suc (behind (value_code e) p)) r.1.1);
       }
 
-  allocation_stands : (item : AllocatedItem) (c : Context) → KeepsTemporary c.depth c.size item → Made (allocation_code item) (stand.AllocationStands u item c)
+  operations_stand : (os : List TypedOperation) → Made (operations_code os) (stand.OperationsStand u os)
+  operations_stand [] = nothing
+  operations_stand (o ∷ os) =
+      joined (operation_code o ∷ []) (operations_code os) (stand.Is u (stand.operation_code o)) (stand.OperationsStand u os) (operation_stands o) (operations_stand os)
+
+  conversion_stands : (conversion : Conversion) → Made (conversion_code conversion) (stand.ConversionStands u conversion)
+  conversion_stands (ByOperations operations) = operations_stand operations
+  conversion_stands (AsPointerIn area) = joined (place_code area) (op.ToPointer ∷ []) (stand.PlaceStands u area) (stand.Is u op.ToPointer) (place_stands area) (one op.ToPointer)
+  conversion_stands (AsOffsetIn area) = joined (place_code area) (op.ToOffset ∷ []) (stand.PlaceStands u area) (stand.Is u op.ToOffset) (place_stands area) (one op.ToOffset)
+
+  -- a pointer goes into the target, converted, and is kept till its place is there
+  kept_stands : (temporary : ℕ) (target : TypedReference) (conversion : Conversion)
+      → Made (op.SetTemporary temporary ∷ (place_code target ++ (op.TakeTemporary temporary ∷ (conversion_code conversion ++ op.Store ∷ []))))
+      (Then (stand.Is u (op.SetTemporary temporary)) (Then (stand.PlaceStands u target) (Then (stand.Is u (op.TakeTemporary temporary)) (Then (stand.ConversionStands u conversion) (stand.Is u op.Store)))))
+  kept_stands temporary target conversion =
+      let take = op.TakeTemporary temporary in
+      let convert = conversion_code conversion in
+      let converts = stand.ConversionStands u conversion in
+      let stores = Then converts (stand.Is u op.Store) in
+      let takes = Then (stand.Is u take) stores in
+      before (op.SetTemporary temporary) (place_code target ++ (take ∷ (convert ++ op.Store ∷ []))) (Then (stand.PlaceStands u target) takes)
+      (joined (place_code target) (take ∷ (convert ++ op.Store ∷ [])) (stand.PlaceStands u target) takes (place_stands target)
+      (before take (convert ++ op.Store ∷ []) stores (joined convert (op.Store ∷ []) converts (stand.Is u op.Store) (conversion_stands conversion) (one op.Store))))
+
+  -- an item of ALLOCATE, at its own place
+  allocation_stands : (item : AllocatedItem) (c : Context) → KeepsTemporary c.depth c.size item
+      → (p : ℕ) → Stand (allocation_code item p) p → stand.AllocationStands u item c p (behind (allocation_code item p) p)
   allocation_stands (AllocatesControlled number) c apart p h = one (op.AllocateControlled number) p h
   allocation_stands (AllocatesBased template temporary target) c apart p h =
       let take = op.TakeTemporary temporary in
@@ -193,12 +223,27 @@ module _ (u : UnitCode) (places : List (ℕ × ℕ)) (unit : ℕ) (at : Label �
             (before (op.SetTemporary temporary) (place_code target ++ take ∷ op.Store ∷ []) placed
             (joined (place_code target) (take ∷ op.Store ∷ []) (stand.PlaceStands u target) stores (place_stands target) (before take (op.Store ∷ []) (stand.Is u op.Store) (one op.Store)))) p h,
       )
+  allocation_stands (AllocatesInArea area template temporary target conversion) c apart p h =
+      let allocate = op.AllocateInArea template p in
+      let kept = op.SetTemporary temporary ∷ (place_code target ++ (op.TakeTemporary temporary ∷ (conversion_code conversion ++ op.Store ∷ []))) in
+      let stores = Then (stand.ConversionStands u conversion) (stand.Is u op.Store) in
+      let keeps = Then (stand.Is u (op.SetTemporary temporary)) (Then (stand.PlaceStands u target) (Then (stand.Is u (op.TakeTemporary temporary)) stores)) in (
+        record { free = apart.0; room = apart.1 },
+        joined (place_code area) (allocate ∷ kept) (stand.PlaceStands u area) (Then (stand.Is u allocate) keeps) (place_stands area) (before allocate kept keeps (kept_stands temporary target conversion)) p h,
+      )
 
-  allocations_stand : (items : List AllocatedItem) (c : Context) → AllByRecursion (KeepsTemporary c.depth c.size) items → Made (allocations_code items) (stand.AllocationsStand u items c)
-  allocations_stand [] c apart = nothing
-  allocations_stand (item ∷ items) c apart =
-      joined (allocation_code item) (allocations_code items) (stand.AllocationStands u item c) (stand.AllocationsStand u items c) (allocation_stands item c apart.0)
-      (allocations_stand items c apart.1)
+  allocations_stand : (items : List AllocatedItem) (c : Context) → AllByRecursion (KeepsTemporary c.depth c.size) items
+      → (p : ℕ) → Stand (allocations_code items p) p → stand.AllocationsStand u items c p (behind (allocations_code items p) p)
+  allocations_stand [] c apart p h = refl
+  allocations_stand (item ∷ items) c apart p h =
+      let code = allocation_code item p in
+      let more = allocations_code items (behind code p) in
+      let r = split code more p h in
+      record {
+        middle = behind code p;
+        fst = allocation_stands item c apart.0 p r.0;
+        snd = subst (λ q. stand.AllocationsStand u items c (behind code p) q) (sym (behind_both code more p)) (allocations_stand items c apart.1 (behind code p) r.1);
+      }
 
   freeing_stands : (item : FreedItem) → Made (freeing_code item) (stand.FreeingStands u item)
   freeing_stands (FreesControlled number) = one (op.FreeControlled number)
@@ -260,11 +305,6 @@ module _ (u : UnitCode) (places : List (ℕ × ℕ)) (unit : ℕ) (at : Label �
   keeps_stand t (e ∷ es) =
       joined (value_code e) (op.SetTemporary t ∷ keeps_code (suc t) es) (stand.ValueStands u e) (Then (stand.Is u (op.SetTemporary t)) (stand.KeepsStand u (suc t) es)) (value_stands e)
       (before (op.SetTemporary t) (keeps_code (suc t) es) (stand.KeepsStand u (suc t) es) (keeps_stand (suc t) es))
-
-  conversion_stands : (os : List TypedOperation) → Made (conversion_code os) (stand.ConversionStands u os)
-  conversion_stands [] = nothing
-  conversion_stands (o ∷ os) =
-      joined (operation_code o ∷ []) (conversion_code os) (stand.Is u (stand.operation_code o)) (stand.ConversionStands u os) (operation_stands o) (conversion_stands os)
 
   sets_stand : (i : Iteration) (value : List Instruction) (A : Span) → Made value A → Made (sets_code i value) (stand.SetsStand u i A)
   sets_stand i value A a =
@@ -409,6 +449,10 @@ module _ (u : UnitCode) (places : List (ℕ × ℕ)) (unit : ℕ) (at : Label �
         two_parts (place_code target) (value_code e) op.Store (stand.PlaceStands u target) (stand.ValueStands u e) (place_stands target) (value_stands e) p h
     form_stands (AssignAggregate target source) number block c fits room apart inner p known h =
         two_parts (place_code target) (place_code source) op.Copy (stand.PlaceStands u target) (stand.PlaceStands u source) (place_stands target) (place_stands source) p h
+    form_stands (AssignArea target source) number block c fits room apart inner p known h =
+        two_parts (place_code target) (place_code source) op.AssignArea (stand.PlaceStands u target) (stand.PlaceStands u source) (place_stands target) (place_stands source) p h
+    form_stands (EmptyArea target) number block c fits room apart inner p known h =
+        joined (place_code target) (op.EmptyArea ∷ []) (stand.PlaceStands u target) (stand.Is u op.EmptyArea) (place_stands target) (one op.EmptyArea) p h
     form_stands (Put skip items) number block c fits room apart inner p known h =
         joined (skip_code skip) (items_code items) (stand.SkipStands u skip) (stand.ItemsStand u items) (skip_stands skip) (items_stand items) p h
     form_stands (Allocate items) number block c fits room apart inner p known h = allocations_stand items c apart p h
@@ -644,6 +688,8 @@ mutual
   numbered_in_form Null p = refl
   numbered_in_form (Assign target e) p = refl
   numbered_in_form (AssignAggregate target source) p = refl
+  numbered_in_form (AssignArea target source) p = refl
+  numbered_in_form (EmptyArea target) p = refl
   numbered_in_form (Put skip items) p = refl
   numbered_in_form (Allocate items) p = refl
   numbered_in_form (Free items) p = refl

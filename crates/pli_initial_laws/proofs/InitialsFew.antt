@@ -76,7 +76,7 @@ module _ (P : InitialItem → Type 0) (root : ℕ) where
           (λ same. each 0 s path values area refl (is ∙ ap (λ o. Member o path values area) (eqb-true owner root same))) rest
       with_kind (Label statement) is rest = rest
       with_kind (Procedure block returned area) is rest = rest
-      with_kind (AnEntry parameters returned) is rest = rest
+      with_kind (AnEntry parameters returned area) is rest = rest
       with_kind BuiltIn is rest = rest
 
 ways_differ : (p : List ℕ) (items : List InitialItem) → AllByRecursion (λ i. p ≡ i.path → ⊥) items → Differs p (map way_of items)
@@ -119,7 +119,7 @@ items_distinct root (s ∷ ss) h =
         (λ same. ways_differ path (member_items root ss) (later path values area (is ∙ ap (λ o. Member o path values area) (eqb-true owner root same)))) rest
     with_kind (Label statement) is rest = rest
     with_kind (Procedure block returned area) is rest = rest
-    with_kind (AnEntry parameters returned) is rest = rest
+    with_kind (AnEntry parameters returned area) is rest = rest
     with_kind BuiltIn is rest = rest
 
 -- ---- the symbols of a block
@@ -251,7 +251,7 @@ module _ (u : ExternalProcedure) (h : resolution_faults u ≡ []) where
       by (Member root path values area) is made = tt
       by (Label statement) is made = tt
       by (Procedure inner returned area) is made = tt
-      by (AnEntry parameters returned) is made = tt
+      by (AnEntry parameters returned area) is made = tt
       by BuiltIn is made = tt
 
   have_few : (block number : ℕ) (ss : List Symbol) → ((n : ℕ) (s : Symbol) → slice_get ss n ≡ Some s → slice_get (symbols block) (number + n) ≡ Some s)

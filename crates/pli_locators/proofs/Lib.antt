@@ -1,5 +1,9 @@
+pub mod AreaLawsHold
+pub mod BlocksApart
+pub mod EndedWholes
 pub mod LivingBeside
 pub mod NumbersGiven
+pub mod OffsetsAnswered
 pub mod StorageAlone
 pub mod TargetsFound
 pub mod YieldedAnswers

@@ -1,16 +1,17 @@
 -- No number of a generation is used again.
-use Rattle.std.proofs.Common.{◌≡◌, ℕ, suc, Bool, true, false, nat_eq, None, option_map, List, if◌then◌else◌, refl, sym, ap, subst, ◌∙◌}
+use Rattle.std.proofs.Common.{◌≡◌, ℕ, suc, None, refl, sym, ap, subst, ◌∙◌}
 use Rattle.pli_run.specs.declared.ending.RunError.TheVariants.{DeadLocator, DescriptionMismatch}
 use Rattle.pli_map.specs.Description.{Description}
+use Rattle.pli_value.specs.declared.locator.Locator.{Locator}
 use Rattle.pli_value.specs.declared.locator.Locator.TheVariants.{Pointer}
-use Rattle.pli_world.specs.Storage.{Generation, Based, generation_in}
-use Rattle.pli_world.specs.World.{World, Yields, Raises, generation_ended, made_of}
+use Rattle.pli_world.specs.Storage.{Based, generation_in}
+use Rattle.pli_world.specs.World.{World, Yields, Raises, made_of}
 use Rattle.pli_stacks.specs.laws.Operations.{HasEnded}
-use Rattle.pli_stacks.proofs.GenerationsFound.{ended_none}
-use Rattle.pli_stacks.proofs.NumbersGiven.{ended_behind_making, still_ended}
+use Rattle.pli_stacks.proofs.NumbersGiven.{ended_behind_making}
 use Rattle.pli_stacks.proofs.YieldedAnswers.{yields_further, yields_guarded, yields_made}
-use Rattle.pli_world.specs.Locating.{as_target, target_at, located, based, based_allocated, is_allocated, based_freed}
+use Rattle.pli_world.specs.Locating.{located, based, based_allocated, is_allocated, ended, based_freed}
 use Rattle.pli_locators.specs.laws.Operations as law
+use Rattle.pli_locators.proofs.EndedWholes.{whole_ended, whole_none}
 use Rattle.pli_locators.proofs.YieldedAnswers.{IsTarget, yields_located}
 
 pub number_is_new : law.NumberIsNew
@@ -21,28 +22,26 @@ number_is_new v w =
     (λ p u e. (ap (λ n. Pointer n p.position) e.0 ∙ ap (Pointer w.made) e.1, e.2))
 
 -- nothing lives where no generation does
-gone_target : (gs : List Generation) (number position : ℕ) → generation_in gs number ≡ None → target_at number position gs ≡ None
-gone_target gs number position gone = by (nat_eq position 0)
-  where
-    by : (b : Bool) → (if b then option_map as_target (generation_in gs number) else None) ≡ None
-    by true = ap (option_map as_target) gone
-    by false = refl
-
-gone_is_dead : (number position : ℕ) (d : Description) (w : World) → generation_in w.storage number ≡ None
+pub gone_is_dead : (number position : ℕ) (d : Description) (w : World) → generation_in w.storage number ≡ None
     → based d (Pointer number position) w ≡ Raises DeadLocator w
 unfolding located based
-gone_is_dead number position d w gone = rw (gone_target w.storage number position gone) refl
+gone_is_dead number position d w gone = rw gone refl
 
 pub ended_is_dead : law.EndedIsDead
 ended_is_dead number position d w e = gone_is_dead number position d w e.gone
 
+abbrev pub position_of_pointer : Locator → ℕ
+position_of_pointer (Pointer number position) = position
+position_of_pointer other = 0
+
 pub freed_is_dead : law.FreedIsDead
 unfolding based_freed
-freed_is_dead d e l w =
+freed_is_dead d e number w =
+    let l = Pointer number 0 in
     yields_further (located d l w) _ (IsTarget l w) _ (yields_located d l w)
-    (λ t v i. yields_guarded (is_allocated t.made) (Yields tt (generation_ended t.place.generation v)) (Raises DescriptionMismatch v) _
-    (subst (λ k. based e k (generation_ended t.place.generation v) ≡ Raises DeadLocator (generation_ended t.place.generation v)) (sym i.pointer)
-    (gone_is_dead t.place.generation i.position e (generation_ended t.place.generation v) (ended_none v.storage t.place.generation)))
+    (λ t v i. yields_guarded (is_allocated t.made) (Yields tt (ended t.place v)) (Raises DescriptionMismatch v) _
+    (subst (λ k. based e k (ended t.place v) ≡ Raises DeadLocator (ended t.place v)) (sym i.pointer)
+    (gone_is_dead t.place.generation t.place.position e (ended t.place v) (whole_ended t.place v.storage (sym (ap position_of_pointer i.pointer)))))
     tt)
 
 pub ended_behind_allocating : law.EndedBehindAllocating
@@ -55,5 +54,5 @@ pub ended_behind_freeing : law.EndedBehindFreeing
 unfolding based_freed
 ended_behind_freeing d l w number e =
     yields_further (located d l w) _ (IsTarget l w) _ (yields_located d l w)
-    (λ t v i. yields_guarded (is_allocated t.made) (Yields tt (generation_ended t.place.generation v)) (Raises DescriptionMismatch v) _
-    (still_ended t.place.generation v number (subst (HasEnded number) (sym i.same) e)) tt)
+    (λ t v i. yields_guarded (is_allocated t.made) (Yields tt (ended t.place v)) (Raises DescriptionMismatch v) _
+    (let h = subst (HasEnded number) (sym i.same) e in record { given = h.given; gone = whole_none t.place v.storage number h.gone }) tt)

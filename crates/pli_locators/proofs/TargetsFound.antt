@@ -1,35 +1,28 @@
 -- What locators lead to, and what is answered of it.
-use Rattle.std.proofs.Common.{◌≡◌, ℕ, true, false, Some, List, Result, Ok, Err, if◌then◌else◌, refl, sym, ap, ◌∙◌}
+use Rattle.std.proofs.Common.{◌≡◌, ℕ, true, false, nat_eq, ◌&&◌, Bor, Result, Ok, Err, if◌then◌else◌, refl, ap, ◌∙◌}
 use Rattle.pli_run.specs.declared.ending.RunError.TheVariants.{DescriptionMismatch}
 use Rattle.pli_map.specs.Description.{Description}
+use Rattle.pli_map.specs.declared.description.Description.{Description as CodeDescription}
+use Rattle.pli_map.specs.views.DescriptionView.{description_view}
 use Rattle.pli_map.specs.Same.{same}
 use Rattle.pli_map.specs.Variables.{Variable}
-use Rattle.pli_store.proofs.PartAnswers.{number_found}
 use Rattle.pli_store.specs.answers.Answered.{Answered}
-use Rattle.pli_store.specs.answers.Living.{IsLiving}
+use Rattle.pli_store.specs.answers.Blocks.{WholeUsed}
 use Rattle.pli_store.specs.declared.fault.StoreFault.{StoreFault}
+use Rattle.pli_store.specs.declared.fault.StoreFault.TheVariants.{Raised, NoRule, OutOfMemory}
 use Rattle.pli_store.specs.declared.generation.Made.{Made as CodeMade}
 use Rattle.pli_store.specs.declared.generation.Made.TheVariants as made
-use Rattle.pli_store.specs.declared.living.LivingGeneration.{LivingGeneration}
+use Rattle.pli_store.specs.declared.living.Target.{Target as CodeTarget}
 use Rattle.pli_store.specs.declared.place.Place as code
 use Rattle.pli_store.specs.views.GenerationView.{made_view}
-use Rattle.pli_store.specs.views.StorageView.{place_view}
+use Rattle.pli_store.specs.views.StorageView.{place_view, target_view}
 use Rattle.pli_value.specs.declared.locator.Locator.{Locator}
 use Rattle.pli_value.specs.declared.locator.Locator.TheVariants.{Pointer}
-use Rattle.pli_world.specs.Storage.{Generation, Based, Place, whole}
-use Rattle.pli_world.specs.World.{World, Answer, Yields, Raises, Wrong, further, generation_ended, made_of}
-use Rattle.pli_world.specs.Locating.{Target, target_at, unless_ended, unless_other, located, based, pointer_to, based_allocated, is_allocated, based_freed, is_whole_of, addressed}
-use Rattle.pli_locators.specs.views.TargetView.{target_view}
+use Rattle.pli_world.specs.Storage.{Based, Place}
+use Rattle.pli_world.specs.Targets.{Target, target_at}
+use Rattle.pli_world.specs.World.{World, Answer, Yields, Raises, Wrong, further, made_of}
+use Rattle.pli_world.specs.Locating.{unless_ended, unless_other, located, based, pointer_to, based_allocated, is_allocated, ended, based_freed, addressed}
 use Rattle.pli_stacks.proofs.AnsweredCalls.{first_refused, second_decides}
-
--- a generation that is found by its number
-pub target_found : (gs : List Generation) (number position : ℕ) (living : LivingGeneration) → position ≡ 0 → IsLiving gs number living
-    → target_at number position gs ≡ Some (target_view living)
-target_found gs number position living zero f =
-    rw (zero, f.found)
-    (ap (λ n. Some (record { place = whole n f.generation.description; made = f.generation.made })) (number_found gs number f.generation f.found)
-    ∙ ap (λ p. Some (record { place = p; made = f.generation.made })) (sym f.place)
-    ∙ ap (λ m. Some (record { place = place_view living.place; made = m })) (sym f.made))
 
 pub unless_other_same : (d : Description) (t : Target) (w : World) → same t.place.description d ≡ true → unless_other d t w ≡ Yields t w
 unless_other_same d t w e = rw e refl
@@ -47,7 +40,7 @@ module _ (d : Description) (number position : ℕ) (w : World) where
   located_dead f answer =
       first_refused target_view target_view f w w w (unless_ended (target_at number position w.storage) w) (unless_other d) answer
 
-  pub located_there : (t : LivingGeneration) (r : Result LivingGeneration StoreFault)
+  pub located_there : (t : CodeTarget) (r : Result CodeTarget StoreFault)
       → Answered target_view (Ok t) w w (unless_ended (target_at number position w.storage) w)
       → Answered target_view r w w (unless_other d (target_view t) w) → Answered target_view r w w (located d (Pointer number position) w)
   unfolding located
@@ -58,7 +51,7 @@ module _ (d : Description) (number position : ℕ) (w : World) where
 
 -- what is done with what is freed
 abbrev free : Target → World → Answer Unit
-free t w = if is_allocated t.made then Yields tt (generation_ended t.place.generation w) else Raises DescriptionMismatch w
+free t w = if is_allocated t.made then Yields tt (ended t.place w) else Raises DescriptionMismatch w
 
 pub not_allocated : (m : CodeMade) → (m ≡ made.Based → ⊥) → is_allocated (made_view m) ≡ false
 not_allocated made.Automatic other = refl
@@ -72,7 +65,7 @@ module _ (d : Description) (l : Locator) (w : World) where
   unfolding based
   based_refused f answer = first_refused target_view place_view f w w w (located d l w) _ answer
 
-  pub based_there : (t : LivingGeneration) → Answered target_view (Ok t) w w (located d l w) → based d l w ≡ Yields (place_view t.place) w
+  pub based_there : (t : CodeTarget) → Answered target_view (Ok t) w w (located d l w) → based d l w ≡ Yields (place_view t.place) w
   unfolding based
   based_there t answer = ap (λ a. further a (λ x w. Yields x.place w)) answer
 
@@ -81,12 +74,12 @@ module _ (d : Description) (l : Locator) (w : World) where
   unfolding based_freed
   freed_refused f after answer = first_refused {U = Unit {0}} target_view (λ _. tt) f w w after (located d l w) free answer
 
-  pub freed_there : (t : LivingGeneration) → Answered target_view (Ok t) w w (located d l w) → is_allocated (made_view t.made) ≡ true
-      → based_freed d l w ≡ Yields tt (generation_ended t.place.generation w)
+  pub freed_there : (t : CodeTarget) → Answered target_view (Ok t) w w (located d l w) → is_allocated (made_view t.made) ≡ true
+      → based_freed d l w ≡ Yields tt (ended (place_view t.place) w)
   unfolding based_freed
   freed_there t answer made = ap (λ a. further a free) answer ∙ rw made refl
 
-  pub freed_other : (t : LivingGeneration) → Answered target_view (Ok t) w w (located d l w) → is_allocated (made_view t.made) ≡ false
+  pub freed_other : (t : CodeTarget) → Answered target_view (Ok t) w w (located d l w) → is_allocated (made_view t.made) ≡ false
       → based_freed d l w ≡ Raises DescriptionMismatch w
   unfolding based_freed
   freed_other t answer made = ap (λ a. further a free) answer ∙ rw made refl
@@ -105,22 +98,18 @@ module _ (v : Variable) (before after : World) where
 
 -- ---- ADDR
 
--- what is answered of a place
-abbrev point : Place → Target → World → Answer Locator
-point p t w = if is_whole_of t p then Yields (pointer_to p) w else Wrong
-
-module _ (p : code.Place) (w : World) where
-  pub address_dead : (f : StoreFault) → Answered target_view (Err f) w w (unless_ended (target_at p.generation 0 w.storage) w)
-      → Answered {T = Locator} (λ l. l) (Err f) w w (addressed (place_view p) w)
+module _ (p : Place) (w : World) where
+  pub address_refused : (f : StoreFault) → WholeUsed p w (Err f) → Answered {T = Locator} (λ l. l) (Err f) w w (addressed p w)
   unfolding addressed
-  address_dead f answer = first_refused {U = Locator} target_view (λ l. l) f w w w (unless_ended (target_at p.generation 0 w.storage) w) (point (place_view p)) answer
+  address_refused (Raised e) u = rw u refl
+  address_refused NoRule u = absurd u
+  address_refused OutOfMemory u = tt
 
-  pub address_of_whole : (t : LivingGeneration) → Answered target_view (Ok t) w w (unless_ended (target_at p.generation 0 w.storage) w)
-      → is_whole_of (target_view t) (place_view p) ≡ true → addressed (place_view p) w ≡ Yields (pointer_to (place_view p)) w
-  unfolding addressed
-  address_of_whole t answer is = ap (λ a. further a (point (place_view p))) answer ∙ rw is refl
+  module _ (d : Bor CodeDescription) (u : WholeUsed p w (Ok d)) where
+    pub address_of_whole : (nat_eq p.offset 0 && same (description_view d.now) p.description) ≡ true → addressed p w ≡ Yields (pointer_to p) w
+    unfolding addressed
+    address_of_whole is = rw (u.1, ap (λ x. nat_eq p.offset 0 && same x p.description) u.2 ∙ is) refl
 
-  pub address_of_part : (t : LivingGeneration) → Answered target_view (Ok t) w w (unless_ended (target_at p.generation 0 w.storage) w)
-      → is_whole_of (target_view t) (place_view p) ≡ false → addressed (place_view p) w ≡ Wrong
-  unfolding addressed
-  address_of_part t answer part = ap (λ a. further a (point (place_view p))) answer ∙ rw part refl
+    pub address_of_part : (nat_eq p.offset 0 && same (description_view d.now) p.description) ≡ false → addressed p w ≡ Wrong
+    unfolding addressed
+    address_of_part part = rw (u.1, ap (λ x. nat_eq p.offset 0 && same x p.description) u.2 ∙ part) refl

@@ -1,10 +1,16 @@
-//! Storage by locators: BASED variables outside areas, and pointers of ADDR.
+//! Storage by locators: BASED variables, pointers of ADDR, and pointers as offsets.
 //!
-//! `locating` finds, makes and ends what pointers lead to, over the storage of `pli_store`.
+//! `locating` finds, makes and ends what pointers lead to; `offsets` is what they are as offsets of an area. Both are
+//! layers over the storage of `pli_store`.
 #![tactic(auto)]
 
 mod laws;
 mod locating;
+mod offsets;
 
-pub use laws::{numbers_stay_given, others_stay, storage_alone_changes, worked_examples};
-pub use locating::{address, allocate_based, based, free_based};
+pub use laws::{
+    areas_alone_change, blocks_stand_apart, ends_are_final, numbers_stay_given, other_blocks_stay,
+    others_stay, storage_alone_changes, worked_areas, worked_examples,
+};
+pub use locating::{address, allocate_based, allocate_in, based, free_based};
+pub use offsets::{offset_in, pointer_in};

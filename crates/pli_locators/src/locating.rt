@@ -1,47 +1,47 @@
-//! BASED variables outside areas, and the pointers of ADDR.
+//! BASED variables, and the pointers of ADDR.
 ghost use Rattle.std.specs.Prelude.{◌≡◌, map, IfSome, OnErr};
 ghost use Rattle.pli_map.specs.views.DescriptionView.{description_view};
 ghost use Rattle.pli_world.specs.World.{World};
 ghost use Rattle.pli_stacks.specs.answers.LaidBytes.{IsLaid};
 ghost use Rattle.pli_store.specs.answers.Answered.{Answered};
-ghost use Rattle.pli_store.specs.views.StorageView.{SameStorage, place_view, storage_view, with_storage};
-ghost use Rattle.pli_world.specs.Locating.{addressed, based_allocated, based_freed, located, pointer_to, target_at, unless_ended, unless_other};
+ghost use Rattle.pli_store.specs.views.StorageView.{SameStorage, made_count, place_view, storage_view, target_view, with_storage};
+ghost use Rattle.pli_world.specs.Areas.{allocated_in};
+ghost use Rattle.pli_world.specs.Locating.{addressed, based_allocated, based_freed, located, pointer_to, unless_ended, unless_other, without_whole};
 ghost use Rattle.pli_world.specs.Locating as plain;
-ghost use Rattle.pli_locators.specs.views.TargetView.{target_view};
+ghost use Rattle.pli_world.specs.Targets.{target_at};
 ghost use Rattle.pli_type_tree.specs.Templates.{variable_of};
 ghost use Rattle.pli_type_tree.specs.views.TemplateView.{initial_view};
 
-use pli_map::Description;
+use pli_map::{Description, far_size};
 use pli_run::RunError;
-use pli_stacks::make_initial;
-use pli_store::{LivingGeneration, Made, Place, Storage, StoreFault};
+use pli_stacks::{first_bytes, make_initial};
+use pli_store::{Made, Place, Storage, StoreFault, Target};
 use pli_type_tree::InitialScalar;
 use pli_value::Locator;
 use std::alloc::Global;
+
+/// How many bytes a block has at most: as many as may live (own).
+const BLOCK_BYTES: u64 = 16_777_216;
 
 /// What lives at a position of a generation: at 0 the generation. `DeadLocator` where nothing does.
 fn living_at<'m>(
     storage: &Storage<'m>,
     generation: u32,
     position: u32,
-) -> Result<LivingGeneration<'m>, StoreFault>
+) -> Result<Target<'m>, StoreFault>
     ensures { (w : World) → Answered target_view result w w (unless_ended (target_at generation position (storage_view storage.now)) w) }
 {
-    let dead = StoreFault::Raised(RunError::DeadLocator);
-    if position != 0 {
-        return Err(dead);
-    }
-    match storage.living(generation) {
+    match storage.living(generation, position) {
         Some(living) => Ok(living),
-        None => Err(dead),
+        None => Err(StoreFault::Raised(RunError::DeadLocator)),
     }
 }
 
 /// What lives, if it has this whole description; `DescriptionMismatch` where it has another.
 fn of_description<'m>(
-    living: LivingGeneration<'m>,
+    living: Target<'m>,
     description: &Description,
-) -> Result<LivingGeneration<'m>, StoreFault>
+) -> Result<Target<'m>, StoreFault>
     ensures { (w : World) → Answered target_view result w w (unless_other (description_view description.now) (target_view living.entry) w) }
 {
     if living.place.description.equals(description) {
@@ -52,13 +52,13 @@ fn of_description<'m>(
 }
 
 /// What a locator leads to, where a variable of this description is asked for. `NullLocator` for the null pointer,
-/// `DeadLocator` where nothing lives there, `DescriptionMismatch` where what lives has another whole description; `NoRule`
-/// for an offset.
+/// `DeadLocator` where nothing lives there, `DescriptionMismatch` where what lives has another whole description;
+/// `NoRule` for an offset.
 fn located<'m>(
     storage: &Storage<'m>,
     description: &Description,
     locator: Locator,
-) -> Result<LivingGeneration<'m>, StoreFault>
+) -> Result<Target<'m>, StoreFault>
     ensures { (w : World) → Answered target_view result (with_storage storage.now w) (with_storage storage.now w)
         (located (description_view description.now) locator (with_storage storage.now w)) }
 {
@@ -72,18 +72,19 @@ fn located<'m>(
     }
 }
 
-/// The pointer to the generation of which a place is the whole.
+/// The pointer to what a place is the whole of.
 fn pointer_to(place: Place<'_>) -> Locator
     ensures { result ≡ pointer_to (place_view place.entry) }
 {
     Locator::Pointer {
         generation: place.generation,
-        position: 0,
+        position: place.position,
     }
 }
 
-/// The place of a BASED variable of this description by a locator. `NullLocator` for the null pointer, `DeadLocator` where
-/// nothing lives there, `DescriptionMismatch` where what lives has another whole description; `NoRule` for an offset.
+/// The place of a BASED variable of this description by a locator. `NullLocator` for the null pointer, `DeadLocator`
+/// where nothing lives there, `DescriptionMismatch` where what lives has another whole description; `NoRule` for an
+/// offset.
 pub fn based<'m>(
     storage: &Storage<'m>,
     description: &Description,
@@ -96,9 +97,10 @@ pub fn based<'m>(
     Ok(living.place)
 }
 
-/// ALLOCATE of a BASED variable, outside areas: a new generation, which begins as a template of this description and of these
-/// initial values has it, and the pointer to it; so do these bytes, where they are laid. `StorageLimit` where there is no room
-/// for it, or `OutOfMemory`. After an error nothing has changed.
+/// ALLOCATE of a BASED variable, outside areas: makes a generation of this description, and answers the pointer to it.
+/// Its scalars begin with these initial values, and those without one as their types have it; where the bytes of all
+/// that were laid before, they are handed over and copied. `StorageLimit` where there is no room for the generation, or
+/// `OutOfMemory`. After an error nothing has changed.
 pub fn allocate_based<'m>(
     alloc: Global,
     storage: &mut Storage<'m>,
@@ -116,9 +118,49 @@ pub fn allocate_based<'m>(
     Ok(pointer_to(place))
 }
 
-/// FREE of a BASED variable of this description by a locator: the generation to which it leads ends. `NullLocator`,
-/// `DeadLocator`, `DescriptionMismatch` and `NoRule` as for the place, and `DescriptionMismatch` where no ALLOCATE of a BASED
-/// variable has made the generation. After an error nothing has changed.
+/// ALLOCATE of a BASED variable in an area: makes a block of this description there, which begins as a generation of
+/// `allocate_based` does, and answers the pointer to it. `DeadLocator` where the generation of the area has ended or
+/// the block that the place leads into, `DescriptionMismatch` where a block has another whole description, `NoRule`
+/// where the place is no whole area; else `Area` where no position fits, and `OutOfMemory`. After an error nothing has
+/// changed.
+pub fn allocate_in<'m>(
+    alloc: Global,
+    storage: &mut Storage<'m>,
+    area: Place<'_>,
+    description: &'m Description,
+    scalars: &[InitialScalar],
+    laid: Option<&[u8]>,
+) -> Result<Locator, StoreFault>
+    requires { IfSome laid (λ bytes. IsLaid (record { description = description_view description.now; initial = map initial_view scalars.now }) bytes.now) }
+    ensures answer { (w : World) → Answered (λ locator. locator) result (with_storage storage.old w) (with_storage storage.new w)
+        (allocated_in (place_view area.entry)
+        (variable_of (record { description = description_view description.now; initial = map initial_view scalars.now }))
+        (with_storage storage.old w)) }
+    ensures err { OnErr result (SameStorage storage.old storage.new) }
+{
+    let size = far_size(description);
+    if size > BLOCK_BYTES {
+        return storage.refuse_in(area, description);
+    }
+    let initial = first_bytes(alloc, description, scalars, laid)?;
+    storage.allocate_in(area, description, Some(initial))
+}
+
+/// What a place is the whole of ends: a generation, with all that lies in it, or a block of one.
+fn end_whole(storage: &mut Storage<'_>, place: Place<'_>)
+    ensures storage { storage_view storage.new ≡ without_whole (place_view place.entry) (storage_view storage.old) }
+    ensures made { made_count storage.new ≡ made_count storage.old }
+{
+    if place.position == 0 {
+        storage.end(&[place.generation]);
+    } else {
+        storage.free_block(place.generation, place.position);
+    }
+}
+
+/// FREE of a BASED variable of this description by a locator: the generation or the block to which it leads ends.
+/// `NullLocator`, `DeadLocator`, `DescriptionMismatch` and `NoRule` as for the place, and `DescriptionMismatch` where
+/// no ALLOCATE of a BASED variable has made the generation. After an error nothing has changed.
 pub fn free_based(
     storage: &mut Storage<'_>,
     description: &Description,
@@ -131,21 +173,22 @@ pub fn free_based(
     let living = located(storage, description, locator)?;
     match living.made {
         Made::Based => {
-            storage.end(&[living.place.generation]);
+            end_whole(storage, living.place);
             Ok(())
         }
         _ => Err(StoreFault::Raised(RunError::DescriptionMismatch)),
     }
 }
 
-/// ADDR of a place: the pointer to the generation of which it is the whole. `DeadLocator` where the generation has ended,
-/// `NoRule` where the place is that of a part.
+/// ADDR of a place: the pointer to the generation or the block of which it is the whole. `DeadLocator` where that has
+/// ended, `DescriptionMismatch` where a block of another whole description stands there, `NoRule` where the place is
+/// that of a part.
 pub fn address(storage: &Storage<'_>, place: Place<'_>) -> Result<Locator, StoreFault>
     ensures { (w : World) → Answered (λ locator. locator) result (with_storage storage.now w) (with_storage storage.now w)
         (addressed (place_view place.entry) (with_storage storage.now w)) }
 {
-    let living = living_at(storage, place.generation, 0)?;
-    if place.offset == 0 && living.place.description.equals(place.description) {
+    let whole = storage.whole_of(place)?;
+    if place.offset == 0 && whole.equals(place.description) {
         Ok(pointer_to(place))
     } else {
         Err(StoreFault::NoRule)

@@ -1,5 +1,5 @@
-//! The machine between two instructions: its activations and storage, how blocks are entered and left, and what there is
-//! before the first instruction.
+//! The machine between two instructions: its activations and storage, how blocks are entered and left, and what there
+//! is before the first instruction.
 #![tactic(auto)]
 
 mod arguments;

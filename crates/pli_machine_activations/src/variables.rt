@@ -46,7 +46,7 @@ fn add_slot<'m>(here: &mut Activation<'m>, place: Place<'m>) -> Result<(), Alloc
     Ok(())
 }
 
-/// The bytes with which variables of the template of a number begin, where they are laid.
+/// The bytes with which variables of the template of a number begin, where they were laid as the program was loaded.
 #[inline]
 fn laid_for<'l>(ready: &ReadyCode<'l, '_>, number: u16) -> Option<&'l [u8]>
     ensures { (t : Template) → template_at (code_view ready.now.code.now) number ≡ Some t → IfSome result (λ bytes. IsLaid t bytes.now) }
@@ -58,7 +58,8 @@ fn laid_for<'l>(ready: &ReadyCode<'l, '_>, number: u16) -> Option<&'l [u8]>
     }
 }
 
-/// The same of a unit's templates.
+/// The bytes with which variables of the template of a number in a unit's tables begin, where they were laid as the
+/// program was loaded; else they are to be made of the template.
 #[inline]
 pub fn laid_in<'l>(unit: &ActiveUnit<'l, '_>, number: u16) -> Option<&'l [u8]>
     ensures { (t : Template) → template_at (code_view unit.now.linked.now.deck.code) number ≡ Some t → IfSome result (λ bytes. IsLaid t bytes.now) }
@@ -70,8 +71,8 @@ pub fn laid_in<'l>(unit: &ActiveUnit<'l, '_>, number: u16) -> Option<&'l [u8]>
     laid_for(&ready, number)
 }
 
-/// Makes a variable that ends with the newest activation, from a description and initial values or from what is laid for
-/// them, and gives it the next slot.
+/// Makes a variable that ends with the newest activation, from a description and initial values or from what is laid
+/// for them, and gives it the next slot.
 fn make_variable<'m>(
     alloc: Global,
     machine: &mut Machine<'m>,

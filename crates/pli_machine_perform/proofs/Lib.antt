@@ -1,3 +1,4 @@
+pub mod AreaMoves
 pub mod GenerationMoves
 pub mod InstructionsDo
 pub mod OperationLemmas

@@ -1,7 +1,9 @@
 //! What each instruction does to the machine.
 #![tactic(auto)]
 
+mod areas;
 mod generations;
+mod inhabiting;
 mod instructions;
 mod jumping;
 mod keeping;

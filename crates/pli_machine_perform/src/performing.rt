@@ -4,6 +4,7 @@ ghost use Rattle.pli_code.specs.views.CodeView.{member_view};
 ghost use Rattle.pli_machine_activations.specs.views.ImageView.{image_of};
 ghost use Rattle.pli_machine_activations.specs.views.MachineView.{Performs};
 
+use crate::areas::{allocate_in_area, assign_area, empty_area, to_offset, to_pointer};
 use crate::generations::{allocate_controlled, count_generations, free_controlled};
 use crate::instructions::{
     calculate, constant, copy, field, fit, jump, jump_unless, load, make_dummy, store, subscript,
@@ -81,13 +82,16 @@ pub fn perform<'m>(
         }
         Instruction::AllocateBased { template } => allocate_based(alloc, unit, machine, template),
         Instruction::FreeBased { description } => free_based(code, machine, description),
-        Instruction::ToPointer
-        | Instruction::ToOffset
-        | Instruction::AllocateInArea { .. }
-        | Instruction::AssignArea
-        | Instruction::EmptyArea
-        | Instruction::On { .. }
-        | Instruction::Revert { .. }
-        | Instruction::Signal { .. } => Ok(Some(Stop::Fault)),
+        Instruction::ToPointer => to_pointer(machine),
+        Instruction::ToOffset => to_offset(machine),
+        Instruction::AllocateInArea {
+            template,
+            target: _after,
+        } => allocate_in_area(alloc, unit, machine, template),
+        Instruction::AssignArea => assign_area(machine),
+        Instruction::EmptyArea => empty_area(machine),
+        Instruction::On { .. } | Instruction::Revert { .. } | Instruction::Signal { .. } => Ok(Some(
+            Stop::Fault,
+        )),
     }
 }

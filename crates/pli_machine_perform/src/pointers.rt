@@ -47,7 +47,8 @@ pub fn address_of(machine: &mut Machine) -> Result<Option<Stop>, AllocError>
     pointing::address_of(&mut machine.here.operands, &machine.storage)
 }
 
-/// ALLOCATE of a BASED variable of a description and of initial values, or of what is laid for them.
+/// ALLOCATE of a BASED variable of this description and with these initial values, whose bytes may have been laid
+/// before.
 fn allocate_at<'m>(
     alloc: Global,
     machine: &mut Machine<'m>,
@@ -70,7 +71,8 @@ fn allocate_at<'m>(
     )
 }
 
-/// ALLOCATE of a BASED variable of a template of the tables: the pointer to its generation.
+/// ALLOCATE of a BASED variable, which has the template of this number in the unit's tables: makes a generation, and
+/// puts the pointer to it upon the operands. A template that the tables lack stops the machine with a fault.
 pub fn allocate_based<'m>(
     alloc: Global,
     unit: &ActiveUnit<'_, 'm>,

@@ -56,8 +56,8 @@ pub fn address_of(
     }
 }
 
-/// Makes a generation of a BASED variable from a description and initial values, or from what is laid for them, and gives the
-/// pointer to it.
+/// Makes a generation of a BASED variable from a description and initial values, or from what is laid for them, and
+/// gives the pointer to it.
 pub fn allocate<'m>(
     alloc: Global,
     operands: &mut Vec<Operand<'m>>,

@@ -2,3 +2,4 @@ pub mod OutcomesAreOne
 pub mod RunsGrow
 pub mod RunsEnd
 pub mod ExamplesRun
+pub mod AreasRun

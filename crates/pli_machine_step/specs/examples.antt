@@ -1,1 +1,2 @@
+pub mod AreaExamples
 pub mod MachineExamples

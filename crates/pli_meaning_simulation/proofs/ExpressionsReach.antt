@@ -6,14 +6,14 @@ use Rattle.pli_map.specs.Description.{Description}
 use Rattle.pli_world.specs.Storage.{Place}
 use Rattle.pli_world.specs.World.{World, Answer, held, slot_place, static_place, subscripted, calculation}
 use Rattle.pli_world.specs.World.{dummy_of, led_on}
-use Rattle.pli_world.specs.Locating.{place_by, address_of}
+use Rattle.pli_world.specs.Locating.{place_by, address_of, offset_made, pointer_within}
 use Rattle.pli_world.specs.Stacks.{generations_counted}
 use Rattle.pli_value.specs.Value.{Value, Number, Characters, Bits, Located as LocatorValue}
 use Rattle.pli_program.specs.Program as op
 use Rattle.pli_program.specs.Program.{UnitCode, Program}
 use Rattle.pli_machine_step.specs.Machine.{Operand, OfValue, AtPlace, Locals, Frame, At, values_off, places_off, operated, act, resume}
 use Rattle.pli_type_tree.specs.TypedOperations.{comes_to}
-use Rattle.pli_type_tree.specs.TypedTree.{TypedOperation, Fit, Operate, Root, InSlot, OfProgram, NewestOf, Located, Callee, TypedExpression, Literal, Held, Calculated, Called, Generations, Address, TypedReference, Whole, Part, Operands, NoOperand, OperandThen, Subscripts, NoSubscript, SubscriptThen, TypedArguments, NoArgument, ByPlace, ByDummy}
+use Rattle.pli_type_tree.specs.TypedTree.{TypedOperation, Fit, Operate, Root, InSlot, OfProgram, NewestOf, Located, Callee, TypedExpression, Literal, Held, Calculated, Called, Generations, Address, AsPointer, AsOffset, TypedReference, Whole, Part, Operands, NoOperand, OperandThen, Subscripts, NoSubscript, SubscriptThen, TypedArguments, NoArgument, ByPlace, ByDummy}
 use Rattle.pli_meaning_tree.specs.Effects.{Label, Doing, answered}
 use Rattle.pli_meaning_tree.specs.TreeMeaning as meaning
 use Rattle.pli_meaning_tree.specs.TreeMeaning.{Calls, a_value, in_order, root_place, element_of, value_of, place_of, element_at, called_with}
@@ -116,6 +116,14 @@ module _ (p : Program) (number : ℕ) (u : UnitCode) (at : Label → ℕ) where
       value_run (Address r) is ops l fine fs w left =
           bound p number u at (place_of p.greatest call r w left) _ (place_run r is.fst ops l fine fs w left)
           (λ m k q w left. answers p number u at there (λ v. OfValue v ∷ ops) (address_of q w) is.snd k.fine w left refl)
+      value_run (AsPointer area e) is ops l fine fs w left =
+          bound p number u at (value_of p.greatest call e w left) _ (value_run e is.fst ops l fine fs w left)
+          (λ m k v w left. bound p number u at (place_of p.greatest call area w left) _ (place_run area is.snd.fst (OfValue v ∷ ops) m k.fine fs w left)
+          (λ m k q w left. answers p number u at there (λ x. OfValue x ∷ ops) (pointer_within q v w) is.snd.snd k.fine w left refl))
+      value_run (AsOffset area e) is ops l fine fs w left =
+          bound p number u at (value_of p.greatest call e w left) _ (value_run e is.fst ops l fine fs w left)
+          (λ m k v w left. bound p number u at (place_of p.greatest call area w left) _ (place_run area is.snd.fst (OfValue v ∷ ops) m k.fine fs w left)
+          (λ m k q w left. answers p number u at there (λ x. OfValue x ∷ ops) (offset_made q v w) is.snd.snd k.fine w left refl))
 
       pub operated_run : (operands : Operands) (operation : TypedOperation) {a b : ℕ} → Then (OperandsStand u operands) (Is u (operation_code operation)) a b
           → (before : List Value) (ops : List Operand) (l : Locals) → Fine c l → (fs : List Frame) (w : World) (left : ℕ)

@@ -1,6 +1,7 @@
 -- The machine does what each form of a statement means, from what its parts do.
 use Rattle.std.specs.Prelude.{◌≡◌, ℕ, zero, suc, Bool, true, false, Option, Some, None, List, [], ◌∷◌, slice_get, if◌then◌else◌, refl}
 use Rattle.std.proofs.Common.{ap, ◌∙◌, sym, subst, arith}
+use Rattle.pli_world.specs.Areas.{emptied, assigned}
 use Rattle.pli_world.specs.World.{World, stored, copied, printed, line_ended, entered, left_by, at_statement}
 use Rattle.pli_value.specs.Value.{Value, Number, Characters, Bits, Located}
 use Rattle.pli_value.specs.Conversions.{bit_constant}
@@ -10,7 +11,7 @@ use Rattle.pli_machine_step.specs.Machine as machine
 use Rattle.pli_machine_step.specs.Machine.{OfValue, AtPlace, Locals, Frame, State, At, calm, fresh, begun, enters, resume}
 use Rattle.pli_type_tree.specs.TypedTree.{Callee, TypedExpression, Called, TypedReference, TypedArguments, BlockHead, TypedStatements}
 use Rattle.pli_meaning_tree.specs.Effects.{Label, Effect, Gives, Jumps, Fails, Spent, Lost, Short, Flow, Next, Returned, Doing, and_then, nothing_done, answered, as_statement, back_at, truth, chosen, turns, leaving, block_end}
-use Rattle.pli_meaning_tree.specs.TreeMeaning.{Calls, no_value, printed_item, value_of, place_of, called_with, condition, assigns, assigns_aggregate, puts, skips, does_call, returns_value, labels_in, as_list, head_in, static_link, activation_of, in_block}
+use Rattle.pli_meaning_tree.specs.TreeMeaning.{Calls, no_value, printed_item, value_of, place_of, called_with, condition, assigns, assigns_aggregate, assigns_area, empties, puts, skips, does_call, returns_value, labels_in, as_list, head_in, static_link, activation_of, in_block}
 use Rattle.pli_meaning_simulation.specs.CodeStands.{Span, Empty, Then, Context, deeper, Nests, arguments_in, block_of, Is, Guarded, Choice, Loop, BeginStands, ValueStands, PlaceStands, ConditionStands, ItemsStand, SkipStands}
 use Rattle.pli_meaning_simulation.proofs.ReachesLemmas.{Fine, Target, Comes, stays, from, frame, flows, tested, returns, Reaches, gives, passes, then_reaches, bound, goes_on, goes, begins, answers}
 use Rattle.pli_meaning_simulation.proofs.ExpressionsReach.{CallsRun, value_run, place_run, called_run}
@@ -118,6 +119,20 @@ module _ (p : Program) (number : ℕ) (u : UnitCode) (at : Label → ℕ) where
           (λ m k q w left. bound p number u at (place_of p.greatest call source w left) _ (place_run p number u at there call calls_run c source is.snd.fst (AtPlace q ∷ []) m k.fine fs w left)
           (λ m k r w left. bound p number u at (answered (copied r q w) left) _ (answers p number u at there (λ _. []) (copied r q w) is.snd.snd k.fine w left refl)
           (λ m k _ w left. gives p number u at Next w left k.fine (stays p _))))
+
+      pub area_run : (target source : TypedReference) {c : Context} {a b : ℕ} → Then (PlaceStands u target) (Then (PlaceStands u source) (Is u op.AssignArea)) a b
+          → Runs c (assigns_area p.greatest call target source) a b
+      area_run target source {c} is l fine fs w left =
+          bound p number u at (place_of p.greatest call target w left) _ (place_run p number u at there call calls_run c target is.fst [] l fine fs w left)
+          (λ m k q w left. bound p number u at (place_of p.greatest call source w left) _ (place_run p number u at there call calls_run c source is.snd.fst (AtPlace q ∷ []) m k.fine fs w left)
+          (λ m k r w left. bound p number u at (answered (assigned r q w) left) _ (answers p number u at there (λ _. []) (assigned r q w) is.snd.snd k.fine w left refl)
+          (λ m k _ w left. gives p number u at Next w left k.fine (stays p _))))
+
+      pub empty_run : (target : TypedReference) {c : Context} {a b : ℕ} → Then (PlaceStands u target) (Is u op.EmptyArea) a b → Runs c (empties p.greatest call target) a b
+      empty_run target {c} is l fine fs w left =
+          bound p number u at (place_of p.greatest call target w left) _ (place_run p number u at there call calls_run c target is.fst [] l fine fs w left)
+          (λ m k q w left. bound p number u at (answered (emptied q w) left) _ (answers p number u at there (λ _. []) (emptied q w) is.snd k.fine w left refl)
+          (λ m k _ w left. gives p number u at Next w left k.fine (stays p _)))
 
       pub puts_run : (es : List TypedExpression) {c : Context} {a b : ℕ} → ItemsStand u es a b → Runs c (puts p.greatest call es) a b
       puts_run [] is l fine fs w left = passes p number u at is fine w left

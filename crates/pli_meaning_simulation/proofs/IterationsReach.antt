@@ -9,14 +9,14 @@ use Rattle.pli_program.specs.Program as op
 use Rattle.pli_program.specs.Program.{UnitCode, Program}
 use Rattle.pli_machine_step.specs.Machine.{Operand, OfValue, AtPlace, Locals, Frame, At, calm}
 use Rattle.pli_type_tree.specs.Iterations.{kept_by, limit_number, step_number, is_iterated}
-use Rattle.pli_type_tree.specs.TypedOperations.{comes_to}
-use Rattle.pli_type_tree.specs.TypedTree.{TypedOperation, Operate, TypedExpression, TypedRange, Once, ToBy, ByTo, Repeated, Iteration}
+use Rattle.pli_type_tree.specs.TypedTree.{Operate, TypedExpression, TypedRange, Once, ToBy, ByTo, Repeated, Iteration}
 use Rattle.pli_meaning_tree.specs.Effects.{Label, Gives, Flow, Next, Doing, nothing_done, followed, answered, as_statement, back_at, truth, chosen}
 use Rattle.pli_meaning_tree.specs.TreeMeaning.{Calls, value_of, place_of, keeps, kept, converted, sets, advanced, within_limit, while_holds, may_turn, advances, turned, iterates}
-use Rattle.pli_meaning_simulation.specs.CodeStands.{Span, Then, Context, using, deeper, Is, KeepsStand, ConversionStands, SetsStand, AdvancedStands, LimitStands, WhileStands, TestStands, AdvancesStand, TurnsStand, IterateStands}
+use Rattle.pli_meaning_simulation.specs.CodeStands.{Span, Then, Context, using, deeper, Is, KeepsStand, SetsStand, AdvancedStands, LimitStands, WhileStands, TestStands, AdvancesStand, TurnsStand, IterateStands}
 use Rattle.pli_meaning_simulation.proofs.ReachesLemmas.{Fine, Kept, kept_on, calm_kept, Comes, stays, frame, pushes, flows, tested, Reaches, gives, passes, then_reaches, reach_out, bound, goes_on, goes, begins, answers}
 use Rattle.pli_meaning_simulation.proofs.ExpressionsReach.{CallsRun, operation_run, value_run, place_run}
 use Rattle.pli_meaning_simulation.proofs.ControlReaches.{turn_kept, chosen_run, truth_run, turns_run}
+use Rattle.pli_meaning_simulation.proofs.ConversionsReach.{converted_run}
 use Rattle.pli_meaning_simulation.proofs.FormsReach.{Runs, condition_run, assign_run}
 use Rattle.pli_meaning_simulation.proofs.TemporariesReach.{using_fine, set_run, taken_run}
 
@@ -61,16 +61,6 @@ module _ (p : Program) (number : ℕ) (u : UnitCode) (at : Label → ℕ) (there
       by None e = record { by = tt }
       by (Some v) e = gives p number u at v w left fine (taken_run p number u at there (t + k) v is ops l (holds_at t vs l h k v e) fs w left)
 
-  converted_run : (operations : List TypedOperation) {a b : ℕ} → ConversionStands u operations a b → {c : Context} (v : Value) (ops : List Operand) (l : Locals) → Fine c l → (fs : List Frame) (w : World) (left : ℕ)
-      → Reaches p number u at c (At (frame p number u a (OfValue v ∷ ops) l) fs w left) l (pushes p number u OfValue b ops fs) fs (converted p.greatest call operations v w left)
-  converted_run [] {a} {b} is {c} v ops l fine fs w left =
-      gives p number u at v w left fine
-      (subst (λ m. Comes p (At (frame p number u a (OfValue v ∷ ops) l) fs w left) (At (frame p number u m (OfValue v ∷ ops) l) fs w left)) is (stays p _))
-  converted_run (operation ∷ more) is {c} v ops l fine fs w left =
-      bound p number u at (answered (calculation (comes_to p.greatest operation (v ∷ [])) w) left) _
-      (operation_run p number u at there call calls_run c operation is.fst (v ∷ []) ops l fine fs w left)
-      (λ m k x w left. converted_run more is.snd x ops m k.fine fs w left)
-
   -- in a context, what a frame's own part holds stays
   module _ (c : Context) (i : Iteration) (vs : List Value) (enough : i.temporary + length vs ≤ c.depth) where
     abbrev Has : Locals → Type 0
@@ -100,7 +90,7 @@ module _ (p : Program) (number : ℕ) (u : UnitCode) (at : Label → ℕ) (there
     sets_run value V is run l fine h fs w left =
         bound p number u at (place_of p.greatest call i.control w left) _ (place_run p number u at there call calls_run c i.control is.fst [] l fine fs w left)
         (λ m k q w left. bound p number u at (value w left) _ (run is.middle is.snd.middle is.snd.fst (AtPlace q ∷ []) m k.fine (stay l m k h) fs w left)
-        (λ m k v w left. bound p number u at (converted p.greatest call i.conversion v w left) _ (converted_run i.conversion is.snd.snd.fst v (AtPlace q ∷ []) m k.fine fs w left)
+        (λ m k v w left. bound p number u at (converted p.greatest call i.conversion v w left) _ (converted_run p number u at there call calls_run i.conversion is.snd.snd.fst v (AtPlace q ∷ []) m k.fine fs w left)
         (λ m k x w left. bound p number u at (answered (stored q x w) left) _ (answers p number u at there (λ _. []) (stored q x w) is.snd.snd.snd k.fine w left refl)
         (λ m k _ w left. gives p number u at Next w left k.fine (stays p _)))))
 

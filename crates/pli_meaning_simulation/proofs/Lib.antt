@@ -1,6 +1,7 @@
 pub mod Arity
 pub mod CallsReach
 pub mod ControlReaches
+pub mod ConversionsReach
 pub mod ExpressionsReach
 pub mod FormsReach
 pub mod IterationsReach

@@ -1,18 +1,19 @@
 -- The machine does what ALLOCATE and FREE mean.
 use Rattle.std.specs.Prelude.{◌≡◌, ℕ, suc, Some, List, [], ◌∷◌, slice_get, refl}
 use Rattle.std.proofs.Common.{◌∙◌, arith}
-use Rattle.pli_world.specs.Locating.{freed_by, pointer_made}
+use Rattle.pli_world.specs.Locating.{freed_by, pointer_made, block_made}
 use Rattle.pli_world.specs.Stacks.{generation_stacked, generation_unstacked}
 use Rattle.pli_world.specs.World.{World, stored}
 use Rattle.pli_value.specs.Value.{Value}
 use Rattle.pli_program.specs.Program.{UnitCode, Program}
 use Rattle.pli_machine_step.specs.Machine.{OfValue, AtPlace, Locals, Frame, At}
 use Rattle.pli_type_tree.specs.Templates.{Template, variable_of}
-use Rattle.pli_type_tree.specs.TypedTree.{TypedReference, AllocatedItem, AllocatesControlled, AllocatesBased, FreedItem, FreesControlled, FreesBased}
+use Rattle.pli_type_tree.specs.TypedTree.{TypedReference, Conversion, AllocatedItem, AllocatesControlled, AllocatesBased, AllocatesInArea, FreedItem, FreesControlled, FreesBased}
 use Rattle.pli_meaning_tree.specs.Effects.{Label, Gives, Flow, Next, Doing, and_then, answered}
-use Rattle.pli_meaning_tree.specs.TreeMeaning.{Calls, value_of, place_of, allocates_item, allocates, frees_item, frees}
-use Rattle.pli_meaning_simulation.specs.CodeStands.{Context, using, AllocationStands, AllocationsStand, FreeingStands, FreeingsStand}
+use Rattle.pli_meaning_tree.specs.TreeMeaning.{Calls, value_of, place_of, converted, allocates_item, allocates, frees_item, frees}
+use Rattle.pli_meaning_simulation.specs.CodeStands.{Context, using, HasTemporary, AllocationStands, AllocationsStand, FreeingStands, FreeingsStand}
 use Rattle.pli_meaning_simulation.proofs.ReachesLemmas.{Fine, stays, frame, pushes, flows, Reaches, gives, passes, then_reaches, reach_out, bound, goes_on, answers}
+use Rattle.pli_meaning_simulation.proofs.ConversionsReach.{converted_run}
 use Rattle.pli_meaning_simulation.proofs.ExpressionsReach.{CallsRun, value_run, place_run}
 use Rattle.pli_meaning_simulation.proofs.FormsReach.{Runs}
 use Rattle.pli_meaning_simulation.proofs.TemporariesReach.{using_fine, set_run, taken_run}
@@ -41,17 +42,54 @@ module _ (p : Program) (number : ℕ) (u : UnitCode) (at : Label → ℕ) (there
       (answers p number u at there (λ _. []) (stored q v w) is.1.snd.snd.snd.snd k.fine w left refl)
       (λ m k _ w left. gives p number u at Next w left k.fine (stays p _))))))
 
+  -- and with one that is converted first
+  abbrev goes_converted : TypedReference → Conversion → Value → Doing Flow
+  goes_converted target conversion v w left =
+      and_then (place_of p.greatest call target w left)
+      (λ q w left. and_then (converted p.greatest call conversion v w left)
+      (λ x w left. and_then (answered (stored q x w) left) (λ _ w left. Gives Next w left)))
+
+  -- a block of an area, the pointer to which is kept till the target's place is known
+  block_run : (area : TypedReference) (template : Template) (t : ℕ) (target : TypedReference) (conversion : Conversion) {c : Context} {a b : ℕ}
+      → AllocationStands u (AllocatesInArea area template t target conversion) c a b
+      → (l : Locals) → Fine (using t c) l → (fs : List Frame) (w : World) (left : ℕ)
+      → Reaches p number u at (using t c) (At (frame p number u a [] l) fs w left) l (flows p number u b fs) fs
+      (allocates_item p.greatest call (AllocatesInArea area template t target conversion) w left)
+  block_run area template t target conversion {c} {b = b} is l fine fs w left =
+      bound p number u at {to2 = flows p number u b fs} (place_of p.greatest call area w left) _
+      (place_run p number u at there call calls_run (using t c) area is.1.fst [] l fine fs w left)
+      (λ m k r w left. bound p number u at {to = pushes p number u OfValue is.1.snd.middle [] fs} {to2 = flows p number u b fs} (answered (block_made r (variable_of template) w) left) _
+      (answers p number u at there (λ v. OfValue v ∷ []) (block_made r (variable_of template) w) is.1.snd.fst k.fine w left refl)
+      (λ m k v w left. set_run p number u at there {to = flows p number u b fs} c t v is.1.snd.snd.fst [] m k.fine is.0.room fs w left (goes_converted target conversion v w left)
+      (λ n kept here. bound p number u at {to2 = flows p number u b fs} (place_of p.greatest call target w left) _
+      (place_run p number u at there call calls_run (using (suc t) c) target is.1.snd.snd.snd.fst [] n (using_fine (suc t) (using t c) n kept.fine) fs w left)
+      (λ o k q w left. then_reaches p number u at
+      (taken_run p number u at there t v is.1.snd.snd.snd.snd.fst (AtPlace q ∷ []) o (k.agree t (omega arith) ∙ here) fs w left)
+      (bound p number u at {to2 = flows p number u b fs} (converted p.greatest call conversion v w left) _
+      (converted_run p number u at there call calls_run conversion is.1.snd.snd.snd.snd.snd.fst v (AtPlace q ∷ []) o k.fine fs w left)
+      (λ m k x w left. bound p number u at {to2 = flows p number u b fs} (answered (stored q x w) left) _
+      (answers p number u at there (λ _. []) (stored q x w) is.1.snd.snd.snd.snd.snd.snd k.fine w left refl)
+      (λ m k _ w left. gives p number u at Next w left k.fine (stays p _))))))))
+
+  -- what runs with a temporary in use runs where it is free
+  kept_free : (item : AllocatedItem) (t : ℕ) (c : Context) {a b : ℕ} → HasTemporary t c → (l : Locals) → Fine c l → (fs : List Frame) (w : World) (left : ℕ)
+      → Reaches p number u at (using t c) (At (frame p number u a [] l) fs w left) l (flows p number u b fs) fs (allocates_item p.greatest call item w left)
+      → Reaches p number u at c (At (frame p number u a [] l) fs w left) l (flows p number u b fs) fs (allocates_item p.greatest call item w left)
+  kept_free item t c {a} {b} has l fine fs w left runs =
+      record {
+        by = reach_out p number u at (using t c) c (At (frame p number u a [] l) fs w left) l (flows p number u b fs) fs (allocates_item p.greatest call item w left)
+            (record { size = refl; depth = has.free; bound = omega arith; some = fine.some }) runs.by;
+      }
+
   allocation_run : (item : AllocatedItem) {c : Context} {a b : ℕ} → AllocationStands u item c a b → Runs p number u at there c (allocates_item p.greatest call item) a b
   allocation_run (AllocatesControlled n) is l fine fs w left =
       bound p number u at (answered (generation_stacked n w) left) _ (answers p number u at there (λ _. []) (generation_stacked n w) is fine w left refl)
       (λ m k _ w left. gives p number u at Next w left k.fine (stays p _))
   allocation_run (AllocatesBased template t target) {c} {a} {b} is l fine fs w left =
-      record {
-        by = reach_out p number u at (using t c) c (At (frame p number u a [] l) fs w left) l (flows p number u b fs) fs
-            (allocates_item p.greatest call (AllocatesBased template t target) w left)
-            (record { size = refl; depth = is.0.free; bound = omega arith; some = fine.some })
-            (based_run template t target is l (using_fine t c l fine) fs w left).by;
-      }
+      kept_free (AllocatesBased template t target) t c {a = a} {b = b} is.0 l fine fs w left (based_run template t target is l (using_fine t c l fine) fs w left)
+  allocation_run (AllocatesInArea area template t target conversion) {c} {a} {b} is l fine fs w left =
+      kept_free (AllocatesInArea area template t target conversion) t c {a = a} {b = b} is.0 l fine fs w left
+      (block_run area template t target conversion is l (using_fine t c l fine) fs w left)
 
   pub allocations_run : (items : List AllocatedItem) {c : Context} {a b : ℕ} → AllocationsStand u items c a b → Runs p number u at there c (allocates p.greatest call items) a b
   allocations_run [] is l fine fs w left = passes p number u at is fine w left

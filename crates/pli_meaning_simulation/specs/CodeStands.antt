@@ -14,9 +14,10 @@ use Rattle.pli_type_tree.specs.Iterations.{kept_by, temporaries_of, limit_number
 use Rattle.pli_type_tree.specs.Templates.{Template, variable_of}
 use Rattle.pli_type_tree.specs.TypedTree.{TypedOperation, Fit, Operate, Root, InSlot, OfProgram, NewestOf}
 use Rattle.pli_type_tree.specs.TypedTree.{Located, TypedExpression, Literal, Held, Calculated, Called}
-use Rattle.pli_type_tree.specs.TypedTree.{Generations, Address, TypedReference, AllocatedItem}
-use Rattle.pli_type_tree.specs.TypedTree.{AllocatesControlled, AllocatesBased, FreedItem, FreesControlled}
-use Rattle.pli_type_tree.specs.TypedTree.{FreesBased, Allocate, Free}
+use Rattle.pli_type_tree.specs.TypedTree.{Generations, Address, AsPointer, AsOffset, TypedReference}
+use Rattle.pli_type_tree.specs.TypedTree.{Conversion, ByOperations, AsPointerIn, AsOffsetIn, AllocatedItem}
+use Rattle.pli_type_tree.specs.TypedTree.{AllocatesControlled, AllocatesBased, AllocatesInArea, FreedItem}
+use Rattle.pli_type_tree.specs.TypedTree.{FreesControlled, FreesBased, AssignArea, EmptyArea, Allocate, Free}
 use Rattle.pli_type_tree.specs.TypedTree.{Whole, Part, Operands, NoOperand, OperandThen, Subscripts}
 use Rattle.pli_type_tree.specs.TypedTree.{NoSubscript, SubscriptThen, TypedArguments, NoArgument, ByPlace}
 use Rattle.pli_type_tree.specs.TypedTree.{ByDummy, BlockHead, TypedStatement, Statement, Form, Null, Assign}
@@ -126,6 +127,8 @@ module _ (u : UnitCode) where
         Then (ArgumentsStand arguments) (Is (call_of callee (arguments_in arguments)))
     ValueStands (Generations number) = Is (op.CountGenerations number)
     ValueStands (Address r) = Then (PlaceStands r) (Is op.AddressOf)
+    ValueStands (AsPointer area e) = Then (ValueStands e) (Then (PlaceStands area) (Is op.ToPointer))
+    ValueStands (AsOffset area e) = Then (ValueStands e) (Then (PlaceStands area) (Is op.ToOffset))
 
     -- the values of operands, from left to right
     pub OperandsStand : Operands → Span
@@ -172,7 +175,19 @@ module _ (u : UnitCode) where
   SkipStands true = Is op.Skip
   SkipStands false = Empty
 
-  -- an item of ALLOCATE; a pointer is kept in a temporary till the target's place is known
+  -- one operation after the other
+  abbrev pub OperationsStand : List TypedOperation → Span
+  OperationsStand [] = Empty
+  OperationsStand (operation ∷ more) = Then (Is (operation_code operation)) (OperationsStand more)
+
+  -- a conversion of a value: operations, or the place of an area and what is done by it
+  abbrev pub ConversionStands : Conversion → Span
+  ConversionStands (ByOperations operations) = OperationsStand operations
+  ConversionStands (AsPointerIn area) = Then (PlaceStands area) (Is op.ToPointer)
+  ConversionStands (AsOffsetIn area) = Then (PlaceStands area) (Is op.ToOffset)
+
+  -- an item of ALLOCATE; a pointer is kept in a temporary till the target's place is known. An allocation in
+  -- an area names the place at which its item begins: there a unit's return goes on
   abbrev pub AllocationStands : AllocatedItem → Context → Span
   AllocationStands (AllocatesControlled number) c = Is (op.AllocateControlled number)
   AllocationStands (AllocatesBased template temporary target) c =
@@ -180,6 +195,13 @@ module _ (u : UnitCode) where
       × Then (Is (op.AllocateBased template))
       (Then (Is (op.SetTemporary temporary))
       (Then (PlaceStands target) (Then (Is (op.TakeTemporary temporary)) (Is op.Store)))) p q
+  AllocationStands (AllocatesInArea area template temporary target conversion) c =
+      λ p q. HasTemporary temporary c
+      × Then (PlaceStands area)
+      (Then (Is (op.AllocateInArea template p))
+      (Then (Is (op.SetTemporary temporary))
+      (Then (PlaceStands target)
+      (Then (Is (op.TakeTemporary temporary)) (Then (ConversionStands conversion) (Is op.Store)))))) p q
 
   -- its items
   abbrev pub AllocationsStand : List AllocatedItem → Context → Span
@@ -232,11 +254,6 @@ module _ (u : UnitCode) where
   KeepsStand temporary [] = Empty
   KeepsStand temporary (e ∷ es) =
       Then (ValueStands e) (Then (Is (op.SetTemporary temporary)) (KeepsStand (suc temporary) es))
-
-  -- one operation after the other
-  abbrev pub ConversionStands : List TypedOperation → Span
-  ConversionStands [] = Empty
-  ConversionStands (operation ∷ more) = Then (Is (operation_code operation)) (ConversionStands more)
 
   -- the control variable gets a value
   abbrev pub SetsStand : Iteration → (value : Span) → Span
@@ -327,6 +344,9 @@ module _ (u : UnitCode) where
           Then (PlaceStands target) (Then (ValueStands e) (Is op.Store))
       FormStands block number (AssignAggregate target source) c =
           Then (PlaceStands target) (Then (PlaceStands source) (Is op.Copy))
+      FormStands block number (AssignArea target source) c =
+          Then (PlaceStands target) (Then (PlaceStands source) (Is op.AssignArea))
+      FormStands block number (EmptyArea target) c = Then (PlaceStands target) (Is op.EmptyArea)
       FormStands block number (Put skip items) c = Then (SkipStands skip) (ItemsStand items)
       FormStands block number (Allocate items) c = AllocationsStand items c
       FormStands block number (Free items) c = FreeingsStand items

@@ -1,1 +1,2 @@
 pub mod ExamplesHold
+pub mod AreasHold

@@ -15,7 +15,9 @@ use Rattle.pli_world.specs.Storage.{Place}
 use Rattle.pli_world.specs.World.{Standing, World, Answer, Yields, known, further, nothing, height, held}
 use Rattle.pli_world.specs.World.{stored, copied, led_on, subscripted, calculation, entered, height_of}
 use Rattle.pli_world.specs.World.{slot_place, static_place, dummy_of, printed, line_ended, statics_made}
-use Rattle.pli_world.specs.Locating.{place_by, freed_by, pointer_made, address_of}
+use Rattle.pli_world.specs.Areas.{emptied, assigned}
+use Rattle.pli_world.specs.Locating.{place_by, freed_by, pointer_made, block_made, address_of, offset_made}
+use Rattle.pli_world.specs.Locating.{pointer_within}
 use Rattle.pli_world.specs.Stacks.{generation_stacked, generation_unstacked, generations_counted}
 use Rattle.pli_base.specs.Words.{same_name}
 use Rattle.pli_type_tree.specs.Globals.{global_variable}
@@ -24,12 +26,15 @@ use Rattle.pli_type_tree.specs.Templates.{variable_of}
 use Rattle.pli_type_tree.specs.TypedOperations.{comes_to}
 use Rattle.pli_type_tree.specs.TypedTree.{TypedOperation, Root, InSlot, OfProgram, NewestOf, Located}
 use Rattle.pli_type_tree.specs.TypedTree.{TypedExpression, Literal, Held, Calculated, Called, Generations}
-use Rattle.pli_type_tree.specs.TypedTree.{Address, TypedReference, Whole, Part, Operands}
+use Rattle.pli_type_tree.specs.TypedTree.{Address, AsPointer, AsOffset, TypedReference, Whole, Part}
+use Rattle.pli_type_tree.specs.TypedTree.{Operands}
 use Rattle.pli_type_tree.specs.TypedTree.{NoOperand, OperandThen, Subscripts, NoSubscript, SubscriptThen}
 use Rattle.pli_type_tree.specs.TypedTree.{TypedArguments, NoArgument, ByPlace, ByDummy, BlockHead}
-use Rattle.pli_type_tree.specs.TypedTree.{AllocatedItem, AllocatesControlled, AllocatesBased, FreedItem}
+use Rattle.pli_type_tree.specs.TypedTree.{Conversion, ByOperations, AsPointerIn, AsOffsetIn, AllocatedItem}
+use Rattle.pli_type_tree.specs.TypedTree.{AllocatesControlled, AllocatesBased, AllocatesInArea, FreedItem}
 use Rattle.pli_type_tree.specs.TypedTree.{FreesControlled, FreesBased}
-use Rattle.pli_type_tree.specs.TypedTree.{TypedStatement, Statement, Form, Null, Assign, AssignAggregate, Put}
+use Rattle.pli_type_tree.specs.TypedTree.{TypedStatement, Statement, Form, Null, Assign, AssignAggregate}
+use Rattle.pli_type_tree.specs.TypedTree.{AssignArea, EmptyArea, Put}
 use Rattle.pli_type_tree.specs.TypedTree.{Allocate, Free, If, Begin, Group, While, Iterate, TypedRange}
 use Rattle.pli_type_tree.specs.TypedTree.{Once, ToBy, ByTo}
 use Rattle.pli_type_tree.specs.TypedTree.{Repeated, Iteration, Call, Goto, Return, ReturnValue, Stop}
@@ -93,6 +98,12 @@ module _ (greatest : ℕ) (call : Calls) where
     value_of (Generations number) w left = answered (generations_counted number w) left
     value_of (Address r) w left =
         and_then (place_of r w left) (λ p w left. answered (address_of p w) left)
+    value_of (AsPointer area e) w left =
+        and_then (value_of e w left)
+        (λ v w left. and_then (place_of area w left) (λ p w left. answered (pointer_within p v w) left))
+    value_of (AsOffset area e) w left =
+        and_then (value_of e w left)
+        (λ v w left. and_then (place_of area w left) (λ p w left. answered (offset_made p v w) left))
 
     -- an operation on its operands, which are evaluated from left to right; those before, the last first
     pub operated : TypedOperation → Operands → (before : List Value) → Doing Value
@@ -154,6 +165,19 @@ module _ (greatest : ℕ) (call : Calls) where
       (λ p w left. and_then (place_of source w left)
       (λ q w left. and_then (answered (copied q p w) left) (λ _ w left. Gives Next w left)))
 
+  -- of an area: the target's place, the source's, then the blocks of the source are put at the target
+  abbrev pub assigns_area : (target source : TypedReference) → Doing Flow
+  assigns_area target source w left =
+      and_then (place_of target w left)
+      (λ p w left. and_then (place_of source w left)
+      (λ q w left. and_then (answered (assigned q p w) left) (λ _ w left. Gives Next w left)))
+
+  -- all blocks of an area end
+  abbrev pub empties : TypedReference → Doing Flow
+  empties target w left =
+      and_then (place_of target w left)
+      (λ p w left. and_then (answered (emptied p w) left) (λ _ w left. Gives Next w left))
+
   -- each item of PUT is evaluated and written before the next one is evaluated
   abbrev pub puts : List TypedExpression → Doing Flow
   puts [] w left = Gives Next w left
@@ -179,11 +203,19 @@ module _ (greatest : ℕ) (call : Calls) where
   abbrev pub kept : List Value → (number : ℕ) → Doing Value
   kept vs number w left = answered (known (slice_get vs number) w) left
 
-  -- a value converted by one operation after another
-  abbrev pub converted : List TypedOperation → Value → Doing Value
-  converted [] v w left = Gives v w left
-  converted (operation ∷ more) v w left =
-      and_then (answered (calculation (comes_to greatest operation (v ∷ [])) w) left) (converted more)
+  -- one operation after another on a value
+  abbrev pub operated_by : List TypedOperation → Value → Doing Value
+  operated_by [] v w left = Gives v w left
+  operated_by (operation ∷ more) v w left =
+      and_then (answered (calculation (comes_to greatest operation (v ∷ [])) w) left) (operated_by more)
+
+  -- a value converted: by operations; or by an area, which is evaluated for that
+  abbrev pub converted : Conversion → Value → Doing Value
+  converted (ByOperations operations) v w left = operated_by operations v w left
+  converted (AsPointerIn area) v w left =
+      and_then (place_of area w left) (λ p w left. answered (pointer_within p v w) left)
+  converted (AsOffsetIn area) v w left =
+      and_then (place_of area w left) (λ p w left. answered (offset_made p v w) left)
 
   -- the control variable's place, a value, its conversion, the store
   abbrev pub sets : Iteration → Doing Value → Doing Flow
@@ -247,7 +279,8 @@ module _ (greatest : ℕ) (call : Calls) where
       (back_at number (advances i.range i vs)))) w left
 
   -- an item of ALLOCATE: a generation more of a CONTROLLED variable; or one of a BASED variable, and then the
-  -- pointer to it is put at the target's place
+  -- pointer to it is put at the target's place; or a block of an area for one, and the pointer to that is put
+  -- there, converted
   abbrev pub allocates_item : AllocatedItem → Doing Flow
   allocates_item (AllocatesControlled number) w left =
       and_then (answered (generation_stacked number w) left) (λ _ w left. Gives Next w left)
@@ -255,6 +288,12 @@ module _ (greatest : ℕ) (call : Calls) where
       and_then (answered (pointer_made (variable_of template) w) left)
       (λ v w left. and_then (place_of target w left)
       (λ p w left. and_then (answered (stored p v w) left) (λ _ w left. Gives Next w left)))
+  allocates_item (AllocatesInArea area template temporary target conversion) w left =
+      and_then (place_of area w left)
+      (λ a w left. and_then (answered (block_made a (variable_of template) w) left)
+      (λ v w left. and_then (place_of target w left)
+      (λ p w left. and_then (converted conversion v w left)
+      (λ x w left. and_then (answered (stored p x w) left) (λ _ w left. Gives Next w left)))))
 
   -- its items, one after the other
   abbrev pub allocates : List AllocatedItem → Doing Flow
@@ -346,6 +385,8 @@ module _ (greatest : ℕ) (call : Calls) (unit level : ℕ) where
     does_form block number (Assign target e) w left = assigns greatest call target e w left
     does_form block number (AssignAggregate target source) w left =
         assigns_aggregate greatest call target source w left
+    does_form block number (AssignArea target source) w left = assigns_area greatest call target source w left
+    does_form block number (EmptyArea target) w left = empties greatest call target w left
     does_form block number (Put skip items) w left =
         skips greatest call skip (puts greatest call items) w left
     does_form block number (Allocate items) w left = allocates greatest call items w left

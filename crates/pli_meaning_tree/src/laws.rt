@@ -1,4 +1,7 @@
 //! Worked examples of the meaning.
+ghost use Rattle.pli_meaning_tree.specs.examples.AreaExamples.{OffsetCopied, DeadHeaderNamed, AreaFull};
+ghost use Rattle.pli_meaning_tree.specs.examples.AreaExamples.{OutsideAreaNamed, BlockFreed, ListInArea};
+ghost use Rattle.pli_meaning_tree.specs.examples.AreaExamples.{NoAreaIsError};
 ghost use Rattle.pli_meaning_tree.specs.examples.TreeExamples.{LoopEnds, LoopStops, IfChooses, SubscriptIsTested};
 ghost use Rattle.pli_meaning_tree.specs.examples.TreeExamples.{AggregateIsCopied, BitsArePrinted, ItemBeforeIsWritten};
 ghost use Rattle.pli_meaning_tree.specs.examples.TreeExamples.{FunctionCallsItself, FunctionStops, ByReferenceChanges};
@@ -11,9 +14,10 @@ ghost use Rattle.pli_meaning_tree.specs.examples.TreeExamples.{UnitsShare, UnitF
 ghost use Rattle.pli_meaning_tree.specs.examples.TreeExamples.{ListIsLinked, AddressIsMeant, LeadsNowhere, IsNotFreed};
 
 /// What programs give with so many steps: loops of all forms, IF, an element out of bounds, an aggregate copied, bits
-/// printed, functions that call themselves, an argument changed by the procedure, GOTO out of blocks and calls, labels of
-/// units, RETURN, STOP, a call of another unit's procedure and a variable that both units have, the generations of a
-/// CONTROLLED variable, a list linked by pointers, and pointers that lead nowhere.
+/// printed, functions that call themselves, an argument changed by the procedure, GOTO out of blocks and calls, labels
+/// of units, RETURN, STOP, a call of another unit's procedure and a variable that both units have, the generations of a
+/// CONTROLLED variable, a list linked by pointers, and pointers that lead nowhere, offsets that are copied with their
+/// area, areas that are full or that are not there, and locators outside their area.
 pub fn worked_examples()
     ensures loop_ends { LoopEnds }
     ensures loop_stops { LoopStops }
@@ -46,4 +50,11 @@ pub fn worked_examples()
     ensures address_is_meant { AddressIsMeant }
     ensures leads_nowhere { LeadsNowhere }
     ensures is_not_freed { IsNotFreed }
+    ensures offset_copied { OffsetCopied }
+    ensures dead_header_named { DeadHeaderNamed }
+    ensures area_full { AreaFull }
+    ensures outside_area_named { OutsideAreaNamed }
+    ensures block_freed { BlockFreed }
+    ensures list_in_area { ListInArea }
+    ensures no_area_is_error { NoAreaIsError }
 {}

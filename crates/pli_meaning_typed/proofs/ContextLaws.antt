@@ -16,7 +16,7 @@ use Rattle.pli_type_tree.specs.Globals.{described_as}
 use Rattle.pli_type_tree.specs.TypedTree.{Global, TypedUnit}
 use Rattle.pli_type_tree.specs.WellTyped.{BlockAround, AreAround, blocks_from, with_labels}
 use Rattle.pli_meaning_tree.specs.Effects.{Label}
-use Rattle.pli_meaning_typed.specs.SoundWorlds.{IsGood, IsWhole, IsOwn, AreSlots, Shape, AreShaped, EachGood, StandsGood, IsSound, IsLater, Answers}
+use Rattle.pli_meaning_typed.specs.SoundWorlds.{IsWhole, IsVariable, IsPassed, AreSlots, Shape, AreShaped, EachGood, StandsGood, IsSound, IsLater, Answers}
 use Rattle.pli_meaning_typed.proofs.WorldLaws.{later_same, error_named}
 
 -- which labels of which activations, by their height, a jump may lead to
@@ -260,14 +260,14 @@ stand_labels unit known more labels (s ∷ ss) h (b ∷ bs) wide new (inr stand)
 
 -- the operations that walk
 abbrev AtSlot : World → List Place → (parameters slot : ℕ) → Description → Type 0
-AtSlot w ps k n d = (p : Place) × (slice_get ps n ≡ Some p) × IsGood w d p × (k ≤ n → IsWhole w p)
+AtSlot w ps k n d = (p : Place) × (slice_get ps n ≡ Some p) × IsPassed w d p × (k ≤ n → IsWhole w p)
 
 good_at : (w : World) (ds : List Description) (ps : List Place) (k n : ℕ) (d : Description) → AreSlots w ds ps k → slice_get ds n ≡ Some d
     → AtSlot w ps k n d
 good_at w [] ps k n d good e = absurd (none_some e)
 good_at w (c ∷ ds) [] k n d good e = absurd good
-good_at w (c ∷ ds) (p ∷ ps) zero zero d good e = (p, refl, subst (λ c. IsGood w c p) (some_same e) good.0.0, λ le. good.0.1)
-good_at w (c ∷ ds) (p ∷ ps) (suc k) zero d good e = (p, refl, subst (λ c. IsGood w c p) (some_same e) good.0, λ le. absurd (omega (arith, le)))
+good_at w (c ∷ ds) (p ∷ ps) zero zero d good e = (p, refl, subst (λ c. IsPassed w c p) (some_same e) (good.0.0.0, λ is. good.0), λ le. good.0.0.1)
+good_at w (c ∷ ds) (p ∷ ps) (suc k) zero d good e = (p, refl, subst (λ c. IsPassed w c p) (some_same e) good.0, λ le. absurd (omega (arith, le)))
 good_at w (c ∷ ds) (p ∷ ps) zero (suc n) d good e =
     let r = good_at w ds ps zero n d good.1 e in (r.0, r.1, r.2, λ le. r.3 (omega arith))
 good_at w (c ∷ ds) (p ∷ ps) (suc k) (suc n) d good e =
@@ -288,7 +288,7 @@ module _ (unit : ℕ) (units : List TypedUnit) (known : Known) (ss : List Shape)
 
   pub slot_there : (w : World) (outward slot : ℕ) (b : BlockAround) (d : Description) → IsSound units ss w
       → Stand unit known ss (length ss) blocks → slice_get blocks outward ≡ Some b → slice_get b.slots slot ≡ Some d
-      → (p : Place) × (slot_place outward slot w ≡ Yields p w) × IsGood w d p × (b.parameters ≤ slot → IsWhole w p)
+      → (p : Place) × (slot_place outward slot w ≡ Yields p w) × IsPassed w d p × (b.parameters ≤ slot → IsWhole w p)
   unfolding slot_place height_of
   slot_there w outward slot b d sound stand e g =
       let f = walked_to w outward b sound stand e in
@@ -320,7 +320,7 @@ static_there units unit globals ss w number kind d own sound e =
 
 pub static_answers : (units : List TypedUnit) (unit : ℕ) (globals : List Global) (s : Shape) (ss : List Shape) (w : World) (number : ℕ) (kind : VariableKind) (d : Description)
     → IsUnit units unit globals → s.unit ≡ unit → IsSound units (s ∷ ss) w → described_as kind (slice_get globals number) ≡ Some d
-    → Answers units (λ p v. IsOwn v d p × IsSound units (s ∷ ss) v × IsLater w v) (static_place number w)
+    → Answers units (λ p v. IsVariable v d p × IsSound units (s ∷ ss) v × IsLater w v) (static_place number w)
 unfolding static_place
 static_answers units unit globals s ss w number kind d own top sound e =
     let t = static_there units unit globals (s ∷ ss) w number kind d own sound e in
@@ -330,7 +330,7 @@ static_answers units unit globals s ss w number kind d own top sound e =
     (placed kind t.0 t.2)
   where
     Good : Place → World → Type 0
-    Good p v = IsOwn v d p × IsSound units (s ∷ ss) v × IsLater w v
+    Good p v = IsVariable v d p × IsSound units (s ∷ ss) v × IsLater w v
 
     newest : (ps : List Place) → EachGood w d ps → Answers units Good (newest_in ps w)
     newest [] good = error_named units s ss w NoGeneration sound

@@ -1,18 +1,18 @@
 -- The worked examples are well-typed.
 use Rattle.std.specs.Prelude.{◌≡◌, ℕ, zero, suc, nat_eq, Bool, true, false, pos, Option, Some, None, List, [], ◌∷◌, slice_get, codes, if◌then◌else◌, refl}
-use Rattle.std.proofs.Common.{arith, sym, ap, ◌∙◌, subst, inl}
+use Rattle.std.proofs.Common.{arith, sym, ap, ◌∙◌, subst, inl, true≢false}
 use Rattle.std.proofs.lemmas.Bool.{eqb-true, leb-true}
 use Rattle.pli_base.specs.Name.{Name}
-use Rattle.pli_map.specs.Description.{Pointer}
+use Rattle.pli_map.specs.Description.{Pointer, Offset, Area}
 use Rattle.pli_type_tree.specs.Templates.{Template}
 use Rattle.pli_program.specs.declared.kind.VariableKind.{VariableKind}
 use Rattle.pli_program.specs.declared.kind.VariableKind.TheVariants.{Static}
-use Rattle.pli_type_tree.specs.TypedTree.{Fit, TypedProcedure, TypedUnit, Held, Signature, Global, ExternalVariable, EntryPoint}
-use Rattle.pli_type_tree.specs.ValueTypes.{OfCharacters, OfBits, Numbers, Pointers}
-use Rattle.pli_type_tree.specs.WellTyped.{KnownProcedure, TypingContext, IsTyped, IsPlaced, IsString, IsValueFor, Convert, AreTypedStatements}
+use Rattle.pli_type_tree.specs.TypedTree.{Fit, TypedProcedure, TypedUnit, Held, AsPointer, Signature, Global, ExternalVariable, EntryPoint}
+use Rattle.pli_type_tree.specs.ValueTypes.{OfCharacters, OfBits, Numbers, Pointers, Offsets}
+use Rattle.pli_type_tree.specs.WellTyped.{KnownProcedure, TypingContext, IsTyped, IsAreaReference, IsPlaced, IsString, IsValueFor, Convert, AreTypedStatements}
 use Rattle.pli_meaning_tree.specs.TreeMeaning.{procedure_in, unit_named}
 use Rattle.pli_meaning_typed.specs.TypedPrograms.{context_in, IsTypedProcedure, IsTypedUnit}
-use Rattle.pli_meaning_typed.specs.examples.TypedExamples.{number, counter, one_more, few, counting, returning, caller, successor, of_caller, of_successor, signatures, ExampleIsWellTyped, GroupsAreWellTyped, plain, StackIsWellTyped, pointing, pointer, pointed, PointersAreWellTyped, shared, numeric, asker, answerer, asking_unit, answering_unit, UnitsAreWellTyped}
+use Rattle.pli_meaning_typed.specs.examples.TypedExamples.{number, counter, one_more, few, counting, returning, caller, successor, of_caller, of_successor, signatures, ExampleIsWellTyped, GroupsAreWellTyped, plain, StackIsWellTyped, pointing, pointer, pointed, PointersAreWellTyped, declared_area, declared_offset, area_used, offset_used, block_used, AreasAreWellTyped, shared, numeric, asker, answerer, asking_unit, answering_unit, UnitsAreWellTyped}
 
 abbrev in_caller : TypingContext
 in_caller = context_in [] signatures of_caller caller
@@ -79,7 +79,7 @@ caller_typed = (
         number ∷ [],
         number,
         (of_successor, refl, (of_successor.around, refl, (refl, (refl, refl), λ l h. h, tt)), refl, refl),
-        (number, [], refl, refl, refl),
+        (number, [], refl, refl, λ is. absurd (true≢false (sym is)), refl),
         refl,
       ),
       (Numbers 31, refl, omega arith),
@@ -201,6 +201,31 @@ pointers_are = (
   ),
 )
 
+-- one in an area, where an OFFSET leads
+abbrev with_area : TypingContext
+with_area = context_in (declared_area ∷ declared_offset ∷ []) signatures of_caller caller
+
+area_known : IsAreaReference 31 with_area area_used
+area_known = (tt, (Area 64, refl, refl))
+
+block_pointed : IsTyped 31 with_area (AsPointer area_used (Held offset_used)) Pointers
+block_pointed = ((Offset, refl, refl), area_known, refl)
+
+block_placed : IsPlaced 31 with_area block_used number
+block_placed = (refl, block_pointed)
+
+pub areas_are : AreasAreWellTyped
+areas_are = (
+  (
+    (area_known, ((leb-true 4 1000000 refl, (refl, tt)), refl), (Offset, refl, (area_known, refl, (Offsets, refl, tt)))),
+    tt,
+  ),
+  (
+    (number, block_placed, (Numbers 31, (number, block_placed, refl), (Numbers 31, refl, omega arith))),
+    ((area_known, area_known), (area_known, tt)),
+  ),
+)
+
 -- a program of two units
 abbrev known_asker : KnownProcedure
 known_asker = record { parent = None; around = []; parameters = []; value = None }
@@ -237,7 +262,7 @@ asking_typed = record {
         refl,
         (
           Numbers 31,
-          (number ∷ [], number, refl, (number, [], refl, refl, refl), refl),
+          (number ∷ [], number, refl, (number, [], refl, refl, λ is. absurd (true≢false (sym is)), refl), refl),
           (Numbers 31, refl, omega arith),
         ),
       ),

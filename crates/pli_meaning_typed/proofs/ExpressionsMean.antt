@@ -6,36 +6,37 @@ use Rattle.std.proofs.lemmas.Bool.{eqb-true, eq-eqb}
 use Rattle.std.proofs.lemmas.Int.{ints}
 use Rattle.std.proofs.Common.{pow_mono, lt_of_lt_of_le}
 use Rattle.pli_run.specs.declared.ending.RunError.TheVariants.{SubscriptRange, FixedOverflow, ZeroDivide, StringRange}
-use Rattle.pli_map.specs.Description.{Description, FixedBinary, Character, Varying, Bit, Pointer}
-use Rattle.pli_map.specs.Scalars.{first_scalar, is_scalar}
+use Rattle.pli_map.specs.Description.{Description, FixedBinary, Character, Varying, Bit, Pointer, Offset}
+use Rattle.pli_map.specs.Scalars.{first_scalar, is_area, is_scalar}
 use Rattle.pli_operation.specs.Operations.{Calculation, Calculates, RaisesCondition, OutOfString, Misfits}
-use Rattle.pli_world.specs.Storage.{Generation, Place, field_of, generation_in, offset_limit}
+use Rattle.pli_world.specs.Storage.{Place, field_of, offset_limit}
 use Rattle.pli_map.specs.Values.{holds}
 use Rattle.pli_world.specs.World.{World, Answer, Yields, Raises, Wrong, held, led_on, slot_place, static_place, calculation, dummy_of}
-use Rattle.pli_world.specs.Locating.{place_by, address_of}
+use Rattle.pli_world.specs.Locating.{place_by, address_of, offset_made, pointer_within}
 use Rattle.pli_world.specs.Stacks.{generations_counted}
 use Rattle.pli_world.specs.laws.OperationLaws.{led_near}
 use Rattle.pli_value.specs.Value.{Value, Number, Characters, Bits, Located as Locates}
 use Rattle.pli_value.specs.declared.number.Raised.TheVariants as raised
 use Rattle.pli_program.specs.declared.kind.VariableKind.TheVariants.{Static, Controlled}
 use Rattle.pli_type_tree.specs.TypedOperations.{comes_to}
-use Rattle.pli_type_tree.specs.TypedTree.{TypedOperation, Root, InSlot, OfProgram, NewestOf, Located, Callee, Global, TypedUnit, Stride, TypedExpression, Literal, Held, Calculated, Called, Generations, Address, TypedReference}
+use Rattle.pli_type_tree.specs.TypedTree.{TypedOperation, Root, InSlot, OfProgram, NewestOf, Located, Callee, Global, TypedUnit, Stride, TypedExpression, Literal, Held, Calculated, Called, Generations, Address, AsPointer, AsOffset, TypedReference}
 use Rattle.pli_type_tree.specs.TypedTree.{Whole, Part, Operands, NoOperand, OperandThen, Subscripts, NoSubscript, SubscriptThen}
 use Rattle.pli_type_tree.specs.TypedTree.{TypedArguments, NoArgument, ByPlace, ByDummy}
-use Rattle.pli_type_tree.specs.ValueTypes.{OfCharacters, OfBits, ValueType, Numbers, Strings, Pointers, type_held, count_precision, IsOf, AreOf, IsWithin, IsHeldBy, Operates}
-use Rattle.pli_type_tree.specs.WellTyped.{BlockAround, KnownProcedure, TypingContext, slot_of, parameters_in, BeginsWhole, LeadTo, IsCallee, IsTyped, IsRooted, IsAddressed, IsPlaced, AreTyped}
+use Rattle.pli_type_tree.specs.ValueTypes.{OfCharacters, OfBits, ValueType, Numbers, Strings, Pointers, Offsets, type_held, count_precision, IsOf, AreOf, IsWithin, IsHeldBy, Operates}
+use Rattle.pli_type_tree.specs.WellTyped.{BlockAround, KnownProcedure, TypingContext, slot_of, parameters_in, BeginsWhole, IsUnlocated, LeadTo, IsCallee, IsTyped, IsRooted, IsAddressed, IsAreaReference, IsPlaced, AreTyped}
 use Rattle.pli_map.specs.Scalars.{scalars_of}
 use Rattle.pli_type_tree.specs.WellTyped.{AreSubscripts, ArePassed}
 use Rattle.pli_meaning_tree.specs.Effects.{Effect, Doing, and_then, answered}
 use Rattle.pli_meaning_tree.specs.TreeMeaning.{Calls, a_value, in_order, root_place, element_of, value_of, operated, place_of, element_at, called_with}
-use Rattle.pli_meaning_typed.specs.SoundWorlds.{IsPartAt, IsNear, IsGood, AreGood, IsWhole, IsOwn, Shape, IsSound, IsLater, Answers}
+use Rattle.pli_meaning_typed.specs.SoundWorlds.{IsPartAt, IsNear, HasPart, IsGood, IsWhole, IsOwn, IsVariable, IsPassed, AreGood, Shape, IsSound, IsLater, Answers}
+use Rattle.pli_meaning_typed.proofs.AreaLaws.{offset_answers, within_answers}
 use Rattle.pli_meaning_typed.proofs.MeansLemmas.{IsBelow, Means, means_as, then_means, answer_means}
 use Rattle.pli_meaning_typed.proofs.OperationsFit.{IsCalculated, operated_fits}
 use Rattle.pli_meaning_typed.proofs.PartsWithin.{parts_within}
 use Rattle.pli_meaning_typed.proofs.ContextLaws.{IsUnit, Known, Stand, slot_there, static_answers}
 use Rattle.pli_meaning_typed.proofs.PointerLaws.{place_answers, address_answers}
 use Rattle.pli_meaning_typed.proofs.StackLaws.{counted_answers}
-use Rattle.pli_meaning_typed.proofs.WorldLaws.{later_same, later_then, goods_later, error_named, held_answers, dummy_answers}
+use Rattle.pli_meaning_typed.proofs.WorldLaws.{later_same, later_then, part_later, goods_later, error_named, held_answers, dummy_answers}
 
 some_same : {A : Type 0} {x y : A} → Some x ≡ Some y → x ≡ y
 some_same e = cc
@@ -56,6 +57,7 @@ held_is_of (Varying n) t (Characters s) e h =
 held_is_of (Bit n) t (Bits s) e h =
     let l = equal_lengths (length s) n h in subst (λ t. IsOf t (Bits s)) (some_same e) (s, refl, l.0, l.1)
 held_is_of Pointer t (Locates l) e h = subst (λ t. IsOf t (Locates l)) (some_same e) (l, refl, h)
+held_is_of Offset t (Locates l) e h = subst (λ t. IsOf t (Locates l)) (some_same e) (l, refl, h)
 held_is_of d t v e h = absurd (cc)
 
 -- and a value of a narrower type is held
@@ -69,6 +71,7 @@ narrow_in (FixedBinary p) (Strings OfCharacters a b) wide v e le is =
 narrow_in (FixedBinary p) (Strings OfBits a b) wide v e le is =
     absurd (subst (λ u. IsWithin (Strings OfBits a b) u) (sym (some_same e)) le)
 narrow_in (FixedBinary p) Pointers wide v e le is = absurd (subst (λ u. IsWithin Pointers u) (sym (some_same e)) le)
+narrow_in (FixedBinary p) Offsets wide v e le is = absurd (subst (λ u. IsWithin Offsets u) (sym (some_same e)) le)
 narrow_in (Character n) (Numbers q) wide v e le is = absurd (subst (λ u. IsWithin (Numbers q) u) (sym (some_same e)) le)
 narrow_in (Character n) (Strings OfCharacters a b) wide v e le is =
     let l : (n ≤ a) × (b ≤ n) = subst (λ u. IsWithin (Strings OfCharacters a b) u) (sym (some_same e)) le in
@@ -76,6 +79,7 @@ narrow_in (Character n) (Strings OfCharacters a b) wide v e le is =
 narrow_in (Character n) (Strings OfBits a b) wide v e le is =
     absurd (subst (λ u. IsWithin (Strings OfBits a b) u) (sym (some_same e)) le)
 narrow_in (Character n) Pointers wide v e le is = absurd (subst (λ u. IsWithin Pointers u) (sym (some_same e)) le)
+narrow_in (Character n) Offsets wide v e le is = absurd (subst (λ u. IsWithin Offsets u) (sym (some_same e)) le)
 narrow_in (Varying n) (Numbers q) wide v e le is = absurd (subst (λ u. IsWithin (Numbers q) u) (sym (some_same e)) le)
 narrow_in (Varying n) (Strings OfCharacters a b) wide v e le is =
     let l : (0 ≤ a) × (b ≤ n) = subst (λ u. IsWithin (Strings OfCharacters a b) u) (sym (some_same e)) le in
@@ -83,6 +87,7 @@ narrow_in (Varying n) (Strings OfCharacters a b) wide v e le is =
 narrow_in (Varying n) (Strings OfBits a b) wide v e le is =
     absurd (subst (λ u. IsWithin (Strings OfBits a b) u) (sym (some_same e)) le)
 narrow_in (Varying n) Pointers wide v e le is = absurd (subst (λ u. IsWithin Pointers u) (sym (some_same e)) le)
+narrow_in (Varying n) Offsets wide v e le is = absurd (subst (λ u. IsWithin Offsets u) (sym (some_same e)) le)
 narrow_in (Bit n) (Numbers q) wide v e le is = absurd (subst (λ u. IsWithin (Numbers q) u) (sym (some_same e)) le)
 narrow_in (Bit n) (Strings OfCharacters a b) wide v e le is =
     absurd (subst (λ u. IsWithin (Strings OfCharacters a b) u) (sym (some_same e)) le)
@@ -90,12 +95,21 @@ narrow_in (Bit n) (Strings OfBits a b) wide v e le is =
     let l : (n ≤ a) × (b ≤ n) = subst (λ u. IsWithin (Strings OfBits a b) u) (sym (some_same e)) le in
     subst (λ v. IsTrue (holds (Bit n) v)) (sym is.1) (eq-eqb (length is.0) n (omega (arith, is.2, is.3, l.0, l.1)))
 narrow_in (Bit n) Pointers wide v e le is = absurd (subst (λ u. IsWithin Pointers u) (sym (some_same e)) le)
+narrow_in (Bit n) Offsets wide v e le is = absurd (subst (λ u. IsWithin Offsets u) (sym (some_same e)) le)
 narrow_in Pointer (Numbers q) wide v e le is = absurd (subst (λ u. IsWithin (Numbers q) u) (sym (some_same e)) le)
 narrow_in Pointer (Strings OfCharacters a b) wide v e le is =
     absurd (subst (λ u. IsWithin (Strings OfCharacters a b) u) (sym (some_same e)) le)
 narrow_in Pointer (Strings OfBits a b) wide v e le is =
     absurd (subst (λ u. IsWithin (Strings OfBits a b) u) (sym (some_same e)) le)
 narrow_in Pointer Pointers wide v e le is = subst (λ v. IsTrue (holds Pointer v)) (sym is.1) is.2
+narrow_in Pointer Offsets wide v e le is = absurd (subst (λ u. IsWithin Offsets u) (sym (some_same e)) le)
+narrow_in Offset (Numbers q) wide v e le is = absurd (subst (λ u. IsWithin (Numbers q) u) (sym (some_same e)) le)
+narrow_in Offset (Strings OfCharacters a b) wide v e le is =
+    absurd (subst (λ u. IsWithin (Strings OfCharacters a b) u) (sym (some_same e)) le)
+narrow_in Offset (Strings OfBits a b) wide v e le is =
+    absurd (subst (λ u. IsWithin (Strings OfBits a b) u) (sym (some_same e)) le)
+narrow_in Offset Pointers wide v e le is = absurd (subst (λ u. IsWithin Pointers u) (sym (some_same e)) le)
+narrow_in Offset Offsets wide v e le is = subst (λ v. IsTrue (holds Offset v)) (sym is.1) is.2
 narrow_in d t wide v e le is = absurd (none_some e)
 
 pub narrow_held : (d : Description) (t : ValueType) (v : Value) → IsHeldBy d t → IsOf t v → IsTrue (holds d v)
@@ -108,6 +122,7 @@ one_scalar (Character n) t e = (refl, refl)
 one_scalar (Varying n) t e = (refl, refl)
 one_scalar (Bit n) t e = (refl, refl)
 one_scalar Pointer t e = (refl, refl)
+one_scalar Offset t e = (refl, refl)
 one_scalar d t e = absurd (none_some e)
 
 -- the value of a function, or none
@@ -126,8 +141,17 @@ AtPlace d p w = IsGood w d p
 abbrev OwnPlace : Description → Place → World → Type 0
 OwnPlace d p w = IsOwn w d p
 
+abbrev VariablePlace : Description → Place → World → Type 0
+VariablePlace d p w = IsVariable w d p
+
+abbrev PassedPlace : Description → Place → World → Type 0
+PassedPlace d p w = IsPassed w d p
+
 abbrev WholePlace : Place → World → Type 0
 WholePlace p w = (d : Description) × IsOwn w d p
+
+abbrev pub AreaPlace : Place → World → Type 0
+AreaPlace p w = (d : Description) × IsVariable w d p × (is_area d ≡ true)
 
 abbrev pub Gives : Option Description → Option Value → World → Type 0
 Gives d v w = IsReturned d v
@@ -163,29 +187,25 @@ ordered_good w (d ∷ done) ds (p ∷ before) ps h g = ordered_good w done (d �
 -- a place on the way to a part: so many bytes behind where the whole stands
 record IsOn (w : World) (whole : Description) (offset : ℕ) (d : Description) (p : Place) : Type 0 where
   was_made : p.generation < w.made
-  outside : p.position ≡ 0
   described : p.description ≡ d
   base : ℕ
   at : p.offset ≡ base + offset
   near : IsNear base whole
-  part : (g : Generation) → generation_in w.storage p.generation ≡ Some g → IsPartAt g.description base whole
+  part : HasPart w p base whole
 
 on_later : (v w : World) (whole : Description) (offset : ℕ) (d : Description) (p : Place) → IsLater v w → IsOn v whole offset d p → IsOn w whole offset d p
 on_later v w whole offset d p later h = record {
   was_made = omega (arith, h.was_made, later.more);
-  outside = h.outside;
   described = h.described;
   base = h.base;
   at = h.at;
   near = h.near;
-  part = λ x e. let old = later.lived p.generation x h.was_made e in
-      subst (λ e. IsPartAt e h.base whole) old.2 (h.part old.0 old.1);
+  part = part_later v w p h.base whole later h.was_made h.part;
 }
 
 on_first : (w : World) (whole : Description) (offset : ℕ) (d : Description) (p : Place) → IsGood w whole p → IsOn w whole offset d (field_of offset d p)
 on_first w whole offset d p h = record {
   was_made = h.was_made;
-  outside = h.outside;
   described = refl;
   base = p.offset;
   at = refl;
@@ -197,7 +217,6 @@ on_next : (w : World) (whole : Description) (offset more : ℕ) (d : Description
     → IsOn w whole (offset + more) d (field_of more p.description p)
 on_next w whole offset more d p h = record {
   was_made = h.was_made;
-  outside = h.outside;
   described = h.described;
   base = h.base;
   at = ap (λ n. n + more) h.at ∙ add_assoc h.base offset more;
@@ -209,16 +228,18 @@ on_last : (w : World) (whole : Description) (offset k : ℕ) (d : Description) (
     → IsOn w whole offset d p → IsGood w d p
 on_last w whole offset k d p f h = record {
   was_made = h.was_made;
-  outside = h.outside;
   described = h.described;
   near = λ more c j i. let inner = parts_within whole offset d k f more c j i in
       let outer = h.near (offset + more) c inner.0 inner.1 in
       omega (arith, h.at, outer);
-  part = λ g e. subst (λ n. IsPartAt g.description n d) (sym h.at)
-      (λ more c j i. let inner = parts_within whole offset d k f more c j i in
-      let outer = h.part g e (offset + more) c inner.0 inner.1 in
-      (outer.0, subst (λ n. first_scalar g.description n c ≡ Some outer.0) (sym (add_assoc h.base offset more)) outer.1));
+  part = subst (λ n. HasPart w p n d) (sym h.at) (λ outside g e. inner_part g.description (h.part.0 outside g e), λ inside. inner_part p.whole (h.part.1 inside));
 }
+  where
+    inner_part : (all : Description) → IsPartAt all h.base whole → IsPartAt all (h.base + offset) d
+    inner_part all part more c j i =
+        let inner = parts_within whole offset d k f more c j i in
+        let outer = part (offset + more) c inner.0 inner.1 in
+        (outer.0, subst (λ n. first_scalar all n c ≡ Some outer.0) (sym (add_assoc h.base offset more)) outer.1)
 
 -- where the subscripts that are still to come are the lowest, there is a part, also before them
 abbrev IsReached : (whole : Description) → (offset : ℕ) → Description → Type 0
@@ -250,9 +271,13 @@ module _ (units : List TypedUnit) (greatest level : ℕ) (call : Calls) (unit : 
   then_here P Q left u o go h f =
       then_means units P Q level left known (x ∷ ss) u o go h (λ y w l le is sound later. f y w l is sound later)
 
-  -- where a reference begins: at the place of a whole generation, but where it is a parameter
+  -- where a reference begins: at the place of a whole, but where it is a parameter; and at that of a whole generation where it is an area
   abbrev AtRoot : Root → Description → Place → World → Type 0
-  AtRoot r d p w = IsGood w d p × (BeginsWhole s r → IsWhole w p)
+  AtRoot r d p w = IsGood w d p × (BeginsWhole s r → IsWhole w p) × (IsUnlocated r → is_area d ≡ true → IsVariable w d p)
+
+  -- where a reference leads
+  abbrev AtReference : TypedReference → Description → Place → World → Type 0
+  AtReference r d p w = IsGood w d p × (IsAreaReference greatest s r → is_area d ≡ true → IsVariable w d p)
 
   slot_means : (outward slot : ℕ) (d : Description) (w : World) (left : ℕ) → Sound w → (o : Option BlockAround) → slice_get s.blocks outward ≡ o → slot_of o slot ≡ Some d
       → Here left w (AtRoot (InSlot outward slot) d) (answered (slot_place outward slot w) left)
@@ -260,11 +285,16 @@ module _ (units : List TypedUnit) (greatest level : ℕ) (call : Calls) (unit : 
   slot_means outward slot d w left sound (Some b) f e =
       let p = slot_there unit units known (x ∷ ss) s.blocks w outward slot b d sound stand f e in
       subst (λ a. Here left w (AtRoot (InSlot outward slot) d) (answered a left)) (sym p.1)
-      (omega arith, (p.2, λ le. p.3 (subst (λ o. parameters_in o ≤ slot) f le)), sound, later_same w)
+      (omega arith, (p.2.0, λ le. p.3 (subst (λ o. parameters_in o ≤ slot) f le), λ free is. p.2.1 is), sound, later_same w)
 
-  own_means : (r : Root) (d : Description) (left : ℕ) (w : World) (o : Effect Place) → Here left w (OwnPlace d) o → Here left w (AtRoot r d) o
-  own_means r d left w o h =
-      means_as units (OwnPlace d) (AtRoot r d) level left known (x ∷ ss) w o (λ p v own. (own.0, λ is. own.1)) h
+  variable_means : (r : Root) (d : Description) (left : ℕ) (w : World) (o : Effect Place) → Here left w (VariablePlace d) o → Here left w (AtRoot r d) o
+  variable_means r d left w o h =
+      means_as units (VariablePlace d) (AtRoot r d) level left known (x ∷ ss) w o (λ p v own. (own.0.0, λ is. own.0.1, λ free is. own)) h
+
+  located_means : (locator : TypedExpression) (whole d : Description) (left : ℕ) (w : World) (o : Effect Place) → Here left w (OwnPlace d) o
+      → Here left w (AtRoot (Located locator whole) d) o
+  located_means locator whole d left w o h =
+      means_as units (OwnPlace d) (AtRoot (Located locator whole) d) level left known (x ∷ ss) w o (λ p v own. (own.0, λ is. own.1, λ free. absurd free)) h
 
   -- what an operation comes to
   calculation_answers : (t : ValueType) (c : Calculation) (w : World) → Sound w → IsCalculated t c
@@ -338,14 +368,14 @@ module _ (units : List TypedUnit) (greatest level : ℕ) (call : Calls) (unit : 
         → Here left w (AtRoot r d) (root_place greatest call r w left)
     root_means (InSlot outward slot) d rooted w left sound = slot_means outward slot d w left sound (slice_get s.blocks outward) refl rooted
     root_means (OfProgram number) d rooted w left sound =
-        own_means (OfProgram number) d left w (answered (static_place number w) left)
-        (answer_means units (OwnPlace d) level left known (x ∷ ss) w (static_place number w) (static_answers units unit s.globals x ss w number Static d inside.own inside.top sound rooted))
+        variable_means (OfProgram number) d left w (answered (static_place number w) left)
+        (answer_means units (VariablePlace d) level left known (x ∷ ss) w (static_place number w) (static_answers units unit s.globals x ss w number Static d inside.own inside.top sound rooted))
     root_means (NewestOf number) d rooted w left sound =
-        own_means (NewestOf number) d left w (answered (static_place number w) left)
-        (answer_means units (OwnPlace d) level left known (x ∷ ss) w (static_place number w) (static_answers units unit s.globals x ss w number Controlled d inside.own inside.top sound rooted))
+        variable_means (NewestOf number) d left w (answered (static_place number w) left)
+        (answer_means units (VariablePlace d) level left known (x ∷ ss) w (static_place number w) (static_answers units unit s.globals x ss w number Controlled d inside.own inside.top sound rooted))
     root_means (Located locator whole) d rooted w left sound =
         then_here (OfType Pointers) (AtRoot (Located locator whole) d) left w (value_of greatest call locator w left) _ (value_means locator Pointers rooted.1 w left sound)
-        (λ v u l is sound later. own_means (Located locator whole) d l u (answered (place_by whole v u) l)
+        (λ v u l is sound later. located_means locator whole d l u (answered (place_by whole v u) l)
         (subst (λ c. Here l u (OwnPlace d) (answered (place_by c v u) l)) (sym rooted.0)
         (answer_means units (OwnPlace d) level l known (x ∷ ss) u (place_by d v u) (place_answers units x ss d v u is sound))))
 
@@ -357,13 +387,21 @@ module _ (units : List TypedUnit) (greatest level : ℕ) (call : Calls) (unit : 
         (λ p v h. (addressed.1.0, (h.0, h.1 addressed.0))) (root_means root addressed.1.0 addressed.1.1 w left sound)
     address_means (Part root offset part subscripts) addressed w left sound = absurd addressed
 
+    -- that of a whole area
+    pub area_means : (r : TypedReference) → IsAreaReference greatest s r → (w : World) (left : ℕ) → Sound w
+        → Here left w AreaPlace (place_of greatest call r w left)
+    area_means (Whole root) area w left sound =
+        means_as units (AtRoot root area.1.0) AreaPlace level left known (x ∷ ss) w (root_place greatest call root w left)
+        (λ p v h. (area.1.0, h.2 area.0 area.1.2, area.1.2)) (root_means root area.1.0 area.1.1 w left sound)
+    area_means (Part root offset part subscripts) area w left sound = absurd area
+
     pub value_means : (e : TypedExpression) (t : ValueType) → IsTyped greatest s e t → (w : World) (left : ℕ) → Sound w
         → Here left w (OfType t) (value_of greatest call e w left)
     value_means (Literal v) t typed w left sound = (omega arith, typed, sound, later_same w)
     value_means (Held r) t typed w left sound =
         let d = typed.0 in
-        then_here (AtPlace d) (OfType t) left w (place_of greatest call r w left) _ (place_means r d typed.1 w left sound)
-        (λ p w l good sound later. held_means d t p typed.2 w l sound good)
+        then_here (AtReference r d) (OfType t) left w (place_of greatest call r w left) _ (place_means r d typed.1 w left sound)
+        (λ p w l at sound later. held_means d t p typed.2 w l sound at.0)
     value_means (Calculated operation operands) t typed w left sound =
         operated_means operands typed.0 operation [] [] t typed.1 tt typed.2 w left sound
     value_means (Called callee arguments) t typed w left sound =
@@ -378,6 +416,16 @@ module _ (units : List TypedUnit) (greatest level : ℕ) (call : Calls) (unit : 
         subst (λ t. Here left w (OfType t) (value_of greatest call (Address r) w left)) (sym typed.1)
         (then_here WholePlace (OfType Pointers) left w (place_of greatest call r w left) _ (address_means r typed.0 w left sound)
         (λ p u l own sound later. answer_means units (OfType Pointers) level l known (x ∷ ss) u (address_of p u) (address_answers units x ss own.0 p u own.1 sound)))
+    value_means (AsPointer area e) t typed w left sound =
+        subst (λ t. Here left w (OfType t) (value_of greatest call (AsPointer area e) w left)) (sym typed.2)
+        (then_here (OfType Offsets) (OfType Pointers) left w (value_of greatest call e w left) _ (value_means e Offsets typed.0 w left sound)
+        (λ v u l is sound later. then_here AreaPlace (OfType Pointers) l u (place_of greatest call area u l) _ (area_means area typed.1 u l sound)
+        (λ p z l own sound later. answer_means units (OfType Pointers) level l known (x ∷ ss) z (pointer_within p v z) (within_answers units x ss own.0 p v z is sound own.1 own.2))))
+    value_means (AsOffset area e) t typed w left sound =
+        subst (λ t. Here left w (OfType t) (value_of greatest call (AsOffset area e) w left)) (sym typed.2)
+        (then_here (OfType Pointers) (OfType Offsets) left w (value_of greatest call e w left) _ (value_means e Pointers typed.0 w left sound)
+        (λ v u l is sound later. then_here AreaPlace (OfType Offsets) l u (place_of greatest call area u l) _ (area_means area typed.1 u l sound)
+        (λ p z l own sound later. answer_means units (OfType Offsets) level l known (x ∷ ss) z (offset_made p v z) (offset_answers units x ss own.0 p v z is sound own.1 own.2))))
 
     operated_means : (operands : Operands) (ts : List ValueType) (operation : TypedOperation) (before : List Value) (done : List ValueType) (t : ValueType)
         → AreTyped greatest s operands ts → AreOf done before → Operates greatest operation (in_order done ts) t
@@ -390,20 +438,23 @@ module _ (units : List TypedUnit) (greatest level : ℕ) (call : Calls) (unit : 
         (λ v w l is sound later. operated_means more typed.1 operation (v ∷ before) (typed.0 ∷ done) t typed.4 (is, are)
         (subst (λ ts. Operates greatest operation (in_order done ts) t) typed.2 fits) w l sound)
 
-    pub place_means : (r : TypedReference) (d : Description) → IsPlaced greatest s r d → (w : World) (left : ℕ) → Sound w
-        → Here left w (AtPlace d) (place_of greatest call r w left)
+    place_means : (r : TypedReference) (d : Description) → IsPlaced greatest s r d → (w : World) (left : ℕ) → Sound w
+        → Here left w (AtReference r d) (place_of greatest call r w left)
     place_means (Whole root) d placed w left sound =
-        means_as units (AtRoot root d) (AtPlace d) level left known (x ∷ ss) w (root_place greatest call root w left) (λ p v h. h.0) (root_means root d placed w left sound)
+        means_as units (AtRoot root d) (AtReference (Whole root) d) level left known (x ∷ ss) w (root_place greatest call root w left)
+        (λ p v h. (h.0, λ area is. h.2 area.0 is)) (root_means root d placed w left sound)
     place_means (Part root offset part subscripts) d placed w left sound =
         let whole = placed.1.0 in
-        then_here (AtRoot root whole) (AtPlace d) left w (root_place greatest call root w left) _ (root_means root whole placed.1.1 w left sound)
+        means_as units (AtPlace d) (AtReference (Part root offset part subscripts) d) level left known (x ∷ ss) w (place_of greatest call (Part root offset part subscripts) w left)
+        (λ p v good. (good, λ area. absurd area))
+        (then_here (AtRoot root whole) (AtPlace d) left w (root_place greatest call root w left) _ (root_means root whole placed.1.1 w left sound)
         (λ p w l at sound later.
         let good = at.0 in
         let first = reached subscripts whole offset d placed.1.2 in
         subst (λ a. Here l w (AtPlace d) (and_then (answered a l) (λ q w left. element_at greatest call subscripts q w left)))
         (sym (led_near offset part p w (good.near offset d first.0 first.1)))
         (subscripts_mean subscripts whole offset d (field_of offset part p) placed.1.2 placed.2 w l sound
-        (subst (λ e. IsOn w whole offset d (field_of offset e p)) (sym placed.0) (on_first w whole offset d p good))))
+        (subst (λ e. IsOn w whole offset d (field_of offset e p)) (sym placed.0) (on_first w whole offset d p good)))))
 
     subscripts_mean : (subscripts : Subscripts) (whole : Description) (offset : ℕ) (d : Description) (p : Place) → LeadTo whole offset subscripts d
         → AreSubscripts greatest s subscripts → (w : World) (left : ℕ) → Sound w → IsOn w whole offset d p
@@ -425,16 +476,22 @@ module _ (units : List TypedUnit) (greatest level : ℕ) (call : Calls) (unit : 
         calls.procedure callee all value known x ss s.blocks found stand below (in_order before []) w left sound
         (subst (λ ds. AreGood w ds (in_order before [])) (ap (λ ds. in_order done ds) (sym passed) ∙ same) (ordered_good w done [] before [] good tt))
     called_means (ByPlace r more) parameters callee all value before done passed same found w left sound good =
-        then_here (AtPlace passed.0) (Gives value) left w (place_of greatest call r w left) _ (place_means r passed.0 passed.3 w left sound)
-        (λ q u l is sound later. called_means more passed.1 callee all value (q ∷ before) (passed.0 ∷ done) passed.4
-        (ap (λ ds. in_order done ds) (sym passed.2) ∙ same) found u l sound (is, goods_later w u done before later good))
+        then_here (AtReference r passed.0) (Gives value) left w (place_of greatest call r w left) _ (place_means r passed.0 passed.3 w left sound)
+        (λ q u l at sound later. called_means more passed.1 callee all value (q ∷ before) (passed.0 ∷ done) passed.5
+        (ap (λ ds. in_order done ds) (sym passed.2) ∙ same) found u l sound ((at.0, λ is. at.1 (passed.4 is) is), goods_later w u done before later good))
     called_means (ByDummy d e more) parameters callee all value before done passed same found w left sound good =
         let t = passed.2.0 in
         let held = passed.2.2 in
         let one = one_scalar d held.0 held.1 in
         then_here (OfType t) (Gives value) left w (value_of greatest call e w left) _ (value_means e t passed.2.1 w left sound)
         (λ v u l is sound later.
-        then_here (AtPlace d) (Gives value) l u (answered (dummy_of d v u) l) _
-        (answer_means units (AtPlace d) level l known (x ∷ ss) u (dummy_of d v u) (dummy_answers units x ss d v u sound (narrow_held d t v held is) one.0 one.1))
+        then_here (PassedPlace d) (Gives value) l u (answered (dummy_of d v u) l) _
+        (answer_means units (PassedPlace d) level l known (x ∷ ss) u (dummy_of d v u) (dummy_answers units x ss d v u sound (narrow_held d t v held is) one.0 one.1))
         (λ q z l is sound later2. called_means more passed.0 callee all value (q ∷ before) (d ∷ done) passed.3
         (ap (λ ds. in_order done ds) (sym passed.1) ∙ same) found z l sound (is, goods_later w z done before (later_then w u z later later2) good)))
+
+  -- a place, whatever leads to it
+  pub good_means : (r : TypedReference) (d : Description) → IsPlaced greatest s r d → (w : World) (left : ℕ) → Sound w
+      → Here left w (AtPlace d) (place_of greatest call r w left)
+  good_means r d placed w left sound =
+      means_as units (AtReference r d) (AtPlace d) level left known (x ∷ ss) w (place_of greatest call r w left) (λ p v at. at.0) (place_means r d placed w left sound)

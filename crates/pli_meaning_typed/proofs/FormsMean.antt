@@ -1,34 +1,54 @@
 -- What each form of a statement means, without those that hold statements.
-use Rattle.std.specs.Prelude.{◌≡◌, ℕ, suc, Bool, true, false, Option, Some, None}
+use Rattle.std.specs.Prelude.{◌≡◌, ℕ, suc, Bool, true, false, IsTrue, Option, Some, None}
 use Rattle.std.specs.Prelude.{List, [], ◌∷◌, length, slice_get, refl}
 use Rattle.std.proofs.Common.{arith, sym, subst}
 use Rattle.pli_map.specs.Description.{Description, Pointer}
-use Rattle.pli_world.specs.Locating.{freed_by, pointer_made}
+use Rattle.pli_map.specs.Scalars.{scalars_of}
+use Rattle.pli_map.specs.Values.{holds}
+use Rattle.pli_world.specs.Areas.{emptied, assigned}
+use Rattle.pli_world.specs.Locating.{freed_by, pointer_made, block_made, offset_made, pointer_within}
 use Rattle.pli_world.specs.Stacks.{generation_stacked, generation_unstacked}
 use Rattle.pli_world.specs.Storage.{Place}
-use Rattle.pli_world.specs.World.{World, stored, copied, line_ended}
+use Rattle.pli_world.specs.World.{World, stored, copied, calculation, line_ended}
 use Rattle.pli_value.specs.Conversions.{bit_constant}
 use Rattle.pli_value.specs.Value.{Value}
-use Rattle.pli_type_tree.specs.TypedTree.{Callee, TypedUnit, TypedExpression, TypedReference, TypedArguments, Assign}
-use Rattle.pli_type_tree.specs.TypedTree.{AssignAggregate, AllocatedItem, AllocatesControlled, AllocatesBased, FreedItem, FreesControlled, FreesBased, Call, ReturnValue}
+use Rattle.pli_type_tree.specs.TypedTree.{Callee, TypedOperation, TypedUnit, TypedExpression, TypedReference, TypedArguments, Assign}
+use Rattle.pli_type_tree.specs.TypedTree.{Conversion, ByOperations, AsPointerIn, AsOffsetIn}
+use Rattle.pli_type_tree.specs.TypedTree.{AssignAggregate, AssignArea, AllocatedItem, AllocatesControlled, AllocatesBased, AllocatesInArea, FreedItem, FreesControlled, FreesBased, Call, ReturnValue}
 use Rattle.pli_type_tree.specs.Templates.{variable_of}
-use Rattle.pli_type_tree.specs.ValueTypes.{StringKind, OfCharacters, OfBits, ValueType, Strings, Pointers, IsOf, IsHeldBy}
-use Rattle.pli_type_tree.specs.WellTyped.{BlockAround, TypingContext, IsTyped, IsPlaced, IsString, AreItems, IsAllocated, AreAllocated, IsFreed, AreFreed}
+use Rattle.pli_type_tree.specs.TypedOperations.{comes_to}
+use Rattle.pli_type_tree.specs.ValueTypes.{StringKind, OfCharacters, OfBits, ValueType, Strings, Pointers, Offsets, IsOf, IsHeldBy}
+use Rattle.pli_type_tree.specs.WellTyped.{BlockAround, TypingContext, IsTyped, IsPlaced, IsAreaReference, IsString, AreItems, Convert, IsConversion, IsAllocated, AreAllocated, IsFreed, AreFreed}
 use Rattle.pli_type_tree.specs.WellTyped.{knows_label, IsTypedForm}
 use Rattle.pli_meaning_tree.specs.Effects.{Effect, Gives, Jumps, Flow, Next, Returned, Doing, and_then, answered, truth}
-use Rattle.pli_meaning_tree.specs.TreeMeaning.{Calls, no_value, printed_item, value_of, place_of, called_with, condition, assigns, assigns_aggregate, puts, skips}
-use Rattle.pli_meaning_tree.specs.TreeMeaning.{allocates_item, allocates, frees_item, frees, does_call, returns_value, jumps_to}
+use Rattle.pli_meaning_tree.specs.TreeMeaning.{Calls, no_value, printed_item, value_of, place_of, called_with, condition, assigns, assigns_aggregate, assigns_area, empties, puts, skips}
+use Rattle.pli_meaning_tree.specs.TreeMeaning.{operated_by, converted, allocates_item, allocates, frees_item, frees, does_call, returns_value, jumps_to}
 use Rattle.pli_meaning_typed.specs.SoundWorlds.{IsGood, Shape, IsSound, IsLater}
-use Rattle.pli_meaning_typed.proofs.MeansLemmas.{IsBelow, Means, Anything, means_from, then_means, answer_means, answer_kept}
+use Rattle.pli_meaning_typed.proofs.AreaLaws.{emptied_answers, assigned_answers, offset_answers, within_answers, block_answers}
+use Rattle.pli_meaning_typed.proofs.MeansLemmas.{IsBelow, Means, Anything, means_as, means_from, then_means, answer_means, answer_kept}
 use Rattle.pli_meaning_typed.proofs.MeansLemmas.{followed_means}
-use Rattle.pli_meaning_typed.proofs.ExpressionsMean.{IsReturned, Gives as GivesBack, OfType, AtPlace, CallsMean, IsInside, narrow_held, one_scalar, value_means, place_means, called_means}
+use Rattle.pli_meaning_typed.proofs.ExpressionsMean.{IsReturned, Gives as GivesBack, OfType, AtPlace, AreaPlace, CallsMean, IsInside, narrow_held, one_scalar, calculated_means, value_means, area_means, good_means, called_means}
 use Rattle.pli_meaning_typed.proofs.ContextLaws.{Known, Stand, height_there}
 use Rattle.pli_meaning_typed.proofs.PointerLaws.{free_answers, pointer_answers}
 use Rattle.pli_meaning_typed.proofs.StackLaws.{allocated_answers, freed_answers}
-use Rattle.pli_meaning_typed.proofs.WorldLaws.{later_same, good_later, stored_answers, copied_answers, printed_sound, line_sound}
+use Rattle.pli_meaning_typed.proofs.WorldLaws.{later_same, good_later, variable_later, stored_answers, copied_answers, printed_sound, line_sound}
 
 none_some : {A : Type 0} {x : A} → None ≡ Some x → ⊥
 none_some e = absurd (cc)
+
+-- what is converted to is a scalar
+operated_scalar : (greatest : ℕ) (operations : List TypedOperation) (t : ValueType) (d : Description) → Convert greatest operations t d → scalars_of d ≡ d ∷ []
+operated_scalar n [] t d c = (one_scalar d c.0 c.1).1
+operated_scalar n (operation ∷ more) t d c = operated_scalar n more c.0 d c.2
+
+pub converts_scalar : (greatest : ℕ) (s : TypingContext) (conversion : Conversion) (t : ValueType) (d : Description) → IsConversion greatest s conversion t d → scalars_of d ≡ d ∷ []
+converts_scalar n s (ByOperations operations) t d c = operated_scalar n operations t d c
+converts_scalar n s (AsPointerIn area) t d c = (one_scalar d c.2.0 c.2.1).1
+converts_scalar n s (AsOffsetIn area) t d c = (one_scalar d c.2.0 c.2.1).1
+
+-- a value that a variable of the description holds
+abbrev pub HeldBy : Description → Value → World → Type 0
+HeldBy d v w = IsTrue (holds d v)
 
 -- how a statement goes on
 abbrev pub FlowIs : (begins : ℕ) → Option Description → Flow → World → Type 0
@@ -71,7 +91,11 @@ module _ (units : List TypedUnit) (greatest level : ℕ) (call : Calls) (unit : 
 
     pub place : (r : TypedReference) (d : Description) → IsPlaced greatest s r d → (w : World) (left : ℕ) → Sound w
         → Here s known x ss left w (AtPlace d) (place_of greatest call r w left)
-    place = place_means units greatest level call unit s known x ss fits.inside fits.stand fits.below calls
+    place = good_means units greatest level call unit s known x ss fits.inside fits.stand fits.below calls
+
+    area_place : (r : TypedReference) → IsAreaReference greatest s r → (w : World) (left : ℕ) → Sound w
+        → Here s known x ss left w AreaPlace (place_of greatest call r w left)
+    area_place = area_means units greatest level call unit s known x ss fits.inside fits.stand fits.below calls
 
     pub ends : (w : World) (left : ℕ) → Sound w → Here s known x ss left w (Flows s) (Gives Next w left)
     ends w left sound = (omega arith, tt, sound, later_same w)
@@ -87,13 +111,38 @@ module _ (units : List TypedUnit) (greatest level : ℕ) (call : Calls) (unit : 
         (λ v w l is sound later. truth_means typed.0 typed.1 v w l is sound)
 
     -- a value put at the place of a scalar that holds it
+    keeps_means : (d : Description) (p : Place) (y : Value) → IsTrue (holds d y) → scalars_of d ≡ d ∷ [] → (w : World) (left : ℕ) → Sound w → IsGood w d p
+        → Here s known x ss left w (Flows s) (and_then (answered (stored p y w) left) (λ _ w left. Gives Next w left))
+    keeps_means d p y held one w left sound good =
+        then_here Anything (Flows s) left w (answered (stored p y w) left) _
+        (answer_kept units level left known (x ∷ ss) w (stored p y w) (stored_answers units x ss d p y w sound good held one)) (λ _ w l any sound later. ends w l sound)
+
     stores_means : (d : Description) (t : ValueType) (p : Place) (y : Value) → IsHeldBy d t → IsOf t y → (w : World) (left : ℕ) → Sound w → IsGood w d p
         → Here s known x ss left w (Flows s) (and_then (answered (stored p y w) left) (λ _ w left. Gives Next w left))
-    stores_means d t p y held is w left sound good =
-        then_here Anything (Flows s) left w (answered (stored p y w) left) _
-        (answer_kept units level left known (x ∷ ss) w (stored p y w)
-        (stored_answers units x ss d p y w sound good (narrow_held d t y held is) (one_scalar d held.0 held.1).1))
-        (λ _ w l any sound later. ends w l sound)
+    stores_means d t p y held is w left sound good = keeps_means d p y (narrow_held d t y held is) (one_scalar d held.0 held.1).1 w left sound good
+
+    -- a value that is converted
+    operated_means : (operations : List TypedOperation) (t : ValueType) (d : Description) → Convert greatest operations t d → (v : Value) → IsOf t v → (w : World) (left : ℕ) → Sound w
+        → Here s known x ss left w (HeldBy d) (operated_by greatest call operations v w left)
+    operated_means [] t d c v is w left sound = (omega arith, narrow_held d t v c is, sound, later_same w)
+    operated_means (operation ∷ more) t d c v is w left sound =
+        then_here (OfType c.0) (HeldBy d) left w (answered (calculation (comes_to greatest operation (v ∷ [])) w) left) _
+        (calculated_means units greatest level call unit s known x ss fits.inside fits.stand fits.below calls operation (t ∷ []) c.0 (v ∷ []) c.1 (is, tt) w left sound)
+        (λ y w l is sound later. operated_means more c.0 d c.2 y is w l sound)
+
+    pub converted_means : (conversion : Conversion) (t : ValueType) (d : Description) → IsConversion greatest s conversion t d → (v : Value) → IsOf t v → (w : World) (left : ℕ) → Sound w
+        → Here s known x ss left w (HeldBy d) (converted greatest call conversion v w left)
+    converted_means (ByOperations operations) t d c v is w left sound = operated_means operations t d c v is w left sound
+    converted_means (AsPointerIn area) t d c v is w left sound =
+        then_here AreaPlace (HeldBy d) left w (place_of greatest call area w left) _ (area_place area c.0 w left sound)
+        (λ p u l own sound later. means_as units (OfType Pointers) (HeldBy d) level l known (x ∷ ss) u (answered (pointer_within p v u) l) (λ y z is. narrow_held d Pointers y c.2 is)
+        (answer_means units (OfType Pointers) level l known (x ∷ ss) u (pointer_within p v u)
+        (within_answers units x ss own.0 p v u (subst (λ t. IsOf t v) c.1 is) sound own.1 own.2)))
+    converted_means (AsOffsetIn area) t d c v is w left sound =
+        then_here AreaPlace (HeldBy d) left w (place_of greatest call area w left) _ (area_place area c.0 w left sound)
+        (λ p u l own sound later. means_as units (OfType Offsets) (HeldBy d) level l known (x ∷ ss) u (answered (offset_made p v u) l) (λ y z is. narrow_held d Offsets y c.2 is)
+        (answer_means units (OfType Offsets) level l known (x ∷ ss) u (offset_made p v u)
+        (offset_answers units x ss own.0 p v u (subst (λ t. IsOf t v) c.1 is) sound own.1 own.2)))
 
     pub assigns_means : (target : TypedReference) (e : TypedExpression) → IsTypedForm greatest s (Assign target e) → (w : World) (left : ℕ) → Sound w
         → Here s known x ss left w (Flows s) (assigns greatest call target e w left)
@@ -114,6 +163,23 @@ module _ (units : List TypedUnit) (greatest level : ℕ) (call : Calls) (unit : 
         (λ q u l from sound later. then_here Anything (Flows s) l u (answered (copied q p u) l) _
         (answer_kept units level l known (x ∷ ss) u (copied q p u) (copied_answers units x ss d q p u sound typed.3 from (good_later v u d p later good)))
         (λ _ w l any sound later. ends w l sound)))
+
+    pub area_assigned : (target source : TypedReference) → IsTypedForm greatest s (AssignArea target source) → (w : World) (left : ℕ) → Sound w
+        → Here s known x ss left w (Flows s) (assigns_area greatest call target source w left)
+    area_assigned target source typed w left sound =
+        then_here AreaPlace (Flows s) left w (place_of greatest call target w left) _ (area_place target typed.0 w left sound)
+        (λ p v l own sound later. then_here AreaPlace (Flows s) l v (place_of greatest call source v l) _ (area_place source typed.1 v l sound)
+        (λ q u l from sound later. then_here Anything (Flows s) l u (answered (assigned q p u) l) _
+        (answer_kept units level l known (x ∷ ss) u (assigned q p u)
+        (assigned_answers units x ss from.0 own.0 q p u sound from.1 from.2 (variable_later v u own.0 p later own.1) own.2))
+        (λ _ w l any sound later. ends w l sound)))
+
+    pub area_emptied : (target : TypedReference) → IsAreaReference greatest s target → (w : World) (left : ℕ) → Sound w
+        → Here s known x ss left w (Flows s) (empties greatest call target w left)
+    area_emptied target typed w left sound =
+        then_here AreaPlace (Flows s) left w (place_of greatest call target w left) _ (area_place target typed w left sound)
+        (λ p u l own sound later. then_here Anything (Flows s) l u (answered (emptied p u) l) _
+        (answer_kept units level l known (x ∷ ss) u (emptied p u) (emptied_answers units x ss own.0 p u sound own.1 own.2)) (λ _ w l any sound later. ends w l sound))
 
     item_means : (k : StringKind) (a b : ℕ) (v : Value) (w : World) (left : ℕ) → IsOf (Strings k a b) v → Sound w
         → Here s known x ss left w (Flows s) (printed_item v w left)
@@ -157,6 +223,15 @@ module _ (units : List TypedUnit) (greatest level : ℕ) (call : Calls) (unit : 
         (answer_means units (OfType Pointers) level left known (x ∷ ss) w (pointer_made v w) (pointer_answers units x ss v w typed.0 sound))
         (λ y u l is sound later. then_here (AtPlace Pointer) (Flows s) l u (place_of greatest call target u l) _ (place target Pointer typed.1 u l sound)
         (λ p z l good sound later. stores_means Pointer Pointers p y (Pointers, refl, tt) is z l sound good))
+    allocated_means (AllocatesInArea area template temporary target conversion) typed w left sound =
+        let v = variable_of template in
+        let d = typed.2.0 in
+        then_here AreaPlace (Flows s) left w (place_of greatest call area w left) _ (area_place area typed.0 w left sound)
+        (λ r u l own sound later. then_here (OfType Pointers) (Flows s) l u (answered (block_made r v u) l) _
+        (answer_means units (OfType Pointers) level l known (x ∷ ss) u (block_made r v u) (block_answers units x ss own.0 r v u typed.1.0 sound own.1 own.2 typed.1.1))
+        (λ y z l is sound later. then_here (AtPlace d) (Flows s) l z (place_of greatest call target z l) _ (place target d typed.2.1 z l sound)
+        (λ p a l good sound later. then_here (HeldBy d) (Flows s) l a (converted greatest call conversion y a l) _ (converted_means conversion Pointers d typed.2.2 y is a l sound)
+        (λ q b l held sound later. keeps_means d p q held (converts_scalar greatest s conversion Pointers d typed.2.2) b l sound (good_later a b d p later good)))))
 
     pub allocates_mean : (items : List AllocatedItem) → AreAllocated greatest s items → (w : World) (left : ℕ) → Sound w
         → Here s known x ss left w (Flows s) (allocates greatest call items w left)

@@ -1,28 +1,26 @@
 -- What a well-typed iteration means: what it keeps is of the types of its parts.
-use Rattle.std.specs.Prelude.{◌≡◌, ℕ, zero, suc, ◌+◌, min, max, Bool, true, false, pos, IsTrue, Option, Some, None}
+use Rattle.std.specs.Prelude.{◌≡◌, ℕ, zero, suc, ◌+◌, min, max, Bool, true, false, pos, Option, Some, None}
 use Rattle.std.specs.Prelude.{List, [], ◌∷◌, ◌++◌, slice_get, refl}
 use Rattle.std.proofs.Common.{arith, sym, ap, subst, append_assoc}
 use Rattle.pli_map.specs.Description.{Description}
-use Rattle.pli_map.specs.Values.{holds}
 use Rattle.pli_operation.specs.declared.operation.Operation.TheVariants.{Add, Within}
 use Rattle.pli_operation.specs.Operations.{calculated}
 use Rattle.pli_world.specs.World.{World, known as looked_up, held, stored, calculation, at_statement}
 use Rattle.pli_value.specs.Value.{Value}
 use Rattle.pli_type_tree.specs.Iterations.{kept_by, limit_number, step_number, is_iterated}
 use Rattle.pli_type_tree.specs.TypedOperations.{comes_to}
-use Rattle.pli_type_tree.specs.TypedTree.{TypedOperation, Operate, TypedUnit, TypedExpression, TypedRange, Once, ToBy, ByTo, Repeated, Iteration}
+use Rattle.pli_type_tree.specs.TypedTree.{TypedOperation, Operate, TypedUnit, TypedExpression, Conversion, TypedRange, Once, ToBy, ByTo, Repeated, Iteration}
 use Rattle.pli_type_tree.specs.ValueTypes.{ValueType, Numbers, Strings, OfBits, type_held, IsOf, AreOf, Operates}
-use Rattle.pli_type_tree.specs.WellTyped.{TypingContext, IsTyped, IsPlaced, IsValueFor, Convert, Counts, IsRange, IsPossibleCondition, IsIteration}
-use Rattle.pli_map.specs.Scalars.{scalars_of}
+use Rattle.pli_type_tree.specs.WellTyped.{TypingContext, IsTyped, IsPlaced, IsValueFor, IsConversion, Counts, IsRange, IsPossibleCondition, IsIteration}
 use Rattle.pli_meaning_tree.specs.Effects.{Effect, Gives, Flow, Doing, and_then, nothing_done, answered, as_statement, back_at, truth}
 use Rattle.pli_meaning_tree.specs.TreeMeaning.{Calls, value_of, place_of, keeps, kept, converted, sets, advanced, within_limit, while_holds, may_turn}
 use Rattle.pli_meaning_tree.specs.TreeMeaning.{advances, turned, iterates}
 use Rattle.pli_meaning_typed.specs.SoundWorlds.{Shape, IsSound, IsLater}
 use Rattle.pli_meaning_typed.proofs.MeansLemmas.{Means, Anything, means_from, answer_kept, statement_means, chosen_means, followed_means, turns_means}
-use Rattle.pli_meaning_typed.proofs.ExpressionsMean.{OfType, AtPlace, CallsMean, narrow_held, one_scalar, calculated_means, held_means}
+use Rattle.pli_meaning_typed.proofs.ExpressionsMean.{OfType, AtPlace, CallsMean, calculated_means, held_means}
 use Rattle.pli_meaning_typed.proofs.ContextLaws.{Known}
 use Rattle.pli_meaning_typed.proofs.WorldLaws.{later_same, good_later, stored_answers, statement_sound}
-use Rattle.pli_meaning_typed.proofs.FormsMean.{FlowIs, Fits, then_here, value, place, ends, truth_means, condition_means, assigns_means}
+use Rattle.pli_meaning_typed.proofs.FormsMean.{converts_scalar, HeldBy, FlowIs, Fits, then_here, value, place, ends, truth_means, condition_means, converted_means, assigns_means}
 
 -- values of types, with one more, and the one of a number
 one_more : (ts : List ValueType) (t : ValueType) (vs : List Value) (v : Value) → AreOf ts vs → IsOf t v → AreOf (ts ++ t ∷ []) (vs ++ v ∷ [])
@@ -42,14 +40,6 @@ no_more : (ts : List ValueType) → ts ++ [] ≡ ts
 no_more [] = refl
 no_more (t ∷ ts) = ap (λ ts. t ∷ ts) (no_more ts)
 
--- what is converted to is a scalar
-converts_scalar : (greatest : ℕ) (operations : List TypedOperation) (t : ValueType) (d : Description) → Convert greatest operations t d → scalars_of d ≡ d ∷ []
-converts_scalar n [] t d c = (one_scalar d c.0 c.1).1
-converts_scalar n (operation ∷ more) t d c = converts_scalar n more c.0 d c.2
-
-abbrev HeldBy : Description → Value → World → Type 0
-HeldBy d v w = IsTrue (holds d v)
-
 module _ (greatest : ℕ) (s : TypingContext) where
   -- expressions give values of types
   abbrev AreValued : List TypedExpression → List ValueType → Type 0
@@ -65,20 +55,20 @@ module _ (greatest : ℕ) (s : TypingContext) where
   HasLimit d ts None step = Unit {0}
   HasLimit d ts (Some limit) step = ((q : ℕ) × (type_held d ≡ Some (Numbers q))) × IsNumbered ts limit × IsNumbered ts step
 
-  abbrev Advances : List TypedOperation → Description → List ValueType → TypedRange → Type 0
+  abbrev Advances : Conversion → Description → List ValueType → TypedRange → Type 0
   Advances conversion d ts Once = Unit {0}
-  Advances conversion d ts (ToBy to by) = Counts greatest conversion d × IsNumbered ts 2
-  Advances conversion d ts (ByTo by to) = Counts greatest conversion d × IsNumbered ts 1
+  Advances conversion d ts (ToBy to by) = Counts greatest s conversion d × IsNumbered ts 2
+  Advances conversion d ts (ByTo by to) = Counts greatest s conversion d × IsNumbered ts 1
   Advances conversion d ts (Repeated next) = IsValueFor greatest s d next
 
   -- what is kept behind the start is of types that its tests and steps take
-  record IsKept (conversion : List TypedOperation) (d : Description) (first : ValueType) (range : TypedRange) : Type 0 where
+  record IsKept (conversion : Conversion) (d : Description) (first : ValueType) (range : TypedRange) : Type 0 where
     types : List ValueType
     valued : AreValued (kept_by range) types
     limit : HasLimit d (first ∷ types) (limit_number range) (step_number range)
     step : Advances conversion d (first ∷ types) range
 
-  is_kept : (conversion : List TypedOperation) (d : Description) (first : ValueType) (range : TypedRange) → IsRange greatest s conversion d range
+  is_kept : (conversion : Conversion) (d : Description) (first : ValueType) (range : TypedRange) → IsRange greatest s conversion d range
       → IsKept conversion d first range
   is_kept conversion d first Once h = record { types = []; valued = tt; limit = tt; step = tt }
   is_kept conversion d first (ToBy to None) h =
@@ -143,25 +133,16 @@ module _ (units : List TypedUnit) (greatest level : ℕ) (call : Calls) (unit : 
       let found = of_number ts vs are k t e in
       subst (λ o. Here left w (OfType t) (answered (looked_up o w) left)) (sym found.1) (omega arith, found.2, sound, later_same w)
 
-  -- a value that is converted
-  converted_means : (operations : List TypedOperation) (t : ValueType) (d : Description) → Convert greatest operations t d
-      → (v : Value) → IsOf t v → Does (HeldBy d) (converted greatest call operations v)
-  converted_means [] t d c v is w left sound = (omega arith, narrow_held d t v c is, sound, later_same w)
-  converted_means (operation ∷ more) t d c v is w left sound =
-      next_here (OfType c.0) (HeldBy d) left w (answered (calculation (comes_to greatest operation (v ∷ [])) w) left) _
-      (operation_here operation (t ∷ []) c.0 (v ∷ []) c.1 (is, tt) w left sound)
-      (λ y w l is sound later. converted_means more c.0 d c.2 y is w l sound)
-
   -- the control variable gets a value
-  sets_means : (i : Iteration) (d : Description) → IsPlaced greatest s i.control d → (t : ValueType) → Convert greatest i.conversion t d
+  sets_means : (i : Iteration) (d : Description) → IsPlaced greatest s i.control d → (t : ValueType) → IsConversion greatest s i.conversion t d
       → (go : Doing Value) → Does (OfType t) go → Does Flows (sets greatest call i go)
   sets_means i d placed t c go f w left sound =
       next_here (AtPlace d) Flows left w (place_of greatest call i.control w left) _ (place_here i d placed w left sound)
       (λ p v l good sound later. next_here (OfType t) Flows l v (go v l) _ (f v l sound)
-      (λ y u l is sound later2. next_here (HeldBy d) Flows l u (converted greatest call i.conversion y u l) _ (converted_means i.conversion t d c y is u l sound)
+      (λ y u l is sound later2. next_here (HeldBy d) Flows l u (converted greatest call i.conversion y u l) _ (converted_means units greatest level call unit s known x ss block fits calls i.conversion t d c y is u l sound)
       (λ z r l holds sound later3. next_here Anything Flows l r (answered (stored p z r) l) _
       (answer_kept units level l known (x ∷ ss) r (stored p z r)
-      (stored_answers units x ss d p z r sound (good_later u r d p later3 (good_later v u d p later2 good)) holds (converts_scalar greatest i.conversion t d c)))
+      (stored_answers units x ss d p z r sound (good_later u r d p later3 (good_later v u d p later2 good)) holds (converts_scalar greatest s i.conversion t d c)))
       (λ _ w l any sound later. ends units greatest level call unit s known x ss block fits calls w l sound))))
 
   -- the variable and a step more

@@ -1,3 +1,5 @@
+pub mod AreaLaws
+pub mod BlockLemmas
 pub mod ContextLaws
 pub mod ExamplesAreTyped
 pub mod ExpressionsMean

@@ -33,7 +33,7 @@ use Rattle.pli_value.specs.declared.locator.Locator.{Locator}
 use Rattle.pli_value.specs.declared.locator.Locator.TheVariants as locators
 use Rattle.pli_type_tree.specs.TypedOperations.{comes_to}
 use Rattle.pli_type_tree.specs.TypedTree.{TypedOperation, Fit, Operate}
-use Rattle.pli_type_tree.specs.ValueTypes.{StringKind, OfCharacters, OfBits, ValueType, Numbers, Strings, Pointers, IsPointer, IsEquality, IsOf, AreOf, Computes, Operates, longest, length_precision, HaveColumns, type_held, IsFitted, OnNumbers, OnStrings}
+use Rattle.pli_type_tree.specs.ValueTypes.{StringKind, OfCharacters, OfBits, ValueType, Numbers, Strings, Pointers, Offsets, IsPointer, IsOffset, IsEquality, IsOf, AreOf, Computes, Operates, longest, length_precision, HaveColumns, type_held, IsFitted, OnNumbers, OnStrings, OnLocators}
 
 -- what an operation comes to is of a type
 abbrev pub IsCalculated : ValueType → Calculation → Type 0
@@ -78,7 +78,10 @@ string P OfBits a b v h f g = subst P (sym h.1) (g h.0 refl h.2 h.3)
 pointer : (P : Value → Type 0) (v : Value) → IsOf Pointers v → ((l : Locator) → IsPointer l → P (Located l)) → P v
 pointer P v h f = subst P (sym h.1) (f h.0 h.2)
 
--- a pointer is beside a pointer
+offset : (P : Value → Type 0) (v : Value) → IsOf Offsets v → ((l : Locator) → IsOffset l → P (Located l)) → P v
+offset P v h f = subst P (sym h.1) (f h.0 h.2)
+
+-- a pointer is beside a pointer, and an offset beside an offset
 pointers_comparable : (l r : Locator) → IsPointer l → IsPointer r → are_comparable l r ≡ true
 pointers_comparable locators.Null locators.Null p q = refl
 pointers_comparable locators.Null (locators.Pointer h y) p q = refl
@@ -87,6 +90,13 @@ pointers_comparable (locators.Pointer g x) locators.Null p q = refl
 pointers_comparable (locators.Pointer g x) (locators.Pointer h y) p q = refl
 pointers_comparable (locators.Pointer g x) (locators.Offset y) p q = absurd (false_true q)
 pointers_comparable (locators.Offset x) r p q = absurd (false_true p)
+
+offsets_comparable : (l r : Locator) → IsOffset l → IsOffset r → are_comparable l r ≡ true
+offsets_comparable (locators.Offset x) (locators.Offset y) p q = refl
+offsets_comparable (locators.Offset x) locators.Null p q = absurd (false_true q)
+offsets_comparable (locators.Offset x) (locators.Pointer h y) p q = absurd (false_true q)
+offsets_comparable locators.Null r p q = absurd (false_true p)
+offsets_comparable (locators.Pointer g x) r p q = absurd (false_true p)
 
 module _ (n : ℕ) where
   -- an operation on one number
@@ -434,24 +444,30 @@ module _ (n : ℕ) where
       bit : (c : Bool) → IsOf t (Bits (c ∷ []))
       bit c = subst (λ t. IsOf t (Bits (c ∷ []))) (sym h.1) (c ∷ [], refl, omega arith, omega arith)
 
-      equality : (l r : Locator) (relation : Relation) → IsPointer l → IsPointer r → IsEquality relation → IsCalculated t (compared relation l r)
-      equality l r Equal p q is =
-          subst (λ b. IsCalculated t (if b then as_bit (same_locator l r) else Misfits)) (sym (pointers_comparable l r p q)) (bit _)
-      equality l r Unequal p q is =
-          subst (λ b. IsCalculated t (if b then as_bit (not (same_locator l r)) else Misfits)) (sym (pointers_comparable l r p q)) (bit _)
-      equality l r other p q is = absurd is
+      equality : (l r : Locator) (relation : Relation) → are_comparable l r ≡ true → IsEquality relation → IsCalculated t (compared relation l r)
+      equality l r Equal beside is = subst (λ b. IsCalculated t (if b then as_bit (same_locator l r) else Misfits)) (sym beside) (bit _)
+      equality l r Unequal beside is = subst (λ b. IsCalculated t (if b then as_bit (not (same_locator l r)) else Misfits)) (sym beside) (bit _)
+      equality l r other beside is = absurd is
 
-      by : (OnNumbers ts (λ p q. Unit {0}) ⊎ OnStrings ts (λ k b d. Unit {0}) ⊎ (IsEquality relation × (ts ≡ Pointers ∷ Pointers ∷ [])))
+      locators_fit : IsEquality relation → OnLocators ts → IsCalculated t (calculated n (Compare relation) vs)
+      locators_fit is (inl e) =
+          two (λ vs. IsCalculated t (calculated n (Compare relation) vs)) Pointers Pointers vs (subst (λ ts. AreOf ts vs) e b)
+          (λ v w hv hw. pointer (λ v. IsCalculated t (calculated n (Compare relation) (v ∷ w ∷ []))) v hv
+          (λ l hl. pointer (λ w. IsCalculated t (calculated n (Compare relation) (Located l ∷ w ∷ []))) w hw
+          (λ r hr. equality l r relation (pointers_comparable l r hl hr) is)))
+      locators_fit is (inr e) =
+          two (λ vs. IsCalculated t (calculated n (Compare relation) vs)) Offsets Offsets vs (subst (λ ts. AreOf ts vs) e b)
+          (λ v w hv hw. offset (λ v. IsCalculated t (calculated n (Compare relation) (v ∷ w ∷ []))) v hv
+          (λ l hl. offset (λ w. IsCalculated t (calculated n (Compare relation) (Located l ∷ w ∷ []))) w hw
+          (λ r hr. equality l r relation (offsets_comparable l r hl hr) is)))
+
+      by : (OnNumbers ts (λ p q. Unit {0}) ⊎ OnStrings ts (λ k b d. Unit {0}) ⊎ (IsEquality relation × OnLocators ts))
           → IsCalculated t (calculated n (Compare relation) vs)
       by (inl g) = on_numbers n (Compare relation) t ts vs g.0 g.1 g.2 b (λ x y hx hy. bit _)
       by (inr (inl g)) =
           on_strings (λ vs. IsCalculated t (calculated n (Compare relation) vs)) g.0 g.1 g.2 g.3 g.4 ts vs g.5 b
           (λ s r k le1 le2. bit _) (λ s r k le1 le2. bit _)
-      by (inr (inr g)) =
-          two (λ vs. IsCalculated t (calculated n (Compare relation) vs)) Pointers Pointers vs (subst (λ ts. AreOf ts vs) g.1 b)
-          (λ v w hv hw. pointer (λ v. IsCalculated t (calculated n (Compare relation) (v ∷ w ∷ []))) v hv
-          (λ l hl. pointer (λ w. IsCalculated t (calculated n (Compare relation) (Located l ∷ w ∷ []))) w hw
-          (λ r hr. equality l r relation hl hr g.0)))
+      by (inr (inr g)) = locators_fit g.0 g.1
   computed_fits Concatenate ts t vs h b =
       on_strings (λ vs. IsCalculated t (calculated n Concatenate vs)) h.0 h.1 h.2 h.3 h.4 ts vs h.5 b
       (λ s r k le1 le2. subst (λ t. IsCalculated t (as_characters (concatenation s r))) (sym (h.6 ∙ ap (λ k. Strings k 0 longest) k)) (joined_characters s r))

@@ -12,21 +12,21 @@ use Rattle.pli_world.specs.World.{World, Answer, Yields, Raises, Wrong, entered,
 use Rattle.pli_world.specs.Activations.{Head}
 use Rattle.pli_type_tree.specs.Templates.{Template, variable_of}
 use Rattle.pli_type_tree.specs.TypedTree.{TypedExpression, BlockHead, TypedStatement, Statement, Form, Null, Assign}
-use Rattle.pli_type_tree.specs.TypedTree.{AssignAggregate, Put, Allocate, Free, If, Begin, Group, While, Iterate, Call, Goto, Return, ReturnValue, Stop, OtherWise, NoElse, Else}
+use Rattle.pli_type_tree.specs.TypedTree.{AssignAggregate, AssignArea, EmptyArea, Put, Allocate, Free, If, Begin, Group, While, Iterate, Call, Goto, Return, ReturnValue, Stop, OtherWise, NoElse, Else}
 use Rattle.pli_type_tree.specs.TypedTree.{TypedStatements, NoStatement, StatementThen, TypedUnit}
 use Rattle.pli_type_tree.specs.ValueTypes.{OfBits}
 use Rattle.pli_type_tree.specs.WellTyped.{AreMade, BlockAround, TypingContext, blocks_from, IsString, labels_of, with_labels}
 use Rattle.pli_type_tree.specs.WellTyped.{in_group, block_of, in_begin, IsTypedStatement, IsTypedForm, IsTypedElse, AreTypedStatements}
 use Rattle.pli_meaning_tree.specs.Effects.{Label, Effect, Gives, Flow, Next, Returned, Doing, and_then, nothing_done, followed, answered, back_at}
 use Rattle.pli_meaning_tree.specs.Effects.{leaving, block_end}
-use Rattle.pli_meaning_tree.specs.TreeMeaning.{Calls, condition, assigns, assigns_aggregate, puts, skips, allocates, frees}
+use Rattle.pli_meaning_tree.specs.TreeMeaning.{Calls, condition, assigns, assigns_aggregate, assigns_area, empties, puts, skips, allocates, frees}
 use Rattle.pli_meaning_tree.specs.TreeMeaning.{does_call, returns_value, bears, labels_in, head_in, static_link, activation_of, in_block, does, does_form, does_else}
 use Rattle.pli_meaning_tree.specs.TreeMeaning.{does_list, does_from}
 use Rattle.pli_meaning_typed.specs.SoundWorlds.{AreGood, Shape, IsSound, IsLater, Answers}
 use Rattle.pli_meaning_typed.proofs.MeansLemmas.{IsBelow, also, Means, Anything, means_from, then_means, statement_means, chosen_means}
 use Rattle.pli_meaning_typed.proofs.MeansLemmas.{caught_means, leaving_means, full_means, followed_means, turns_means}
 use Rattle.pli_meaning_typed.proofs.ExpressionsMean.{CallsMean}
-use Rattle.pli_meaning_typed.proofs.FormsMean.{FlowIs, Fits, condition_means, assigns_means, aggregate_means, skips_means, allocates_mean, frees_mean, call_means}
+use Rattle.pli_meaning_typed.proofs.FormsMean.{FlowIs, Fits, condition_means, assigns_means, aggregate_means, area_assigned, area_emptied, skips_means, allocates_mean, frees_mean, call_means}
 use Rattle.pli_meaning_typed.proofs.FormsMean.{jump_means, return_means, value_returned}
 use Rattle.pli_meaning_typed.proofs.IterationsMean.{iterates_means}
 use Rattle.pli_meaning_typed.proofs.ContextLaws.{IsUnit, Known, Wider, AreKnown, Stand, near, stand_wider, stand_labels, shaped_length}
@@ -244,6 +244,10 @@ module _ (units : List TypedUnit) (greatest level : ℕ) (call : Calls) (unit : 
     form_means (AssignAggregate target source) s known x ss block number typed fits calls w left sound =
         grown s known x ss w left (assigns_aggregate greatest call target source w left)
         (aggregate_means units greatest level call unit s known x ss block fits calls target source typed w left sound)
+    form_means (AssignArea target source) s known x ss block number typed fits calls w left sound =
+        grown s known x ss w left (assigns_area greatest call target source w left) (area_assigned units greatest level call unit s known x ss block fits calls target source typed w left sound)
+    form_means (EmptyArea target) s known x ss block number typed fits calls w left sound =
+        grown s known x ss w left (empties greatest call target w left) (area_emptied units greatest level call unit s known x ss block fits calls target typed w left sound)
     form_means (Put skip items) s known x ss block number typed fits calls w left sound =
         grown s known x ss w left (skips greatest call skip (puts greatest call items) w left)
         (skips_means units greatest level call unit s known x ss block fits calls skip items typed w left sound)

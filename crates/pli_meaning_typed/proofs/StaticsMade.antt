@@ -22,7 +22,7 @@ use Rattle.pli_type_tree.specs.WellTyped.{IsMade as IsMadeWell, AreMade}
 use Rattle.pli_meaning_tree.specs.TreeMeaning.{all_made}
 use Rattle.pli_meaning_typed.specs.SoundWorlds.{HoldsValues, EachGood, AreStacksGood, StandsGood, AreStatics, IsLater}
 use Rattle.pli_meaning_typed.specs.TypedPrograms.{all_globals, IsLinked, made_of_kind, unless, made_for, bytes_of, AreTypedUnits}
-use Rattle.pli_meaning_typed.proofs.WorldLaws.{later_same, later_then, eaches_later, stands_later, stacks_later, small_near, new_generation, with_new, new_later, new_values, new_own, room_gives}
+use Rattle.pli_meaning_typed.proofs.WorldLaws.{later_same, later_then, eaches_later, stands_later, stacks_later, small_near, new_generation, with_new, new_later, new_values, new_variable, room_gives}
 
 none_some : {A : Type 0} {x : A} → None ≡ Some x → ⊥
 none_some e = absurd (cc)
@@ -291,9 +291,9 @@ one_made kinds.Static t w made values stacks few small =
         statics = refl;
         stack = refl;
         later = later;
-        values = new_values d AsStatic vs w values made.1 (small_near d made.0) (omega (arith, few));
+        values = new_values d AsStatic vs w values made.1 (small_near d made.0) (omega (arith, few)) (omega (arith, small));
         stacks = stacks_later w (with_new d AsStatic vs w) later refl stacks;
-        good = new_own d AsStatic vs w values made.1 (small_near d made.0);
+        good = new_variable d AsStatic vs w values made.1 (small_near d made.0);
         bytes = omega (arith, more);
         count = omega arith;
       },

@@ -3,7 +3,7 @@ use Rattle.std.specs.Prelude.{◌≡◌, ℕ, nat_eq, Bool, true, false, not, co
 use Rattle.std.specs.List.{list_any}
 use Rattle.std.proofs.Common.{sym, ap, ◌∙◌, subst, inl, inr, true≢false}
 use Rattle.std.proofs.lemmas.Bool.{eqb-true}
-use Rattle.pli_world.specs.Storage.{Generation, generation_in, with_values, without}
+use Rattle.pli_world.specs.Storage.{Block, Generation, generation_in, with_values, with_blocks, without}
 use Rattle.pli_value.specs.Value.{Value}
 
 some_same : {A : Type 0} {x y : A} → Some x ≡ Some y → x ≡ y
@@ -40,53 +40,85 @@ appended (y ∷ ys) x n g h = by (nat_eq y.number n) (appended ys x n g) h
     by true rest h = inl h
     by false rest h = rest h
 
--- values changed
-pub record WasThere (gs : List Generation) (k : ℕ) (vs : List Value) (n : ℕ) (g : Generation) : Type 0 where
+-- what a generation holds changed, and its blocks
+abbrev pub holding : List Value → Generation → Generation
+holding vs g = record g { values = vs }
+
+abbrev pub reblocked : (List Block → List Block) → Generation → Generation
+reblocked change g = record g { blocks = change g.blocks }
+
+-- one generation changed, whatever is changed of it
+abbrev changed : List Generation → (number : ℕ) → (Generation → Generation) → List Generation
+changed [] k change = []
+changed (g ∷ gs) k change = if nat_eq g.number k then change g ∷ gs else g ∷ changed gs k change
+
+-- what there was for what is found then
+pub record WasThere (gs : List Generation) (k : ℕ) (change : Generation → Generation) (n : ℕ) (g : Generation) : Type 0 where
   pub old : Generation
   pub there : generation_in gs n ≡ Some old
-  pub described : old.description ≡ g.description
-  pub held : (old.values ≡ g.values) ⊎ ((k ≡ n) × (vs ≡ g.values))
+  pub is : (old ≡ g) ⊎ ((k ≡ n) × (change old ≡ g))
 
-pub replaced : (gs : List Generation) (k : ℕ) (vs : List Value) (n : ℕ) (g : Generation)
-    → generation_in (with_values gs k vs) n ≡ Some g → WasThere gs k vs n g
-replaced [] k vs n g h = absurd (none_some h)
-replaced (x ∷ xs) k vs n g h = by (nat_eq x.number k) (nat_eq x.number n) refl refl (replaced xs k vs n g) h
+was_there : (gs : List Generation) (k : ℕ) (change : Generation → Generation) → ((x : Generation) → (change x).number ≡ x.number) → (n : ℕ) (g : Generation)
+    → generation_in (changed gs k change) n ≡ Some g → WasThere gs k change n g
+was_there [] k change same n g h = absurd (none_some h)
+was_there (x ∷ xs) k change same n g h = by (nat_eq x.number k) (nat_eq x.number n) refl refl (was_there xs k change same n g) h
   where
-    new : Generation
-    new = record x { values = vs }
-
     by : (b c : Bool) → nat_eq x.number k ≡ b → nat_eq x.number n ≡ c
-        → (generation_in (with_values xs k vs) n ≡ Some g → WasThere xs k vs n g)
-        → generation_in (if b then new ∷ xs else x ∷ with_values xs k vs) n ≡ Some g → WasThere (x ∷ xs) k vs n g
+        → (generation_in (changed xs k change) n ≡ Some g → WasThere xs k change n g)
+        → generation_in (if b then change x ∷ xs else x ∷ changed xs k change) n ≡ Some g → WasThere (x ∷ xs) k change n g
     by true true e d rest h =
-        let s : new ≡ g = some_same (sym (ap (λ c. if c then Some new else generation_in xs n) d) ∙ h) in record {
+        let now : nat_eq (change x).number n ≡ true = ap (λ m. nat_eq m n) (same x) ∙ d in record {
           old = x;
           there = ap (λ c. if c then Some x else generation_in xs n) d;
-          described = ap (λ g. g.description) s;
-          held = inr (sym (eqb-true x.number k e) ∙ eqb-true x.number n d, ap (λ g. g.values) s);
+          is = inr (
+            sym (eqb-true x.number k e) ∙ eqb-true x.number n d,
+            some_same (sym (ap (λ c. if c then Some (change x) else generation_in xs n) now) ∙ h),
+          );
         }
-    by true false e d rest h = record {
-      old = g;
-      there =
-          ap (λ c. if c then Some x else generation_in xs n) d
-          ∙ sym (ap (λ c. if c then Some new else generation_in xs n) d) ∙ h;
-      described = refl;
-      held = inl refl;
+    by true false e d rest h =
+        let now : nat_eq (change x).number n ≡ false = ap (λ m. nat_eq m n) (same x) ∙ d in record {
+          old = g;
+          there =
+              ap (λ c. if c then Some x else generation_in xs n) d
+              ∙ sym (ap (λ c. if c then Some (change x) else generation_in xs n) now) ∙ h;
+          is = inl refl;
+        }
+    by false true e d rest h = record {
+      old = x;
+      there = ap (λ c. if c then Some x else generation_in xs n) d;
+      is = inl (some_same (sym (ap (λ c. if c then Some x else generation_in (changed xs k change) n) d) ∙ h));
     }
-    by false true e d rest h =
-        let s : x ≡ g = some_same (sym (ap (λ c. if c then Some x else generation_in (with_values xs k vs) n) d) ∙ h) in record {
-          old = x;
-          there = ap (λ c. if c then Some x else generation_in xs n) d;
-          described = ap (λ g. g.description) s;
-          held = inl (ap (λ g. g.values) s);
-        }
     by false false e d rest h =
-        let r = rest (sym (ap (λ c. if c then Some x else generation_in (with_values xs k vs) n) d) ∙ h) in record {
+        let r = rest (sym (ap (λ c. if c then Some x else generation_in (changed xs k change) n) d) ∙ h) in record {
           old = r.old;
           there = ap (λ c. if c then Some x else generation_in xs n) d ∙ r.there;
-          described = r.described;
-          held = r.held;
+          is = r.is;
         }
+
+-- whose description was the same, where no description is changed
+pub still_described : (gs : List Generation) (k : ℕ) (change : Generation → Generation) → ((x : Generation) → (change x).description ≡ x.description) → (n : ℕ) (g : Generation)
+    → (r : WasThere gs k change n g) → r.old.description ≡ g.description
+still_described gs k change same n g r = by r.old r.is
+  where
+    by : (old : Generation) → (old ≡ g) ⊎ ((k ≡ n) × (change old ≡ g)) → old.description ≡ g.description
+    by old (inl e) = ap (λ (x : Generation). x.description) e
+    by old (inr e) = sym (same old) ∙ ap (λ (x : Generation). x.description) e.1
+
+values_changed : (gs : List Generation) (k : ℕ) (vs : List Value) → with_values gs k vs ≡ changed gs k (holding vs)
+values_changed [] k vs = refl
+values_changed (g ∷ gs) k vs = ap (λ rest. if nat_eq g.number k then holding vs g ∷ gs else g ∷ rest) (values_changed gs k vs)
+
+pub values_replaced : (gs : List Generation) (k : ℕ) (vs : List Value) (n : ℕ) (g : Generation)
+    → generation_in (with_values gs k vs) n ≡ Some g → WasThere gs k (holding vs) n g
+values_replaced gs k vs n g h = was_there gs k (holding vs) (λ x. refl) n g (sym (ap (λ gs. generation_in gs n) (values_changed gs k vs)) ∙ h)
+
+blocks_changed : (gs : List Generation) (k : ℕ) (change : List Block → List Block) → with_blocks gs k change ≡ changed gs k (reblocked change)
+blocks_changed [] k change = refl
+blocks_changed (g ∷ gs) k change = ap (λ rest. if nat_eq g.number k then reblocked change g ∷ gs else g ∷ rest) (blocks_changed gs k change)
+
+pub blocks_replaced : (gs : List Generation) (k : ℕ) (change : List Block → List Block) (n : ℕ) (g : Generation)
+    → generation_in (with_blocks gs k change) n ≡ Some g → WasThere gs k (reblocked change) n g
+blocks_replaced gs k change n g h = was_there gs k (reblocked change) (λ x. refl) n g (sym (ap (λ gs. generation_in gs n) (blocks_changed gs k change)) ∙ h)
 
 -- generations ended
 kept_only : (numbers : List ℕ) (gs : List Generation) (n : ℕ) (g : Generation)

@@ -1,12 +1,13 @@
 -- The operations keep worlds sound, and none is wrong where what it needs is there.
-use Rattle.std.specs.Prelude.{◌≡◌, ℕ, zero, suc, ◌+◌, ◌≤◌, ◌<◌, nat_lt, nat_le, Bool, true, false, not}
+use Rattle.std.specs.Prelude.{◌≡◌, ◌≢◌, ℕ, zero, suc, ◌+◌, ◌≤◌, ◌<◌, ◌^◌, nat_eq, nat_lt, nat_le, Bool, true, false, not}
 use Rattle.std.specs.Prelude.{◌&&◌, IsTrue, Option, Some, None, List, [], ◌∷◌, ◌++◌, ◌⊎◌, length, map, slice_get}
 use Rattle.std.specs.Prelude.{if◌then◌else◌, refl, option_map}
-use Rattle.std.proofs.Common.{arith, sym, ap, ◌∙◌, subst, inl, inr, append_assoc, append-nil, lt-ltb, ltb-true, le-leb}
+use Rattle.std.proofs.Common.{arith, sym, ap, ◌∙◌, subst, inl, inr, append_assoc, append-nil, lt-ltb, ltb-true, le-leb, leb-true, true≢false}
+use Rattle.std.proofs.lemmas.Bool.{eqb-true, eq-eqb}
 use Rattle.pli_base.specs.Name.{Name}
 use Rattle.pli_run.specs.declared.ending.Ending.TheVariants as message
 use Rattle.pli_run.specs.declared.ending.RunError.{RunError}
-use Rattle.pli_run.specs.declared.ending.RunError.TheVariants.{DeadLocator, StorageLimit}
+use Rattle.pli_run.specs.declared.ending.RunError.TheVariants.{DeadLocator, DescriptionMismatch, StorageLimit}
 use Rattle.std.proofs.lemmas.Option.{slice_get-map}
 use Rattle.pli_map.specs.Description.{Description}
 use Rattle.pli_map.specs.Same.{same}
@@ -16,14 +17,14 @@ use Rattle.pli_map.proofs.ScalarLawsHold.{whole_found, scalars_lie_within}
 use Rattle.pli_map.specs.Sizes.{size_of}
 use Rattle.pli_world.specs.Activations.{Activation, Head, with_newest, without_newest}
 use Rattle.pli_world.specs.Ends.{error_told}
-use Rattle.pli_world.specs.Storage.{Generation, Made, Automatic, Dummy, Place, contents_of, whole, generation_in, scalar_at, values_from, with_values_at}
-use Rattle.pli_world.specs.Storage.{with_values, with_contents, without, live_bytes, generation_limit, offset_limit}
+use Rattle.pli_world.specs.Areas.{with_area}
+use Rattle.pli_world.specs.Storage.{Block, Generation, Made, Automatic, Dummy, Place, Contents, contents_of, whole, generation_in, scalar_at, values_from, with_values_at}
+use Rattle.pli_world.specs.Storage.{block_at, with_values, with_block_values, with_blocks, with_contents, without, live_bytes, generation_limit, offset_limit}
 use Rattle.pli_map.specs.Variables.{byte_limit}
 use Rattle.pli_map.specs.Values.{holds, are_held}
 use Rattle.pli_program.specs.declared.kind.VariableKind.{VariableKind}
 use Rattle.pli_program.specs.declared.kind.VariableKind.TheVariants as kinds
-use Rattle.pli_world.specs.World.{Standing, Lies, Stacked, World, Answer, Yields, Raises, Wrong, further, known, made_of, unless_dead, parts_held}
-use Rattle.pli_world.specs.laws.OperationLaws.{used_outside, contents_outside}
+use Rattle.pli_world.specs.World.{Standing, Lies, Stacked, World, Answer, Yields, Raises, Wrong, further, known, made_of, unless_dead, unless_gone, unless_replaced, led_into, used, parts_held}
 use Rattle.pli_world.specs.World.{parts_stored, single, held, stored, copied, in_newest, with_slot, made_all}
 use Rattle.pli_map.specs.Variables.{Variable}
 use Rattle.pli_world.specs.World.{without_handed, begun_in, entered, ended_with, prepared_by, left_by, cleared, at_statement, stepped, dummy_of}
@@ -31,12 +32,13 @@ use Rattle.pli_world.specs.World.{static_in, printed, line_ended, error_in, erro
 use Rattle.pli_value.specs.Value.{Value}
 use Rattle.pli_type_tree.specs.TypedTree.{TypedUnit}
 use Rattle.pli_type_tree.specs.WellTyped.{AreHeld, AreMade}
-use Rattle.pli_meaning_typed.specs.SoundWorlds.{IsPartAt, IsNear, IsGood, AreGood, IsOwn, AreSlots, HoldsValues, Shape, AreShaped, AreOfUnits, EachGood, AreStacksGood, StandsGood, AreStatics}
+use Rattle.pli_meaning_typed.specs.SoundWorlds.{IsPartAt, IsNear, HasPart, IsGood, IsWhole, IsOwn, IsVariable, IsPassed, AreGood, AreSlots, AreSoundBlocks, IsHolding, HoldsValues, Shape, AreShaped, AreOfUnits, EachGood, AreStacksGood, StandsGood, AreStatics}
 use Rattle.pli_meaning_typed.specs.SoundWorlds.{IsSound, IsLater, IsTold, Answers}
 use Rattle.pli_meaning_tree.specs.TreeMeaning.{unit_names}
+use Rattle.pli_meaning_typed.proofs.BlockLemmas.{block_found, values_put}
 use Rattle.pli_meaning_typed.proofs.Parts.{part_held, part_stored}
 use Rattle.pli_meaning_typed.proofs.PartsWithin.{scalar_first}
-use Rattle.pli_meaning_typed.proofs.StorageLemmas.{appended, replaced, lived_before}
+use Rattle.pli_meaning_typed.proofs.StorageLemmas.{appended, holding, reblocked, still_described, values_replaced, blocks_replaced, lived_before}
 
 some_same : {A : Type 0} {x y : A} → Some x ≡ Some y → x ≡ y
 some_same e = cc
@@ -59,45 +61,56 @@ later_then u v w f g = record {
       (y.0, y.1, y.2 ∙ x.2);
 }
 
+pub part_later : (v w : World) (p : Place) (offset : ℕ) (d : Description) → IsLater v w → p.generation < v.made → HasPart v p offset d → HasPart w p offset d
+part_later v w p offset d later made h = (
+  λ outside x e. let old = later.lived p.generation x made e in subst (λ e. IsPartAt e offset d) old.2 (h.0 outside old.0 old.1),
+  h.1,
+)
+
 pub good_later : (v w : World) (d : Description) (p : Place) → IsLater v w → IsGood v d p → IsGood w d p
 good_later v w d p later g = record {
   was_made = omega (arith, g.was_made, later.more);
-  outside = g.outside;
   described = g.described;
   near = g.near;
-  part = λ x h. let old = later.lived p.generation x g.was_made h in
-      subst (λ e. IsPartAt e p.offset d) old.2 (g.part old.0 old.1);
+  part = part_later v w p p.offset d later g.was_made g.part;
 }
-
-pub goods_later : (v w : World) (ds : List Description) (ps : List Place) → IsLater v w → AreGood v ds ps → AreGood w ds ps
-goods_later v w [] [] later g = tt
-goods_later v w [] (p ∷ ps) later g = absurd g
-goods_later v w (d ∷ ds) [] later g = absurd g
-goods_later v w (d ∷ ds) (p ∷ ps) later g = (good_later v w d p later g.0, goods_later v w ds ps later g.1)
 
 pub own_later : (v w : World) (d : Description) (p : Place) → IsLater v w → IsOwn v d p → IsOwn w d p
 own_later v w d p later h = (
   good_later v w d p later h.0,
   record {
     begins = h.1.begins;
-    all = λ g e. let old = later.lived p.generation g h.0.was_made e in sym old.2 ∙ h.1.all old.0 old.1;
+    all = λ outside g e. let old = later.lived p.generation g h.0.was_made e in sym old.2 ∙ h.1.all outside old.0 old.1;
+    block = h.1.block;
   },
 )
+
+pub variable_later : (v w : World) (d : Description) (p : Place) → IsLater v w → IsVariable v d p → IsVariable w d p
+variable_later v w d p later h = (own_later v w d p later h.0, h.1)
+
+pub passed_later : (v w : World) (d : Description) (p : Place) → IsLater v w → IsPassed v d p → IsPassed w d p
+passed_later v w d p later h = (good_later v w d p later h.0, λ is. variable_later v w d p later (h.1 is))
+
+pub goods_later : (v w : World) (ds : List Description) (ps : List Place) → IsLater v w → AreGood v ds ps → AreGood w ds ps
+goods_later v w [] [] later g = tt
+goods_later v w [] (p ∷ ps) later g = absurd g
+goods_later v w (d ∷ ds) [] later g = absurd g
+goods_later v w (d ∷ ds) (p ∷ ps) later g = (passed_later v w d p later g.0, goods_later v w ds ps later g.1)
 
 slots_later : (v w : World) (ds : List Description) (ps : List Place) (n : ℕ) → IsLater v w → AreSlots v ds ps n → AreSlots w ds ps n
 slots_later v w [] [] n later h = tt
 slots_later v w [] (p ∷ ps) n later h = absurd h
 slots_later v w (d ∷ ds) [] n later h = absurd h
-slots_later v w (d ∷ ds) (p ∷ ps) zero later h = (own_later v w d p later h.0, slots_later v w ds ps zero later h.1)
-slots_later v w (d ∷ ds) (p ∷ ps) (suc n) later h = (good_later v w d p later h.0, slots_later v w ds ps n later h.1)
+slots_later v w (d ∷ ds) (p ∷ ps) zero later h = (variable_later v w d p later h.0, slots_later v w ds ps zero later h.1)
+slots_later v w (d ∷ ds) (p ∷ ps) (suc n) later h = (passed_later v w d p later h.0, slots_later v w ds ps n later h.1)
 
 pub eaches_later : (v w : World) (d : Description) (ps : List Place) → IsLater v w → EachGood v d ps → EachGood w d ps
 eaches_later v w d [] later h = tt
-eaches_later v w d (p ∷ ps) later h = (own_later v w d p later h.0, eaches_later v w d ps later h.1)
+eaches_later v w d (p ∷ ps) later h = (variable_later v w d p later h.0, eaches_later v w d ps later h.1)
 
 -- so do what stands, and stacks that are as they were
 pub stands_later : (v w : World) (kind : VariableKind) (d : Description) (s : Standing) → IsLater v w → StandsGood v kind d s → StandsGood w kind d s
-stands_later v w kinds.Static d (Lies p) later h = own_later v w d p later h
+stands_later v w kinds.Static d (Lies p) later h = variable_later v w d p later h
 stands_later v w kinds.Static d (Stacked number) later h = absurd h
 stands_later v w kinds.Controlled d (Lies p) later h = absurd h
 stands_later v w kinds.Controlled d (Stacked number) later h =
@@ -209,23 +222,32 @@ module _ (d : Description) (how : Made) (vs : List Value) (w : World) (old : Hol
       before n x lt (inl e) = (x, e, refl)
       before n x lt (inr e) = absurd (omega (arith, lt, e.0))
 
-  pub new_values : IsNear 0 d → w.made < generation_limit → HoldsValues (with_new d how vs w)
-  new_values near few n x e = by (appended w.storage g n x e)
+  pub new_values : IsNear 0 d → w.made < generation_limit → size_of d ≤ byte_limit → HoldsValues (with_new d how vs w)
+  new_values near few small n x e = by (appended w.storage g n x e)
     where
-      by : (generation_in w.storage n ≡ Some x) ⊎ ((w.made ≡ n) × (g ≡ x))
-          → (n < suc w.made) × AreHeld (scalars_of x.description) x.values × IsNear 0 x.description × (n < generation_limit)
-      by (inl e) = let o = old n x e in (omega (arith, o.0), o.1, o.2, o.3)
+      by : (generation_in w.storage n ≡ Some x) ⊎ ((w.made ≡ n) × (g ≡ x)) → IsHolding (with_new d how vs w) n x
+      by (inl e) = let o = old n x e in (omega (arith, o.0), o.1, o.2, o.3, o.4, o.5)
       by (inr e) = (
         omega (arith, e.0),
         subst (λ x. AreHeld (scalars_of x.description) x.values) e.1 h,
         subst (λ x. IsNear 0 x.description) e.1 near,
         subst (λ n. n < generation_limit) e.0 few,
+        subst (λ (x : Generation). size_of x.description ≤ byte_limit) e.1 small,
+        subst (λ (x : Generation). AreSoundBlocks x.blocks) e.1 tt,
       )
 
-  pub new_own : IsNear 0 d → IsOwn (with_new d how vs w) d (whole w.made d)
-  new_own near = (
-    record { was_made = omega arith; outside = refl; described = refl; near = near; part = λ x e. by x (appended w.storage g w.made x e) },
-    record { begins = refl; all = λ x e. all x (appended w.storage g w.made x e) },
+  pub new_variable : IsNear 0 d → IsVariable (with_new d how vs w) d (whole w.made d)
+  new_variable near = (
+    (
+      record {
+        was_made = omega arith;
+        described = refl;
+        near = near;
+        part = (λ outside x e. by x (appended w.storage g w.made x e), λ inside. absurd (inside refl));
+      },
+      record { begins = refl; all = λ outside x e. all x (appended w.storage g w.made x e); block = λ inside. absurd (inside refl) },
+    ),
+    refl,
   )
     where
       by : (x : Generation) → (generation_in w.storage w.made ≡ Some x) ⊎ ((w.made ≡ w.made) × (g ≡ x)) → IsPartAt x.description 0 d
@@ -245,46 +267,174 @@ module _ (d : Description) (how : Made) (vs : List Value) (w : World) (old : Hol
       ∙ ap (λ b. if b then (if are_held (scalars_of d) vs then Yields (whole w.made d) (with_new d how vs w) else Wrong) else Raises StorageLimit w) (le-leb (live_bytes w.storage + size_of d) byte_limit small)
       ∙ ap (λ b. if b then Yields (whole w.made d) (with_new d how vs w) else Wrong) (values_held (scalars_of d) vs h)
 
+-- what a generation of a world holds changed, or its blocks
+pub values_kept : (w : World) (k : ℕ) (g : Generation) (vs : List Value) → HoldsValues w → generation_in w.storage k ≡ Some g → AreHeld (scalars_of g.description) vs
+    → HoldsValues (record w { storage = with_values w.storage k vs })
+values_kept w k g vs values there held n x e = let r = values_replaced w.storage k vs n x e in by r.old r.there r.is
+  where
+    by : (old : Generation) → generation_in w.storage n ≡ Some old → (old ≡ x) ⊎ ((k ≡ n) × (holding vs old ≡ x)) → IsHolding w n x
+    by old f (inl is) = subst (λ x. IsHolding w n x) is (values n old f)
+    by old f (inr is) =
+        let same : g ≡ old = some_same (sym there ∙ ap (λ m. generation_in w.storage m) is.0 ∙ f) in
+        let o = values n old f in
+        subst (λ x. IsHolding w n x) is.1 (o.0, subst (λ (g : Generation). AreHeld (scalars_of g.description) vs) same held, o.2, o.3, o.4, o.5)
+
+pub blocks_kept : (w : World) (k : ℕ) (change : List Block → List Block) → HoldsValues w
+    → ((g : Generation) → generation_in w.storage k ≡ Some g → AreSoundBlocks (change g.blocks)) → HoldsValues (record w { storage = with_blocks w.storage k change })
+blocks_kept w k change values sound n x e = let r = blocks_replaced w.storage k change n x e in by r.old r.there r.is
+  where
+    by : (old : Generation) → generation_in w.storage n ≡ Some old → (old ≡ x) ⊎ ((k ≡ n) × (reblocked change old ≡ x)) → IsHolding w n x
+    by old f (inl is) = subst (λ x. IsHolding w n x) is (values n old f)
+    by old f (inr is) =
+        let o = values n old f in
+        subst (λ x. IsHolding w n x) is.1 (o.0, o.1, o.2, o.3, o.4, sound old (ap (λ m. generation_in w.storage m) is.0 ∙ f))
+
+-- the same world with what a place leads into changed
+abbrev put_there : Place → List Value → World → World
+put_there p vs w = record w { storage = with_contents w.storage p vs }
+
+put_later : (p : Place) (vs : List Value) (w : World) → IsLater w (put_there p vs w)
+put_later p vs w = record { more = omega arith; lived = λ n x lt e. by (nat_eq p.position 0) n x e; stacks = λ n s h. (s, h, refl) }
+  where
+    by : (b : Bool) (n : ℕ) (x : Generation) → generation_in (if b then with_values w.storage p.generation vs else with_blocks w.storage p.generation (λ bs. with_block_values bs p.position vs)) n ≡ Some x
+        → (old : Generation) × (generation_in w.storage n ≡ Some old) × (old.description ≡ x.description)
+    by true n x e =
+        let r = values_replaced w.storage p.generation vs n x e in
+        (r.old, r.there, still_described w.storage p.generation (holding vs) (λ x. refl) n x r)
+    by false n x e =
+        let r = blocks_replaced w.storage p.generation (λ bs. with_block_values bs p.position vs) n x e in
+        (r.old, r.there, still_described w.storage p.generation (reblocked (λ bs. with_block_values bs p.position vs)) (λ x. refl) n x r)
+
+-- what a good place leads into: it has the part and a value for each scalar, and may hold others; where the place is that of a whole, it is that; and there is a pointer to it
+pub record IsHolder (w : World) (d : Description) (p : Place) (c : Contents) : Type 0 where
+  pub part : IsPartAt c.description p.offset d
+  pub values : AreHeld (scalars_of c.description) c.values
+  pub stays : (vs : List Value) → AreHeld (scalars_of c.description) vs → HoldsValues (record w { storage = with_contents w.storage p vs })
+  pub all : IsWhole w p → c.description ≡ p.description
+  pub few : p.generation < generation_limit
+  pub position : p.position < 2 ^ 32
+
 module _ (units : List TypedUnit) (s : Shape) (ss : List Shape) where
   abbrev Sound : World → Type 0
   Sound w = IsSound units (s ∷ ss) w
 
-  -- a place, and the same of a whole generation, which the limit of generations leaves a number to
+  -- other blocks of an area
+  pub blocks_sound : (p : Place) (change : List Block → List Block) (w : World) → Sound w
+      → ((g : Generation) → generation_in w.storage p.generation ≡ Some g → AreSoundBlocks (change g.blocks)) → Sound (with_area p change w) × IsLater w (with_area p change w)
+  blocks_sound p change w sound good = (same_stack units (s ∷ ss) w (with_area p change w) sound later (blocks_kept w p.generation change sound.values good) refl refl refl, later)
+    where
+      later : IsLater w (with_area p change w)
+      later = record {
+        more = omega arith;
+        lived = λ n x lt e. let r = blocks_replaced w.storage p.generation change n x e in
+            (r.old, r.there, still_described w.storage p.generation (reblocked change) (λ x. refl) n x r);
+        stacks = λ n s h. (s, h, refl);
+      }
+
+  -- a place that may be handed over, and one of a whole generation, which the limit of generations leaves a number to
   abbrev pub MadeAt : World → Description → Place → World → Type 0
-  MadeAt w d p v = IsGood v d p × Sound v × IsLater w v
+  MadeAt w d p v = IsPassed v d p × Sound v × IsLater w v
 
   abbrev pub MadeWhole : World → Description → Place → World → Type 0
-  MadeWhole w d p v = IsOwn v d p × Sound v × IsLater w v × (p.generation < generation_limit)
+  MadeWhole w d p v = IsVariable v d p × Sound v × IsLater w v × (p.generation < generation_limit)
 
   pub made_answers : (d : Description) (how : Made) (vs : List Value) (w : World) → Sound w → IsNear 0 d → AreHeld (scalars_of d) vs
       → Answers units (MadeWhole w d) (made_of d how vs w)
   unfolding made_of
   made_answers d how vs w sound near h =
-      by (nat_lt w.made generation_limit) (nat_le (live_bytes w.storage + size_of d) byte_limit) refl
+      by (nat_lt w.made generation_limit) (nat_le (live_bytes w.storage + size_of d) byte_limit) refl refl
     where
-      by : (b c : Bool) → nat_lt w.made generation_limit ≡ b
+      by : (b c : Bool) → nat_lt w.made generation_limit ≡ b → nat_le (live_bytes w.storage + size_of d) byte_limit ≡ c
           → Answers units (MadeWhole w d) (if b && c then (if are_held (scalars_of d) vs then Yields (whole w.made d) (with_new d how vs w) else Wrong) else Raises StorageLimit w)
-      by true true few =
+      by true true few bytes =
           let later = new_later d how vs w sound.values h in
           let room = ltb-true w.made generation_limit few in
+          let small = leb-true (live_bytes w.storage + size_of d) byte_limit bytes in
           subst (λ b. Answers units (MadeWhole w d) (if b then Yields (whole w.made d) (with_new d how vs w) else Wrong)) (sym (values_held (scalars_of d) vs h)) (
-            new_own d how vs w sound.values h near,
-            same_stack units (s ∷ ss) w (with_new d how vs w) sound later (new_values d how vs w sound.values h near room) refl refl refl,
+            new_variable d how vs w sound.values h near,
+            same_stack units (s ∷ ss) w (with_new d how vs w) sound later (new_values d how vs w sound.values h near room (omega (arith, small))) refl refl refl,
             later,
             room,
           )
-      by true false few = error_named units s ss w StorageLimit sound
-      by false c few = error_named units s ss w StorageLimit sound
+      by true false few bytes = error_named units s ss w StorageLimit sound
+      by false c few bytes = error_named units s ss w StorageLimit sound
+
+  -- what a place leads into
+  abbrev pub UsedAt : World → Description → Place → Contents → World → Type 0
+  UsedAt w d p c v = IsHolder v d p c × Sound v × IsLater w v
+
+  pub used_answers : (d : Description) (p : Place) (w : World) → Sound w → IsGood w d p → Answers units (UsedAt w d p) (used p w)
+  used_answers d p w sound good = by (generation_in w.storage p.generation) refl
+    where
+      contents_in : Block → World → Answer Contents
+      contents_in b w = Yields (record { description = b.description; values = b.values }) w
+
+      storage_if : Bool → List Value → List Generation
+      storage_if b vs = if b then with_values w.storage p.generation vs else with_blocks w.storage p.generation (λ bs. with_block_values bs p.position vs)
+
+      -- the generation itself
+      outside : (g : Generation) → generation_in w.storage p.generation ≡ Some g → nat_eq p.position 0 ≡ true → UsedAt w d p (contents_of g) w
+      outside g e z =
+          let none : p.position ≡ 0 = eqb-true p.position 0 z in
+          let held = sound.values p.generation g e in (
+            record {
+              part = good.part.0 none g e;
+              values = held.1;
+              stays = λ vs h. subst (λ b. HoldsValues (record w { storage = storage_if b vs })) (sym z) (values_kept w p.generation g vs sound.values e h);
+              all = λ own. own.all none g e;
+              few = held.3;
+              position = omega (arith, none);
+            },
+            sound,
+            later_same w,
+          )
+
+      -- a block
+      within : (g : Generation) → generation_in w.storage p.generation ≡ Some g → nat_eq p.position 0 ≡ false → (b : Block) → block_at g.blocks p.position ≡ Some b → (c : Bool) → same b.description p.whole ≡ c
+          → Answers units (UsedAt w d p) (further (if c then Yields b w else Raises DescriptionMismatch w) contents_in)
+      within g e z b f false alike = error_named units s ss w DescriptionMismatch sound
+      within g e z b f true alike =
+          let inside : p.position ≢ 0 = λ none. true≢false (sym (eq-eqb p.position 0 none) ∙ z) in
+          let is : b.description ≡ p.whole = (same_decides b.description p.whole).0 alike in
+          let held = sound.values p.generation g e in
+          let found = block_found g.blocks p.position b held.5 f in (
+            record {
+              part = subst (λ e. IsPartAt e p.offset d) (sym is) (good.part.1 inside);
+              values = found.0.values;
+              stays = λ vs h. subst (λ b. HoldsValues (record w { storage = storage_if b vs })) (sym z)
+                  (blocks_kept w p.generation (λ bs. with_block_values bs p.position vs) sound.values
+                  (λ y k. subst (λ (y : Generation). AreSoundBlocks (with_block_values y.blocks p.position vs)) (some_same (sym e ∙ k)) (values_put g.blocks p.position b vs held.5 f h)));
+              all = λ own. is ∙ own.block inside;
+              few = held.3;
+              position = subst (λ k. k < 2 ^ 32) found.1 found.0.position;
+            },
+            sound,
+            later_same w,
+          )
+
+      block : (g : Generation) → generation_in w.storage p.generation ≡ Some g → nat_eq p.position 0 ≡ false → (o : Option Block) → block_at g.blocks p.position ≡ o
+          → Answers units (UsedAt w d p) (further (further (unless_gone o w) (unless_replaced p.whole)) contents_in)
+      block g e z None f = error_named units s ss w DeadLocator sound
+      block g e z (Some b) f = within g e z b f (same b.description p.whole) refl
+
+      into : (g : Generation) → generation_in w.storage p.generation ≡ Some g → (b : Bool) → nat_eq p.position 0 ≡ b
+          → Answers units (UsedAt w d p) (if b then Yields (contents_of g) w else further (further (unless_gone (block_at g.blocks p.position) w) (unless_replaced p.whole)) contents_in)
+      into g e true z = outside g e z
+      into g e false z = block g e z (block_at g.blocks p.position) refl
+
+      by : (o : Option Generation) → generation_in w.storage p.generation ≡ o → Answers units (UsedAt w d p) (further (unless_dead o w) (led_into p))
+      by None e = error_named units s ss w DeadLocator sound
+      by (Some g) e = into g e (nat_eq p.position 0) refl
 
   -- what a place holds
-  first_there : (d : Description) (p : Place) (w : World) (g : Generation) → IsGood w d p → generation_in w.storage p.generation ≡ Some g
-      → (k : ℕ) × (scalar_at (contents_of g) p ≡ Some k) × (first_scalar g.description p.offset d ≡ Some k)
-  first_there d p w g good e =
-      let f = good.part g e 0 d 0 (whole_found d) in
+  first_in : (d : Description) (p : Place) (c : Contents) → p.description ≡ d → IsPartAt c.description p.offset d
+      → (k : ℕ) × (scalar_at c p ≡ Some k) × (first_scalar c.description p.offset d ≡ Some k)
+  first_in d p c described part =
+      let f = part 0 d 0 (whole_found d) in
       let z : p.offset + 0 ≡ p.offset = omega arith in
-      let there : first_scalar g.description p.offset d ≡ Some f.0 = subst (λ n. first_scalar g.description n d ≡ Some f.0) z f.1 in (
+      let there : first_scalar c.description p.offset d ≡ Some f.0 = subst (λ n. first_scalar c.description n d ≡ Some f.0) z f.1 in (
         f.0,
-        ap (λ e. first_scalar g.description p.offset e) good.described ∙ there,
+        ap (λ e. first_scalar c.description p.offset e) described ∙ there,
         there,
       )
 
@@ -295,69 +445,38 @@ module _ (units : List TypedUnit) (s : Shape) (ss : List Shape) where
       → Answers units (HeldAt w d) (parts_held p w)
   unfolding parts_held
   parts_held_answers d p w sound good =
-      subst (λ a. Answers units (HeldAt w d) a) (sym (used_outside p w _ good.outside)) (by (generation_in w.storage p.generation) refl)
-    where
-      by : (o : Option Generation) → generation_in w.storage p.generation ≡ o
-          → Answers units (HeldAt w d)
-          (further (unless_dead o w) (λ g w. further (known (scalar_at (contents_of g) p) w) (λ k w. Yields (values_from k (scalars_in p.description) g.values) w)))
-      by None e = error_named units s ss w DeadLocator sound
-      by (Some g) e =
-          let f = first_there d p w g good e in
-          subst (λ o. Answers units (HeldAt w d) (further (known o w) (λ k w. Yields (values_from k (scalars_in p.description) g.values) w))) (sym f.1) (
-            subst (λ e. AreHeld (scalars_of d) (values_from f.0 (scalars_in e) g.values)) (sym good.described)
-                (part_held g.description p.offset d f.0 g.values f.2 (sound.values p.generation g e).1),
-            sound,
-            later_same w,
-          )
+      further_answers units (UsedAt w d p) (HeldAt w d) (used p w)
+      (λ c w. further (known (scalar_at c p) w) (λ k w. Yields (values_from k (scalars_in p.description) c.values) w)) (used_answers d p w sound good)
+      (λ c v u. let f = first_in d p c good.described u.0.part in
+      subst (λ o. Answers units (HeldAt w d) (further (known o v) (λ k w. Yields (values_from k (scalars_in p.description) c.values) w))) (sym f.1) (
+        subst (λ e. AreHeld (scalars_of d) (values_from f.0 (scalars_in e) c.values)) (sym good.described)
+            (part_held c.description p.offset d f.0 c.values f.2 u.0.values),
+        u.1,
+        u.2,
+      ))
 
   -- values put at a place
   abbrev Kept : World → Unit {0} → World → Type 0
   Kept w _ v = Sound v × IsLater w v
 
+  pub kept_since : (w v : World) (a : Answer Unit) → IsLater w v → Answers units (Kept v) a → Answers units (Kept w) a
+  kept_since w v (Yields x u) later h = (h.0, later_then w v u later h.1)
+  kept_since w v (Raises e u) later h = h
+  kept_since w v Wrong later h = h
+
   pub parts_stored_answers : (d : Description) (p : Place) (vs : List Value) (w : World) → Sound w → IsGood w d p
       → AreHeld (scalars_of d) vs → Answers units (Kept w) (parts_stored p vs w)
   unfolding parts_stored
   parts_stored_answers d p vs w sound good h =
-      subst (λ a. Answers units (Kept w) a) (sym (used_outside p w _ good.outside)) (by (generation_in w.storage p.generation) refl)
-    where
-      by : (o : Option Generation) → generation_in w.storage p.generation ≡ o
-          → Answers units (Kept w) (further (unless_dead o w) (λ g w. further (known (scalar_at (contents_of g) p) w) (λ k w. Yields tt (record w { storage = with_contents w.storage p (with_values_at k vs g.values) }))))
-      by None e = error_named units s ss w DeadLocator sound
-      by (Some g) e =
-          let f = first_there d p w g good e in
-          let xs = with_values_at f.0 vs g.values in
-          let new : World = record w { storage = with_values w.storage p.generation xs } in
-          let later : IsLater w new = record {
-            more = omega arith;
-            lived = λ n x lt e. let r = replaced w.storage p.generation xs n x e in (r.old, r.there, r.described);
-            stacks = λ n s h. (s, h, refl);
-          } in
-          subst (λ o. Answers units (Kept w) (further (known o w) (λ k w. Yields tt (record w { storage = with_contents w.storage p (with_values_at k vs g.values) })))) (sym f.1)
-          (subst (λ gs. Kept w tt (record w { storage = gs })) (sym (contents_outside w.storage p xs good.outside))
-          (same_stack units (s ∷ ss) w new sound later (values g e f.0 f.2) refl refl refl, later))
-        where
-          values : (g : Generation) → generation_in w.storage p.generation ≡ Some g → (k : ℕ) → first_scalar g.description p.offset d ≡ Some k
-              → HoldsValues (record w { storage = with_values w.storage p.generation (with_values_at k vs g.values) })
-          values g e k f n x c =
-              let r = replaced w.storage p.generation (with_values_at k vs g.values) n x c in
-              let old = sound.values n r.old r.there in (
-                old.0,
-                found r.old r.there r.described r.held,
-                subst (λ d. IsNear 0 d) r.described old.2,
-                old.3,
-              )
-            where
-              found : (old : Generation) → generation_in w.storage n ≡ Some old → old.description ≡ x.description
-                  → (old.values ≡ x.values) ⊎ ((p.generation ≡ n) × (with_values_at k vs g.values ≡ x.values))
-                  → AreHeld (scalars_of x.description) x.values
-              found old there e2 (inl e3) =
-                  subst (λ d. AreHeld (scalars_of d) x.values) e2
-                  (subst (λ vs. AreHeld (scalars_of old.description) vs) e3 (sound.values n old there).1)
-              found old there e2 (inr e3) =
-                  let same : g ≡ old = some_same (sym e ∙ ap (λ m. generation_in w.storage m) e3.0 ∙ there) in
-                  subst (λ d. AreHeld (scalars_of d) x.values) (ap (λ g. g.description) same ∙ e2)
-                  (subst (λ vs. AreHeld (scalars_of g.description) vs) e3.1
-                  (part_stored g.description p.offset d k vs g.values f h (sound.values p.generation g e).1))
+      further_answers units (UsedAt w d p) (Kept w) (used p w)
+      (λ c w. further (known (scalar_at c p) w) (λ k w. Yields tt (record w { storage = with_contents w.storage p (with_values_at k vs c.values) }))) (used_answers d p w sound good)
+      (λ c v u. let f = first_in d p c good.described u.0.part in
+      let xs = with_values_at f.0 vs c.values in
+      let later = put_later p xs v in
+      subst (λ o. Answers units (Kept w) (further (known o v) (λ k w. Yields tt (record w { storage = with_contents w.storage p (with_values_at k vs c.values) })))) (sym f.1) (
+        same_stack units (s ∷ ss) v (put_there p xs v) u.1 later (u.0.stays xs (part_stored c.description p.offset d f.0 vs c.values f.2 h u.0.values)) refl refl refl,
+        later_then w v (put_there p xs v) u.2 later,
+      ))
 
   -- one scalar
   alone_held : (d : Description) (vs : List Value) (w v : World) → AreHeld (d ∷ []) vs → Sound v → IsLater w v
@@ -382,16 +501,10 @@ module _ (units : List TypedUnit) (s : Shape) (ss : List Shape) where
       → scalars_of d ≡ d ∷ [] → Answers units (Kept w) (stored p x w)
   unfolding stored
   stored_answers d p x w sound good h one =
-      subst (λ a. Answers units (Kept w) a) (sym (used_outside p w _ good.outside)) (by (generation_in w.storage p.generation))
-    where
-      put : Answers units (Kept w) (parts_stored p (x ∷ []) w)
-      put = parts_stored_answers d p (x ∷ []) w sound good (subst (λ ds. AreHeld ds (x ∷ [])) (sym one) (h, tt))
-
-      by : (o : Option Generation)
-          → Answers units (Kept w) (further (unless_dead o w) (λ g w. if holds p.description x then parts_stored p (x ∷ []) w else Wrong))
-      by None = error_named units s ss w DeadLocator sound
-      by (Some g) =
-          subst (λ b. Answers units (Kept w) (if b then parts_stored p (x ∷ []) w else Wrong)) (sym (ap (λ d. holds d x) good.described ∙ h)) put
+      further_answers units (UsedAt w d p) (Kept w) (used p w) (λ c w. if holds p.description x then parts_stored p (x ∷ []) w else Wrong) (used_answers d p w sound good)
+      (λ c v u. subst (λ b. Answers units (Kept w) (if b then parts_stored p (x ∷ []) v else Wrong)) (sym (ap (λ d. holds d x) good.described ∙ h))
+      (kept_since w v (parts_stored p (x ∷ []) v) u.2
+      (parts_stored_answers d p (x ∷ []) v u.1 (good_later w v d p u.2 good) (subst (λ ds. AreHeld ds (x ∷ [])) (sym one) (h, tt)))))
 
   pub copied_answers : (d : Description) (source target : Place) (w : World) → Sound w → is_area d ≡ false → IsGood w d source → IsGood w d target
       → Answers units (Kept w) (copied source target w)
@@ -406,14 +519,9 @@ module _ (units : List TypedUnit) (s : Shape) (ss : List Shape) where
       (further_answers units (HeldAt w d) (Kept w) (parts_held source w) (λ vs w. parts_stored target vs w)
       (parts_held_answers d source w sound from) (λ vs v h. put vs v h))
     where
-      weaken : (v : World) (a : Answer Unit) → IsLater w v → Answers units (Kept v) a → Answers units (Kept w) a
-      weaken v (Yields x u) later h = (h.0, later_then w v u later h.1)
-      weaken v (Raises e u) later h = h
-      weaken v Wrong later h = h
-
       put : (vs : List Value) (v : World) → HeldAt w d vs v → Answers units (Kept w) (parts_stored target vs v)
       put vs v h =
-          weaken v (parts_stored target vs v) h.2
+          kept_since w v (parts_stored target vs v) h.2
           (parts_stored_answers d target vs v h.1 (good_later w v d target h.2 to) h.0)
 
   -- a dummy argument
@@ -424,7 +532,7 @@ module _ (units : List TypedUnit) (s : Shape) (ss : List Shape) where
       subst (λ b. Answers units (MadeAt w d) (if b then further (made_of d Dummy (x ∷ []) w) (λ p w. Yields p (in_newest (λ a. record a { pending = a.pending ++ p.generation ∷ [] }) w)) else Wrong)) (sym h)
       (further_answers units (MadeWhole w d) (MadeAt w d) (made_of d Dummy (x ∷ []) w) (λ p w. Yields p (in_newest (λ a. record a { pending = a.pending ++ p.generation ∷ [] }) w))
       (made_answers d Dummy (x ∷ []) w sound (scalar_near d scalar) (subst (λ ds. AreHeld ds (x ∷ [])) (sym one) (h, tt)))
-      (λ p v m. pending p v m.0.0 m.1 m.2))
+      (λ p v m. pending p v m.0 m.1 m.2))
     where
       change : Place → Activation → Activation
       change p a = record a { pending = a.pending ++ p.generation ∷ [] }
@@ -434,11 +542,11 @@ module _ (units : List TypedUnit) (s : Shape) (ss : List Shape) where
       shaped p v [] h = absurd h
       shaped p v (a ∷ older) h = h
 
-      pending : (p : Place) (v : World) → IsGood v d p → Sound v → IsLater w v
+      pending : (p : Place) (v : World) → IsVariable v d p → Sound v → IsLater w v
           → MadeAt w d p (in_newest (λ a. record a { pending = a.pending ++ p.generation ∷ [] }) v)
-      pending p v good sound later =
+      pending p v own sound later =
           let after : IsLater v (in_newest (change p) v) = newest_later units (change p) v in (
-            good_later v (in_newest (change p) v) d p after good,
+            passed_later v (in_newest (change p) v) d p after (own.0.0, λ is. own),
             newest_sound units (change p) (s ∷ ss) (s ∷ ss) v sound sound.of_units (shaped p v v.activations sound.stack),
             later_then w v (in_newest (change p) v) later after,
           )
@@ -447,10 +555,10 @@ module _ (units : List TypedUnit) (s : Shape) (ss : List Shape) where
 
 module _ (units : List TypedUnit) where
   -- a slot more, behind the parameters
-  slots_more : (w : World) (ds : List Description) (ps : List Place) (n : ℕ) (d : Description) (p : Place) → AreSlots w ds ps n → IsOwn w d p
+  slots_more : (w : World) (ds : List Description) (ps : List Place) (n : ℕ) (d : Description) (p : Place) → AreSlots w ds ps n → IsVariable w d p
       → AreSlots w (ds ++ d ∷ []) (ps ++ p ∷ []) n
   slots_more w [] [] zero d p h g = (g, tt)
-  slots_more w [] [] (suc n) d p h g = (g.0, tt)
+  slots_more w [] [] (suc n) d p h g = ((g.0.0, λ is. g), tt)
   slots_more w [] (q ∷ qs) n d p h g = absurd h
   slots_more w (e ∷ es) [] n d p h g = absurd h
   slots_more w (e ∷ es) (q ∷ qs) zero d p h g = (h.0, slots_more w es qs zero d p h.1 g)
@@ -468,7 +576,7 @@ module _ (units : List TypedUnit) where
       record { unit = unit; block = block; link = link; parameters = parameters; slots = slots }
 
   slotted : (unit block link n : ℕ) (slots : List Description) (ss : List Shape) (w : World) (d : Description) (p : Place) (stack : List Activation)
-      → AreShaped w (shape unit block link n slots ∷ ss) stack → IsOwn w d p
+      → AreShaped w (shape unit block link n slots ∷ ss) stack → IsVariable w d p
       → AreShaped w (shape unit block link n (slots ++ d ∷ []) ∷ ss) (with_newest (with_slot p) stack)
   slotted unit block link n slots ss w d p [] h g = absurd h
   slotted unit block link n slots ss w d p (a ∷ older) h g = (h.0, h.1, h.2, slots_more w slots a.slots n d p h.3 g, h.4)

@@ -1,11 +1,14 @@
 -- Sound worlds (own): what the operations keep, and what they need so that none asks for what is not there.
-use Rattle.std.specs.Prelude.{◌≡◌, ◌≢◌, ℕ, zero, suc, ◌+◌, ◌≤◌, ◌<◌, Some, List, [], ◌∷◌, slice_get}
+use Rattle.std.specs.Prelude.{◌≡◌, ◌≢◌, ℕ, zero, suc, ◌+◌, ◌^◌, ◌≤◌, ◌<◌, true, Some, List, [], ◌∷◌}
+use Rattle.std.specs.Prelude.{slice_get}
 use Rattle.pli_run.specs.declared.ending.Ending.TheVariants as message
 use Rattle.pli_map.specs.Description.{Description}
-use Rattle.pli_map.specs.Scalars.{first_scalar}
+use Rattle.pli_map.specs.Scalars.{first_scalar, is_area, scalars_of}
+use Rattle.pli_map.specs.Sizes.{size_of}
+use Rattle.pli_map.specs.Variables.{byte_limit}
 use Rattle.pli_world.specs.Activations.{Activation}
 use Rattle.pli_world.specs.Ends.{RunEnd, told}
-use Rattle.pli_world.specs.Storage.{Generation, Place, generation_in, generation_limit, offset_limit}
+use Rattle.pli_world.specs.Storage.{Block, Generation, Place, generation_in, generation_limit, offset_limit}
 use Rattle.pli_program.specs.declared.kind.VariableKind.{VariableKind}
 use Rattle.pli_program.specs.declared.kind.VariableKind.TheVariants.{Static, Controlled}
 use Rattle.pli_world.specs.World.{Standing, Lies, Stacked, Stack, World, Answer, Yields, Raises, Wrong}
@@ -14,7 +17,6 @@ use Rattle.pli_type_tree.specs.Globals.{described_as}
 use Rattle.pli_type_tree.specs.TypedTree.{Global, TypedUnit}
 use Rattle.pli_type_tree.specs.WellTyped.{AreHeld, IsMade}
 use Rattle.pli_meaning_tree.specs.TreeMeaning.{unit_names}
-use Rattle.pli_map.specs.Scalars.{scalars_of}
 
 -- each part of one description is a part of another, so many bytes further
 abbrev pub IsPartAt : (whole : Description) → (offset : ℕ) → (part : Description) → Type 0
@@ -28,46 +30,79 @@ abbrev pub IsNear : (offset : ℕ) → Description → Type 0
 IsNear offset whole =
     (more : ℕ) (d : Description) (k : ℕ) → first_scalar whole more d ≡ Some k → offset + more ≤ offset_limit
 
--- a place of a description: it lies in no area; its generation was made and, if it lives, has such a part
--- there; and each part of it begins within the limit of offsets
+-- what a place leads into has such a part so many bytes behind its beginning: at position 0 its generation,
+-- if that lives; and else a block of the whole description that the place has met, as no other serves it
+abbrev pub HasPart : World → Place → (offset : ℕ) → Description → Type 0
+HasPart w p offset d =
+    (p.position ≡ 0 → (g : Generation) → generation_in w.storage p.generation ≡ Some g
+    → IsPartAt g.description offset d)
+    × (p.position ≢ 0 → IsPartAt p.whole offset d)
+
+-- a place of a description: its generation was made; what it leads into has such a part there; and each part
+-- of it begins within the limit of offsets
 pub record IsGood (w : World) (d : Description) (p : Place) : Type 0 where
   pub was_made : p.generation < w.made
-  pub outside : p.position ≡ 0
   pub described : p.description ≡ d
   pub near : IsNear p.offset d
-  pub part :
-      (g : Generation) → generation_in w.storage p.generation ≡ Some g → IsPartAt g.description p.offset d
+  pub part : HasPart w p p.offset d
 
--- places of these descriptions, one for one
-abbrev pub AreGood : World → List Description → List Place → Type 0
-AreGood w [] [] = Unit {0}
-AreGood w (d ∷ ds) (p ∷ ps) = IsGood w d p × AreGood w ds ps
-AreGood w ds ps = ⊥
-
--- a place is that of a whole generation, if that lives
+-- a place is that of the whole of what it leads into
 pub record IsWhole (w : World) (p : Place) : Type 0 where
   pub begins : p.offset ≡ 0
   pub all :
-      (g : Generation) → generation_in w.storage p.generation ≡ Some g → g.description ≡ p.description
+      p.position ≡ 0 → (g : Generation) → generation_in w.storage p.generation ≡ Some g
+      → g.description ≡ p.description
+  pub block : p.position ≢ 0 → p.whole ≡ p.description
 
--- a place of a description, which is that of a whole generation
+-- a place of a description, which is that of a whole generation or block
 abbrev pub IsOwn : World → Description → Place → Type 0
 IsOwn w d p = IsGood w d p × IsWhole w p
+
+-- a place of a description, which is that of a whole generation
+abbrev pub IsVariable : World → Description → Place → Type 0
+IsVariable w d p = IsOwn w d p × (p.position ≡ 0)
+
+-- a place that is handed over for a parameter of a description; for an area it is that of a whole generation
+abbrev pub IsPassed : World → Description → Place → Type 0
+IsPassed w d p = IsGood w d p × (is_area d ≡ true → IsVariable w d p)
+
+-- places that are handed over for parameters of these descriptions, one for one
+abbrev pub AreGood : World → List Description → List Place → Type 0
+AreGood w [] [] = Unit {0}
+AreGood w (d ∷ ds) (p ∷ ps) = IsPassed w d p × AreGood w ds ps
+AreGood w ds ps = ⊥
 
 -- places of these descriptions, one for one; those behind so many parameters are those of whole generations
 abbrev pub AreSlots : World → List Description → List Place → (parameters : ℕ) → Type 0
 AreSlots w [] [] n = Unit {0}
-AreSlots w (d ∷ ds) (p ∷ ps) zero = IsOwn w d p × AreSlots w ds ps zero
-AreSlots w (d ∷ ds) (p ∷ ps) (suc n) = IsGood w d p × AreSlots w ds ps n
+AreSlots w (d ∷ ds) (p ∷ ps) zero = IsVariable w d p × AreSlots w ds ps zero
+AreSlots w (d ∷ ds) (p ∷ ps) (suc n) = IsPassed w d p × AreSlots w ds ps n
 AreSlots w ds ps n = ⊥
 
--- what lives was made, and holds a value for each of its scalars; each of its parts begins within the limit
--- of offsets, and its number is within that of generations
+-- a block holds a value for each of its scalars; each of its parts begins within the limit of offsets; and
+-- its position has 32 bits
+pub record IsSoundBlock (b : Block) : Type 0 where
+  pub values : AreHeld (scalars_of b.description) b.values
+  pub near : IsNear 0 b.description
+  pub position : b.position < 2 ^ 32
+
+-- each block does
+abbrev pub AreSoundBlocks : List Block → Type 0
+AreSoundBlocks [] = Unit {0}
+AreSoundBlocks (b ∷ bs) = IsSoundBlock b × AreSoundBlocks bs
+
+-- a generation of a number was made, and holds a value for each of its scalars; each of its parts begins
+-- within the limit of offsets, its number is within that of generations, and its size within that of bytes;
+-- and its blocks are sound
+abbrev pub IsHolding : World → (number : ℕ) → Generation → Type 0
+IsHolding w number g =
+    (number < w.made) × AreHeld (scalars_of g.description) g.values × IsNear 0 g.description
+    × (number < generation_limit) × (size_of g.description ≤ byte_limit) × AreSoundBlocks g.blocks
+
+-- what lives is such
 abbrev pub HoldsValues : World → Type 0
 HoldsValues w =
-    (number : ℕ) (g : Generation) → generation_in w.storage number ≡ Some g
-    → (number < w.made) × AreHeld (scalars_of g.description) g.values × IsNear 0 g.description
-    × (number < generation_limit)
+    (number : ℕ) (g : Generation) → generation_in w.storage number ≡ Some g → IsHolding w number g
 
 -- what stays of an activation while it runs: its unit and block, its static link, how many parameters it has,
 -- and the descriptions of its slots
@@ -94,7 +129,7 @@ AreOfUnits units (s ∷ ss) = ((u : TypedUnit) × (slice_get units s.unit ≡ So
 -- places of one description, each that of a whole generation
 abbrev pub EachGood : World → Description → List Place → Type 0
 EachGood w d [] = Unit {0}
-EachGood w d (p ∷ ps) = IsOwn w d p × EachGood w d ps
+EachGood w d (p ∷ ps) = IsVariable w d p × EachGood w d ps
 
 -- of each stack the variable is made well, and each place is one of its description
 abbrev pub AreStacksGood : World → Type 0
@@ -105,7 +140,7 @@ AreStacksGood w =
 -- a variable of a kind and of a description stands so: a STATIC one lies at a place of it, and a CONTROLLED
 -- one has a stack of a variable of it
 abbrev pub StandsGood : World → VariableKind → Description → Standing → Type 0
-StandsGood w Static d (Lies p) = IsOwn w d p
+StandsGood w Static d (Lies p) = IsVariable w d p
 StandsGood w Static d (Stacked number) = ⊥
 StandsGood w Controlled d (Lies p) = ⊥
 StandsGood w Controlled d (Stacked number) =

@@ -392,12 +392,12 @@ module _ (r : ResolvedUnit) (e : Entity) (f : SymbolFacts) (i : Identifier) (l :
 
   kind_names : (ps : List Name) (w : Way) (owner : Option ℕ) (kind : DeclaredKind) → KindNames r e (symbol_kind f ps w i owner kind)
   kind_names ps w None (OfItem (OfVariable v) d) = (class_names v.storage (place_among ps i.name), a)
-  kind_names ps w None (OfItem (OfEntry qs x) d) = tt
+  kind_names ps w None (OfItem (OfEntry qs x) d) = a
   kind_names ps w None (OfItem OfBuiltIn d) = tt
   kind_names ps w None (OfLabel region) = tt
   kind_names ps w None (OfProcedure returned region) = a
   kind_names ps w (Some p) (OfItem (OfVariable v) d) = a
-  kind_names ps w (Some p) (OfItem (OfEntry qs x) d) = tt
+  kind_names ps w (Some p) (OfItem (OfEntry qs x) d) = a
   kind_names ps w (Some p) (OfItem OfBuiltIn d) = tt
   kind_names ps w (Some p) (OfLabel region) = tt
   kind_names ps w (Some p) (OfProcedure returned region) = a

@@ -23,7 +23,7 @@ use Rattle.pli_resolve.specs.declared.symbol.StorageClass.TheVariants as classes
 
 -- a symbol: a variable of its own; a member, by the number of its root in the same block and the members on
 -- the way from it; a label, with its statement; a procedure, with its block, what it returns, and the area
--- that OFFSET in its RETURNS names; an external procedure; a built-in function
+-- that OFFSET in its RETURNS names; an external procedure, with that area too; a built-in function
 pub data SymbolKind : Type 0 where
   Variable : (description : Description) (class : StorageClass) (scope : ScopeAttribute)
       (initial : List InitialValue)
@@ -31,7 +31,8 @@ pub data SymbolKind : Type 0 where
   Member : (root : ℕ) (path : List ℕ) (initial : List InitialValue) (area : Option SymbolKey) → SymbolKind
   Label : (statement : ℕ) → SymbolKind
   Procedure : (block : ℕ) (returned : Option Description) (area : Option SymbolKey) → SymbolKind
-  Entry : (parameters : List Description) (returned : Option Description) → SymbolKind
+  Entry : (parameters : List Description) (returned : Option Description) (area : Option SymbolKey)
+      → SymbolKind
   BuiltIn : SymbolKind
 
 -- a declared name
@@ -148,7 +149,7 @@ symbol_kind f parameters w i None (OfItem (OfVariable v) description) =
 symbol_kind f parameters w i (Some owner) (OfItem (OfVariable v) description) =
     Member w.root w.path v.initial (area_of f i.at)
 symbol_kind f parameters w i owner (OfItem (OfEntry described returned) description) =
-    Entry described returned
+    Entry described returned (area_of f i.at)
 symbol_kind f parameters w i owner (OfItem OfBuiltIn description) = BuiltIn
 symbol_kind f parameters w i owner (OfLabel region) = Label (unwrap_or (found_in f.labels i.at) 0)
 symbol_kind f parameters w i owner (OfProcedure returned region) =

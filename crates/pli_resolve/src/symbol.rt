@@ -70,6 +70,8 @@ pub enum SymbolKind<'a> {
     Entry {
         parameters: &'a [Description],
         returned: Option<&'a Description>,
+        /// The area that OFFSET in its RETURNS names.
+        area: Option<SymbolKey>,
     },
     BuiltIn,
 }

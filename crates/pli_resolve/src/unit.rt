@@ -274,6 +274,7 @@ impl<'a> ResolvedUnit<'a> {
             } => SymbolKind::Entry {
                 parameters: parameters.as_slice(),
                 returned: result.as_ref(),
+                area: self.area_of(identifier.at),
             },
             DeclaredKind::Item {
                 completed: Completed::BuiltIn,

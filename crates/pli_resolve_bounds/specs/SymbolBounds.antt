@@ -13,7 +13,7 @@ IsLimited (Variable description class scope initial area) = IsMade description
 IsLimited (Member root path initial area) = Unit {0}
 IsLimited (Label statement) = Unit {0}
 IsLimited (Procedure block returned area) = IfThere IsDescription returned
-IsLimited (Entry parameters returned) =
+IsLimited (Entry parameters returned area) =
     (length parameters ≤ parameter_limit) × AllByRecursion IsMade parameters × IfThere IsDescription returned
 IsLimited BuiltIn = Unit {0}
 

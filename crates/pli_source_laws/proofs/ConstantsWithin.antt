@@ -13,7 +13,7 @@ use Rattle.pli_deck_laws.specs.Limits.{IfThere}
 use Rattle.pli_type.specs.Checked.{checked, unless_unbuilt}
 use Rattle.pli_type.specs.NamedUnits.{named_unit, checked_unit, compiled_of}
 use Rattle.pli_type.specs.Names.{Compiled, NamedUnit}
-use Rattle.pli_type.specs.Unbuilt.{is_of_language, later_expression, later_reference, later_joined, later_arguments, later_list, later_part, later_range, later_control, later_allocation, later_statement, later_body, later_alternative, later_statements, later_heading, first_of, first_unbuilt, or_else, token_if}
+use Rattle.pli_type.specs.Unbuilt.{is_of_language, later_expression, later_reference, later_joined, later_arguments, later_list, later_part, later_range, later_control, later_allocation, later_statement, later_body, later_alternative, later_statements, first_of, first_unbuilt, or_else, token_if}
 use Rattle.pli_deck_laws.proofs.FieldsFit.{neither}
 use Rattle.pli_source_laws.specs.Sources.{IsWritten, IsSource, IsSourceReference, AreSourceParts, AreSourceArguments, AreSources, IsSourceRange, IsSourceControl, IsSourceAllocation, IsSourceStatement, IsSourceBody, IsSourceElse, AreSourceStatements}
 use Rattle.pli_source_laws.specs.CompiledSources.{ConstantsAreWithinLimits}
@@ -67,14 +67,14 @@ module _ (n : Compiled) (limit : n.greatest ≡ 31) where
 
     source_reference : (r : Reference) → later_reference n r ≡ false → IsSourceReference r
     source_reference (Named name arguments more) l =
-        let two = neither (n.is_later name.at || later_arguments n arguments) (later_joined n more) l in
-        (source_arguments arguments (neither (n.is_later name.at) (later_arguments n arguments) two.0).1, source_joined more two.1)
+        let two = neither (later_arguments n arguments) (later_joined n more) l in
+        (source_arguments arguments two.0, source_joined more two.1)
 
     source_joined : (j : JoinedParts) → later_joined n j ≡ false → AreSourceParts j
     source_joined Alone l = tt
     source_joined (Joined joining name arguments more) l =
-        let two = neither (n.is_later name.at || later_arguments n arguments) (later_joined n more) l in
-        (source_arguments arguments (neither (n.is_later name.at) (later_arguments n arguments) two.0).1, source_joined more two.1)
+        let two = neither (later_arguments n arguments) (later_joined n more) l in
+        (source_arguments arguments two.0, source_joined more two.1)
 
     source_arguments : (a : Arguments) → later_arguments n a ≡ false → AreSourceArguments a
     source_arguments Absent l = tt
@@ -144,8 +144,7 @@ module _ (n : Compiled) (limit : n.greatest ≡ 31) where
     stated_body at (tree.Assign target equals value) l =
         let two = neither (later_reference n target) (later_expression n value) (not_so (later_reference n target || later_expression n value) at l) in
         (source_reference target two.0, source value two.1)
-    stated_body at (tree.Procedure heading statements end) l =
-        stated_list statements (nothing_else (token_if _ heading.name.at) (later_statements n statements) l).1
+    stated_body at (tree.Procedure heading statements end) l = stated_list statements l
     stated_body at (tree.Begin statements end) l = stated_list statements l
     stated_body at (tree.Do control statements end) l =
         let two = nothing_else (token_if (later_part (later_control n) control) at) (later_statements n statements) l in
@@ -186,5 +185,4 @@ built u t h = by (first_unbuilt u.compiled u.tree) _ h
 pub constants_are_within_limits : ConstantsAreWithinLimits
 unfolding checked_unit
 constants_are_within_limits r t h =
-    stated_list (compiled_of 31 r) refl r.tree.statements
-    (nothing_else (later_heading r.tree.heading) (later_statements (compiled_of 31 r) r.tree.statements) (built (named_unit 31 r) t h)).1
+    stated_list (compiled_of 31 r) refl r.tree.statements (built (named_unit 31 r) t h)

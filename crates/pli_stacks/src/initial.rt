@@ -19,8 +19,8 @@ use pli_store::{Made, Place, Storage, StoreFault};
 use pli_type_tree::InitialScalar;
 use std::alloc::{AllocError, Global};
 
-/// Puts initial values in the place of those of their scalars, one after another. One that its scalar may not hold is left
-/// out.
+/// Puts initial values in the place of those of their scalars, one after another. One that its scalar may not hold is
+/// left out.
 fn put_all(bytes: &mut [u8], description: &Description, scalars: &[InitialScalar])
     requires size { length bytes.old ≡ size_of (description_view description.now) }
     requires limit { size_of (description_view description.now) ≤ 16777216 }
@@ -43,8 +43,8 @@ fn lay_initial(bytes: &mut [u8], description: &Description, scalars: &[InitialSc
     put_all(bytes, description, scalars);
 }
 
-/// The bytes with which a variable begins: each scalar with its initial value, or with the one of its type. The description
-/// takes no more bytes than may live.
+/// The bytes with which a variable begins: each scalar with its initial value, or with the one of its type. The
+/// description takes no more bytes than may live.
 pub fn initial_bytes(
     alloc: Global,
     description: &Description,
@@ -58,8 +58,8 @@ pub fn initial_bytes(
     Ok(bytes)
 }
 
-/// The same, copied where they are laid.
-fn first_bytes(
+/// The same, copied where they are laid. The description takes no more bytes than may live.
+pub fn first_bytes(
     alloc: Global,
     description: &Description,
     scalars: &[InitialScalar],
@@ -75,8 +75,9 @@ fn first_bytes(
     }
 }
 
-/// A new generation, which begins as a template of this description and of these initial values has it; so do these bytes,
-/// where they are laid. `StorageLimit` where there is no room for it.
+/// Makes a generation of this description. Its scalars begin with these initial values, and those without one as their
+/// types have it; where the bytes of all that were laid before, they are handed over and copied. `StorageLimit` where
+/// there is no room for the generation.
 pub fn make_initial<'m>(
     alloc: Global,
     storage: &mut Storage<'m>,

@@ -75,7 +75,7 @@ impl<'m> Model<'m> {
     /// The generation that is an area, of which a place is the whole.
     fn area(&self, rt: &impl Abort, spot: Spot) -> Result<u32, Answer> {
         let meeting = self.meeting(rt, spot.whole);
-        let content = self.living(rt, meeting.generation, 0)?;
+        let content = self.met(rt, meeting)?;
         let is_area = is_area(&self.values.shape(rt, content.shape).description);
         let is_whole = meeting.position == 0 && spot.offset() == 0 && spot.shape == content.shape;
         if is_area && is_whole {

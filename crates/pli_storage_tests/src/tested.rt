@@ -1,4 +1,4 @@
-//! Storage with its stacks and areas, on which calls are made.
+//! Storage with its stacks, on which calls are made.
 ghost use Rattle.std.specs.Prelude.{◌≡◌, length, IfSome};
 ghost use Rattle.pli_map.specs.Sizes.{size_of};
 ghost use Rattle.pli_map.specs.views.DescriptionView.{description_view};
@@ -6,10 +6,9 @@ ghost use Rattle.pli_map.specs.views.DescriptionView.{description_view};
 use crate::calls::{Answer, Call, Spot, Use, Whole};
 use crate::items::{Item, Text};
 use crate::shapes::Shape;
-use pli_area_storage::{Areas, Reference, offset_in, pointer_in};
 use pli_bytes::{lay, lay_first};
-use pli_locators::{allocate_based, based};
-use pli_map::{Description, is_area, size};
+use pli_locators::{address, allocate_based, based, free_based, offset_in, pointer_in};
+use pli_map::{Description, size};
 use pli_stacks::Stacks;
 use pli_store::{Made, Place, Storage, StoreFault};
 use pli_value::Locator;
@@ -19,27 +18,26 @@ use std::process::Abort;
 /// How many bytes behind the beginning a place lies at most.
 const OFFSET_LIMIT: u64 = 1_000_000;
 
-/// Storage, stacks and areas, and what calls on them name.
+/// Storage and stacks, and what calls on them name.
 #[derive(Drop)]
 pub(crate) struct Tested<'m> {
     storage: Storage<'m>,
     stacks: Stacks<'m>,
-    areas: Areas<'m>,
     shapes: &'m [Shape],
     /// Equal descriptions that stand elsewhere: parts and variables are asked for by these, and blocks have them.
     twins: &'m [Description],
     /// The places of all generations that were ever made.
     made: Vec<Place<'m>>,
     /// Where references by locators led.
-    met: Vec<Reference<'m>>,
+    met: Vec<Place<'m>>,
 }
 
-/// The place, where a reference leads into no block.
-fn outside<'m>(reference: Reference<'m>) -> Option<Place<'m>> {
-    match reference {
-        Reference::Outside(place) => Some(place),
-        Reference::InBlock(_) => None,
-    }
+/// Whether a call asks for values as they lie in a generation, which it does in no block.
+fn is_direct(call: Use) -> bool {
+    matches!(
+        call,
+        Use::Number | Use::Text | Use::Put(_) | Use::Append(..)
+    )
 }
 
 /// The bytes with which something begins, laid over what stood there; none where its scalars may not hold what is
@@ -70,12 +68,11 @@ fn initial(
 }
 
 impl<'m> Tested<'m> {
-    /// Without generations, stacks and areas.
+    /// Without generations and stacks.
     pub(crate) fn new(alloc: Global, shapes: &'m [Shape], twins: &'m [Description]) -> Tested<'m> {
         Tested {
             storage: Storage::new(alloc),
             stacks: Stacks::new(alloc),
-            areas: Areas::new(alloc, twins),
             shapes,
             twins,
             made: Vec::new(alloc),
@@ -98,15 +95,14 @@ impl<'m> Tested<'m> {
     }
 
     /// Where a call leads, if none of the places on the way lies too far behind the beginning.
-    fn led_to(&self, rt: &impl Abort, spot: Spot) -> Option<Reference<'m>> {
+    fn led_to(&self, rt: &impl Abort, spot: Spot) -> Option<Place<'m>> {
         let whole = match spot.whole {
-            Whole::Generation(generation) => {
-                Reference::Outside(*self.made.get(generation as usize).expect(rt, "a place"))
-            }
-            Whole::Met(number) => *self.met.get(number).expect(rt, "a reference"),
+            Whole::Generation(generation) => self.made.get(generation as usize),
+            Whole::Met(number) => self.met.get(number),
         };
         let twin = self.twin(rt, spot.shape);
         assert!(rt; spot.low <= spot.subscript);
+        let whole = *whole.expect(rt, "a place");
         whole
             .field(spot.first, twin)?
             .element(spot.low, spot.multiplier, spot.subscript)?
@@ -114,26 +110,17 @@ impl<'m> Tested<'m> {
     }
 
     /// The same, where a place is near enough exactly if it lies no farther behind the beginning than that.
-    fn reference(&self, rt: &impl Abort, spot: Spot) -> Option<Reference<'m>> {
-        let reference = self.led_to(rt, spot);
-        assert!(rt; reference.is_some() == (spot.offset() <= OFFSET_LIMIT));
-        reference
+    fn place(&self, rt: &impl Abort, spot: Spot) -> Option<Place<'m>> {
+        let place = self.led_to(rt, spot);
+        assert!(rt; place.is_some() == (spot.offset() <= OFFSET_LIMIT));
+        place
     }
 
-    /// Notes the place of a generation that was made; an area begins.
-    fn noted(
-        &mut self,
-        rt: &impl Abort,
-        alloc: Global,
-        made: Result<Place<'m>, StoreFault>,
-    ) -> Answer {
+    /// Notes the place of a generation that was made.
+    fn noted(&mut self, rt: &impl Abort, made: Result<Place<'m>, StoreFault>) -> Answer {
         match made {
             Ok(place) => {
                 self.made.push(place).expect(rt, "memory");
-                if is_area(place.description) {
-                    let begun = self.areas.begin(alloc, &self.storage, place);
-                    assert!(rt; Answer::done(rt, begun) == Answer::Done);
-                }
                 Answer::number(place.generation as usize)
             }
             Err(fault) => Answer::fault(rt, fault),
@@ -165,7 +152,7 @@ impl<'m> Tested<'m> {
         let result = self.made_based(rt, alloc, shape, items);
         if let Ok(locator) = &result {
             let place = based(&self.storage, self.twin(rt, shape), *locator);
-            let _number = self.noted(rt, alloc, place);
+            let _number = self.noted(rt, place);
         }
         Answer::pointed(rt, result)
     }
@@ -179,19 +166,18 @@ impl<'m> Tested<'m> {
         shape: usize,
         items: &[Item],
     ) -> Answer {
-        let description = self.areas.description(shape).expect(rt, "a description");
+        let description = self.twin(rt, shape);
         let bytes = initial(rt, alloc, description, items);
-        assert!(rt; shape < 100);
-        Answer::pointed(rt, self.areas.allocate(&self.storage, area, shape, bytes))
+        Answer::pointed(rt, self.storage.allocate_in(area, description, bytes))
     }
 
     /// A reference to a BASED variable, which is noted.
     fn based(&mut self, rt: &impl Abort, shape: usize, locator: Locator) -> Answer {
         let twin = self.twin(rt, shape);
-        match self.areas.based(&self.storage, twin, locator) {
-            Ok(reference) => {
-                self.met.push(reference).expect(rt, "memory");
-                Answer::pointed(rt, self.areas.address(&self.storage, reference))
+        match based(&self.storage, twin, locator) {
+            Ok(place) => {
+                self.met.push(place).expect(rt, "memory");
+                Answer::pointed(rt, address(&self.storage, place))
             }
             Err(fault) => Answer::fault(rt, fault),
         }
@@ -210,7 +196,7 @@ impl<'m> Tested<'m> {
         let result = stacks.allocate_controlled(alloc, &mut self.storage, list);
         if result.is_ok() {
             let place = self.stacks.newest(list);
-            let _number = self.noted(rt, alloc, place);
+            let _number = self.noted(rt, place);
         }
         Answer::done(rt, result)
     }
@@ -231,9 +217,9 @@ impl<'m> Tested<'m> {
         }
     }
 
-    /// What is held where a reference leads.
-    fn held(&self, rt: &impl Abort, alloc: Global, reference: Reference<'m>) -> Answer {
-        match self.areas.held(alloc, &self.storage, reference) {
+    /// What is held at a place.
+    fn held(&self, rt: &impl Abort, alloc: Global, place: Place<'m>) -> Answer {
+        match self.storage.held(alloc, place) {
             Ok(value) => Answer::Gives(Item::of(rt, &value)),
             Err(fault) => Answer::fault(rt, fault),
         }
@@ -255,65 +241,51 @@ impl<'m> Tested<'m> {
         }
     }
 
-    /// Does something at a place outside blocks.
-    fn at(&mut self, rt: &impl Abort, place: Place<'m>, call: Use) -> Answer {
+    /// Does something at a place.
+    fn at(&mut self, rt: &impl Abort, alloc: Global, place: Place<'m>, call: Use) -> Answer {
         match call {
+            Use::Held => self.held(rt, alloc, place),
             Use::Number => self.number(place),
             Use::Text => self.text(rt, place),
+            Use::Store(item) => {
+                let value = item.value(rt, alloc);
+                Answer::done(rt, self.storage.stored(place, value))
+            }
             Use::Put(number) => Answer::of(self.storage.put_number(place, number)),
             Use::Append(more, room) => {
                 Answer::of(self.storage.append(place, more.characters(rt), room))
             }
-            Use::Empty => Answer::done(rt, self.areas.empty(&self.storage, place)),
+            Use::Address => Answer::pointed(rt, address(&self.storage, place)),
+            Use::Empty => Answer::done(rt, self.storage.empty_area(place)),
             Use::Offset(locator) => Answer::pointed(rt, offset_in(&self.storage, place, locator)),
             Use::Pointer(locator) => Answer::pointed(rt, pointer_in(&self.storage, place, locator)),
-            _ => panic!(rt; "it leads anywhere"),
         }
-    }
-
-    /// Does something where a reference leads, if that is asked of it.
-    fn used(
-        &mut self,
-        rt: &impl Abort,
-        alloc: Global,
-        reference: Reference<'m>,
-        call: Use,
-    ) -> Option<Answer> {
-        Some(match call {
-            Use::Held => self.held(rt, alloc, reference),
-            Use::Address => Answer::pointed(rt, self.areas.address(&self.storage, reference)),
-            Use::Store(item) => {
-                let value = item.value(rt, alloc);
-                let areas = &mut self.areas;
-                Answer::done(rt, areas.stored(alloc, &mut self.storage, reference, value))
-            }
-            _ => self.at(rt, outside(reference)?, call),
-        })
     }
 
     /// Makes a call that leads to places.
     fn placed(&mut self, rt: &impl Abort, alloc: Global, call: Call) -> Option<Answer> {
-        match call {
+        Some(match call {
             Call::At(spot, call) => {
-                let reference = self.reference(rt, spot)?;
-                self.used(rt, alloc, reference, call)
+                let place = self.place(rt, spot)?;
+                if place.position > 0 && is_direct(call) {
+                    return None;
+                }
+                self.at(rt, alloc, place, call)
             }
             Call::AllocateIn(area, shape, items) => {
-                let area = outside(self.reference(rt, area)?)?;
-                Some(self.allocate_in(rt, alloc, area, shape, items))
+                let area = self.place(rt, area)?;
+                self.allocate_in(rt, alloc, area, shape, items)
             }
             Call::Copy(source, target) => {
-                let source = outside(self.reference(rt, source)?)?;
-                let target = outside(self.reference(rt, target)?)?;
-                Some(Answer::done(rt, self.storage.copied(source, target)))
+                let (source, target) = (self.place(rt, source)?, self.place(rt, target)?);
+                Answer::done(rt, self.storage.copied(source, target))
             }
             Call::Assign(source, target) => {
-                let source = outside(self.reference(rt, source)?)?;
-                let target = outside(self.reference(rt, target)?)?;
-                Some(Answer::done(rt, self.areas.assign(&self.storage, source, target)))
+                let (source, target) = (self.place(rt, source)?, self.place(rt, target)?);
+                Answer::done(rt, self.storage.assign_area(source, target))
             }
             _ => panic!(rt; "it leads nowhere"),
-        }
+        })
     }
 
     /// Makes a call.
@@ -324,24 +296,23 @@ impl<'m> Tested<'m> {
                 let description = self.described(rt, shape);
                 let bytes = initial(rt, alloc, description, items);
                 let made = self.storage.make(description, how, bytes);
-                self.noted(rt, alloc, made)
+                self.noted(rt, made)
             }
             Call::Dummy(shape, item) => {
                 let description = self.described(rt, shape);
                 let value = item.value(rt, alloc);
                 let made = self.storage.make_dummy(alloc, description, value);
-                self.noted(rt, alloc, made)
+                self.noted(rt, made)
             }
             Call::End(numbers) => {
                 self.storage.end(numbers);
-                self.areas.end(numbers);
                 Answer::Done
             }
             Call::Allocate(shape, items) => self.allocate(rt, alloc, shape, items),
             Call::Based(shape, locator) => self.based(rt, shape, locator),
             Call::Free(shape, locator) => {
                 let twin = self.twin(rt, shape);
-                Answer::done(rt, self.areas.free(&mut self.storage, twin, locator))
+                Answer::done(rt, free_based(&mut self.storage, twin, locator))
             }
             Call::Stack(shape) => self.add_stack(rt, alloc, shape),
             Call::Push(list) => self.push(rt, alloc, list),

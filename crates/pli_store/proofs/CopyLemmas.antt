@@ -22,12 +22,12 @@ pub copied_other : (source target : Place) (w : World) → is_area source.descri
 unfolding copied
 copied_other source target w n e = rw (n, e) refl
 
-pub copied_from_none : {T : Type 0} (view : T → Unit {0}) (source target : Place) (w after : World) (fault : StoreFault) → is_area source.description ≡ false
+pub copied_from_none : {T : Type 0} (view : T → Unit {0}) (source target : Place) (w after : World) → source.position ≡ 0 → (fault : StoreFault) → is_area source.description ≡ false
     → same source.description target.description ≡ true → Leads w.storage source (Err fault) → Answered view (Err fault) w after (copied source target w)
 unfolding copied parts_held
-copied_from_none view source target w after (Raised e) n s l = rw (n, s) (rw (l.1, l.0) refl)
-copied_from_none view source target w after NoRule n s l = rw (n, s) (rw (l.found, l.outside, l.nowhere) refl)
-copied_from_none view source target w after OutOfMemory n s l = tt
+copied_from_none view source target w after outside (Raised e) n s l = rw (n, s) (rw (l.1, l.0) refl)
+copied_from_none view source target w after outside NoRule n s l = let m = l outside in rw (n, s) (rw (m.found, m.outside, m.nowhere) refl)
+copied_from_none view source target w after outside OutOfMemory n s l = tt
 
 module _ (source target : Place) (w : World) (n : is_area source.description ≡ false) (s : same source.description target.description ≡ true) (from : GenerationPart)
     (l : LeadsTo w.storage source from) where
@@ -35,11 +35,11 @@ module _ (source target : Place) (w : World) (n : is_area source.description ≡
   unfolding copied
   copied_on = rw (n, s) (rw (parts_held_there source w from l) refl)
 
-  pub copied_to_none : {T : Type 0} (view : T → Unit {0}) (after : World) (fault : StoreFault) → Leads w.storage target (Err fault) → Answered view (Err fault) w after (copied source target w)
+  pub copied_to_none : {T : Type 0} (view : T → Unit {0}) (after : World) → target.position ≡ 0 → (fault : StoreFault) → Leads w.storage target (Err fault) → Answered view (Err fault) w after (copied source target w)
   unfolding parts_stored
-  copied_to_none view after (Raised e) m = copied_on ∙ rw (m.1, m.0) refl
-  copied_to_none view after NoRule m = copied_on ∙ rw (m.found, m.outside, m.nowhere) refl
-  copied_to_none view after OutOfMemory m = tt
+  copied_to_none view after outside (Raised e) m = copied_on ∙ rw (m.1, m.0) refl
+  copied_to_none view after outside NoRule m = let o = m outside in copied_on ∙ rw (o.found, o.outside, o.nowhere) refl
+  copied_to_none view after outside OutOfMemory m = tt
 
   pub copied_done : (to : GenerationPart) → LeadsTo w.storage target to → (new : List Generation) (limit : ℕ) → rise 0 w.storage limit ≡ true
       → ValuesPut w.storage new to target.description (values_from l.there.scalar (scalars_in source.description) l.there.generation.values)

@@ -1,7 +1,12 @@
+pub mod AreaAnswers
+pub mod BlockPlaces
+pub mod ByBytes
+pub mod ChangedBlocks
 pub mod CopiedBytes
 pub mod CopyLemmas
 pub mod EndingLemmas
 pub mod HeldScalars
+pub mod LivingTargets
 pub mod MakingLemmas
 pub mod PartAnswers
 pub mod PlaceLemmas

@@ -56,15 +56,29 @@ stored_nowhere p v w l =
 
 -- ---- where no part is found
 
-pub held_failed : {T : Type 0} (view : T → Value) (p : Place) (w after : World) (fault : StoreFault) → Leads w.storage p (Err fault) → Answered view (Err fault) w after (held p w)
-held_failed view p w after (Raised e) l = held_dead p w l.1 ∙ ap (λ x. Raises x w) (sym l.0)
-held_failed view p w after NoRule l = held_nowhere p w l
-held_failed view p w after OutOfMemory l = tt
+pub held_failed : {T : Type 0} (view : T → Value) (p : Place) (w after : World) → p.position ≡ 0 → (fault : StoreFault) → Leads w.storage p (Err fault) → Answered view (Err fault) w after (held p w)
+held_failed view p w after outside (Raised e) l = held_dead p w l.1 ∙ ap (λ x. Raises x w) (sym l.0)
+held_failed view p w after outside NoRule l = held_nowhere p w (l outside)
+held_failed view p w after outside OutOfMemory l = tt
 
-pub stored_failed : {T : Type 0} (view : T → Unit {0}) (p : Place) (v : Value) (w after : World) (fault : StoreFault) → Leads w.storage p (Err fault) → Answered view (Err fault) w after (stored p v w)
-stored_failed view p v w after (Raised e) l = stored_dead p v w l.1 ∙ ap (λ x. Raises x w) (sym l.0)
-stored_failed view p v w after NoRule l = stored_nowhere p v w l
-stored_failed view p v w after OutOfMemory l = tt
+pub stored_failed : {T : Type 0} (view : T → Unit {0}) (p : Place) (v : Value) (w after : World) → p.position ≡ 0 → (fault : StoreFault) → Leads w.storage p (Err fault) → Answered view (Err fault) w after (stored p v w)
+stored_failed view p v w after outside (Raised e) l = stored_dead p v w l.1 ∙ ap (λ x. Raises x w) (sym l.0)
+stored_failed view p v w after outside NoRule l = stored_nowhere p v w (l outside)
+stored_failed view p v w after outside OutOfMemory l = tt
+
+pub part_unread : {T : Type 0} (view : T → List Value) (p : Place) (w after : World) → p.position ≡ 0 → (fault : StoreFault) → Leads w.storage p (Err fault)
+    → Answered view (Err fault) w after (parts_held p w)
+unfolding parts_held
+part_unread view p w after outside (Raised e) l = rw (l.1, l.0) refl
+part_unread view p w after outside NoRule l = let m = l outside in rw (m.found, m.outside, m.nowhere) refl
+part_unread view p w after outside OutOfMemory l = tt
+
+pub part_unwritten : {T : Type 0} (view : T → Unit {0}) (p : Place) (vs : List Value) (w after : World) → p.position ≡ 0 → (fault : StoreFault)
+    → Leads w.storage p (Err fault) → Answered view (Err fault) w after (parts_stored p vs w)
+unfolding parts_stored
+part_unwritten view p vs w after outside (Raised e) l = rw (l.1, l.0) refl
+part_unwritten view p vs w after outside NoRule l = parts_stored_nowhere p vs w (l outside)
+part_unwritten view p vs w after outside OutOfMemory l = tt
 
 -- ---- a place that leads to a part
 
@@ -136,11 +150,11 @@ module _ (old new : List Generation) (part : GenerationPart) (to : ℕ) (r : ris
       let g = put.there.generation in
       let now = with_values_at put.there.scalar vs g.values in
       record {
-        rising = subst (λ l. rise 0 l to ≡ true) (sym put.changed) (rise_changed 0 old to part.at g now put.there.stands r);
-        counted = ap live_bytes put.changed ∙ live_changed old part.at g now put.there.stands;
+        rising = subst (λ l. rise 0 l to ≡ true) (sym put.changed) (rise_changed 0 old to part.at g (record g { values = now }) refl put.there.stands r);
+        counted = ap live_bytes put.changed ∙ live_changed old part.at g (record g { values = now }) refl put.there.stands;
       }
 
-  kept_same : new ≡ old → Kept old new to
+  pub kept_same : new ≡ old → Kept old new to
   kept_same same = record { rising = subst (λ l. rise 0 l to ≡ true) (sym same) r; counted = ap live_bytes same }
 
   pub kept_or_same : (b : Bool) (d : Description) (vs : List Value) → ValuesPutOrSame b old new part d vs → Kept old new to

@@ -20,11 +20,11 @@ within_store items number at s =
 pub stored_one : (items : List Generation) (number at : ℕ) (g : Generation) → StandsAt (map generation_view items) number at → slice_get items at ≡ Some g → generation_in (map generation_view items) number ≡ Some (generation_view g)
 stored_one items number at g s h = s.found ∙ sym s.stands ∙ stands_in_view items at g h
 
-nothing_found : (o : Option ℕ) → is_some o ≡ false → o ≡ None
+pub nothing_found : (o : Option ℕ) → is_some o ≡ false → o ≡ None
 nothing_found None e = refl
 nothing_found (Some k) e = cc
 
-something_found : (o : Option ℕ) → is_some o ≡ true → (k : ℕ) × (o ≡ Some k)
+pub something_found : (o : Option ℕ) → is_some o ≡ true → (k : ℕ) × (o ≡ Some k)
 something_found None e = cc
 something_found (Some k) e = (k, refl)
 

@@ -1,19 +1,21 @@
 -- What is put into the bytes of a generation of the store is put into what the store says.
 use Rattle.std.proofs.Common.{◌≡◌, ℕ, ◌≤◌, Bool, true, false, List, [], ◌∷◌, ◌++◌, length, map, take, drop, set, get_or, Some, slice_get, refl, sym, ap, ◌∙◌, subst, arith, length-drop}
+use Rattle.std.specs.Option.{is_some}
 use Rattle.std.specs.Vec.{with_items}
 use Rattle.std.proofs.lemmas.List.{map-set, with_items_is, length-take}
 use Rattle.pli_bytes.specs.Changes.{IsPut, PutOrSame, AppendedOrSame}
 use Rattle.pli_bytes.specs.Contents.{value_of, value_in, values_of, bytes_from, with_bytes_at}
-use Rattle.pli_bytes.proofs.PartsOfBytes.{scalar_put, part_copied}
+use Rattle.pli_bytes.proofs.PartsOfBytes.{scalar_put, part_copied, part_put}
 use Rattle.pli_map.specs.Description.{Description, Varying}
-use Rattle.pli_map.specs.Scalars.{is_scalar, scalars_in}
+use Rattle.pli_map.specs.Scalars.{is_area, is_scalar, scalars_in}
 use Rattle.pli_map.specs.Sizes.{size_of}
 use Rattle.pli_map.specs.views.DescriptionView.{description_view}
 use Rattle.pli_value.specs.Value.{Value, Characters}
 use Rattle.pli_world.specs.Storage as plain
 use Rattle.pli_world.specs.Storage.{values_from, with_values_at}
 use Rattle.pli_store.specs.answers.Found.{PartStands}
-use Rattle.pli_store.specs.answers.Puts.{BytesCopied, ValuesPut, ValuesPutOrSame, LengthenedOrSame}
+use Rattle.pli_store.specs.answers.Inhabited.{capacity_in}
+use Rattle.pli_store.specs.answers.Puts.{BytesCopied, BytesPut, ValuesPut, ValuesPutOrSame, LengthenedOrSame}
 use Rattle.pli_store.specs.declared.generation.Generation.{Generation}
 use Rattle.pli_store.specs.declared.part.GenerationPart.{GenerationPart}
 use Rattle.pli_store.specs.views.GenerationView.{generation_view}
@@ -40,6 +42,15 @@ module _ (items : List Generation) (part : GenerationPart) (d : Description) (s 
   nothing_put e =
       map-set generation_view items part.at changed ∙ ap (set (map generation_view items) part.at) e
       ∙ set_same (map generation_view items) part.at (generation_view g) (stands_in_view items part.at g here)
+
+  -- its bytes are put there
+  pub bytes_are_put : (bytes : List ℕ) → length bytes ≡ size_of d → BytesPut g changed part.offset bytes
+      → ValuesPut (map generation_view items) (map generation_view (set items part.at changed)) part d (values_of d bytes)
+  bytes_are_put bytes size put =
+      let whole = (generation_view g).description in
+      values_put (values_of d bytes)
+      (put.others ∙ ap (λ (b : List ℕ). holding (generation_view g) (values_of whole b)) put.put
+      ∙ ap (holding (generation_view g)) (part_put whole part.offset d s.scalar bytes g.bytes.items (first_is items part d s g here) size g.sized))
 
 -- a part copied to another of an equal description
 module _ (items new : List Generation) (from to : GenerationPart) (d : Description)
@@ -73,9 +84,10 @@ varying_short greatest bytes text size held = omega (arith, some_taken _ (drop 2
 -- the generation that was read there, with these bytes
 module _ (items : List Generation) (part : GenerationPart) (d : Description) (s : PartStands (map generation_view items) part d)
     (g : Generation) (read : g ≡ get_or items part.at g) (was new : List ℕ) (value : was ≡ g.bytes.items) (len : length new ≡ length was)
-    (sized : length (with_items g.bytes new).items ≡ size_of (description_view g.description.now)) where
+    (sized : length (with_items g.bytes new).items ≡ size_of (description_view g.description.now)) (inhabited : is_some g.area ≡ is_area (description_view g.description.now))
+    (roomy : is_area (description_view g.description.now) ≡ true → capacity_in g.area ≡ size_of (description_view g.description.now)) where
   abbrev changed : Generation
-  changed = record g { bytes = with_items g.bytes new; sized = sized }
+  changed = record g { bytes = with_items g.bytes new; sized = sized; inhabited = inhabited; roomy = roomy }
 
   here : slice_get items part.at ≡ Some g
   here = read_there items part d s g read
@@ -105,12 +117,13 @@ module _ (items : List Generation) (part : GenerationPart) (d : Description) (s 
 -- characters put behind those of the string that was read there
 module _ (items : List Generation) (part : GenerationPart) (greatest : ℕ) (s : PartStands (map generation_view items) part (Varying greatest))
     (g : Generation) (read : g ≡ get_or items part.at g) (was new : List ℕ) (value : was ≡ g.bytes.items) (len : length new ≡ length was)
-    (sized : length (with_items g.bytes new).items ≡ size_of (description_view g.description.now)) where
+    (sized : length (with_items g.bytes new).items ≡ size_of (description_view g.description.now)) (inhabited : is_some g.area ≡ is_area (description_view g.description.now))
+    (roomy : is_area (description_view g.description.now) ≡ true → capacity_in g.area ≡ size_of (description_view g.description.now)) where
   pub lengthened_or_same : (b : Bool) (more : List ℕ) (room : ℕ) → AppendedOrSame b greatest part.offset more room was new
-      → LengthenedOrSame b (map generation_view items) (map generation_view (set items part.at (record g { bytes = with_items g.bytes new; sized = sized }))) part greatest more room
+      → LengthenedOrSame b (map generation_view items) (map generation_view (set items part.at (record g { bytes = with_items g.bytes new; sized = sized; inhabited = inhabited; roomy = roomy }))) part greatest more room
   lengthened_or_same true more room a = record {
     text = a.text;
-    puts = scalar_is_put items part (Varying greatest) s g read was new value len sized (Characters (a.text ++ more)) refl a.put;
+    puts = scalar_is_put items part (Varying greatest) s g read was new value len sized inhabited roomy (Characters (a.text ++ more)) refl a.put;
     was = λ there.
         held_there items part (Varying greatest) there g (read_there items part (Varying greatest) s g read) refl
         ∙ ap (λ l. value_in l (record { offset = part.offset; description = Varying greatest }) ∷ []) (sym value)
@@ -118,4 +131,4 @@ module _ (items : List Generation) (part : GenerationPart) (greatest : ℕ) (s :
     short = varying_short greatest a.put.bytes (a.text ++ more) a.put.size a.put.hold;
     fits = a.fits;
   }
-  lengthened_or_same false more room a = same_is_left items part (Varying greatest) s g read was new value len sized a
+  lengthened_or_same false more room a = same_is_left items part (Varying greatest) s g read was new value len sized inhabited roomy a

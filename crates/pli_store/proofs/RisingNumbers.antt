@@ -1,12 +1,12 @@
 -- Generations whose numbers rise: a number is found where it stands, and changes and ends keep the order.
-use Rattle.std.proofs.Common.{◌≡◌, ℕ, zero, suc, ◌+◌, ◌<◌, ◌≤◌, ◌≢◌, Bool, true, false, nat_eq, nat_le, ◌||◌, not, cond, List, [], ◌∷◌, ◌++◌, set, Some, None, slice_get, refl, sym, ap, subst, arith, eq-eqb, ne_eqb}
+use Rattle.std.proofs.Common.{◌≡◌, ℕ, zero, suc, ◌+◌, ◌<◌, ◌≤◌, ◌≢◌, Bool, true, false, nat_eq, nat_le, ◌&&◌, ◌||◌, not, cond, if◌then◌else◌, List, [], ◌∷◌, ◌++◌, length, set, Some, None, slice_get, refl, sym, ap, ◌∙◌, subst, arith, eq-eqb, ne_eqb}
 use Rattle.std.specs.List.{list_any, remove}
 use Rattle.std.proofs.lemmas.Bool.{and_parts, leb-true, le-leb}
 use Rattle.std.proofs.lemmas.List.Folds.{list_any-append}
 use Rattle.std.proofs.lemmas.Option.{same_Some, none-some}
 use Rattle.pli_map.specs.Sizes.{size_of}
 use Rattle.pli_value.specs.Value.{Value}
-use Rattle.pli_world.specs.Storage.{Generation, generation_in, with_values, without, live_bytes}
+use Rattle.pli_world.specs.Storage.{Block, Generation, generation_in, with_blocks, with_values, without, live_bytes}
 use Rattle.pli_store.specs.answers.Kept.{rise}
 
 -- ---- what rising numbers are
@@ -88,17 +88,49 @@ changed_at from (x ∷ gs) to (suc at) g vs r h =
     let p = rises from x gs to r in
     rw (ne_eqb x.number g.number (later x gs to at g p.rest h)) (ap (λ l. x ∷ l) (changed_at (suc x.number) gs to at g vs p.rest h))
 
-pub rise_changed : (from : ℕ) (gs : List Generation) (to at : ℕ) (g : Generation) (vs : List Value) → slice_get gs at ≡ Some g → rise from gs to ≡ true → rise from (set gs at (record g { values = vs })) to ≡ true
-rise_changed from [] to at g vs h r = r
-rise_changed from (x ∷ gs) to zero g vs h r = subst (λ y. rise from (record y { values = vs } ∷ gs) to ≡ true) (same_Some x g h) r
-rise_changed from (x ∷ gs) to (suc at) g vs h r =
+-- another of the same number, or of the same description, in its place
+pub rise_changed : (from : ℕ) (gs : List Generation) (to at : ℕ) (g h : Generation) → h.number ≡ g.number → slice_get gs at ≡ Some g → rise from gs to ≡ true → rise from (set gs at h) to ≡ true
+rise_changed from [] to at g h same e r = r
+rise_changed from (x ∷ gs) to zero g h same e r =
+    subst (λ n. (nat_le from n && rise (suc n) gs to) ≡ true) (ap (λ (y : Generation). y.number) (same_Some x g e) ∙ sym same) r
+rise_changed from (x ∷ gs) to (suc at) g h same e r =
     let p = rises from x gs to r in
-    rising from x (set gs at (record g { values = vs })) to (record { low = p.low; rest = rise_changed (suc x.number) gs to at g vs h p.rest })
+    rising from x (set gs at h) to (record { low = p.low; rest = rise_changed (suc x.number) gs to at g h same e p.rest })
 
-pub live_changed : (gs : List Generation) (at : ℕ) (g : Generation) (vs : List Value) → slice_get gs at ≡ Some g → live_bytes (set gs at (record g { values = vs })) ≡ live_bytes gs
-live_changed [] at g vs h = refl
-live_changed (x ∷ gs) zero g vs h = subst (λ y. size_of y.description + live_bytes gs ≡ size_of x.description + live_bytes gs) (same_Some x g h) refl
-live_changed (x ∷ gs) (suc at) g vs h = ap (λ n. size_of x.description + n) (live_changed gs at g vs h)
+pub live_changed : (gs : List Generation) (at : ℕ) (g h : Generation) → h.description ≡ g.description → slice_get gs at ≡ Some g → live_bytes (set gs at h) ≡ live_bytes gs
+live_changed [] at g h same e = refl
+live_changed (x ∷ gs) zero g h same e =
+    ap (λ d. size_of d + live_bytes gs) (same ∙ sym (ap (λ (y : Generation). y.description) (same_Some x g e)))
+live_changed (x ∷ gs) (suc at) g h same e = ap (λ n. size_of x.description + n) (live_changed gs at g h same e)
+
+-- other blocks of one
+
+pub blocks_changed_at : (from : ℕ) (gs : List Generation) (to at : ℕ) (g : Generation) (change : List Block → List Block) → rise from gs to ≡ true → slice_get gs at ≡ Some g
+    → with_blocks gs g.number change ≡ set gs at (record g { blocks = change g.blocks })
+blocks_changed_at from [] to at g change r h = absurd (none-some g h)
+blocks_changed_at from (x ∷ gs) to zero g change r h =
+    subst (λ y. with_blocks (x ∷ gs) y.number change ≡ record y { blocks = change y.blocks } ∷ gs) (same_Some x g h) (rw (eq-eqb x.number x.number refl) refl)
+blocks_changed_at from (x ∷ gs) to (suc at) g change r h =
+    let p = rises from x gs to r in
+    rw (ne_eqb x.number g.number (later x gs to at g p.rest h)) (ap (λ l. x ∷ l) (blocks_changed_at (suc x.number) gs to at g change p.rest h))
+
+pub no_blocks_changed : (gs : List Generation) (number : ℕ) (change : List Block → List Block) → generation_in gs number ≡ None → with_blocks gs number change ≡ gs
+no_blocks_changed [] number change none = refl
+no_blocks_changed (x ∷ gs) number change none = by (nat_eq x.number number) none (no_blocks_changed gs number change)
+  where
+    by : (b : Bool) → (if b then Some x else generation_in gs number) ≡ None → (generation_in gs number ≡ None → with_blocks gs number change ≡ gs)
+        → (if b then record x { blocks = change x.blocks } ∷ gs else x ∷ with_blocks gs number change) ≡ x ∷ gs
+    by true e rest = absurd (none-some x (sym e))
+    by false e rest = ap (λ l. x ∷ l) (rest e)
+
+-- as many as there are stand below their end
+pub rise_length : (from : ℕ) (gs : List Generation) (to : ℕ) → rise from gs to ≡ true → from + length gs ≤ to
+rise_length from [] to r = let e = leb-true from to r in omega (arith, e)
+rise_length from (g ∷ gs) to r =
+    let p = rises from g gs to r in
+    let e = rise_length (suc g.number) gs to p.rest in
+    let low = p.low in
+    omega (arith, e, low)
 
 -- ---- a new one
 

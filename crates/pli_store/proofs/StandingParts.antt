@@ -1,10 +1,11 @@
 -- Parts that stand in the store: where, and what their bytes hold.
-use Rattle.std.proofs.Common.{◌≡◌, ℕ, ◌+◌, ◌<◌, ◌≤◌, true, List, [], ◌∷◌, length, map, get_or, Some, slice_get, refl, sym, ap, ◌∙◌, arith}
+use Rattle.std.proofs.Common.{◌≡◌, ℕ, ◌+◌, ◌<◌, ◌≤◌, true, List, [], ◌∷◌, length, map, take, drop, get_or, Some, slice_get, refl, sym, ap, ◌∙◌, arith, length-drop}
 use Rattle.std.proofs.lemmas.Option.{same_Some, slice_get_read}
-use Rattle.pli_bytes.specs.Contents.{value_in}
-use Rattle.pli_bytes.proofs.PartsOfBytes.{part_bytes, scalar_read}
+use Rattle.std.proofs.lemmas.List.{length-take-le, take-take}
+use Rattle.pli_bytes.specs.Contents.{bytes_from, value_in, values_of}
+use Rattle.pli_bytes.proofs.PartsOfBytes.{part_bytes, part_values, same_values, scalar_read}
 use Rattle.pli_map.specs.Description.{Description}
-use Rattle.pli_map.specs.Scalars.{first_scalar, is_scalar}
+use Rattle.pli_map.specs.Scalars.{first_scalar, is_scalar, scalars_in}
 use Rattle.pli_map.specs.Sizes.{size_of}
 use Rattle.pli_world.specs.Storage as plain
 use Rattle.pli_world.specs.Storage.{values_from, live_bytes}
@@ -43,6 +44,21 @@ module _ (items : List Generation) (part : GenerationPart) (d : Description) (s 
     held_there scalar =
         ap (λ (x : plain.Generation). values_from s.scalar 1 x.values) generation_is
         ∙ scalar_read (generation_view g).description part.offset d s.scalar g.bytes.items scalar first_is
+
+    -- its bytes hold its values
+    pub part_read : (bytes : List ℕ) → bytes ≡ bytes_from part.offset (size_of d) g.bytes.items
+        → values_from s.scalar (scalars_in d) s.generation.values ≡ values_of d bytes
+    part_read bytes is =
+        let held = drop part.offset g.bytes.items in
+        let all : take (size_of d) (take (size_of d) held) ≡ take (size_of d) held = take-take (size_of d) (size_of d) held (omega arith) in
+        ap (λ (x : plain.Generation). values_from s.scalar (scalars_in d) x.values) generation_is
+        ∙ part_values (generation_view g).description part.offset d s.scalar g.bytes.items first_is
+        ∙ same_values d held bytes (sym (ap (take (size_of d)) is ∙ all))
+
+    pub part_counted : (bytes : List ℕ) → bytes ≡ bytes_from part.offset (size_of d) g.bytes.items → length bytes ≡ size_of d
+    part_counted bytes is =
+        let within = bytes_within in
+        ap length is ∙ length-take-le (size_of d) (drop part.offset g.bytes.items) (omega (arith, within, length-drop part.offset g.bytes.items))
 
   -- its bytes stand there, as many as its description takes
   pub bytes_stand : (size : ℕ) → size ≡ size_of d → BytesStand items part size

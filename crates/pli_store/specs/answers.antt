@@ -1,7 +1,8 @@
 pub mod Answered
 pub mod Begins
+pub mod Blocks
 pub mod Found
+pub mod Inhabited
 pub mod Kept
 pub mod LedOn
-pub mod Living
 pub mod Puts

@@ -1,5 +1,5 @@
 //! Parts of generations copied.
-ghost use Rattle.std.specs.Prelude.{◌≡◌, ◌≢◌, ◌+◌, ◌≤◌, length, map};
+ghost use Rattle.std.specs.Prelude.{◌≡◌, ◌≢◌, ◌+◌, ◌≤◌, length, map, IfOk};
 ghost use Rattle.pli_map.specs.Scalars.{scalars_in};
 ghost use Rattle.pli_map.specs.Sizes.{size_of};
 ghost use Rattle.pli_map.specs.views.DescriptionView.{description_view};
@@ -12,6 +12,7 @@ ghost use Rattle.pli_store.specs.views.GenerationView.{generation_view};
 use crate::generation::Generation;
 use crate::part::GenerationPart;
 use pli_map::{Description, far_size};
+use std::alloc::{AllocError, Global};
 
 /// How many bytes are taken at once on their way from one generation to another.
 const PIECE: usize = 256;
@@ -24,8 +25,25 @@ fn take_bytes(generation: &Generation<'_>, offset: usize, bytes: &mut [u8])
     bytes.copy_from_slice(&generation.bytes[offset..offset + bytes.len()]);
 }
 
+/// So many bytes of a generation, from one on, in memory of their own.
+pub fn bytes_of_part(
+    alloc: Global,
+    generation: &Generation<'_>,
+    offset: usize,
+    description: &Description,
+) -> Result<Vec<u8>, AllocError>
+    requires within { offset + size_of (description_view description.now) ≤ length generation.now.bytes.items }
+    requires limit { size_of (description_view description.now) ≤ 16777216 }
+    ensures { IfOk result (λ bytes. bytes.items ≡ bytes_from offset (size_of (description_view description.now)) generation.now.bytes.items) }
+{
+    let size = far_size(description) as usize;
+    let mut bytes = vec![in alloc; 0; size]?;
+    take_bytes(generation, offset, &mut bytes);
+    Ok(bytes)
+}
+
 /// Bytes put into a generation, from one on.
-fn put_bytes(generation: &mut Generation<'_>, offset: usize, bytes: &[u8])
+pub fn put_bytes(generation: &mut Generation<'_>, offset: usize, bytes: &[u8])
     requires { offset + length bytes.now ≤ length generation.old.bytes.items }
     ensures { BytesPut generation.old generation.new offset bytes.now }
 {

@@ -1,8 +1,12 @@
 //! Generations of storage (X3.53).
-ghost use Rattle.std.specs.Prelude.{◌≡◌, length};
+ghost use Rattle.std.specs.Prelude.{◌≡◌, true, length};
+ghost use Rattle.std.specs.Option.{is_some};
+ghost use Rattle.pli_map.specs.Scalars.{is_area};
 ghost use Rattle.pli_map.specs.Sizes.{size_of};
 ghost use Rattle.pli_map.specs.views.DescriptionView.{description_view};
+ghost use Rattle.pli_store.specs.answers.Inhabited.{capacity_in};
 
+use pli_area_blocks::AreaBlocks;
 use pli_map::Description;
 
 /// How a generation was made (X3.53).
@@ -29,5 +33,9 @@ pub struct Generation<'m> {
     pub made: Made,
     /// As many as the size of the description.
     pub bytes: Vec<u8>,
+    /// The blocks of an area, which have bytes of their own.
+    pub area: Option<Box<AreaBlocks<'m>>>,
     ghost sized: { length bytes.items ≡ size_of (description_view description.now) },
+    ghost inhabited: { is_some area ≡ is_area (description_view description.now) },
+    ghost roomy: { is_area (description_view description.now) ≡ true → capacity_in area ≡ size_of (description_view description.now) },
 }

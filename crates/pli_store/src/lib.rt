@@ -1,18 +1,23 @@
-//! Storage, as the machine keeps it: the generations that live, each as its bytes, in which every scalar of its description
-//! lies at its offset.
+//! Storage, as the machine keeps it: the generations that live, each as its bytes, in which every scalar of its
+//! description lies at its offset; one that is an area has blocks.
 //!
-//! `place` says where references lead, `part` which bytes of a generation stand there, `living` what the number of a
-//! generation finds; `storage` reads, puts, copies, makes and ends, by `putting` and `copying`, which change bytes; `bits` tells a
-//! lone bit from its byte, `pointers` a pointer from its bytes; `spare` keeps memory for generations to come.
+//! `place` says where references lead, `part` which bytes of a generation stand there, `living` what lives at a
+//! position of a generation; `storage` reads, puts, copies, makes and ends, by `putting` and `copying`, which change
+//! bytes; `bits` tells a lone bit from its byte, `pointers` a pointer from its bytes; `spare` keeps memory for
+//! generations to come. `blocks` changes the blocks of one generation, `places_in_blocks` reads, puts and copies there,
+//! and `areas` allocates, frees, empties and assigns.
 #![tactic(auto)]
 
+mod areas;
 mod bits;
+mod blocks;
 mod copying;
 mod fault;
 mod generation;
 mod living;
 mod part;
 mod place;
+mod places_in_blocks;
 mod pointers;
 mod putting;
 mod spare;
@@ -20,6 +25,6 @@ mod storage;
 
 pub use fault::StoreFault;
 pub use generation::Made;
-pub use living::LivingGeneration;
+pub use living::Target;
 pub use place::Place;
 pub use storage::Storage;

@@ -1,11 +1,12 @@
-//! Generations found by their numbers.
+//! What lives, found by the number of its generation and its position there.
 use crate::generation::Made;
 use crate::place::Place;
 
-/// A generation that lives, as its number finds it.
+/// A generation or a block that lives.
 #[derive(Clone, Copy)]
-pub struct LivingGeneration<'m> {
+pub struct Target<'m> {
     /// The place of the whole of it.
     pub place: Place<'m>,
+    /// How it was made; a block of an area by ALLOCATE of a BASED variable.
     pub made: Made,
 }

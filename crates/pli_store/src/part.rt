@@ -82,8 +82,8 @@ fn is_multiple(offset: usize, precision: u8) -> bool
     }
 }
 
-/// Whether a number of so many binary digits stands so many bytes behind the beginning of a whole of so many bytes: alone, or
-/// as an element of an array.
+/// Whether a number of so many binary digits stands so many bytes behind the beginning of a whole of so many bytes:
+/// alone, or as an element of an array.
 #[inline(always)]
 pub fn is_number_at(whole: &Description, size: usize, offset: usize, precision: u8) -> bool
     requires { size ≡ size_of (description_view whole.now) }

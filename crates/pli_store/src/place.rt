@@ -1,6 +1,7 @@
 //! Places: where references lead.
-ghost use Rattle.std.specs.Prelude.{◌*◌, ◌≤ℤ◌, ◌-ℤ◌, unsigned_abs};
+ghost use Rattle.std.specs.Prelude.{◌≡◌, ◌*◌, ◌≤ℤ◌, ◌-ℤ◌, unsigned_abs};
 ghost use Rattle.pli_map.specs.views.DescriptionView.{description_view};
+ghost use Rattle.pli_world.specs.Targets.{whole_at};
 ghost use Rattle.pli_world.specs.World.{led_on};
 
 use pli_map::Description;
@@ -8,24 +9,46 @@ use pli_map::Description;
 /// How many bytes behind the beginning a reference leads at most (own).
 const OFFSET_LIMIT: u32 = 1_000_000;
 
-/// Where a reference leads: so many bytes behind the beginning of a generation, which had this whole description when the
-/// reference was evaluated, to a part of this description. No place lies in an area.
+/// Where a reference leads: into a generation, there into the block of an area at a position (0 outside areas), so many
+/// bytes behind its beginning, to a part of this description. The generation or the block had this whole description
+/// when the reference was evaluated.
 #[derive(Clone, Copy)]
 pub struct Place<'m> {
     pub generation: u32,
+    pub position: u32,
     pub offset: u32,
+    /// Where the generation stood among those that lived when it was made.
+    pub(crate) hint: u32,
     pub description: &'m Description,
     pub whole: &'m Description,
-    /// Where the generation stood among those that lived when it was made.
-    pub(crate) hint: usize,
 }
 
 impl<'m> Place<'m> {
     ghost use Rattle.pli_store.specs.answers.LedOn.{LedOn};
     ghost use Rattle.pli_store.specs.views.StorageView.{place_view};
 
-    /// The part of this description that stands so many bytes further. `None` where that is more than 1,000,000 bytes behind
-    /// the beginning.
+    /// The whole of what lives at a position of a generation, which stands there among those that live.
+    #[inline(always)]
+    pub(crate) fn of_whole(
+        generation: u32,
+        position: u32,
+        hint: u32,
+        whole: &'m Description,
+    ) -> Place<'m>
+        ensures { place_view result ≡ whole_at generation position (description_view whole.now) }
+    {
+        Place {
+            generation,
+            position,
+            offset: 0,
+            hint,
+            description: whole,
+            whole,
+        }
+    }
+
+    /// The part of this description that stands so many bytes further. `None` where that is more than 1,000,000 bytes
+    /// behind the beginning.
     #[inline(always)]
     #[tactic(auto, using(pli_world::specs::laws::OperationLaws::led_near, pli_world::specs::laws::OperationLaws::led_too_far))]
     fn advanced(self, offset: u64, description: &'m Description) -> Option<Place<'m>>
@@ -37,15 +60,16 @@ impl<'m> Place<'m> {
         }
         Some(Place {
             generation: self.generation,
+            position: self.position,
             offset: sum as u32,
+            hint: self.hint,
             description,
             whole: self.whole,
-            hint: self.hint,
         })
     }
 
-    /// The part of this description that stands so many bytes further. `None` where that is more than 1,000,000 bytes behind
-    /// the beginning.
+    /// The part of this description that stands so many bytes further. `None` where that is more than 1,000,000 bytes
+    /// behind the beginning.
     #[inline]
     pub fn field(self, offset: u32, description: &'m Description) -> Option<Place<'m>>
         ensures { LedOn (led_on offset (description_view description.now) (place_view self.entry)) result }

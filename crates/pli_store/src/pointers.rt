@@ -12,8 +12,8 @@ use pli_value::Locator;
 /// How many bytes a pointer takes.
 const POINTER_SIZE: usize = 8;
 
-/// The pointer that eight bytes are: one more than the number of its generation, then its position; null where the first
-/// number is zero.
+/// The pointer that eight bytes are: one more than the number of its generation, then its position; null where the
+/// first number is zero.
 #[inline(always)]
 fn pointer_of(bytes: &[u8]) -> Locator
     requires { length bytes.now ≡ 8 }
@@ -28,7 +28,8 @@ fn pointer_of(bytes: &[u8]) -> Locator
     }
 }
 
-/// The pointer that a scalar of POINTER holds, which lies at an offset of the bytes; `None` where they end before it does.
+/// The pointer that a scalar of POINTER holds, which lies at an offset of the bytes; `None` where they end before it
+/// does.
 #[inline]
 pub fn pointer_at(bytes: &[u8], offset: usize) -> Option<Locator>
     ensures { IfSome result (λ l. value_in bytes.now (record { offset = offset; description = tree.Pointer }) ≡ Located l) }

@@ -1,5 +1,6 @@
 //! Storage: the generations that live.
 ghost use Rattle.std.specs.Prelude.{◌≡◌, ◌≤◌, ◌++◌, List, ◌∷◌, [], length, map, true, false, None, IfSome, MatchOption, MatchResult, OnErr};
+ghost use Rattle.std.specs.Option.{option_map};
 ghost use Rattle.pli_bytes.specs.Contents.{values_of};
 ghost use Rattle.pli_map.specs.Description.{FixedBinary};
 ghost use Rattle.pli_map.specs.Scalars.{scalars_of};
@@ -9,6 +10,7 @@ ghost use Rattle.pli_map.specs.views.DescriptionView.{description_view};
 ghost use Rattle.pli_value.specs.Value as plain;
 ghost use Rattle.pli_value.specs.Value.{value_view, Number, Characters, Bits, Located};
 ghost use Rattle.pli_world.specs.Storage.{generation_in, live_bytes, without};
+ghost use Rattle.pli_world.specs.Targets.{target_at};
 ghost use Rattle.pli_world.specs.World.{World, Yields, held, stored, copied, made_of, dummy_of, in_newest};
 ghost use Rattle.pli_store.specs.answers.Answered.{Answered};
 ghost use Rattle.pli_store.specs.answers.Begins.{Begins};
@@ -17,10 +19,11 @@ ghost use Rattle.pli_store.specs.answers.Kept.{rise};
 ghost use Rattle.pli_store.specs.views.GenerationView.{generation_view, made_view};
 
 use crate::bits::bit_at;
+use crate::blocks::{new_area, whole_at};
 use crate::copying::copy_part;
 use crate::fault::StoreFault;
 use crate::generation::{Generation, Made};
-use crate::living::LivingGeneration;
+use crate::living::Target;
 use crate::part::{
     GenerationPart, greatest_length, is_number_at, is_number_of, is_one_bit, is_part, is_pointer,
     number_precision,
@@ -44,6 +47,7 @@ const GENERATION_LIMIT: u32 = 4_294_967_294;
 /// The generations that live, in the order in which they were made.
 #[derive(Drop)]
 pub struct Storage<'m> {
+    pub(crate) alloc: Global,
     pub(crate) generations: Vec<Generation<'m>>,
     /// How many generations were ever made: the number of the next.
     pub(crate) made: u32,
@@ -57,8 +61,7 @@ pub struct Storage<'m> {
 }
 
 impl<'m> Storage<'m> {
-    ghost use Rattle.pli_store.specs.answers.Living.{IsLiving};
-    ghost use Rattle.pli_store.specs.views.StorageView.{place_view, storage_view, made_count, with_storage, NumberPut, ValuePut, Appended, RoomFor, SameStorage};
+    ghost use Rattle.pli_store.specs.views.StorageView.{place_view, target_view, storage_view, made_count, with_storage, NumberPut, ValuePut, Appended, RoomFor, SameStorage};
 
     /// Storage in which nothing lives, before anything was made.
     pub fn new(alloc: Global) -> Storage<'m>
@@ -66,6 +69,7 @@ impl<'m> Storage<'m> {
         ensures made { made_count result ≡ 0 }
     {
         Storage {
+            alloc,
             generations: Vec::new(alloc),
             made: 0,
             live: 0,
@@ -75,7 +79,7 @@ impl<'m> Storage<'m> {
 
     /// Where the generation of a number stands among those that live; a right guess saves the search.
     #[inline]
-    fn find(&self, number: u32, guess: usize) -> Option<usize>
+    pub(crate) fn find(&self, number: u32, guess: usize) -> Option<usize>
         ensures { MatchOption result (generation_in (storage_view self.now) number ≡ None)
             (StandsAt (storage_view self.now) number) }
     {
@@ -88,7 +92,7 @@ impl<'m> Storage<'m> {
     }
 
     /// Where the generation of a number stands, if those that live are spread evenly over their numbers: a guess.
-    fn even_guess(&self, number: u32) -> usize {
+    pub(crate) fn even_guess(&self, number: u32) -> usize {
         let Some(first) = self.generations.first() else {
             return 0;
         };
@@ -104,35 +108,41 @@ impl<'m> Storage<'m> {
         (ahead.saturating_mul(steps) / span) as usize
     }
 
-    /// The generation of a number; `None` where it has ended, or none was ever made.
-    pub fn living(&self, number: u32) -> Option<LivingGeneration<'m>>
-        ensures { MatchOption result (generation_in (storage_view self.now) number ≡ None)
-            (IsLiving (storage_view self.now) number) }
+    /// What lives at a position of a generation, at 0 the generation; `None` where nothing does. Takes time logarithmic
+    /// in the generations and in the blocks.
+    pub fn living(&self, generation: u32, position: u32) -> Option<Target<'m>>
+        ensures { option_map target_view result ≡ target_at generation position (storage_view self.now) }
     {
-        let at = self.find(number, self.even_guess(number))?;
-        let generation = &self.generations[at];
-        let place = Place {
-            generation: number,
-            offset: 0,
-            description: generation.description,
-            whole: generation.description,
-            hint: at,
-        };
-        Some(LivingGeneration {
-            place,
-            made: generation.made,
+        // as many live at most as were made, so an index has 32 bits
+        let _made = self.made;
+        let at = self.find(generation, self.even_guess(generation))?;
+        let lives = &self.generations[at];
+        if position == 0 {
+            let place = Place::of_whole(generation, 0, at as u32, lives.description);
+            return Some(Target {
+                place,
+                made: lives.made,
+            });
+        }
+        let whole = whole_at(lives, position)?;
+        Some(Target {
+            place: Place::of_whole(generation, position, at as u32, whole),
+            made: Made::Based,
         })
     }
 
-    /// The generation and the part of it to which a place leads. `DeadLocator` where the generation has ended, `NoRule` where
-    /// no such part stands there.
+    /// The generation and the part of it to which a place outside areas leads. `DeadLocator` where the generation has
+    /// ended, `NoRule` where no such part stands there, and for a place in a block.
     #[inline(always)]
-    fn part(&self, place: Place<'_>) -> Result<GenerationPart, StoreFault>
+    pub(crate) fn part(&self, place: Place<'_>) -> Result<GenerationPart, StoreFault>
         ensures { Leads (storage_view self.now) (place_view place.entry) result }
     {
-        let Some(at) = self.find(place.generation, place.hint) else {
+        let Some(at) = self.find(place.generation, place.hint as usize) else {
             return Err(StoreFault::Raised(RunError::DeadLocator));
         };
+        if place.position != 0 {
+            return Err(StoreFault::NoRule);
+        }
         if !is_part(
             self.generations[at].description,
             place.offset,
@@ -146,32 +156,34 @@ impl<'m> Storage<'m> {
         })
     }
 
-    /// Where the generation stands that is a number to which a place leads, if it stands where it was made: no search is
-    /// needed then.
+    /// Where the generation stands that is a number to which a place leads, if it stands where it was made: no search
+    /// is needed then.
     #[inline(always)]
     fn lone(&self, place: Place<'_>, precision: u8) -> Option<usize>
         requires { description_view place.description.now ≡ FixedBinary precision }
         ensures { IfSome result (λ at. LeadsTo (storage_view self.now) (place_view place.entry) (record { at = at; offset = 0 })) }
     {
-        let generation = self.generations.get(place.hint)?;
-        if generation.number != place.generation || place.offset != 0 {
+        let at = place.hint as usize;
+        let generation = self.generations.get(at)?;
+        if generation.number != place.generation || place.position != 0 || place.offset != 0 {
             return None;
         }
         if !is_number_of(generation.description, precision) {
             return None;
         }
-        Some(place.hint)
+        Some(at)
     }
 
-    /// The number of so many binary digits to which a place leads, if its generation stands where it was made and is that
-    /// number or an array of such numbers: no search and no walk is needed then.
+    /// The number of so many binary digits to which a place leads, if its generation stands where it was made and is
+    /// that number or an array of such numbers: no search and no walk is needed then.
     #[inline]
     fn number_part(&self, place: Place<'_>, precision: u8) -> Option<GenerationPart>
         requires { description_view place.description.now ≡ FixedBinary precision }
         ensures { IfSome result (λ part. LeadsTo (storage_view self.now) (place_view place.entry) part) }
     {
-        let generation = self.generations.get(place.hint)?;
-        if generation.number != place.generation {
+        let at = place.hint as usize;
+        let generation = self.generations.get(at)?;
+        if generation.number != place.generation || place.position != 0 {
             return None;
         }
         let offset = place.offset as usize;
@@ -183,18 +195,19 @@ impl<'m> Storage<'m> {
         ) {
             return None;
         }
-        Some(GenerationPart {
-            at: place.hint,
-            offset,
-        })
+        Some(GenerationPart { at, offset })
     }
 
-    /// What the place of a scalar holds. Only a string takes memory. `DeadLocator` where the generation has ended, `NoRule`
-    /// where the place leads to no scalar of it.
+    /// What the place of a scalar holds. Outside areas only a string takes memory. `DeadLocator` where the generation
+    /// has ended or the block, `DescriptionMismatch` where another whole description stands there, `NoRule` where the
+    /// place leads to no scalar.
     pub fn held(&self, alloc: Global, place: Place<'_>) -> Result<Value, StoreFault>
         ensures { (w : World) → Answered value_view result (with_storage self.now w) (with_storage self.now w)
             (held (place_view place.entry) (with_storage self.now w)) }
     {
+        if place.position != 0 {
+            return self.block_held(alloc, place);
+        }
         let part = self.part(place)?;
         if !is_scalar(place.description) {
             return Err(StoreFault::NoRule);
@@ -216,8 +229,8 @@ impl<'m> Storage<'m> {
         }
     }
 
-    /// The number that the place of a number of so many binary digits holds, which is not alone: in an array it is found at
-    /// once, and else by a walk.
+    /// The number that the place of a number of so many binary digits holds, which is not alone: in an array it is
+    /// found at once, and else by a walk.
     #[inline(never)]
     fn far_number(&self, place: Place<'_>, precision: u8) -> Option<i64>
         requires { description_view place.description.now ≡ FixedBinary precision }
@@ -230,8 +243,8 @@ impl<'m> Storage<'m> {
         }
     }
 
-    /// The number that the place of a scalar holds; `None` where it holds none, or nothing, of which `held` tells. That of a
-    /// number alone is found at once.
+    /// The number that the place of a scalar holds; `None` where it holds none, or nothing, and for a place in a block,
+    /// of which `held` tells. That of a number alone is found at once.
     #[inline(always)]
     pub fn number_at(&self, place: Place<'_>) -> Option<i64>
         ensures { (w : World) → IfSome result (λ x. held (place_view place.entry) (with_storage self.now w)
@@ -244,8 +257,8 @@ impl<'m> Storage<'m> {
         }
     }
 
-    /// The bit that the place of a scalar of BIT of one bit holds; `None` where it holds none, or nothing, of which `held`
-    /// tells.
+    /// The bit that the place of a scalar of BIT of one bit holds; `None` where it holds none, or nothing, and for a
+    /// place in a block, of which `held` tells.
     #[inline]
     pub fn bit_at(&self, place: Place<'_>) -> Option<bool>
         ensures { (w : World) → IfSome result (λ b. held (place_view place.entry) (with_storage self.now w)
@@ -260,7 +273,8 @@ impl<'m> Storage<'m> {
         }
     }
 
-    /// The pointer that the place of a scalar of POINTER holds; `None` where it holds none, or nothing, of which `held` tells.
+    /// The pointer that the place of a scalar of POINTER holds; `None` where it holds none, or nothing, and for a place
+    /// in a block, of which `held` tells.
     #[inline]
     pub fn pointer_at(&self, place: Place<'_>) -> Option<Locator>
         ensures { (w : World) → IfSome result (λ l. held (place_view place.entry) (with_storage self.now w)
@@ -275,8 +289,8 @@ impl<'m> Storage<'m> {
         }
     }
 
-    /// The characters that the place of a scalar holds, lent as they lie; `None` where it holds none, or nothing, of which
-    /// `held` tells.
+    /// The characters that the place of a scalar holds, lent as they lie; `None` where it holds none, or nothing, and
+    /// for a place in a block, of which `held` tells.
     #[inline]
     pub fn text_at(&self, place: Place<'_>) -> Option<&[u8]>
         ensures { (w : World) → IfSome result (λ text. held (place_view place.entry) (with_storage self.now w)
@@ -292,8 +306,9 @@ impl<'m> Storage<'m> {
         }
     }
 
-    /// Characters put behind those that the place of a scalar of CHARACTER VARYING holds, where both are no more than it may
-    /// hold and than the room; where they are not put there, nothing has changed, and `held` and `stored` tell why.
+    /// Characters put behind those that the place of a scalar of CHARACTER VARYING holds, where both are no more than
+    /// it may hold and than the room; where they are not put there, nothing has changed, and `held` and `stored` tell
+    /// why.
     #[inline]
     pub fn append(&mut self, place: Place<'_>, more: &[u8], room: usize) -> bool
         ensures { Appended result self.old self.new (place_view place.entry) more.now room }
@@ -307,14 +322,18 @@ impl<'m> Storage<'m> {
         }
     }
 
-    /// A value put at the place of a scalar. `DeadLocator` where the generation has ended, `NoRule` where the place leads to
-    /// no part of it, or to one that may not hold the value; then nothing has changed.
+    /// A value put at the place of a scalar. `DeadLocator` where the generation has ended or the block,
+    /// `DescriptionMismatch` where another whole description stands there, `NoRule` where the place leads to no part,
+    /// or to one that may not hold the value; then nothing has changed. Only in a block it takes memory.
     #[inline]
     pub fn stored(&mut self, place: Place<'_>, value: Value) -> Result<(), StoreFault>
         ensures answer { (w : World) → Answered (λ _. tt) result (with_storage self.old w) (with_storage self.new w)
             (stored (place_view place.entry) (value_view value) (with_storage self.old w)) }
         ensures err { OnErr result (SameStorage self.old self.new) }
     {
+        if place.position != 0 {
+            return self.block_stored(place, &value);
+        }
         let part = self.part(place)?;
         if !holds(place.description, &value) {
             return Err(StoreFault::NoRule);
@@ -354,8 +373,8 @@ impl<'m> Storage<'m> {
         }
     }
 
-    /// A number put at the place of a number of so many binary digits, which is not alone: in an array it is found at once,
-    /// and else by a walk.
+    /// A number put at the place of a number of so many binary digits, which is not alone: in an array it is found at
+    /// once, and else by a walk.
     #[inline(never)]
     fn put_far_number(&mut self, place: Place<'_>, precision: u8, number: i64) -> bool
         requires { description_view place.description.now ≡ FixedBinary precision }
@@ -367,8 +386,8 @@ impl<'m> Storage<'m> {
         }
     }
 
-    /// A number put at the place of a scalar; where it is not, nothing has changed, and `stored` tells why. That of a number
-    /// alone is found at once.
+    /// A number put at the place of a scalar; where it is not, nothing has changed, and `stored` tells why. That of a
+    /// number alone is found at once.
     #[inline(always)]
     pub fn put_number(&mut self, place: Place<'_>, number: i64) -> bool
         ensures { NumberPut result self.old self.new (place_view place.entry) number }
@@ -384,7 +403,8 @@ impl<'m> Storage<'m> {
         }
     }
 
-    /// A bit put at the place of a scalar of BIT of one bit; where it is not, nothing has changed, and `stored` tells why.
+    /// A bit put at the place of a scalar of BIT of one bit; where it is not, nothing has changed, and `stored` tells
+    /// why.
     #[inline]
     pub fn put_bit(&mut self, place: Place<'_>, bit: bool) -> bool
         ensures { ValuePut result self.old self.new (place_view place.entry) (Bits (bit ∷ [])) }
@@ -398,8 +418,10 @@ impl<'m> Storage<'m> {
         }
     }
 
-    /// What one place holds put at another of an equal description. `NoRule` where the descriptions differ or a place leads to
-    /// no part, `DeadLocator` where a generation has ended; then nothing has changed.
+    /// What one place holds put at another of an equal description; the source is looked at first. `NoRule` where the
+    /// descriptions differ or a place leads to no part, `DeadLocator` where a generation or a block has ended,
+    /// `DescriptionMismatch` where a block has another whole description; then nothing has changed. Takes memory only
+    /// where a place lies in a block.
     pub fn copied(&mut self, source: Place<'_>, target: Place<'_>) -> Result<(), StoreFault>
         ensures answer { (w : World) → Answered (λ _. tt) result (with_storage self.old w) (with_storage self.new w)
             (copied (place_view source.entry) (place_view target.entry) (with_storage self.old w)) }
@@ -410,6 +432,9 @@ impl<'m> Storage<'m> {
         }
         if !source.description.equals(target.description) {
             return Err(StoreFault::NoRule);
+        }
+        if source.position != 0 || target.position != 0 {
+            return self.copied_bytes(source, target);
         }
         let from = self.part(source)?;
         let to = self.part(target)?;
@@ -431,8 +456,8 @@ impl<'m> Storage<'m> {
         Some(size as usize)
     }
 
-    /// Whether there is room for a new generation of this description: no more than 4,294,967,294 are ever made, and no more
-    /// than 16,777,216 bytes live at once (own).
+    /// Whether there is room for a new generation of this description: no more than 4,294,967,294 are ever made, and no
+    /// more than 16,777,216 bytes live at once (own).
     #[inline]
     pub fn has_room(&self, description: &Description) -> bool
         ensures { RoomFor result self.now (description_view description.now) }
@@ -440,9 +465,9 @@ impl<'m> Storage<'m> {
         self.size_within(description).is_some()
     }
 
-    /// A new generation, which begins with these bytes; without any where its scalars may not hold what they should begin
-    /// with. `StorageLimit` where there is no room for it; else `NoRule` where there are no bytes, or `OutOfMemory`. After an
-    /// error nothing has changed.
+    /// A new generation, which begins with these bytes, an area without blocks; without bytes where its scalars may not
+    /// hold what they should begin with. `StorageLimit` where there is no room for it; else `NoRule` where there are no
+    /// bytes, or `OutOfMemory`. After an error nothing has changed.
     pub fn make(
         &mut self,
         description: &'m Description,
@@ -464,9 +489,9 @@ impl<'m> Storage<'m> {
         }
     }
 
-    /// A new generation for a dummy argument, which begins with a value, and which the newest activation has to note among
-    /// those that it prepares. `NoRule` where the description may not hold the value; else `StorageLimit` where there is no
-    /// room for it, or `OutOfMemory`. After an error nothing has changed.
+    /// A new generation for a dummy argument, which begins with a value, and which the newest activation has to note
+    /// among those that it prepares. `NoRule` where the description may not hold the value; else `StorageLimit` where
+    /// there is no room for it, or `OutOfMemory`. After an error nothing has changed.
     #[inline(always)]
     pub fn make_dummy(
         &mut self,
@@ -510,18 +535,14 @@ impl<'m> Storage<'m> {
         ensures err { OnErr result (SameStorage self.old self.new) }
     {
         let size = bytes.len() as u32;
-        let place = Place {
-            generation: self.made,
-            offset: 0,
-            description,
-            whole: description,
-            hint: self.generations.len(),
-        };
+        let area = new_area(self.alloc, description)?;
+        let place = Place::of_whole(self.made, 0, self.generations.len() as u32, description);
         let generation = Generation {
             number: self.made,
             description,
             made,
             bytes,
+            area,
         };
         if self.generations.push(generation).is_err() {
             return Err(StoreFault::OutOfMemory);
@@ -531,8 +552,8 @@ impl<'m> Storage<'m> {
         Ok(place)
     }
 
-    /// The generations of these numbers end; a number of which none lives changes nothing. Fast where the newest stand last
-    /// among the numbers.
+    /// The generations of these numbers end; a number of which none lives changes nothing. Fast where the newest stand
+    /// last among the numbers.
     pub fn end(&mut self, numbers: &[u32])
         ensures storage { storage_view self.new ≡ without numbers.now (storage_view self.old) }
         ensures made { made_count self.new ≡ made_count self.old }

@@ -17,8 +17,8 @@ use Rattle.pli_resolve.specs.declared.built_in.BuiltInFunction.{BuiltInFunction}
 use Rattle.pli_type.specs.AllocationTyping.{in_turn, only_variable, place_given, kept_for, allocated, all_allocated, freed}
 use Rattle.pli_type.specs.Checked.{checked, unless_unbuilt, typed_as}
 use Rattle.pli_type.specs.ExpressionTypes.{TypedValue}
-use Rattle.pli_type.specs.FunctionCalls.{Denoted, DenotesVariable, DenotesResult, Meant, OneValue, WholeAggregate}
-use Rattle.pli_type.specs.FunctionCalls.{Argument, function_called, or_bad_argument}
+use Rattle.pli_type.specs.FunctionCalls.{Denoted, DenotesVariable, DenotesResult, DenotesEmpty, Meant, OneValue}
+use Rattle.pli_type.specs.FunctionCalls.{WholeAggregate, Argument, function_called, or_bad_argument}
 use Rattle.pli_type.specs.Names.{NamedAs, AVariable, AFunction, AProcedure, ALabel, Untyped, NamedVariable}
 use Rattle.pli_type.specs.Names.{NamedProcedure, NamedUnit, Naming}
 use Rattle.pli_type.specs.ProcedureCalls.{arguments_passed, or_wrong_argument, result_of}
@@ -28,9 +28,11 @@ use Rattle.pli_type.specs.StatementTyping as statements
 use Rattle.pli_type.specs.StatementTyping.{WithProcedures}
 use Rattle.pli_type.specs.Temporaries.{Next}
 use Rattle.pli_type.specs.Typing as typing
-use Rattle.pli_type.specs.Typing.{Segment, OfVariable, OfFunction, OfNoVariable, or_fault, first_token, denoted}
+use Rattle.pli_type.specs.Typing.{Segment, OfVariable, OfFunction, OfEmpty, OfNoVariable, or_fault, first_token, own_token}
+use Rattle.pli_type.specs.Typing.{denoted}
 use Rattle.pli_type.specs.Typing.{referred, joined, begun, is_call, all_subscripts, subscripts_in, all_arguments}
 use Rattle.pli_type.specs.Typing.{as_value, one_value, ended, with_more, as_locator}
+use Rattle.pli_type.specs.declared.beginning.Beginning.{Beginning}
 use Rattle.pli_type.specs.declared.expression_type.ExpressionType.{ExpressionType}
 use Rattle.pli_type.specs.laws.Laws.{is_of_types, AreOfTypes, IsFault, IsToldOfTypes, FaultsAreOfTypes}
 use Rattle.pli_type_tree.specs.TypedTree.{Callee, TypedExpression, TypedArguments, TypedRange, TypedStatements}
@@ -80,6 +82,7 @@ only_settled role locator at v xs (Some p) = only_if _ _ _ (told _ _ refl) (only
 only_ended : (role : Role) (s : Segment) → Only (ended role s)
 only_ended role (OfVariable locator at v xs) = only_then _ _ (only_settled role locator at v xs _) (λ r. fine _)
 only_ended role (OfFunction value) = fine _
+only_ended role OfEmpty = fine _
 only_ended role (OfNoVariable at) = told _ _ refl
 
 -- expressions
@@ -104,10 +107,10 @@ only_result : (at : ℕ) (callee : Callee) (arguments : TypedArguments) (o : Opt
 only_result at callee arguments None = told _ _ refl
 only_result at callee arguments (Some kind) = fine _
 
-only_procedure : (greatest : ℕ) (p : NamedProcedure) (at : ℕ) (gs : List Argument)
-    → Only (typing.procedure_called greatest p at gs)
-only_procedure greatest p at gs =
-    only_then _ _ (only_passed greatest p at gs)
+only_procedure : (n : Naming) (p : NamedProcedure) (at : ℕ) (gs : List Argument)
+    → Only (typing.procedure_called n p at gs)
+only_procedure n p at gs =
+    only_then _ _ (only_passed n.greatest p at gs)
     (λ passed. only_then _ _ (only_result at p.callee passed _) (λ v. fine _))
 
 only_given : (at : ℕ) (o : Option TypedValue) → Only (or_bad_argument at o)
@@ -160,7 +163,7 @@ mutual
   only_begun n (AFunction function) true locator at Absent = fine _
   only_begun n (AFunction function) false locator at Absent = fine _
   only_begun n (AProcedure p) true locator at (Given list) =
-      only_then _ _ (only_arguments n [] list) (λ gs. only_procedure n.greatest p at gs)
+      only_then _ _ (only_arguments n [] list) (λ gs. only_procedure n p at gs)
   only_begun n (AProcedure p) false locator at (Given list) =
       only_then _ _ (only_arguments n [] list) (λ gs. fine _)
   only_begun n (AProcedure p) true locator at Absent = fine _
@@ -203,13 +206,24 @@ only_aggregate : (equals : ℕ) (target : Referent) (m : Meant)
 only_aggregate equals target (OneValue v) = told _ _ refl
 only_aggregate equals target (WholeAggregate source) = only_if _ _ _ (fine _) (told _ _ refl)
 
+only_scalar : (n : Naming) (equals : ℕ) (target : Referent) (e : Expression)
+    → Only (statements.scalar_assigned n equals target e)
+only_scalar n equals target e =
+    only_then _ _ (only_value_of n e) (λ v. only_then _ _ (only_or CannotAssign equals _ refl) (λ x. fine _))
+
+only_area : (n : Naming) (equals : ℕ) (target : Option Beginning) (e : Expression)
+    → Only (statements.area_assigned n equals target e)
+only_area n equals target e =
+    only_then _ _ (only_denoted n AsValue e) (λ d. only_or CannotAssign equals _ refl)
+
 only_assigned : (n : Naming) (at equals : ℕ) (d : Denoted) (e : Expression)
     → Only (statements.assigned n at equals d e)
 only_assigned n at equals (DenotesVariable target) e =
     only_if _ _ _
     (only_then _ _ (only_then _ _ (only_denoted n AsArgument e) (λ d. fine _)) (λ m. only_aggregate equals target m))
-    (only_then _ _ (only_value_of n e) (λ v. only_then _ _ (only_or CannotAssign equals _ refl) (λ x. fine _)))
+    (only_if _ _ _ (only_area n equals _ e) (only_scalar n equals target e))
 only_assigned n at equals (DenotesResult value) e = told _ _ refl
+only_assigned n at equals DenotesEmpty e = told _ _ refl
 
 only_items : (n : Naming) (es : List Expression) → Only (statements.items n es)
 only_items n [] = fine _
@@ -247,16 +261,16 @@ only_call n name arguments =
     only_then _ _ (only_given_arguments n arguments)
     (λ gs. only_call_of n.greatest name.at (n.meaning name.at) gs)
 
-only_returned : (greatest at first begins : ℕ) (d : Option Description) (v : TypedValue)
-    → Only (statements.returned_value greatest at first begins d v)
-only_returned greatest at first begins None v = told _ _ refl
-only_returned greatest at first begins (Some d) v = only_then _ _ (only_or CannotAssign first _ refl) (λ x. fine _)
+only_returned : (greatest : ℕ) (area : Option Beginning) (at first begins : ℕ) (d : Option Description) (v : TypedValue)
+    → Only (statements.returned_value greatest area at first begins d v)
+only_returned greatest area at first begins None v = told _ _ refl
+only_returned greatest area at first begins (Some d) v = only_then _ _ (only_or CannotAssign first _ refl) (λ x. fine _)
 
 only_return : (n : Naming) (s : statements.Surroundings) (at : ℕ) (value : Option Expression)
     → Only (statements.return_typed n s at value)
 only_return n s at None = only_if _ _ _ (fine _) (told _ _ refl)
 only_return n s at (Some e) =
-    only_then _ _ (only_value_of n e) (λ v. only_returned n.greatest at (first_token e) s.begins s.value v)
+    only_then _ _ (only_value_of n e) (λ v. only_returned n.greatest _ at (first_token e) s.begins s.value v)
 
 only_in_turn : {A B : Type 0} (each : A → Result B Fault) → ((x : A) → Only (each x)) → (xs : List A) → Only (in_turn each xs)
 only_in_turn each only [] = fine _
@@ -265,6 +279,7 @@ only_in_turn each only (x ∷ xs) = only_then _ _ (only x) (λ y. only_then _ _ 
 only_a_variable : (at : ℕ) (d : Denoted) → Only (only_variable at d)
 only_a_variable at (DenotesVariable r) = fine _
 only_a_variable at (DenotesResult value) = told _ _ refl
+only_a_variable at DenotesEmpty = told _ _ refl
 
 only_place : (n : Naming) (o : Option Reference) → Only (place_given n o)
 only_place n None = fine _
@@ -313,19 +328,20 @@ only_suited at range r true = fine _
 only_suited at range r false = told _ _ refl
 
 only_controls : (at : ℕ) (is_located : Bool) (range : TypedRange) (d : Denoted) → Only (statements.controls at is_located range d)
-only_controls at is_located range (DenotesResult value) = told _ _ refl
 only_controls at is_located range (DenotesVariable r) = only_if _ _ _ (only_suited at range r _) (told _ _ refl)
+only_controls at is_located range (DenotesResult value) = told _ _ refl
+only_controls at is_located range DenotesEmpty = told _ _ refl
 
 only_possible_condition : (n : Naming) (o : Option Expression) → Only (statements.possible_condition n o)
 only_possible_condition n None = fine _
 only_possible_condition n (Some e) = only_then _ _ (only_condition n e) (λ x. fine _)
 
-only_repeat : (n : Naming) (d : Description) (kept : TypedRange) (range : Option tree.Range)
-    → Only (statements.with_repeat n d kept range)
-only_repeat n d kept None = fine _
-only_repeat n d kept (Some (tree.To to by)) = fine _
-only_repeat n d kept (Some (tree.By by to)) = fine _
-only_repeat n d kept (Some (tree.Repeat next)) =
+only_repeat : (n : Naming) (r : Referent) (kept : TypedRange) (range : Option tree.Range)
+    → Only (statements.with_repeat n r kept range)
+only_repeat n r kept None = fine _
+only_repeat n r kept (Some (tree.To to by)) = fine _
+only_repeat n r kept (Some (tree.By by to)) = fine _
+only_repeat n r kept (Some (tree.Repeat next)) =
     only_then _ _ (only_value_of n next) (λ v. only_then _ _ (only_or CannotAssign (first_token next) _ refl) (λ x. fine _))
 
 only_iteration : (n : Naming) (temporary : ℕ) (variable : Reference) (equals : ℕ) (first : Expression)
@@ -335,10 +351,10 @@ only_iteration n temporary variable equals first range tested =
     only_then _ _ (only_value_of n first)
     (λ v. only_then _ _ (only_limits n range)
     (λ kept. only_then _ _ (only_referred n AsLocator variable)
-    (λ d. only_then _ _ (only_controls (first_token (Referred variable)) (statements.has_locator variable) kept d)
+    (λ d. only_then _ _ (only_controls (own_token variable) (statements.has_locator variable) kept d)
     (λ r. only_then _ _ (only_or CannotAssign equals _ refl)
     (λ operations. only_then _ _ (only_possible_condition n tested)
-    (λ x. only_then _ _ (only_repeat n r.description kept range) (λ turns. fine _)))))))
+    (λ x. only_then _ _ (only_repeat n r kept range) (λ turns. fine _)))))))
 
 -- faults of a statement and of those in it
 Told : {A : Type 0} → Result A (List Fault) → Type 0

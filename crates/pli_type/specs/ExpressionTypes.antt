@@ -20,10 +20,13 @@ use Rattle.pli_operation.specs.declared.operation.Operation.TheVariants.{Concate
 use Rattle.pli_operation.specs.declared.operation.Relation.{Relation}
 use Rattle.pli_operation.specs.declared.operation.Relation.TheVariants.{Equal, Unequal, Less, AtMost, Greater}
 use Rattle.pli_operation.specs.declared.operation.Relation.TheVariants.{AtLeast}
+use Rattle.pli_type.specs.Beginnings.{whole_at}
+use Rattle.pli_type.specs.declared.beginning.Beginning.{Beginning}
 use Rattle.pli_type.specs.declared.expression_type.ExpressionType.{ExpressionType}
 use Rattle.pli_type.specs.declared.expression_type.ExpressionType.TheVariants as types
 use Rattle.pli_type_tree.specs.TypedTree.{TypedExpression, Literal, Calculated, Operands, NoOperand}
-use Rattle.pli_type_tree.specs.TypedTree.{OperandThen, TypedOperation, Fit, Operate}
+use Rattle.pli_type_tree.specs.TypedTree.{OperandThen, TypedOperation, Fit, Operate, AsPointer, AsOffset}
+use Rattle.pli_type_tree.specs.TypedTree.{Conversion, ByOperations, AsPointerIn, AsOffsetIn}
 use Rattle.pli_value.specs.Value.{Number, Characters, Bits, Located}
 use Rattle.pli_value.specs.declared.locator.Locator.TheVariants as locators
 
@@ -71,16 +74,17 @@ width_of (types.FixedDecimal digits) = Some (columns digits)
 width_of (types.FixedBinary precision) = Some (columns (decimal_digits precision))
 width_of other = None
 
--- the type of what a variable holds; an aggregate has none
-abbrev pub type_of : Description → Option ExpressionType
-type_of (described.FixedBinary precision) = Some (types.FixedBinary precision)
-type_of (described.Character n) = Some types.Characters
-type_of (described.Varying n) = Some types.Characters
-type_of (described.Bit n) = Some types.Bits
-type_of described.Pointer = Some types.Pointer
-type_of described.Offset = Some types.Offset
-type_of (described.Area n) = Some types.Area
-type_of aggregate = None
+-- the type of what a variable holds, whose declaration names this area if it is an OFFSET; an aggregate has
+-- none
+abbrev pub type_of : (area : Option Beginning) → Description → Option ExpressionType
+type_of area (described.FixedBinary precision) = Some (types.FixedBinary precision)
+type_of area (described.Character n) = Some types.Characters
+type_of area (described.Varying n) = Some types.Characters
+type_of area (described.Bit n) = Some types.Bits
+type_of area described.Pointer = Some types.Pointer
+type_of area described.Offset = Some (types.Offset area)
+type_of area (described.Area n) = Some types.Area
+type_of area aggregate = None
 
 -- a constant: of the digits that are written, leading zeros too
 abbrev pub constant : ConstantValue → TypedValue
@@ -92,9 +96,18 @@ constant (constants.Characters text) =
     record { expression = Literal (Characters text); kind = types.Characters }
 constant (constants.Bits bits) = record { expression = Literal (Bits bits); kind = types.Bits }
 
--- NULL; beside a POINTER, and where one is wanted, it is the null pointer
+-- NULL; it is the null pointer, but beside an OFFSET, and where one is wanted, it is the null offset
 abbrev pub null_value : TypedValue
 null_value = record { expression = Literal (Located locators.Null); kind = types.Null }
+
+-- the null offset
+abbrev pub null_offset : TypedExpression
+null_offset = Literal (Located (locators.Offset 0))
+
+-- EMPTY where it is no area that is assigned: nothing takes a value of its type, so what it holds does not
+-- matter
+abbrev pub empty_value : TypedValue
+empty_value = record { expression = Literal (Located locators.Null); kind = types.Area }
 
 -- operations on typed expressions
 
@@ -185,23 +198,53 @@ compared greatest relation left right None =
     option_map (λ v. as_bits v.expression)
     (on_numbers greatest (Compare relation) (sum_precision greatest) left right)
 
--- a pointer, or NULL
-abbrev pub is_pointer : ExpressionType → Bool
-is_pointer types.Pointer = true
-is_pointer types.Null = true
-is_pointer other = false
+-- a POINTER, an OFFSET or NULL
+abbrev pub is_locator : ExpressionType → Bool
+is_locator types.Pointer = true
+is_locator types.Null = true
+is_locator (types.Offset area) = true
+is_locator other = false
 
--- pointers are equal or not; none is less than another
-abbrev pub pointers_compared : Relation → (left right : TypedExpression) → Option TypedValue
-pointers_compared Equal left right = Some (as_bits (with_two (Compare Equal) left right))
-pointers_compared Unequal left right = Some (as_bits (with_two (Compare Unequal) left right))
-pointers_compared relation left right = None
+-- a locator as a pointer: an OFFSET is one in the area that it names
+abbrev pub as_pointer : TypedExpression → ExpressionType → Option TypedExpression
+as_pointer e types.Pointer = Some e
+as_pointer e types.Null = Some e
+as_pointer e (types.Offset (Some area)) = Some (AsPointer (whole_at area) e)
+as_pointer e other = None
 
--- a comparison takes two pointers, two strings, or else two numbers
+-- a locator as an offset of this area; a POINTER becomes none where no area is named
+abbrev pub as_offset : (area : Option Beginning) → TypedExpression → ExpressionType → Option TypedExpression
+as_offset area e (types.Offset other) = Some e
+as_offset area e types.Null = Some null_offset
+as_offset (Some area) e types.Pointer = Some (AsOffset (whole_at area) e)
+as_offset area e other = None
+
+-- two locators are compared as offsets where one is an OFFSET, and the other one too, or NULL
+abbrev pub are_offsets : (left right : ExpressionType) → Bool
+are_offsets (types.Offset area) (types.Offset other) = true
+are_offsets (types.Offset area) types.Null = true
+are_offsets types.Null (types.Offset area) = true
+are_offsets left right = false
+
+-- locators are equal or not; none is less than another
+abbrev pub locators_compared : Relation → (left right : Option TypedExpression) → Option TypedValue
+locators_compared Equal (Some left) (Some right) = Some (as_bits (with_two (Compare Equal) left right))
+locators_compared Unequal (Some left) (Some right) = Some (as_bits (with_two (Compare Unequal) left right))
+locators_compared relation left right = None
+
+-- two locators that are not compared as offsets are compared as pointers
+abbrev pub locators_beside : Relation → (left right : TypedValue) → Option TypedValue
+locators_beside relation left right =
+    if are_offsets left.kind right.kind
+    then locators_compared relation (as_offset None left.expression left.kind)
+    (as_offset None right.expression right.kind)
+    else locators_compared relation (as_pointer left.expression left.kind)
+    (as_pointer right.expression right.kind)
+
+-- a comparison takes two locators, two strings, or else two numbers
 abbrev pub comparison : (greatest : ℕ) → Relation → (left right : TypedValue) → Option TypedValue
 comparison greatest relation left right =
-    if is_pointer left.kind && is_pointer right.kind
-    then pointers_compared relation left.expression right.expression
+    if is_locator left.kind && is_locator right.kind then locators_beside relation left right
     else compared greatest relation left right (string_type left.kind right.kind)
 
 -- `||` takes two strings
@@ -258,10 +301,6 @@ abbrev pub only_bits : TypedExpression → ExpressionType → Option TypedExpres
 only_bits e types.Bits = Some e
 only_bits e other = None
 
--- a pointer, or NULL, stands where a POINTER is assigned
-abbrev pub only_pointer : TypedExpression → ExpressionType → Option TypedExpression
-only_pointer e kind = if is_pointer kind then Some e else None
-
 -- a value of this type for a variable of this description: FIXED from FIXED, BIT from BIT, CHARACTER from
 -- CHARACTER, BIT and FIXED
 abbrev pub suited : (greatest : ℕ) → Description → TypedExpression → ExpressionType → Option TypedExpression
@@ -271,11 +310,14 @@ suited greatest (described.Varying n) e kind = as_characters e kind
 suited greatest (described.Bit n) e kind = only_bits e kind
 suited greatest other e kind = None
 
--- a value that suits a variable is fitted to its description, also where it has the type already; a pointer
--- needs no fitting
-abbrev pub converted : (greatest : ℕ) → Description → TypedValue → Option TypedExpression
-converted greatest described.Pointer v = only_pointer v.expression v.kind
-converted greatest d v = option_map (with_one (Fit d)) (suited greatest d v.expression v.kind)
+-- a value that suits a variable is fitted to its description, also where it has the type already; locators
+-- are not fitted: a POINTER takes an OFFSET that names an area as a pointer, and an OFFSET of this area a
+-- pointer as an offset
+abbrev pub converted : (greatest : ℕ) → (area : Option Beginning) → Description → TypedValue
+    → Option TypedExpression
+converted greatest area described.Pointer v = as_pointer v.expression v.kind
+converted greatest area described.Offset v = as_offset area v.expression v.kind
+converted greatest area d v = option_map (with_one (Fit d)) (suited greatest d v.expression v.kind)
 
 -- the operations that make characters of a value of this type, one after the other, where it needs any
 abbrev pub string_conversions : ExpressionType → Option (List TypedOperation)
@@ -296,14 +338,40 @@ suiting greatest (described.Varying n) kind = string_conversions kind
 suiting greatest (described.Bit n) kind = bit_conversions kind
 suiting greatest other kind = None
 
--- those that make a pointer of it: none, and only of a pointer or NULL
-abbrev pub pointer_conversions : ExpressionType → Option (List TypedOperation)
-pointer_conversions kind = if is_pointer kind then Some [] else None
+-- what makes a pointer of it
+abbrev pub pointer_conversion : ExpressionType → Option Conversion
+pointer_conversion types.Pointer = Some (ByOperations [])
+pointer_conversion types.Null = Some (ByOperations [])
+pointer_conversion (types.Offset (Some area)) = Some (AsPointerIn (whole_at area))
+pointer_conversion other = None
 
--- and behind them the one that fits to the variable's range or length; a pointer needs none
-abbrev pub conversions : (greatest : ℕ) → Description → ExpressionType → Option (List TypedOperation)
-conversions greatest described.Pointer kind = pointer_conversions kind
-conversions greatest d kind = option_map (λ operations. operations ++ Fit d ∷ []) (suiting greatest d kind)
+-- what makes an offset of this area of it
+abbrev pub offset_conversion : (area : Option Beginning) → ExpressionType → Option Conversion
+offset_conversion area (types.Offset other) = Some (ByOperations [])
+offset_conversion area types.Null = Some (ByOperations [])
+offset_conversion (Some area) types.Pointer = Some (AsOffsetIn (whole_at area))
+offset_conversion area other = None
+
+-- what converts a value of a type to a variable of this description, whose declaration names this area if it
+-- is an OFFSET: what makes it suit that, and behind it the operation that fits to the variable's range or
+-- length; a locator is not fitted
+abbrev pub conversion : (greatest : ℕ) → (area : Option Beginning) → Description → ExpressionType
+    → Option Conversion
+conversion greatest area described.Pointer kind = pointer_conversion kind
+conversion greatest area described.Offset kind = offset_conversion area kind
+conversion greatest area d kind =
+    option_map (λ operations. ByOperations (operations ++ Fit d ∷ [])) (suiting greatest d kind)
+
+-- NULL as an offset, and any other value as it stands
+abbrev pub null_as_offset : TypedExpression → ExpressionType → TypedExpression
+null_as_offset e types.Null = null_offset
+null_as_offset e other = e
+
+-- a value that is kept before it is converted to a variable of this description: NULL is an offset where that
+-- is an OFFSET
+abbrev pub unconverted : Description → TypedValue → TypedExpression
+unconverted described.Offset v = null_as_offset v.expression v.kind
+unconverted d v = v.expression
 
 -- what PUT prints of a value of this type: characters and bits as they stand, a number as characters; no
 -- locator and no area

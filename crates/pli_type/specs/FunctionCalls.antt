@@ -16,22 +16,27 @@ use Rattle.pli_operation.specs.declared.operation.Operation.TheVariants.{Absolut
 use Rattle.pli_operation.specs.declared.operation.Operation.TheVariants.{Greatest, Least, Modulo}
 use Rattle.pli_operation.specs.declared.operation.Operation.TheVariants.{Divide as DivideTo, Index as IndexOf}
 use Rattle.pli_operation.specs.declared.operation.Operation.TheVariants.{Rest, Substring as SubstringOf}
+use Rattle.pli_type.specs.Beginnings.{area_meant, whole_at}
 use Rattle.pli_type.specs.ExpressionTypes.{precisions}
 use Rattle.pli_type.specs.ExpressionTypes.{TypedValue, type_of}
 use Rattle.pli_type.specs.ExpressionTypes.{precision_of, count_precision, all_operands, null_value}
+use Rattle.pli_type.specs.ExpressionTypes.{empty_value}
 use Rattle.pli_type.specs.References.{Role, AsValue, AsArgument, Referent}
 use Rattle.pli_type_tree.specs.TypedTree.{NewestOf, Operate, TypedExpression, Literal, Held, Calculated}
-use Rattle.pli_type_tree.specs.TypedTree.{Generations, Address, TypedReference, Whole}
+use Rattle.pli_type_tree.specs.TypedTree.{Generations, Address, AsPointer, AsOffset, TypedReference, Whole}
 use Rattle.pli_value.specs.Value.{Number}
+use Rattle.pli_type.specs.declared.beginning.Beginning.{Beginning}
 use Rattle.pli_type.specs.declared.expression_type.ExpressionType.{ExpressionType}
 use Rattle.pli_type.specs.declared.expression_type.ExpressionType.TheVariants as types
 use Rattle.pli_resolve.specs.declared.built_in.BuiltInFunction.{BuiltInFunction}
 use Rattle.pli_resolve.specs.declared.built_in.BuiltInFunction.TheVariants as functions
 
--- what an expression denotes: a variable or a part of one, where it is a reference to that; else a value
+-- what an expression denotes: a variable or a part of one, where it is a reference to that; EMPTY, where it
+-- is that alone; else a value
 pub data Denoted : Type 0 where
   DenotesVariable : (referent : Referent) → Denoted
   DenotesResult : (value : TypedValue) → Denoted
+  DenotesEmpty : Denoted
 
 -- what it is: one value, or a whole aggregate
 pub data Meant : Type 0 where
@@ -40,7 +45,7 @@ pub data Meant : Type 0 where
 
 -- a variable or a part of one that is a scalar has a value
 abbrev pub meant_by : Referent → Meant
-meant_by r = held (type_of r.description)
+meant_by r = held (type_of r.area r.description)
   where
     held : Option ExpressionType → Meant
     held None = WholeAggregate r
@@ -50,6 +55,7 @@ meant_by r = held (type_of r.description)
 abbrev pub meant_as : Denoted → Meant
 meant_as (DenotesVariable r) = meant_by r
 meant_as (DenotesResult value) = OneValue value
+meant_as DenotesEmpty = OneValue empty_value
 
 -- an argument, and the number that it is if it is a decimal constant and nothing else
 pub record Argument : Type 0 where
@@ -81,9 +87,9 @@ two = AsValue ∷ AsValue ∷ []
 abbrev pub three : List Role
 three = AsValue ∷ AsValue ∷ AsValue ∷ []
 
--- for what the arguments of a function stand, where it may have so many: SUBSTR has two or three, NULL none.
--- The array of LBOUND and HBOUND and the variable of ALLOCATION are not evaluated, and the number of a
--- dimension and the precision of DIVIDE are constants
+-- for what the arguments of a function stand, where it may have so many: SUBSTR has two or three, NULL and
+-- EMPTY none. The array of LBOUND and HBOUND and the variable of ALLOCATION are not evaluated, and the number
+-- of a dimension and the precision of DIVIDE are constants
 abbrev pub roles_of : BuiltInFunction → (given : ℕ) → Option (List Role)
 roles_of functions.Abs given = exactly given one
 roles_of functions.Sign given = exactly given one
@@ -99,7 +105,9 @@ roles_of functions.HighBound given = exactly given (AsArgument ∷ AsArgument �
 roles_of functions.Allocation given = exactly given (AsArgument ∷ [])
 roles_of functions.Address given = exactly given (AsArgument ∷ [])
 roles_of functions.Null given = exactly given []
-roles_of function given = None
+roles_of functions.Empty given = exactly given []
+roles_of functions.Pointer given = exactly given two
+roles_of functions.Offset given = exactly given two
 
 -- the type of what a function gives, by those of its arguments
 
@@ -211,7 +219,7 @@ generations_in reference = None
 -- ALLOCATION of an argument
 abbrev pub generations_of : Denoted → Option TypedValue
 generations_of (DenotesVariable r) = generations_in r.reference
-generations_of (DenotesResult value) = None
+generations_of denoted = None
 
 -- a pointer to a whole variable at level 1 that is no parameter
 abbrev pub address_in : (is_parameter : Bool) → TypedReference → Option TypedValue
@@ -221,7 +229,33 @@ address_in is_parameter reference = None
 -- ADDR of an argument
 abbrev pub address_of : Denoted → Option TypedValue
 address_of (DenotesVariable r) = address_in r.is_parameter r.reference
-address_of (DenotesResult value) = None
+address_of denoted = None
+
+-- where the area begins that an argument is, if it is the reference of one
+abbrev pub area_of : Denoted → Option Beginning
+area_of (DenotesVariable r) = area_meant r.reference r.description
+area_of denoted = None
+
+-- an offset, whatever area its own declaration names, as a pointer into an area; NULL is none
+abbrev pub offset_within : (area : Beginning) → TypedExpression → ExpressionType → Option TypedValue
+offset_within area e (types.Offset other) =
+    Some (record { expression = AsPointer (whole_at area) e; kind = types.Pointer })
+offset_within area e kind = None
+
+-- a pointer, NULL too, as an offset of an area; its type names none
+abbrev pub pointer_within : (area : Beginning) → TypedExpression → ExpressionType → Option TypedValue
+pointer_within area e types.Pointer =
+    Some (record { expression = AsOffset (whole_at area) e; kind = types.Offset None })
+pointer_within area e types.Null =
+    Some (record { expression = AsOffset (whole_at area) e; kind = types.Offset None })
+pointer_within area e kind = None
+
+-- what POINTER and OFFSET, which make something of a locator within an area, give of one value
+abbrev pub located_within : ((area : Beginning) → TypedExpression → ExpressionType → Option TypedValue)
+    → Meant
+    → Option Beginning → Option TypedValue
+located_within make (OneValue v) (Some area) = make area v.expression v.kind
+located_within make meant area = None
 
 -- the one value that an argument is
 abbrev pub value_in : Meant → Option TypedValue
@@ -250,6 +284,11 @@ of_arguments greatest functions.HighBound (a ∷ n ∷ []) =
 of_arguments greatest functions.Allocation (a ∷ []) = generations_of a.denoted
 of_arguments greatest functions.Address (a ∷ []) = address_of a.denoted
 of_arguments greatest functions.Null [] = Some null_value
+of_arguments greatest functions.Empty [] = Some empty_value
+of_arguments greatest functions.Pointer (o ∷ a ∷ []) =
+    located_within offset_within (meant_as o.denoted) (area_of a.denoted)
+of_arguments greatest functions.Offset (p ∷ a ∷ []) =
+    located_within pointer_within (meant_as p.denoted) (area_of a.denoted)
 of_arguments greatest function arguments = option_and_then (of_values greatest function) (values_in arguments)
 
 -- T13 at the function's name where it does not take the arguments

@@ -1,4 +1,5 @@
 pub mod AllocationTyping
+pub mod Beginnings
 pub mod Checked
 pub mod ExpressionTypes
 pub mod FunctionCalls

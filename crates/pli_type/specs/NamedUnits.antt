@@ -1,7 +1,8 @@
 -- A resolved unit as types see it: where its variables begin, what its names mean, and what its variables are
 -- made from. A name is looked at from where it is used: what the blocks around are says how many static links
 -- outward a variable is.
-use Rattle.std.specs.Prelude.{ℕ, zero, suc, ◌+◌, nat_eq, nat_lt, nat_le, Bool, true, false, ◌&&◌, map, length}
+use Rattle.std.specs.Prelude.{ℕ, zero, suc, ◌+◌, nat_eq, nat_lt, nat_le, Bool, true, false, ◌&&◌, ◌||◌, map}
+use Rattle.std.specs.Prelude.{length}
 use Rattle.std.specs.Prelude.{unsigned_abs, Option, Some, None, option_map, option_and_then, List, [], ◌∷◌}
 use Rattle.std.specs.Prelude.{◌++◌, get_or, replicate, take, slice_get, Result, if◌then◌else◌}
 use Rattle.std.specs.List.{flat_map}
@@ -12,6 +13,7 @@ use Rattle.pli_declare_attributes.specs.declared.completed.ScopeAttribute.TheVar
 use Rattle.pli_map.specs.Description as described
 use Rattle.pli_map.specs.Description.{Description, FixedBinary, Character, Varying, Bit, Array, Structure}
 use Rattle.pli_map.specs.Description.{Members, NoMembers, MemberThen}
+use Rattle.pli_map.specs.Scalars.{is_area}
 use Rattle.pli_map.specs.Sizes.{count_of, size_of}
 use Rattle.pli_map.specs.declared.description.Bounds.{Bounds}
 use Rattle.pli_program.specs.declared.kind.VariableKind.{VariableKind}
@@ -25,16 +27,17 @@ use Rattle.pli_resolve.specs.declared.symbol.NameMeaning.TheVariants as meanings
 use Rattle.pli_resolve.specs.declared.symbol.StorageClass.{StorageClass}
 use Rattle.pli_resolve.specs.declared.symbol.StorageClass.TheVariants as classes
 use Rattle.pli_resolve.specs.declared.symbol.SymbolKey.{SymbolKey}
+use Rattle.pli_type.specs.Beginnings.{beginning_of}
 use Rattle.pli_type.specs.Checked.{checked}
 use Rattle.pli_type.specs.InitialScalars.{InitialItem, template_of}
 use Rattle.pli_type.specs.Names.{NamedAs, AVariable, AFunction, AProcedure, ALabel, Untyped, NamedProcedure}
-use Rattle.pli_type.specs.Names.{Naming, Compiled, NamedUnit, NamedStorage, Begins, IsBased}
-use Rattle.pli_type.specs.References.{StridedPart, part_on, pointer_at, reference_to, whole_part}
+use Rattle.pli_type.specs.Names.{Naming, Compiled, NamedUnit, NamedStorage, Begins, IsBased, LocatorVariable}
+use Rattle.pli_type.specs.References.{StridedPart, part_on, locator_at, reference_to, whole_part}
 use Rattle.pli_type.specs.TextOrder.{in_order, text_places}
-use Rattle.pli_type.specs.Unbuilt.{is_later_function}
+use Rattle.pli_type.specs.declared.beginning.Beginning.{Beginning}
 use Rattle.pli_type_tree.specs.Templates.{Template}
 use Rattle.pli_type_tree.specs.TypedTree.{OfBlock, OfEntry, Global, OwnVariable, ExternalVariable, EntryPoint}
-use Rattle.pli_type_tree.specs.TypedTree.{Root, InSlot, OfProgram, NewestOf, TypedReference, TypedUnit}
+use Rattle.pli_type_tree.specs.TypedTree.{Root, InSlot, OfProgram, NewestOf, TypedUnit}
 
 -- which variables there are
 
@@ -49,8 +52,8 @@ are_bounds (b ∷ bs) =
     nat_le (unsigned_abs b.low) 32768 && nat_le (unsigned_abs b.high) 32768 && are_bounds bs
 
 abbrev mutual
-  -- a description of numbers, strings and pointers alone, within the language's limits, as all variables have
-  -- that are compiled: numbers of so many digits at most, strings of such lengths, arrays with elements and
+  -- a description of numbers, strings and locators alone, within the language's limits, as all variables have
+  -- that are no areas: numbers of so many digits at most, strings of such lengths, arrays with elements and
   -- such bounds, and structures with members
   pub is_plain : (greatest : ℕ) → Description → Bool
   is_plain greatest (FixedBinary precision) = nat_le precision greatest
@@ -58,6 +61,7 @@ abbrev mutual
   is_plain greatest (Varying n) = is_length n
   is_plain greatest (Bit n) = is_length n
   is_plain greatest described.Pointer = true
+  is_plain greatest described.Offset = true
   is_plain greatest (Array (b ∷ bs) element) =
       nat_lt 0 (count_of (b ∷ bs)) && are_bounds (b ∷ bs) && is_plain greatest element
   is_plain greatest (Structure (MemberThen d ds)) = is_plain greatest d && all_plain greatest ds
@@ -68,9 +72,17 @@ abbrev mutual
   all_plain greatest NoMembers = true
   all_plain greatest (MemberThen d ds) = is_plain greatest d && all_plain greatest ds
 
--- such a description, of at most 1,000,000 bytes
+-- such a description, of at most 1,000,000 bytes: it is one of values
+abbrev pub is_valued : (greatest : ℕ) → Description → Bool
+is_valued greatest d = is_plain greatest d && nat_le (size_of d) 1000000
+
+-- what a variable of its own may be: an area too, which stands nowhere else
+abbrev pub may_stand : (greatest : ℕ) → Description → Bool
+may_stand greatest d = is_area d || is_plain greatest d
+
+-- the same, of so many bytes
 abbrev pub is_stored : (greatest : ℕ) → Description → Bool
-is_stored greatest d = is_plain greatest d && nat_le (size_of d) 1000000
+is_stored greatest d = may_stand greatest d && nat_le (size_of d) 1000000
 
 -- an AUTOMATIC variable of it
 abbrev pub is_automatic : (greatest : ℕ) → StorageClass → Description → Bool
@@ -83,9 +95,9 @@ is_global greatest classes.Static d = is_stored greatest d
 is_global greatest classes.Controlled d = is_stored greatest d
 is_global greatest class d = false
 
--- a BASED variable of it
+-- a BASED variable, which is no area
 abbrev pub is_based : (greatest : ℕ) → StorageClass → Description → Bool
-is_based greatest (classes.Based locator) d = is_stored greatest d
+is_based greatest (classes.Based locator) d = is_valued greatest d
 is_based greatest class d = false
 
 -- how the generations of such a variable come
@@ -137,11 +149,26 @@ returned_by (Some s) = of_kind s.kind
     of_kind (Procedure block returned area) = returned
     of_kind other = None
 
+-- the symbol of the name of a procedure
+abbrev pub name_of : ResolvedUnit → (block : ℕ) → Option SymbolKey
+name_of r block = of_block (λ b. if is_procedure b.kind then b.name else None) None (slice_get r.blocks block)
+
 -- what a procedure gives, by the symbol of its name
 abbrev pub returned_of : ResolvedUnit → (block : ℕ) → Option Description
-returned_of r block =
-    option_and_then (λ key. returned_by (symbol_at r key))
-    (of_block (λ b. if is_procedure b.kind then b.name else None) None (slice_get r.blocks block))
+returned_of r block = option_and_then (λ key. returned_by (symbol_at r key)) (name_of r block)
+
+-- the area that OFFSET in the RETURNS of the procedure of this symbol names
+abbrev pub area_returned_by : Option Symbol → Option SymbolKey
+area_returned_by None = None
+area_returned_by (Some s) = of_kind s.kind
+  where
+    of_kind : SymbolKind → Option SymbolKey
+    of_kind (Procedure block returned area) = area
+    of_kind other = None
+
+-- the same of a procedure, by the symbol of its name
+abbrev pub returned_area_of : ResolvedUnit → (block : ℕ) → Option SymbolKey
+returned_area_of r block = option_and_then (λ key. area_returned_by (symbol_at r key)) (name_of r block)
 
 -- where variables begin
 
@@ -160,7 +187,7 @@ such_before is_such (s ∷ ss) (suc number) = one_such is_such s.kind + such_bef
 abbrev pub one_global : (greatest : ℕ) → SymbolKind → ℕ
 one_global greatest (Variable description class scope initial area) =
     if is_global greatest class description then 1 else 0
-one_global greatest (Entry parameters returned) = 1
+one_global greatest (Entry parameters returned area) = 1
 one_global greatest kind = 0
 
 -- how many globals there are before the symbol of this number
@@ -233,47 +260,87 @@ root_of greatest r blocks key classes.Controlled d =
     if is_stored greatest d then Some (NewestOf (global_number greatest r key)) else None
 root_of greatest r blocks key class d = None
 
--- where storage is
+-- where areas begin
 
--- a POINTER without dimensions, as a reference
-abbrev pub pointer_part : Root → (path : List ℕ) → Option StridedPart → Option TypedReference
-pointer_part root path None = None
-pointer_part root path (Some p) =
-    if nat_eq (length p.strides) 0 then pointer_at (reference_to root path p []) p.description else None
+-- where an area begins, if this is one that begins somewhere: it is no member of a variable
+abbrev pub area_on : (path : List ℕ) → (whole : Description) → Option Root → Option Beginning
+area_on [] (described.Area bytes) root = option_and_then beginning_of root
+area_on path whole root = None
 
--- the same, if the variable begins somewhere, of this description, or a member of it on this way
-abbrev pub pointer_on : Option Root → (whole : Description) → (path : List ℕ) → Option TypedReference
-pointer_on None whole path = None
-pointer_on (Some root) whole path = pointer_part root path (part_on (whole_part whole) path)
-
--- the same of a variable of its own, or a member of it on this way; one that is BASED begins nowhere
-abbrev pub pointer_in : (greatest : ℕ) → ResolvedUnit → (blocks : List ℕ) → SymbolKey → (path : List ℕ)
-    → Option Symbol → Option TypedReference
-pointer_in greatest r blocks key path None = None
-pointer_in greatest r blocks key path (Some s) = of_kind s.kind
+-- the same of a variable of its own, or a member of it on this way
+abbrev pub area_in : (greatest : ℕ) → ResolvedUnit → (blocks : List ℕ) → SymbolKey → (path : List ℕ)
+    → Option Symbol → Option Beginning
+area_in greatest r blocks key path None = None
+area_in greatest r blocks key path (Some s) = of_kind s.kind
   where
-    of_kind : SymbolKind → Option TypedReference
+    of_kind : SymbolKind → Option Beginning
     of_kind (Variable description class scope initial area) =
-        pointer_on (root_of greatest r blocks key class description) description path
+        area_on path description (root_of greatest r blocks key class description)
     of_kind other = None
 
--- the POINTER that a symbol is
-abbrev pub pointer_meant : (greatest : ℕ) → ResolvedUnit → (blocks : List ℕ) → SymbolKey → Option Symbol
-    → Option TypedReference
-pointer_meant greatest r blocks key None = None
-pointer_meant greatest r blocks key (Some s) = of_kind s.kind
+-- where the area begins that a symbol is
+abbrev pub area_at : (greatest : ℕ) → ResolvedUnit → (blocks : List ℕ) → SymbolKey → Option Symbol
+    → Option Beginning
+area_at greatest r blocks key None = None
+area_at greatest r blocks key (Some s) = of_kind s.kind
   where
-    of_kind : SymbolKind → Option TypedReference
+    of_kind : SymbolKind → Option Beginning
     of_kind (Member root path initial area) =
-        pointer_in greatest r blocks (record { block = key.block; number = root }) path
+        area_in greatest r blocks (record { block = key.block; number = root }) path
         (slice_get (block_symbols r key.block) root)
-    of_kind other = pointer_in greatest r blocks key [] (Some s)
+    of_kind other = area_in greatest r blocks key [] (Some s)
 
--- the POINTER that BASED names, seen from the blocks around; none where it names none, or what is no POINTER
-abbrev pub pointer_named : (greatest : ℕ) → ResolvedUnit → (blocks : List ℕ) → Option SymbolKey
-    → Option TypedReference
-pointer_named greatest r blocks None = None
-pointer_named greatest r blocks (Some key) = pointer_meant greatest r blocks key (symbol_at r key)
+-- the area that OFFSET names, seen from the blocks around; none where it names none
+abbrev pub area_named : (greatest : ℕ) → ResolvedUnit → (blocks : List ℕ) → Option SymbolKey
+    → Option Beginning
+area_named greatest r blocks None = None
+area_named greatest r blocks (Some key) = area_at greatest r blocks key (symbol_at r key)
+
+-- where storage is
+
+-- a locator without dimensions, of this area if it is an OFFSET
+abbrev pub locator_part : Root → (path : List ℕ) → (area : Option Beginning) → Option StridedPart
+    → Option LocatorVariable
+locator_part root path area None = None
+locator_part root path area (Some p) =
+    if nat_eq (length p.strides) 0 then locator_at (reference_to root path p []) p.description area else None
+
+-- the same, if the variable begins somewhere, of this description, or a member of it on this way
+abbrev pub locator_on : Option Root → (whole : Description) → (path : List ℕ) → (area : Option Beginning)
+    → Option LocatorVariable
+locator_on None whole path area = None
+locator_on (Some root) whole path area = locator_part root path area (part_on (whole_part whole) path)
+
+-- the same of a variable of its own, or a member of it on this way; one that is BASED begins nowhere
+abbrev pub locator_in : (greatest : ℕ) → ResolvedUnit → (blocks : List ℕ) → SymbolKey → (path : List ℕ)
+    → (area : Option Beginning) → Option Symbol → Option LocatorVariable
+locator_in greatest r blocks key path area None = None
+locator_in greatest r blocks key path area (Some s) = of_kind s.kind
+  where
+    of_kind : SymbolKind → Option LocatorVariable
+    of_kind (Variable description class scope initial named) =
+        locator_on (root_of greatest r blocks key class description) description path area
+    of_kind other = None
+
+-- the locator that a symbol is
+abbrev pub locator_meant : (greatest : ℕ) → ResolvedUnit → (blocks : List ℕ) → SymbolKey → Option Symbol
+    → Option LocatorVariable
+locator_meant greatest r blocks key None = None
+locator_meant greatest r blocks key (Some s) = of_kind s.kind
+  where
+    of_kind : SymbolKind → Option LocatorVariable
+    of_kind (Member root path initial area) =
+        locator_in greatest r blocks (record { block = key.block; number = root }) path
+        (area_named greatest r blocks area) (slice_get (block_symbols r key.block) root)
+    of_kind (Variable description class scope initial area) =
+        locator_in greatest r blocks key [] (area_named greatest r blocks area) (Some s)
+    of_kind other = None
+
+-- the locator that BASED names, seen from the blocks around; none where it names none, or what leads nowhere
+abbrev pub locator_named : (greatest : ℕ) → ResolvedUnit → (blocks : List ℕ) → Option SymbolKey
+    → Option LocatorVariable
+locator_named greatest r blocks None = None
+locator_named greatest r blocks (Some key) = locator_meant greatest r blocks key (symbol_at r key)
 
 -- its slot is a parameter's
 abbrev pub is_passed_class : StorageClass → Bool
@@ -284,31 +351,32 @@ is_passed_class class = false
 abbrev pub storage_of : (greatest : ℕ) → ResolvedUnit → (blocks : List ℕ) → SymbolKey → StorageClass
     → Description → Option NamedStorage
 storage_of greatest r blocks key (classes.Based locator) d =
-    if is_stored greatest d
+    if is_valued greatest d
     then Some (IsBased key.block
     (such_before (is_based greatest) (block_symbols r key.block) key.number)
-    (pointer_named greatest r blocks locator))
+    (locator_named greatest r blocks locator))
     else None
 storage_of greatest r blocks key class d =
     option_map (λ root. Begins root (is_passed_class class)) (root_of greatest r blocks key class d)
 
 -- what names mean
 
--- a variable, or a member of it, where it has storage
-abbrev pub variable_from : Option NamedStorage → (whole : Description) → (path : List ℕ) → NamedAs
-variable_from None whole path = Untyped
-variable_from (Some storage) whole path =
-    AVariable (record { storage = storage; whole = whole; path = path })
+-- a variable, or a member of it, where it has storage; and the area that its OFFSET names
+abbrev pub variable_from : Option NamedStorage → (whole : Description) → (path : List ℕ)
+    → (area : Option Beginning) → NamedAs
+variable_from None whole path area = Untyped
+variable_from (Some storage) whole path area =
+    AVariable (record { storage = storage; whole = whole; path = path; area = area })
 
 -- a variable of its own, or its member on this way
 abbrev pub variable_at : (greatest : ℕ) → ResolvedUnit → (blocks : List ℕ) → SymbolKey → (path : List ℕ)
-    → Option Symbol → NamedAs
-variable_at greatest r blocks key path None = Untyped
-variable_at greatest r blocks key path (Some s) = of_kind s.kind
+    → (area : Option Beginning) → Option Symbol → NamedAs
+variable_at greatest r blocks key path area None = Untyped
+variable_at greatest r blocks key path area (Some s) = of_kind s.kind
   where
     of_kind : SymbolKind → NamedAs
-    of_kind (Variable description class scope initial area) =
-        variable_from (storage_of greatest r blocks key class description) description path
+    of_kind (Variable description class scope initial named) =
+        variable_from (storage_of greatest r blocks key class description) description path area
     of_kind other = Untyped
 
 -- what stands directly in a block around, or in none
@@ -325,40 +393,53 @@ abbrev pub is_reached : (blocks : List ℕ) → Option ResolvedBlock → Bool
 is_reached blocks None = false
 is_reached blocks (Some b) = is_procedure b.kind && stands_around blocks b.outer
 
--- a procedure gives nothing, or what a variable could hold
+-- a procedure gives nothing, or values that a variable could hold
 abbrev pub gives_stored : (greatest : ℕ) → Option Description → Bool
 gives_stored greatest None = true
-gives_stored greatest (Some d) = is_stored greatest d
+gives_stored greatest (Some d) = is_valued greatest d
 
--- the procedure that is this block, with what it takes and gives
-abbrev pub named_procedure : ResolvedUnit → (block : ℕ) → NamedProcedure
-named_procedure r block =
-    record { callee = OfBlock block; parameters = parameters_of r block; returned = returned_of r block }
+-- the procedure that is this block, with what it takes and gives, seen from the blocks around
+abbrev pub named_procedure : (greatest : ℕ) → ResolvedUnit → (blocks : List ℕ) → (block : ℕ)
+    → NamedProcedure
+named_procedure greatest r blocks block = record {
+  callee = OfBlock block;
+  parameters = parameters_of r block;
+  returned = returned_of r block;
+  area = area_named greatest r blocks (returned_area_of r block);
+}
 
 -- its name means it where it is reached and gives what a variable could hold
 abbrev pub procedure_named : (greatest : ℕ) → ResolvedUnit → (blocks : List ℕ) → (block : ℕ) → NamedAs
 procedure_named greatest r blocks block =
     if is_reached blocks (slice_get r.blocks block) && gives_stored greatest (returned_of r block)
-    then AProcedure (named_procedure r block) else Untyped
+    then AProcedure (named_procedure greatest r blocks block) else Untyped
 
--- an external procedure, by its entry
-abbrev pub entry_named : (greatest : ℕ) → (number : ℕ) → List Description → Option Description → NamedAs
-entry_named greatest number parameters returned =
+-- an external procedure, by its entry, with the area that its RETURNS names
+abbrev pub entry_named : (greatest : ℕ) → (number : ℕ) → List Description → Option Description
+    → (area : Option Beginning) → NamedAs
+entry_named greatest number parameters returned area =
     if gives_stored greatest returned
-    then AProcedure (record { callee = OfEntry number; parameters = parameters; returned = returned })
+    then AProcedure (record {
+      callee = OfEntry number;
+      parameters = parameters;
+      returned = returned;
+      area = area;
+    })
     else Untyped
 
 -- what a name means, by what its symbol is
 abbrev pub symbol_meant : (greatest : ℕ) → ResolvedUnit → (blocks : List ℕ) → SymbolKey → SymbolKind → NamedAs
 symbol_meant greatest r blocks key (Variable description class scope initial area) =
     variable_from (storage_of greatest r blocks key class description) description []
+    (area_named greatest r blocks area)
 symbol_meant greatest r blocks key (Member root path initial area) =
     variable_at greatest r blocks (record { block = key.block; number = root }) path
-    (slice_get (block_symbols r key.block) root)
+    (area_named greatest r blocks area) (slice_get (block_symbols r key.block) root)
 symbol_meant greatest r blocks key (Label statement) = ALabel statement
 symbol_meant greatest r blocks key (Procedure block returned area) = procedure_named greatest r blocks block
-symbol_meant greatest r blocks key (Entry parameters returned) =
+symbol_meant greatest r blocks key (Entry parameters returned area) =
     entry_named greatest (global_number greatest r key) parameters returned
+    (area_named greatest r blocks area)
 symbol_meant greatest r blocks key BuiltIn = Untyped
 
 -- what a declared name means, by its symbol
@@ -375,12 +456,6 @@ named_as greatest r blocks None = Untyped
 named_as greatest r blocks (Some (meanings.BuiltIn function)) = AFunction function
 named_as greatest r blocks (Some (meanings.Symbol key)) = declared_as greatest r blocks key
 
--- the name of a function that is not compiled yet
-abbrev pub means_later : Option NameMeaning → Bool
-means_later None = false
-means_later (Some (meanings.BuiltIn function)) = is_later_function function
-means_later (Some (meanings.Symbol key)) = false
-
 -- storage is that of a BASED variable, and no member stands on the way
 abbrev pub is_based_whole : NamedStorage → (path : List ℕ) → Bool
 is_based_whole (IsBased block number implied) [] = true
@@ -391,12 +466,10 @@ abbrev pub names_based : NamedAs → Bool
 names_based (AVariable v) = is_based_whole v.storage v.path
 names_based meant = false
 
--- which names are those of functions that are not compiled yet, and which those of BASED variables; the
--- blocks around say nothing of that
+-- which names are those of BASED variables; the blocks around say nothing of that
 abbrev pub compiled_of : (greatest : ℕ) → ResolvedUnit → Compiled
 compiled_of greatest r = record {
   greatest = greatest;
-  is_later = λ at. means_later (meaning_at r at);
   is_based = λ at. names_based (named_as greatest r [] (meaning_at r at));
 }
 
@@ -437,6 +510,7 @@ abbrev pub naming_of : (greatest : ℕ) → ResolvedUnit → (blocks : List ℕ)
 naming_of greatest r blocks = record {
   greatest = greatest;
   based = λ block. templates_of (is_based greatest) (block_symbols r block);
+  returned_area = λ block. area_named greatest r blocks (returned_area_of r block);
   meaning = λ at. named_as greatest r blocks (meaning_at r at);
 }
 
@@ -453,7 +527,7 @@ abbrev pub global_with : (greatest : ℕ) → (all : List Symbol) → (number : 
 global_with greatest all number name (Variable description class scope initial area) =
     map (global_of scope (kind_of_class class) name)
     (template_at (is_global greatest) all number (Variable description class scope initial area))
-global_with greatest all number name (Entry parameters returned) =
+global_with greatest all number name (Entry parameters returned area) =
     EntryPoint name (record { parameters = parameters; result = returned }) ∷ []
 global_with greatest all number name kind = []
 

@@ -3,28 +3,39 @@ use Rattle.std.specs.Prelude.{ℕ, Bool, Option, List}
 use Rattle.pli_base.specs.Statements.{ExternalProcedure}
 use Rattle.pli_map.specs.Description.{Description}
 use Rattle.pli_resolve.specs.declared.built_in.BuiltInFunction.{BuiltInFunction}
+use Rattle.pli_type.specs.declared.beginning.Beginning.{Beginning}
 use Rattle.pli_type_tree.specs.Templates.{Template}
 use Rattle.pli_type_tree.specs.TypedTree.{Callee, Global, Root, TypedReference}
 
+-- a variable that leads to BASED ones: a POINTER; or an OFFSET, with the area that its declaration names,
+-- seen from where it is used
+pub data LocatorVariable : Type 0 where
+  OfPointer : (reference : TypedReference) → LocatorVariable
+  OfOffset : (reference : TypedReference) (area : Beginning) → LocatorVariable
+
 -- where the storage of a variable is, seen from where its name is used: where it begins, and whether it is a
 -- parameter; or, of the BASED variable of a number among those of a block, wherever a locator leads, which is
--- the POINTER that BASED names where no other is written, if it names one
+-- the one that BASED names where no other is written, if it names one
 pub data NamedStorage : Type 0 where
   Begins : (root : Root) (is_parameter : Bool) → NamedStorage
-  IsBased : (block number : ℕ) (implied : Option TypedReference) → NamedStorage
+  IsBased : (block number : ℕ) (implied : Option LocatorVariable) → NamedStorage
 
 -- a variable of its own, or a member of one: where the variable's storage is, the description of the whole
--- variable, and the members on the way, each counted from 0
+-- variable, and the members on the way, each counted from 0; and the area that OFFSET in its declaration
+-- names, seen from where its name is used
 pub record NamedVariable : Type 0 where
   pub storage : NamedStorage
   pub whole : Description
   pub path : List ℕ
+  pub area : Option Beginning
 
--- a procedure: what a call of it calls, what its parameters are, and what it gives if it is a function
+-- a procedure: what a call of it calls, what its parameters are, what it gives if it is a function, and the
+-- area that OFFSET in its RETURNS names, seen from where its name is used
 pub record NamedProcedure : Type 0 where
   pub callee : Callee
   pub parameters : List Description
   pub returned : Option Description
+  pub area : Option Beginning
 
 -- what a name means where it is used: a variable, a built-in function, a procedure, the label of a statement,
 -- or what has no type
@@ -36,19 +47,19 @@ pub data NamedAs : Type 0 where
   Untyped : NamedAs
 
 -- how many binary digits numbers have at most; what the BASED variables of a block are made from, in the
--- order of the text; and what the name at a token means: the first name of each reference between arrows, the
--- name in CALL and in ALLOCATE, and the label in GOTO
+-- order of the text; the area that OFFSET names in the RETURNS of the function that is a block, seen from
+-- here; and what the name at a token means: the first name of each reference between arrows, the name in CALL
+-- and in ALLOCATE, and the label in GOTO
 pub record Naming : Type 0 where
   pub greatest : ℕ
   pub based : (block : ℕ) → List Template
+  pub returned_area : (block : ℕ) → Option Beginning
   pub meaning : (at : ℕ) → NamedAs
 
--- what is compiled so far, as it shows in names and constants: how many binary digits numbers have at most,
--- and at which tokens stands the name of a function that is not compiled yet; and at which stands that of a
--- BASED variable, for which ALLOCATE has a temporary
+-- how many binary digits numbers have at most, and at which tokens stands the name of a BASED variable, for
+-- which ALLOCATE has a temporary
 pub record Compiled : Type 0 where
   pub greatest : ℕ
-  pub is_later : (at : ℕ) → Bool
   pub is_based : (at : ℕ) → Bool
 
 -- a unit without faults of declarations: its tree; what is compiled; what its names mean where these blocks

@@ -1,6 +1,6 @@
 -- Calls of procedures: how arguments are handed over, and what a function gives (X3.74; the order of faults
 -- is own).
-use Rattle.std.specs.Prelude.{ℕ, nat_eq, Option, Some, None, List, [], ◌∷◌, length, Result, Ok}
+use Rattle.std.specs.Prelude.{ℕ, nat_eq, Option, Some, None, option_map, List, [], ◌∷◌, length, Result, Ok}
 use Rattle.std.specs.Prelude.{if◌then◌else◌}
 use Rattle.pli_base.specs.Reading.{at_fault}
 use Rattle.pli_base.specs.declared.code.Code.TheVariants.{WrongNumberOfArguments, WrongArgument}
@@ -8,22 +8,31 @@ use Rattle.pli_base.specs.declared.code.Code.TheVariants.{NotCallableHere}
 use Rattle.pli_base.specs.declared.token.Fault.{Fault}
 use Rattle.pli_map.specs.Description.{Description}
 use Rattle.pli_map.specs.Same.{same}
+use Rattle.pli_map.specs.Scalars.{is_area}
+use Rattle.pli_type.specs.Beginnings.{area_meant, whole_at}
 use Rattle.pli_type.specs.ExpressionTypes.{TypedValue, converted, type_of}
-use Rattle.pli_type.specs.FunctionCalls.{Denoted, DenotesVariable, DenotesResult, Meant, OneValue}
+use Rattle.pli_type.specs.FunctionCalls.{Denoted, DenotesVariable, Meant, OneValue}
 use Rattle.pli_type.specs.FunctionCalls.{WholeAggregate, meant_as, Argument}
 use Rattle.pli_type.specs.Names.{NamedProcedure}
+use Rattle.pli_type.specs.declared.beginning.Beginning.{Beginning}
 use Rattle.pli_type.specs.declared.expression_type.ExpressionType.{ExpressionType}
-use Rattle.pli_type_tree.specs.TypedTree.{Callee, TypedExpression, Called, TypedReference, TypedArguments}
-use Rattle.pli_type_tree.specs.TypedTree.{NoArgument, ByPlace, ByDummy}
+use Rattle.pli_type_tree.specs.TypedTree.{Callee, TypedExpression, Called, TypedReference}
+use Rattle.pli_type_tree.specs.TypedTree.{TypedArguments, NoArgument, ByPlace, ByDummy}
+
+-- the place that a reference to what is of this description hands over: that of a whole area, where it is one
+abbrev pub place_of : TypedReference → Description → Option TypedReference
+place_of reference d = if is_area d then option_map whole_at (area_meant reference d) else Some reference
 
 -- a variable of the very description of the parameter is handed over itself
 abbrev pub passed_place : Description → Denoted → Option TypedReference
-passed_place d (DenotesVariable r) = if same r.description d then Some r.reference else None
-passed_place d (DenotesResult value) = None
+passed_place d (DenotesVariable r) =
+    if same r.description d then place_of r.reference r.description else None
+passed_place d denoted = None
 
--- any other value is converted to it, and a dummy argument holds it
+-- any other value is converted to it, and a dummy argument holds it; a pointer does not become an offset for
+-- an OFFSET
 abbrev pub passed_value : (greatest : ℕ) → Description → Meant → Option TypedExpression
-passed_value greatest d (OneValue v) = converted greatest d v
+passed_value greatest d (OneValue v) = converted greatest None d v
 passed_value greatest d (WholeAggregate r) = None
 
 -- an argument is handed over by its place, if it can be, or else by its value
@@ -65,7 +74,8 @@ abbrev pub result_of : (at : ℕ) → Callee → TypedArguments → Option Expre
 result_of at callee arguments None = at_fault NotCallableHere at
 result_of at callee arguments (Some kind) = Ok (record { expression = Called callee arguments; kind = kind })
 
--- the type of what a procedure gives; one that gives nothing, or an aggregate, has none
-abbrev pub type_returned : Option Description → Option ExpressionType
-type_returned None = None
-type_returned (Some d) = type_of d
+-- the type of what a procedure gives, whose RETURNS names this area if it gives an OFFSET; one that gives
+-- nothing, or an aggregate, has none
+abbrev pub type_returned : (area : Option Beginning) → Option Description → Option ExpressionType
+type_returned area None = None
+type_returned area (Some d) = type_of area d

@@ -12,9 +12,12 @@ use Rattle.pli_map.specs.Parts.{member_behind}
 use Rattle.pli_map.specs.Scalars.{is_aggregate}
 use Rattle.pli_map.specs.Sizes.{count_of, stride_of}
 use Rattle.pli_map.specs.declared.description.Bounds.{Bounds}
-use Rattle.pli_type.specs.Names.{NamedStorage, Begins, IsBased, NamedVariable}
+use Rattle.pli_type.specs.Beginnings.{whole_at}
+use Rattle.pli_type.specs.Names.{NamedStorage, Begins, IsBased, NamedVariable, LocatorVariable, OfPointer}
+use Rattle.pli_type.specs.Names.{OfOffset}
+use Rattle.pli_type.specs.declared.beginning.Beginning.{Beginning}
 use Rattle.pli_type_tree.specs.TypedTree.{Root, Located, Stride, TypedExpression, Held, TypedReference}
-use Rattle.pli_type_tree.specs.TypedTree.{Whole, Part}
+use Rattle.pli_type_tree.specs.TypedTree.{AsPointer, Whole, Part}
 use Rattle.pli_type_tree.specs.TypedTree.{Subscripts, NoSubscript, SubscriptThen}
 
 -- for what a reference stands: for one value; for an argument, or for what is assigned to an aggregate, which
@@ -99,38 +102,46 @@ abbrev pub reference_to : Root → (path : List ℕ) → StridedPart → List Ty
 reference_to root [] p [] = Whole root
 reference_to root path p xs = Part root p.offset p.description (subscripts_at p.strides xs)
 
--- a variable or a part of one, a scalar or an aggregate, with its description; whether it is, or is in, a
--- parameter
+-- a variable or a part of one, a scalar, an area or an aggregate, with its description; whether it is, or is
+-- in, a parameter; and the area that OFFSET in its declaration names
 pub record Referent : Type 0 where
   pub reference : TypedReference
   pub description : Description
   pub is_parameter : Bool
+  pub area : Option Beginning
 
 -- where references begin
 
--- a reference to what is a POINTER
-abbrev pub pointer_at : TypedReference → Description → Option TypedReference
-pointer_at reference described.Pointer = Some reference
-pointer_at reference d = None
+-- a reference to what leads to BASED variables: a POINTER, or an OFFSET whose declaration names an area
+abbrev pub locator_at : TypedReference → Description → (area : Option Beginning) → Option LocatorVariable
+locator_at reference described.Pointer area = Some (OfPointer reference)
+locator_at reference described.Offset (Some area) = Some (OfOffset reference area)
+locator_at reference d area = None
 
--- what stands in front of a name: no arrow, or an arrow behind a POINTER, which holds this, or behind what is
--- no POINTER
+-- the pointer that such a variable gives: an offset is one in its area
+abbrev pub pointer_of : LocatorVariable → TypedExpression
+pointer_of (OfPointer reference) = Held reference
+pointer_of (OfOffset reference area) = AsPointer (whole_at area) (Held reference)
+
+-- what stands in front of a name: no arrow, or an arrow behind a locator, which gives this pointer, or behind
+-- what leads nowhere
 pub data LocatorBefore : Type 0 where
   NotLocated : LocatorBefore
   LocatedBy : (locator : TypedExpression) → LocatorBefore
   LocatedWrongly : LocatorBefore
 
--- a locator in front of an arrow
-abbrev pub locator_held : TypedReference → Description → LocatorBefore
-locator_held reference described.Pointer = LocatedBy (Held reference)
-locator_held reference d = LocatedWrongly
+-- a locator in front of an arrow, if one stands there
+abbrev pub located_by : Option LocatorVariable → LocatorBefore
+located_by None = LocatedWrongly
+located_by (Some locator) = LocatedBy (pointer_of locator)
 
 -- where a reference begins that is in storage of this description: where that begins, if no locator stands in
 -- front of it; or where the locator of a BASED variable leads: a written one takes the place of the one that
 -- BASED names
 abbrev pub root_by : NamedStorage → (whole : Description) → LocatorBefore → Option Root
 root_by (Begins root is_parameter) whole NotLocated = Some root
-root_by (IsBased block number (Some implied)) whole NotLocated = Some (Located (Held implied) whole)
+root_by (IsBased block number (Some implied)) whole NotLocated =
+    Some (Located (pointer_of implied) whole)
 root_by (IsBased block number implied) whole (LocatedBy locator) = Some (Located locator whole)
 root_by storage whole locator = None
 
@@ -139,8 +150,8 @@ abbrev pub is_passed : NamedStorage → Bool
 is_passed (Begins root is_parameter) = is_parameter
 is_passed (IsBased block number implied) = false
 
--- T10 where a reference begins nowhere: without a locator that is a POINTER, where the variable is BASED, or
--- with a locator, where it is not
+-- T10 where a reference begins nowhere: without a locator that is a POINTER or an OFFSET which names an area,
+-- where the variable is BASED, or with a locator, where it is not
 abbrev pub begins_somewhere : (at : ℕ) → Option Referent → Result Referent Fault
 begins_somewhere at None = at_fault LocatorMissingOrNotAllowed at
 begins_somewhere at (Some r) = Ok r
@@ -157,6 +168,7 @@ referent_from v xs p root = record {
   reference = reference_to root v.path p xs;
   description = p.description;
   is_parameter = is_passed v.storage;
+  area = v.area;
 }
 
 -- a reference to a variable, with all its subscripts; T3 where their number is wrong

@@ -1,15 +1,15 @@
 -- Typed statements: a statement gives a typed one, or its first fault of types and those of the statements in
 -- it. An IF and a DO have a fault of their own, and so has each statement in them (own).
 use Rattle.std.specs.Prelude.{ℕ, suc, ◌+◌, nat_eq, Bool, true, false, not, ◌&&◌, Option, Some, None}
-use Rattle.std.specs.Prelude.{is_none, option_map}
-use Rattle.std.specs.Prelude.{List, [], ◌∷◌, ◌++◌, length, map, Result, Ok, Err, if◌then◌else◌}
+use Rattle.std.specs.Prelude.{is_none, option_map, option_and_then}
+use Rattle.std.specs.Prelude.{List, [], ◌∷◌, ◌++◌, length, map, slice_get, Result, Ok, Err, if◌then◌else◌}
 use Rattle.std.specs.List.{list_any}
 use Rattle.pli_base.specs.Results.{◌>>=◌}
 use Rattle.pli_base.specs.Reading.{at_fault}
 use Rattle.pli_base.specs.Statements as tree
 use Rattle.pli_base.specs.Statements.{Range, Statement, Numbered, Body, Assign, Declare, Statements}
 use Rattle.pli_base.specs.Statements.{Before, Ended, Allocation, Alternative}
-use Rattle.pli_base.specs.Syntax.{Expression, Referred, Reference, Named, JoinedParts, Alone, Joined}
+use Rattle.pli_base.specs.Syntax.{Expression, Reference, Named, JoinedParts, Alone, Joined}
 use Rattle.pli_base.specs.Syntax.{Arguments, Absent, Given}
 use Rattle.pli_base.specs.declared.syntax.Joining.TheVariants.{Member, Located}
 use Rattle.pli_base.specs.declared.code.Code.TheVariants.{NotAVariable, CannotAssign, NotCallableHere}
@@ -19,22 +19,25 @@ use Rattle.pli_base.specs.declared.syntax.Identifier.{Identifier}
 use Rattle.pli_base.specs.declared.token.Fault.{Fault}
 use Rattle.pli_map.specs.Description.{Description, FixedBinary}
 use Rattle.pli_map.specs.Same.{same}
-use Rattle.pli_map.specs.Scalars.{is_aggregate}
+use Rattle.pli_map.specs.Scalars.{is_aggregate, is_area}
 use Rattle.pli_type.specs.AllocationTyping.{in_turn, all_allocated, freed}
-use Rattle.pli_type.specs.ExpressionTypes.{TypedValue, conversions, converted, precision_of, printed}
-use Rattle.pli_type.specs.FunctionCalls.{Denoted, DenotesVariable, DenotesResult, Meant, OneValue}
-use Rattle.pli_type.specs.FunctionCalls.{WholeAggregate, Argument}
+use Rattle.pli_type.specs.Beginnings.{area_meant, whole_at}
+use Rattle.pli_type.specs.ExpressionTypes.{TypedValue, conversion, converted, precision_of, printed}
+use Rattle.pli_type.specs.ExpressionTypes.{unconverted}
+use Rattle.pli_type.specs.FunctionCalls.{Denoted, DenotesVariable, DenotesEmpty, area_of}
+use Rattle.pli_type.specs.FunctionCalls.{Meant, OneValue, WholeAggregate, Argument}
 use Rattle.pli_type.specs.Names.{NamedAs, AProcedure, ALabel, Naming, NamedUnit}
 use Rattle.pli_type.specs.ProcedureCalls.{arguments_passed}
-use Rattle.pli_type.specs.References.{AsArgument, AsLocator, AsTarget, Referent}
+use Rattle.pli_type.specs.References.{AsArgument, AsLocator, AsTarget, AsValue, Referent}
 use Rattle.pli_type.specs.Temporaries.{Next, behind, temporaries_among, limits_kept}
-use Rattle.pli_type.specs.Typing.{first_token, or_fault, meant, referred, value_of, all_arguments}
+use Rattle.pli_type.specs.Typing.{first_token, own_token, or_fault, meant, denoted, referred, value_of}
+use Rattle.pli_type.specs.Typing.{all_arguments}
 use Rattle.pli_type_tree.specs.TypedTree as typed
-use Rattle.pli_type_tree.specs.TypedTree.{Callee, TypedExpression, Held, TypedReference, Whole, Part}
-use Rattle.pli_type_tree.specs.TypedTree.{Subscripts}
+use Rattle.pli_type_tree.specs.TypedTree.{Callee, TypedExpression, TypedReference, Whole, Part}
 use Rattle.pli_type_tree.specs.TypedTree.{NoSubscript, SubscriptThen, BlockHead, TypedRange, Iteration, Form}
 use Rattle.pli_type_tree.specs.TypedTree.{TypedArguments, TypedStatement, TypedStatements, NoStatement}
 use Rattle.pli_type_tree.specs.TypedTree.{StatementThen, OtherWise, NoElse, Else, TypedProcedure}
+use Rattle.pli_type.specs.declared.beginning.Beginning.{Beginning}
 use Rattle.pli_type.specs.declared.expression_type.ExpressionType.{ExpressionType}
 use Rattle.pli_type.specs.declared.expression_type.ExpressionType.TheVariants as types
 
@@ -49,19 +52,38 @@ aggregate_assigned equals target (WholeAggregate source) =
     else at_fault CannotAssign equals
 
 -- to a scalar one value is assigned, an aggregate being T2 there; T5 at `=` where the value does not suit
-abbrev pub scalar_assigned : Naming → (equals : ℕ) → (target : TypedReference) → Description → Expression
-    → Result Form Fault
-scalar_assigned n equals target d e = do
+abbrev pub scalar_assigned : Naming → (equals : ℕ) → (target : Referent) → Expression → Result Form Fault
+scalar_assigned n equals target e = do
   v ← value_of n e
-  x ← or_fault CannotAssign equals (converted n.greatest d v)
-  Ok (typed.Assign target x)
+  x ← or_fault CannotAssign equals (converted n.greatest target.area target.description v)
+  Ok (typed.Assign target.reference x)
+
+-- to an area another one is assigned, or EMPTY, but nothing in parentheses
+abbrev pub area_put : (target : Option Beginning) → Denoted → Option Form
+area_put None d = None
+area_put (Some target) DenotesEmpty = Some (typed.EmptyArea (whole_at target))
+area_put (Some target) d =
+    option_map (λ source. typed.AssignArea (whole_at target) (whole_at source)) (area_of d)
+
+-- the same: an aggregate is T2 there, and anything else T5 at `=`
+abbrev pub area_assigned : Naming → (equals : ℕ) → (target : Option Beginning) → Expression
+    → Result Form Fault
+area_assigned n equals target e = do
+  d ← denoted n AsValue e
+  or_fault CannotAssign equals (area_put target d)
+
+-- by what the target is
+abbrev pub variable_assigned : Naming → (equals : ℕ) → (target : Referent) → Expression → Result Form Fault
+variable_assigned n equals target e =
+    if is_aggregate target.description then (meant n AsArgument e >>= aggregate_assigned equals target)
+    else if is_area target.description
+    then area_assigned n equals (area_meant target.reference target.description) e
+    else scalar_assigned n equals target e
 
 -- by what the target denotes; a function's result is none
 abbrev pub assigned : Naming → (at equals : ℕ) → Denoted → Expression → Result Form Fault
-assigned n at equals (DenotesVariable target) e =
-    if is_aggregate target.description then (meant n AsArgument e >>= aggregate_assigned equals target)
-    else scalar_assigned n equals target.reference target.description e
-assigned n at equals (DenotesResult value) e = at_fault NotAVariable at
+assigned n at equals (DenotesVariable target) e = variable_assigned n equals target e
+assigned n at equals denoted e = at_fault NotAVariable at
 
 -- the target, then the expression, then `=`
 abbrev pub assignment : Naming → (at : ℕ) → Reference → (equals : ℕ) → Expression → Result Form Fault
@@ -220,13 +242,17 @@ call_typed n name arguments = do
   gs ← arguments_typed n arguments
   call_of n.greatest name.at (n.meaning name.at) gs
 
+-- the area that OFFSET in the RETURNS of the procedure here names
+abbrev pub area_here : Naming → Surroundings → Option Beginning
+area_here n s = option_and_then (λ (b : Enclosing). n.returned_area b.number) (slice_get s.blocks s.begins)
+
 -- RETURN with a value: T9 at RETURN where the procedure is no function, T5 at the value where it does not
 -- suit
-abbrev pub returned_value : (greatest : ℕ) → (at first begins : ℕ) → Option Description → TypedValue
-    → Result Form Fault
-returned_value greatest at first begins None v = at_fault WrongReturn at
-returned_value greatest at first begins (Some d) v = do
-  x ← or_fault CannotAssign first (converted greatest d v)
+abbrev pub returned_value : (greatest : ℕ) → (area : Option Beginning) → (at first begins : ℕ)
+    → Option Description → TypedValue → Result Form Fault
+returned_value greatest area at first begins None v = at_fault WrongReturn at
+returned_value greatest area at first begins (Some d) v = do
+  x ← or_fault CannotAssign first (converted greatest area d v)
   Ok (typed.ReturnValue begins x)
 
 -- RETURN; without a value it is T9 in a function
@@ -235,7 +261,7 @@ return_typed n s at None =
     if is_none s.value then Ok (typed.Return s.begins) else at_fault WrongReturn at
 return_typed n s at (Some e) = do
   v ← value_of n e
-  returned_value n.greatest at (first_token e) s.begins s.value v
+  returned_value n.greatest (area_here n s) at (first_token e) s.begins s.value v
 
 -- ALLOCATE and FREE
 
@@ -305,13 +331,14 @@ abbrev pub suited_control : (at : ℕ) → Referent → Bool → Result Referent
 suited_control at r true = Ok r
 suited_control at r false = at_fault BadControlVariable at
 
--- the variable that controls a group: T1 where it is none, T12 where it may not, as behind a locator
+-- the variable that controls a group: T1 where it is none, T12 where it may not, as behind a locator, or as
+-- an area
 abbrev pub controls : (at : ℕ) → (is_located : Bool) → TypedRange → Denoted → Result Referent Fault
-controls at is_located range (DenotesResult value) = at_fault NotAVariable at
 controls at is_located range (DenotesVariable r) =
-    if without_subscripts r.reference && not is_located
+    if without_subscripts r.reference && not is_located && not (is_area r.description)
     then suited_control at r (suits_range r.description range)
     else at_fault BadControlVariable at
+controls at is_located range denoted = at_fault NotAVariable at
 
 -- WHILE behind them, which may be left out
 abbrev pub possible_condition : Naming → Option Expression → Result (Option TypedExpression) Fault
@@ -321,16 +348,16 @@ possible_condition n (Some e) = do
   Ok (Some x)
 
 -- what REPEAT says: T5 at its expression where that does not suit the variable
-abbrev pub next_value : Naming → Description → Expression → Result TypedRange Fault
-next_value n d e = do
+abbrev pub next_value : Naming → (control : Referent) → Expression → Result TypedRange Fault
+next_value n r e = do
   v ← value_of n e
-  x ← or_fault CannotAssign (first_token e) (converted n.greatest d v)
+  x ← or_fault CannotAssign (first_token e) (converted n.greatest r.area r.description v)
   Ok (typed.Repeated x)
 
 -- and with REPEAT, if it stands
-abbrev pub with_repeat : Naming → Description → TypedRange → Option Range → Result TypedRange Fault
-with_repeat n d range (Some (tree.Repeat next)) = next_value n d next
-with_repeat n d range other = Ok range
+abbrev pub with_repeat : Naming → (control : Referent) → TypedRange → Option Range → Result TypedRange Fault
+with_repeat n r range (Some (tree.Repeat next)) = next_value n r next
+with_repeat n r range other = Ok range
 
 -- `v = a ..`: the faults of a, of TO and BY, of v, T12, T5 at `=`, those of WHILE, those of REPEAT
 abbrev pub iteration : Naming → (temporary : ℕ) → Reference → (equals : ℕ) → (first : Expression)
@@ -339,14 +366,14 @@ iteration n temporary variable equals first range tested = do
   v ← value_of n first
   kept ← limits n range
   d ← referred n AsLocator variable
-  r ← controls (first_token (Referred variable)) (has_locator variable) kept d
-  operations ← or_fault CannotAssign equals (conversions n.greatest r.description v.kind)
+  r ← controls (own_token variable) (has_locator variable) kept d
+  convert ← or_fault CannotAssign equals (conversion n.greatest r.area r.description v.kind)
   x ← possible_condition n tested
-  turns ← with_repeat n r.description kept range
+  turns ← with_repeat n r kept range
   Ok (record {
     control = r.reference;
-    conversion = operations;
-    start = v.expression;
+    conversion = convert;
+    start = unconverted r.description v;
     range = turns;
     condition = x;
     temporary = temporary;

@@ -16,14 +16,15 @@ use Rattle.pli_base.specs.declared.syntax.Joining.TheVariants.{Member, Located}
 use Rattle.pli_base.specs.declared.token.Fault.{Fault}
 use Rattle.pli_type.specs.ExpressionTypes.{TypedValue, precision_of, constant}
 use Rattle.pli_type.specs.ExpressionTypes.{prefix_value, infix_value, null_value}
-use Rattle.pli_type.specs.FunctionCalls.{Denoted, DenotesVariable, DenotesResult, Meant, OneValue}
+use Rattle.pli_type.specs.FunctionCalls.{Denoted, DenotesVariable, DenotesResult, DenotesEmpty}
+use Rattle.pli_type.specs.FunctionCalls.{Meant, OneValue}
 use Rattle.pli_type.specs.FunctionCalls.{WholeAggregate, meant_as, Argument, number_written, roles_of}
 use Rattle.pli_type.specs.FunctionCalls.{function_called}
 use Rattle.pli_type.specs.Names.{NamedVariable, NamedProcedure, NamedAs, AVariable, AFunction, AProcedure}
 use Rattle.pli_type.specs.Names.{Naming}
 use Rattle.pli_type.specs.ProcedureCalls.{arguments_passed, result_of, type_returned}
 use Rattle.pli_type.specs.References.{Role, AsValue, AsArgument, AsLocator, variable_meant, LocatorBefore}
-use Rattle.pli_type.specs.References.{NotLocated, LocatedWrongly, locator_held}
+use Rattle.pli_type.specs.References.{NotLocated, LocatedWrongly, located_by, locator_at}
 use Rattle.pli_resolve.specs.declared.built_in.BuiltInFunction.{BuiltInFunction}
 use Rattle.pli_resolve.specs.declared.built_in.BuiltInFunction.TheVariants as functions
 use Rattle.pli_type_tree.specs.TypedTree.{TypedExpression}
@@ -35,6 +36,16 @@ first_token (Constant at value) = at
 first_token (Parenthesized at inner) = at
 first_token (Prefix operator at operand) = at
 first_token (Infix operator at left right) = first_token left
+
+-- the token of the last name that stands behind an arrow among these parts; this token where none does
+abbrev pub behind_arrows : (at : ℕ) → JoinedParts → ℕ
+behind_arrows at Alone = at
+behind_arrows at (Joined Member name arguments more) = behind_arrows at more
+behind_arrows at (Joined Located name arguments more) = behind_arrows name.at more
+
+-- the token at which faults of a reference itself stand: its first name behind its last arrow
+abbrev pub own_token : Reference → ℕ
+own_token (Named name arguments more) = behind_arrows name.at more
 
 -- how many expressions a list has
 abbrev pub how_many : Expressions → ℕ
@@ -57,11 +68,12 @@ subscript_value greatest at v =
     or_fault WrongOperandType at (option_map (λ p. v.expression) (precision_of greatest v.kind))
 
 -- what stands between arrows, so far: a name of a variable, with what stands in front of it, and the
--- subscripts behind its names; what a function gives; or a name of something else
+-- subscripts behind its names; what a function gives; EMPTY; or a name of something else
 pub data Segment : Type 0 where
   OfVariable : (locator : LocatorBefore) (at : ℕ) (variable : NamedVariable)
       (subscripts : List TypedExpression) → Segment
   OfFunction : (value : TypedValue) → Segment
+  OfEmpty : Segment
   OfNoVariable : (at : ℕ) → Segment
 
 -- parentheses behind a name that stands alone where a value is wanted are those of a call
@@ -80,24 +92,30 @@ abbrev pub ended : Role → Segment → Result Denoted Fault
 ended role (OfVariable locator at v xs) =
     variable_meant role locator at v xs >>= λ r. Ok (DenotesVariable r)
 ended role (OfFunction value) = Ok (DenotesResult value)
+ended role OfEmpty = Ok DenotesEmpty
 ended role (OfNoVariable at) = at_fault NotAVariable at
 
 -- what is denoted in front of an arrow
 abbrev pub as_locator : Denoted → LocatorBefore
-as_locator (DenotesVariable r) = locator_held r.reference r.description
-as_locator (DenotesResult value) = LocatedWrongly
+as_locator (DenotesVariable r) = located_by (locator_at r.reference r.description r.area)
+as_locator denoted = LocatedWrongly
 
--- a built-in function's name without parentheses: NULL is a value, any other is none
+-- a built-in function's name without parentheses: NULL and EMPTY are values, any other is none
 abbrev pub named_alone : (at : ℕ) → BuiltInFunction → Segment
 named_alone at functions.Null = OfFunction null_value
+named_alone at functions.Empty = OfEmpty
 named_alone at function = OfNoVariable at
 
+-- what a built-in function gives
+abbrev pub given_by : BuiltInFunction → TypedValue → Segment
+given_by functions.Empty v = OfEmpty
+given_by function v = OfFunction v
+
 -- a call of a function with its arguments: T6, T7 or T8 at its name, in this order
-abbrev pub procedure_called : (greatest : ℕ) → NamedProcedure → (at : ℕ) → List Argument
-    → Result Segment Fault
-procedure_called greatest p at gs = do
-  passed ← arguments_passed greatest p at gs
-  v ← result_of at p.callee passed (type_returned p.returned)
+abbrev pub procedure_called : Naming → NamedProcedure → (at : ℕ) → List Argument → Result Segment Fault
+procedure_called n p at gs = do
+  passed ← arguments_passed n.greatest p at gs
+  v ← result_of at p.callee passed (type_returned p.area p.returned)
   Ok (OfFunction v)
 
 -- no roles where the number of arguments is wrong
@@ -160,10 +178,10 @@ abbrev mutual
   begun n (AFunction function) true locator at (Given list) = do
     gs ← all_arguments n (roles_or_none (roles_of function (how_many list))) list
     v ← function_called n.greatest function at (roles_of function (how_many list)) gs
-    Ok (OfFunction v)
+    Ok (given_by function v)
   begun n (AProcedure p) true locator at (Given list) = do
     gs ← all_arguments n [] list
-    procedure_called n.greatest p at gs
+    procedure_called n p at gs
   begun n other call locator at (Given list) = do
     gs ← all_arguments n [] list
     Ok (OfNoVariable at)

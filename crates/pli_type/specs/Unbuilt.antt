@@ -1,46 +1,23 @@
 -- Z1: the first statement of a form that is not compiled yet, at its first token, which is its label where it
--- has one. A declaration of what is not compiled yet is such a form, used or not; what stands behind THEN and
--- ELSE is a statement (own).
+-- has one: ON, REVERT and SIGNAL. What stands behind THEN and ELSE is a statement (own).
 use Rattle.std.specs.Prelude.{ℕ, ◌^◌, nat_lt, nat_le, length, Bool, true, false, not, ◌||◌, ◌&&◌, Option}
 use Rattle.std.specs.Prelude.{Some, None}
 use Rattle.std.specs.Prelude.{if◌then◌else◌}
 use Rattle.std.specs.List.{list_any}
-use Rattle.pli_base.specs.Declarations.{SimpleAttribute, Attribute, Simple, Item}
-use Rattle.pli_base.specs.Declarations.{DescribedAttribute, Plain, ParameterDescription}
-use Rattle.pli_base.specs.Declarations as declared
-use Rattle.pli_base.specs.Name.{Name}
 use Rattle.pli_base.specs.Statements as tree
-use Rattle.pli_base.specs.Statements.{ProcedureOption, Main, Returns, Heading, Range, Control, Allocation}
+use Rattle.pli_base.specs.Statements.{ProcedureOption, Main, Range, Control, Allocation}
 use Rattle.pli_base.specs.Statements.{Statement, Numbered, Body}
 use Rattle.pli_base.specs.Statements.{Statements, Ended, Before, Alternative, ExternalProcedure}
 use Rattle.pli_base.specs.Syntax.{Expression, Referred, Constant, Parenthesized, Prefix, Infix, Reference}
 use Rattle.pli_base.specs.Syntax.{Named}
 use Rattle.pli_base.specs.Syntax.{JoinedParts, Alone, Joined, Arguments, Absent, Given, Expressions, Empty}
 use Rattle.pli_base.specs.Syntax.{Listed}
-use Rattle.pli_resolve.specs.BuiltIns.{function_named}
 use Rattle.pli_base.specs.declared.syntax.ConstantValue.{ConstantValue}
 use Rattle.pli_base.specs.declared.syntax.ConstantValue.TheVariants as constants
 use Rattle.pli_base.specs.declared.syntax.Identifier.{Identifier}
 use Rattle.pli_type.specs.Names.{Compiled}
-use Rattle.pli_resolve.specs.declared.built_in.BuiltInFunction.{BuiltInFunction}
-use Rattle.pli_resolve.specs.declared.built_in.BuiltInFunction.TheVariants as functions
 
--- what comes later
-
--- EMPTY, POINTER and OFFSET
-abbrev pub is_later_function : BuiltInFunction → Bool
-is_later_function functions.Empty = true
-is_later_function functions.Pointer = true
-is_later_function functions.Offset = true
-is_later_function function = false
-
--- a name that is the name of one of them
-abbrev pub is_later_name : Name → Bool
-is_later_name name = later_function (function_named name)
-  where
-    later_function : Option BuiltInFunction → Bool
-    later_function None = false
-    later_function (Some function) = is_later_function function
+-- constants beyond the limits
 
 -- a constant within the language's limits, as each constant of a text is: no more digits than are written,
 -- and no longer string than one that can be declared
@@ -52,7 +29,7 @@ is_of_language greatest (constants.Characters text) = nat_le (length text) 32767
 is_of_language greatest (constants.Bits bits) = nat_le (length bits) 32767
 
 abbrev mutual
-  -- an expression has a function that is not compiled yet, or a constant over the limits
+  -- an expression has a constant over the limits
   pub later_expression : Compiled → Expression → Bool
   later_expression n (Referred reference) = later_reference n reference
   later_expression n (Constant at value) = not (is_of_language n.greatest value)
@@ -60,16 +37,14 @@ abbrev mutual
   later_expression n (Prefix operator at operand) = later_expression n operand
   later_expression n (Infix operator at left right) = later_expression n left || later_expression n right
 
-  -- a reference has: by a name in it or in its arguments
+  -- a reference has, in its arguments
   pub later_reference : Compiled → Reference → Bool
-  later_reference n (Named name arguments more) =
-      n.is_later name.at || later_arguments n arguments || later_joined n more
+  later_reference n (Named name arguments more) = later_arguments n arguments || later_joined n more
 
-  -- the parts that are joined to one have; only the first name between arrows has a meaning of its own
+  -- the parts that are joined to one have
   pub later_joined : Compiled → JoinedParts → Bool
   later_joined n Alone = false
-  later_joined n (Joined joining name arguments more) =
-      n.is_later name.at || later_arguments n arguments || later_joined n more
+  later_joined n (Joined joining name arguments more) = later_arguments n arguments || later_joined n more
 
   -- a list of arguments has, if it stands
   pub later_arguments : Compiled → Arguments → Bool
@@ -81,42 +56,10 @@ abbrev mutual
   later_list n Empty = false
   later_list n (Listed first more) = later_expression n first || later_list n more
 
--- a part that may be left out has such a thing, if it stands
+-- a part that may be left out has, if it stands
 abbrev pub later_part : {A : Type 0} → (A → Bool) → Option A → Bool
 later_part is_later None = false
 later_part is_later (Some x) = is_later x
-
--- OFFSET and AREA
-abbrev pub later_simple : SimpleAttribute → Bool
-later_simple (declared.Offset area) = true
-later_simple (declared.Area size) = true
-later_simple attribute = false
-
--- an attribute of a parameter or a result is such, or is ENTRY or RETURNS there
-abbrev pub later_described : DescribedAttribute → Bool
-later_described (Plain attribute) = later_simple attribute
-later_described other = true
-
--- what ENTRY says of a parameter has such an attribute
-abbrev pub later_parameter : ParameterDescription → Bool
-later_parameter p = list_any later_described p.attributes
-
--- an attribute of an item is such; of ENTRY and RETURNS what they say of parameters and results is
-abbrev pub later_attribute : Attribute → Bool
-later_attribute (Simple attribute) = later_simple attribute
-later_attribute (declared.Entry parameters) = later_part (list_any later_parameter) parameters
-later_attribute (declared.Returns attributes) = list_any later_described attributes
-
--- BUILTIN
-abbrev pub is_builtin : Attribute → Bool
-is_builtin (Simple declared.Builtin) = true
-is_builtin attribute = false
-
--- an item has such an attribute, or is BUILTIN and has the name of a function that is not compiled yet
-abbrev pub later_item : Item → Bool
-later_item item =
-    list_any later_attribute item.attributes
-    || (list_any is_builtin item.attributes && list_any (λ i. is_later_name i.name) item.names)
 
 -- the first token of a statement
 abbrev pub first_of : Option Identifier → (at : ℕ) → ℕ
@@ -128,13 +71,13 @@ abbrev pub or_else : Option ℕ → Option ℕ → Option ℕ
 or_else (Some at) other = Some at
 or_else None other = other
 
--- the token, if something comes later
+-- the token, if such a constant is there
 abbrev pub token_if : Bool → (at : ℕ) → Option ℕ
 token_if later at = if later then Some at else None
 
 -- statements
 
--- what limits or continues a group has such an expression
+-- what limits or continues a group has
 abbrev pub later_range : Compiled → Range → Bool
 later_range n (tree.To to by) = later_expression n to || later_part (later_expression n) by
 later_range n (tree.By by to) = later_expression n by || later_part (later_expression n) to
@@ -151,12 +94,7 @@ later_control n (tree.Iterate variable equals first range condition) =
 abbrev pub later_allocation : Compiled → Allocation → Bool
 later_allocation n a = later_part (later_reference n) a.area || later_part (later_reference n) a.target
 
--- a procedure gives what is not compiled yet
-abbrev pub later_option : ProcedureOption → Bool
-later_option (Returns attributes) = list_any later_described attributes
-later_option option = false
-
--- at is the first token of the statement, its label where it has one; the label of a PROCEDURE is its name
+-- at is the first token of the statement, its label where it has one
 abbrev mutual
   pub later_statement : Compiled → Statement → Option ℕ
   later_statement n (Numbered number label at body) = later_body n (first_of label at) body
@@ -166,10 +104,8 @@ abbrev mutual
   later_body n at tree.Null = None
   later_body n at (tree.Assign target equals value) =
       token_if (later_reference n target || later_expression n value) at
-  later_body n at (tree.Declare items) = token_if (list_any later_item items) at
-  later_body n at (tree.Procedure heading statements end) =
-      or_else (token_if (list_any later_option heading.options) heading.name.at)
-      (later_statements n statements)
+  later_body n at (tree.Declare items) = None
+  later_body n at (tree.Procedure heading statements end) = later_statements n statements
   later_body n at (tree.Begin statements end) = later_statements n statements
   later_body n at (tree.Do control statements end) =
       or_else (token_if (later_part (later_control n) control) at) (later_statements n statements)
@@ -207,10 +143,6 @@ is_main_option option = false
 abbrev pub is_main : ExternalProcedure → Bool
 is_main u = list_any is_main_option u.heading.options
 
--- its PROCEDURE, at the name
-abbrev pub later_heading : Heading → Option ℕ
-later_heading h = token_if (list_any later_option h.options) h.name.at
-
 -- the token at which Z1 stands, if a form of the unit is not compiled yet
 abbrev pub first_unbuilt : Compiled → ExternalProcedure → Option ℕ
-first_unbuilt n u = or_else (later_heading u.heading) (later_statements n u.statements)
+first_unbuilt n u = later_statements n u.statements

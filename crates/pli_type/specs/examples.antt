@@ -1,4 +1,5 @@
 pub mod AllocationExamples
+pub mod AreaExamples
 pub mod ControlExamples
 pub mod ExampleTrees
 pub mod FaultExamples

@@ -3,14 +3,16 @@ ghost use Rattle.std.specs.Prelude.{◌≡◌, ◌++◌, ◌∷◌, [], IfOk, ma
 ghost use Rattle.pli_map.specs.views.DescriptionView.{description_view};
 ghost use Rattle.pli_type.specs.ExpressionTypes as spec;
 ghost use Rattle.pli_type.specs.views.ValueView.{value_view};
-ghost use Rattle.pli_type_tree.specs.TypedTree.{Fit};
-ghost use Rattle.pli_type_tree.specs.views.TypedView.{expression_view, operation_view};
+ghost use Rattle.pli_type_tree.specs.TypedTree.{ByOperations, Fit};
+ghost use Rattle.pli_type_tree.specs.views.TypedView.{conversion_view, expression_view, operation_view};
 
+use crate::beginning::Beginning;
 use crate::expression_type::ExpressionType;
+use crate::locators::{as_offset, as_pointer, null_offset};
 use crate::typed_value::{TypedValue, with_one};
 use pli_map::Description;
 use pli_operation::Operation;
-use pli_type_tree::{TypedExpression, TypedOperation};
+use pli_type_tree::{Conversion, TypedExpression, TypedOperation};
 use std::alloc::{AllocError, Global};
 
 /// A number as characters, at the right of as many columns as its type has; none of anything else.
@@ -100,31 +102,23 @@ fn fitted(
     Ok(Some(made))
 }
 
-/// A pointer, or NULL, where a POINTER is wanted; anything else does not suit.
-fn only_pointer(value: TypedValue) -> Option<TypedExpression>
-    ensures { option_map expression_view result ≡ spec.only_pointer (expression_view value.expression) value.kind }
-{
-    if value.kind.is_pointer() {
-        Some(value.expression)
-    } else {
-        drop(value);
-        None
-    }
-}
-
-/// A value as a variable of this description holds it, or none where it does not suit: FIXED is assigned from FIXED,
-/// BIT from BIT, CHARACTER from CHARACTER, BIT and FIXED, POINTER from POINTER and NULL (X3.74).
+/// A value as a variable of this description holds it, whose declaration names this area if it is an OFFSET, or none
+/// where it does not suit: FIXED is assigned from FIXED, BIT from BIT, CHARACTER from CHARACTER, BIT and FIXED, POINTER
+/// from POINTER, NULL and an OFFSET that names an area, OFFSET from OFFSET and NULL, and from POINTER where it names an
+/// area (X3.74; areas own).
 pub fn converted(
     alloc: Global,
     greatest: u8,
+    area: Option<Beginning>,
     description: &Description,
     value: TypedValue,
 ) -> Result<Option<TypedExpression>, AllocError>
     ensures { IfOk result (λ made. option_map expression_view made
-        ≡ spec.converted greatest (description_view description.now) (value_view value)) }
+        ≡ spec.converted greatest area (description_view description.now) (value_view value)) }
 {
     match description {
-        Description::Pointer => Ok(only_pointer(value)),
+        Description::Pointer => as_pointer(alloc, value),
+        Description::Offset => as_offset(alloc, area, value),
         _ => {
             let suited = suited(alloc, greatest, description, value)?;
             fitted(alloc, description, suited)
@@ -185,49 +179,88 @@ fn suiting(
     }
 }
 
-/// The conversions to a POINTER: none for a pointer or NULL; none at all for anything else.
-fn pointer_conversions(alloc: Global, kind: ExpressionType) -> Option<Vec<TypedOperation>>
-    ensures { option_map (λ v. map operation_view v.items) result ≡ spec.pointer_conversions kind }
+/// What makes a pointer of a value of a type; none of what is no locator, or an OFFSET without an area.
+fn pointer_conversion(alloc: Global, kind: ExpressionType) -> Option<Conversion>
+    ensures { option_map conversion_view result ≡ spec.pointer_conversion kind }
 {
-    if kind.is_pointer() {
-        Some(Vec::new(alloc))
-    } else {
-        None
+    match kind {
+        ExpressionType::Pointer | ExpressionType::Null => {
+            Some(Conversion::ByOperations(Vec::new(alloc)))
+        }
+        ExpressionType::Offset { area: Some(area) } => Some(Conversion::AsPointerIn(area.whole())),
+        _ => None,
     }
 }
 
-/// The conversions of a value of a type to a variable of this description, which is no POINTER, or none where it does
-/// not suit.
+/// What makes an offset of this area of a value of a type; none of what is no locator, or a POINTER where no area is
+/// named.
+fn offset_conversion(
+    alloc: Global,
+    area: Option<Beginning>,
+    kind: ExpressionType,
+) -> Option<Conversion>
+    ensures { option_map conversion_view result ≡ spec.offset_conversion area kind }
+{
+    match (kind, area) {
+        (ExpressionType::Offset { .. } | ExpressionType::Null, _) => {
+            Some(Conversion::ByOperations(Vec::new(alloc)))
+        }
+        (ExpressionType::Pointer, Some(area)) => Some(Conversion::AsOffsetIn(area.whole())),
+        _ => None,
+    }
+}
+
+/// What makes a value of a type suit a variable of this description, which is no locator, and fits it to that; none
+/// where it does not suit.
 fn fitting(
     alloc: Global,
     greatest: u8,
     description: &Description,
     kind: ExpressionType,
-) -> Result<Option<Vec<TypedOperation>>, AllocError>
-    ensures { IfOk result (λ made. option_map (λ v. map operation_view v.items) made
-        ≡ option_map (λ operations. operations ++ Fit (description_view description.now) ∷ [])
+) -> Result<Option<Conversion>, AllocError>
+    ensures { IfOk result (λ made. option_map conversion_view made
+        ≡ option_map (λ operations. ByOperations (operations ++ Fit (description_view description.now) ∷ []))
         (spec.suiting greatest (description_view description.now) kind)) }
 {
     let Some(mut made) = suiting(alloc, greatest, description, kind)? else {
         return Ok(None);
     };
     made.push(TypedOperation::Fit(description.copy(alloc)?))?;
-    Ok(Some(made))
+    Ok(Some(Conversion::ByOperations(made)))
 }
 
-/// The operations that convert a value of a type to a variable of this description, one after the other, or none where
-/// it does not suit: what `converted` puts round an expression. A pointer needs none.
-pub fn conversions(
+/// What converts a value of a type to a variable of this description, whose declaration names this area if it is an
+/// OFFSET, or none where it does not suit: what `converted` puts round an expression. A locator is not fitted.
+pub fn conversion(
     alloc: Global,
     greatest: u8,
+    area: Option<Beginning>,
     description: &Description,
     kind: ExpressionType,
-) -> Result<Option<Vec<TypedOperation>>, AllocError>
-    ensures { IfOk result (λ made. option_map (λ v. map operation_view v.items) made
-        ≡ spec.conversions greatest (description_view description.now) kind) }
+) -> Result<Option<Conversion>, AllocError>
+    ensures { IfOk result (λ made. option_map conversion_view made
+        ≡ spec.conversion greatest area (description_view description.now) kind) }
 {
     match description {
-        Description::Pointer => Ok(pointer_conversions(alloc, kind)),
+        Description::Pointer => Ok(pointer_conversion(alloc, kind)),
+        Description::Offset => Ok(offset_conversion(alloc, area, kind)),
         _ => fitting(alloc, greatest, description, kind),
+    }
+}
+
+/// A value that is kept before it is converted to a variable of this description: NULL is an offset where that is an
+/// OFFSET, and anything else stands as it is.
+pub fn unconverted(description: &Description, value: TypedValue) -> TypedExpression
+    ensures { expression_view result ≡ spec.unconverted (description_view description.now) (value_view value) }
+{
+    match description {
+        Description::Offset => match value.kind {
+            ExpressionType::Null => {
+                drop(value);
+                null_offset()
+            }
+            _ => value.expression,
+        },
+        _ => value.expression,
     }
 }

@@ -3,6 +3,7 @@ ghost use Rattle.std.specs.Prelude.{◌≡◌};
 ghost use Rattle.pli_map.specs.views.DescriptionView.{description_view};
 ghost use Rattle.pli_type.specs.ExpressionTypes as spec;
 
+use crate::beginning::Beginning;
 use pli_map::Description;
 
 /// The type of an expression (X3.74). How long a string is belongs to no type: it shows when the program runs.
@@ -15,9 +16,10 @@ pub enum ExpressionType {
     Characters,
     Bits,
     Pointer,
-    /// NULL, which is a POINTER where one is wanted.
+    /// NULL, which is an OFFSET beside one and where one is wanted, else a POINTER.
     Null,
-    Offset,
+    /// An OFFSET, with the area that its declaration or its RETURNS names, seen from where the expression stands.
+    Offset { area: Option<Beginning> },
     Area,
 }
 
@@ -87,9 +89,10 @@ impl ExpressionType {
         }
     }
 
-    /// The type of what a variable of a description holds; an aggregate has none.
-    pub fn of(description: &Description) -> Option<ExpressionType>
-        ensures { result ≡ spec.type_of (description_view description.now) }
+    /// The type of what a variable of a description holds, whose declaration names this area if it is an OFFSET; an
+    /// aggregate has none.
+    pub fn of(description: &Description, area: Option<Beginning>) -> Option<ExpressionType>
+        ensures { result ≡ spec.type_of area (description_view description.now) }
     {
         match description {
             Description::FixedBinary(precision) => Some(ExpressionType::FixedBinary {
@@ -98,17 +101,20 @@ impl ExpressionType {
             Description::Character(_) | Description::Varying(_) => Some(ExpressionType::Characters),
             Description::Bit(_) => Some(ExpressionType::Bits),
             Description::Pointer => Some(ExpressionType::Pointer),
-            Description::Offset => Some(ExpressionType::Offset),
+            Description::Offset => Some(ExpressionType::Offset { area }),
             Description::Area(_) => Some(ExpressionType::Area),
             Description::Array { .. } | Description::Structure(_) => None,
         }
     }
 
-    /// Whether it is a POINTER, or NULL.
-    pub fn is_pointer(self) -> bool
-        ensures { result ≡ spec.is_pointer self }
+    /// Whether it is a POINTER, an OFFSET or NULL.
+    pub fn is_locator(self) -> bool
+        ensures { result ≡ spec.is_locator self }
     {
-        matches!(self, ExpressionType::Pointer | ExpressionType::Null)
+        matches!(
+            self,
+            ExpressionType::Pointer | ExpressionType::Null | ExpressionType::Offset { .. }
+        )
     }
 
     /// The type in which two strings stand beside one another: bits are read as characters beside characters (own).

@@ -5,7 +5,9 @@ ghost use Rattle.pli_type.specs.FunctionCalls as spec;
 ghost use Rattle.pli_type.specs.views.ValueView.{value_view};
 ghost use Rattle.pli_type_tree.specs.views.TypedView.{expression_view, reference_view};
 
+use crate::beginning::Beginning;
 use crate::expression_type::{ExpressionType, precisions};
+use crate::locators::{offset_of, pointer_into};
 use crate::typed_value::{TypedValue, refused, with_two};
 use pli_operation::Operation;
 use pli_resolve::BuiltInFunction;
@@ -221,8 +223,8 @@ pub fn null_value() -> TypedValue
     }
 }
 
-/// A call of ADDR of a variable or a part of one, which is or is not a parameter: a pointer to a whole variable at level
-/// 1 that is none; none of anything else (X3.74; that parameters are refused, own).
+/// A call of ADDR of a variable or a part of one, which is or is not a parameter: a pointer to a whole variable at
+/// level 1 that is none; none of anything else (X3.74; that parameters are refused, own).
 pub fn address(reference: TypedReference, is_parameter: bool) -> Option<TypedValue>
     ensures { option_map value_view result ≡ spec.address_in is_parameter (reference_view reference) }
 {
@@ -238,6 +240,66 @@ pub fn address(reference: TypedReference, is_parameter: bool) -> Option<TypedVal
         _ => {
             drop(reference);
             None
+        }
+    }
+}
+
+/// EMPTY where it is no area that is assigned: nothing takes a value of its type, so what it holds does not matter.
+pub fn empty_value() -> TypedValue
+    ensures { value_view result ≡ ext.empty_value }
+{
+    TypedValue {
+        expression: TypedExpression::Literal(Value::Locator(Locator::Null)),
+        kind: ExpressionType::Area,
+    }
+}
+
+/// A call of POINTER with a value: an offset as a pointer into an area, whatever area its own declaration names; none
+/// of anything else, NULL too (X3.74).
+pub fn offset_within(
+    alloc: Global,
+    area: Beginning,
+    offset: TypedValue,
+) -> Result<Option<TypedValue>, AllocError>
+    ensures { IfOk result (λ given. option_map value_view given
+        ≡ spec.offset_within area (expression_view offset.expression) offset.kind) }
+{
+    match offset.kind {
+        ExpressionType::Offset { .. } => {
+            let expression = pointer_into(alloc, area, offset.expression)?;
+            Ok(Some(TypedValue {
+                expression,
+                kind: ExpressionType::Pointer,
+            }))
+        }
+        _ => {
+            drop(offset);
+            Ok(None)
+        }
+    }
+}
+
+/// A call of OFFSET with a value: a pointer, NULL too, as an offset of an area, the type of which names none; none of
+/// anything else (X3.74; that its type names no area, own).
+pub fn pointer_within(
+    alloc: Global,
+    area: Beginning,
+    pointer: TypedValue,
+) -> Result<Option<TypedValue>, AllocError>
+    ensures { IfOk result (λ given. option_map value_view given
+        ≡ spec.pointer_within area (expression_view pointer.expression) pointer.kind) }
+{
+    match pointer.kind {
+        ExpressionType::Pointer | ExpressionType::Null => {
+            let expression = offset_of(alloc, area, pointer.expression)?;
+            Ok(Some(TypedValue {
+                expression,
+                kind: ExpressionType::Offset { area: None },
+            }))
+        }
+        _ => {
+            drop(pointer);
+            Ok(None)
         }
     }
 }

@@ -2,6 +2,7 @@
 ghost use Rattle.pli_type.specs.laws.Laws.{FaultsAreOfTypes};
 ghost use Rattle.pli_type.specs.laws.TextSorting.{TokensAreSorted};
 ghost use Rattle.pli_type.specs.examples.AllocationExamples.{WhatIsAllocated, WhatIsFreed, WhatIsCounted};
+ghost use Rattle.pli_type.specs.examples.AreaExamples.{LocatorsConvert, AreasAssigned, LocatorsWithin, BlocksOfAreas};
 ghost use Rattle.pli_type.specs.examples.FaultExamples.{OneFaultToAStatement, OperatorsTakeTheirTypes, AssignmentsConvert, AggregatesStandAlone, SubscriptsAreCounted, LocatorsAreNotAllowed, NamesOfNoVariable, FunctionsConvertNothing, BareConstants};
 ghost use Rattle.pli_type.specs.examples.ControlExamples.{ControlVariables, CallsAreTyped, BlocksAreTyped};
 ghost use Rattle.pli_type.specs.examples.PointerExamples.{PointersAndNull, BasedReferences, Addresses, GenerationsByPointers};
@@ -46,6 +47,14 @@ pub fn pointer_examples()
     ensures generations { GenerationsByPointers }
 {}
 
+/// Worked examples of areas and offsets.
+pub fn area_examples()
+    ensures locators { LocatorsConvert }
+    ensures assigned { AreasAssigned }
+    ensures within { LocatorsWithin }
+    ensures blocks { BlocksOfAreas }
+{}
+
 /// Worked examples of types.
 pub fn type_examples()
     ensures constants { ConstantsAreDecimal }
@@ -62,7 +71,7 @@ pub fn typed_examples()
 {}
 
 /// Worked examples of units.
-#[tactic(auto, unfolding(crate::specs::Checked::checked, pli_resolve::specs::BuiltIns::function_named))]
+#[tactic(auto, unfolding(crate::specs::Checked::checked))]
 pub fn unit_examples()
     ensures unbuilt { FirstUnbuilt }
     ensures initial { InitialValues }

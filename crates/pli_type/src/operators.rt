@@ -1,11 +1,12 @@
 //! What operators give of typed operands.
-ghost use Rattle.std.specs.Prelude.{◌≡◌, Some, IfOk, option_map};
+ghost use Rattle.std.specs.Prelude.{◌≡◌, Some, None, IfOk, option_map, if◌then◌else◌};
 ghost use Rattle.pli_operation.specs.declared.operation.Operation.TheVariants.{Multiply};
 ghost use Rattle.pli_type.specs.ExpressionTypes as spec;
 ghost use Rattle.pli_type.specs.views.ValueView.{value_view};
 ghost use Rattle.pli_type_tree.specs.views.TypedView.{expression_view};
 
 use crate::expression_type::{ExpressionType, precisions, product_precision, sum_precision};
+use crate::locators::{as_offset, as_pointer};
 use crate::typed_value::{TypedValue, refused, with_one, with_two};
 use pli_base::syntax::{InfixOperator, PrefixOperator};
 use pli_operation::{Operation, Relation};
@@ -86,30 +87,92 @@ fn on_strings(
     with_two(alloc, operation, left, right)
 }
 
-/// What a comparison of two pointers gives: they are equal or not, and none is less than another.
-fn pointers_compared(
+/// What a comparison of two locators gives, as both are compared: they are equal or not, and none is less than another.
+fn locators_compared(
+    alloc: Global,
+    relation: Relation,
+    left: Option<TypedExpression>,
+    right: Option<TypedExpression>,
+) -> Result<Option<TypedValue>, AllocError>
+    ensures { IfOk result (λ given. option_map value_view given
+        ≡ spec.locators_compared relation (option_map expression_view left) (option_map expression_view right)) }
+{
+    match (relation, left, right) {
+        (Relation::Equal | Relation::Unequal, Some(left), Some(right)) => {
+            let operation = Operation::Compare(relation);
+            let expression = with_two(alloc, operation, left, right)?;
+            Ok(Some(TypedValue {
+                expression,
+                kind: ExpressionType::Bits,
+            }))
+        }
+        (_, left, right) => {
+            drop(left);
+            drop(right);
+            Ok(None)
+        }
+    }
+}
+
+/// Whether two locators are compared as offsets: one is an OFFSET, and the other one too, or NULL.
+fn are_offsets(left: ExpressionType, right: ExpressionType) -> bool
+    ensures { result ≡ spec.are_offsets left right }
+{
+    matches!(
+        (left, right),
+        (
+            ExpressionType::Offset { .. },
+            ExpressionType::Offset { .. } | ExpressionType::Null
+        ) | (ExpressionType::Null, ExpressionType::Offset { .. })
+    )
+}
+
+/// Two locators as they are compared: both as offsets, or else both as pointers; one that can't be so is none.
+fn as_compared(
+    alloc: Global,
+    as_offsets: bool,
+    value: TypedValue,
+) -> Result<Option<TypedExpression>, AllocError>
+    ensures { IfOk result (λ made. option_map expression_view made ≡ (if as_offsets
+        then spec.as_offset None (expression_view value.expression) value.kind
+        else spec.as_pointer (expression_view value.expression) value.kind)) }
+{
+    if as_offsets {
+        as_offset(alloc, None, value)
+    } else {
+        as_pointer(alloc, value)
+    }
+}
+
+/// What a comparison of two locators gives.
+fn locators_beside(
     alloc: Global,
     relation: Relation,
     left: TypedValue,
     right: TypedValue,
 ) -> Result<Option<TypedValue>, AllocError>
     ensures { IfOk result (λ given. option_map value_view given
-        ≡ spec.pointers_compared relation (expression_view left.expression) (expression_view right.expression)) }
+        ≡ spec.locators_beside relation (value_view left) (value_view right)) }
 {
-    match relation {
-        Relation::Equal | Relation::Unequal => {
-            let operation = Operation::Compare(relation);
-            let expression = with_two(alloc, operation, left.expression, right.expression)?;
-            Ok(Some(TypedValue {
-                expression,
-                kind: ExpressionType::Bits,
-            }))
+    let as_offsets = are_offsets(left.kind, right.kind);
+    let left = match as_compared(alloc, as_offsets, left) {
+        Ok(left) => left,
+        Err(error) => {
+            drop(right);
+            return Err(error);
         }
-        _ => Ok(refused(left, right)),
-    }
+    };
+    let right = match as_compared(alloc, as_offsets, right) {
+        Ok(right) => right,
+        Err(error) => {
+            drop(left);
+            return Err(error);
+        }
+    };
+    locators_compared(alloc, relation, left, right)
 }
 
-/// What a comparison of what are not two pointers gives.
+/// What a comparison of what are not two locators gives.
 fn compared(
     alloc: Global,
     greatest: u8,
@@ -150,8 +213,8 @@ fn comparison(
     ensures { IfOk result (λ given. option_map value_view given
         ≡ spec.comparison greatest relation (value_view left) (value_view right)) }
 {
-    if left.kind.is_pointer() && right.kind.is_pointer() {
-        pointers_compared(alloc, relation, left, right)
+    if left.kind.is_locator() && right.kind.is_locator() {
+        locators_beside(alloc, relation, left, right)
     } else {
         compared(alloc, greatest, relation, left, right)
     }
@@ -253,7 +316,7 @@ fn product(
 }
 
 /// What an infix operator gives, or none where it does not take the operands: `+`, `-` and `*` take numbers, `&` and
-/// `|` bits, `||` strings, a comparison two numbers, two strings, or for equality alone two pointers (X3.74).
+/// `|` bits, `||` strings, a comparison two numbers, two strings, or for equality alone two locators (X3.74).
 pub fn infix_value(
     alloc: Global,
     greatest: u8,

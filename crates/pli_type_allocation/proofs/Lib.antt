@@ -1,2 +1,3 @@
 pub mod AllocatedInTurn
 pub mod InTurn
+pub mod StackedAlone

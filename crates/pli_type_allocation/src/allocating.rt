@@ -1,33 +1,34 @@
 //! ALLOCATE.
-ghost use Rattle.std.specs.Prelude.{◌≡◌, ℕ, Bool, false, None, [], map, option_map, IfOk};
+ghost use Rattle.std.specs.Prelude.{◌≡◌, ℕ, Bool, false, [], map, option_map, IfOk};
 ghost use Rattle.std.specs.List.{list_any};
 ghost use Rattle.pli_base.specs.answers.FailureAnswers.{Gives};
 ghost use Rattle.pli_base.specs.views.StatementView.{allocation_view};
 ghost use Rattle.pli_base.specs.views.SyntaxView.{reference_view};
 ghost use Rattle.pli_type.specs.AllocationTyping as spec;
+ghost use Rattle.pli_type.specs.Beginnings.{root_at};
 ghost use Rattle.pli_type.specs.Names as names;
-ghost use Rattle.pli_type.specs.References.{pointer_at};
 ghost use Rattle.pli_type.specs.StatementTyping.{allocate_typed};
 ghost use Rattle.pli_type.specs.Unbuilt.{later_allocation, later_part, later_reference};
-ghost use Rattle.pli_type_expression.specs.views.TypingView.{referent_view};
+ghost use Rattle.pli_type_expression.specs.views.TypingView.{referent_view, variable_view};
 ghost use Rattle.pli_type_names.specs.SymbolMeaning.{IsVariable};
 ghost use Rattle.pli_type_names.specs.UnitNaming.{compiled_in, naming_in};
-ghost use Rattle.pli_type_names.specs.views.StorageView.{beginning_view, pointer_view};
+ghost use Rattle.pli_type_names.specs.views.StorageView.{locator_view as named_view};
 ghost use Rattle.pli_type_templates.specs.views.UnitView.{based_at};
 ghost use Rattle.pli_type_tree.specs.views.TemplateView.{template_view};
-ghost use Rattle.pli_type_tree.specs.views.TypedView as typed;
 ghost use Rattle.pli_type_tree.specs.views.TypedView.{allocated_view, form_view};
 
 use crate::temporaries::counted;
-use crate::variables::{first_token, only_variable};
+use crate::variables::only_variable;
 use pli_base::statement::Allocation;
 use pli_base::syntax::Reference;
 use pli_base::{Code, fault};
-use pli_map::Description;
-use pli_type_expression::{Referent, Role, TypeError, referred};
-use pli_type_names::{Beginning, NamedAs, NamedPointer, NamedStorage, NamedVariable, Naming};
+use pli_type::{Beginning, area_meant};
+use pli_type_expression::{
+    LocatorVariable, Referent, Role, TypeError, locator_at, own_token, referred,
+};
+use pli_type_names::{NamedAs, NamedLocator, NamedStorage, NamedVariable, Naming};
 use pli_type_templates::UnitTemplates;
-use pli_type_tree::{AllocatedItem, Form, Template, TypedReference};
+use pli_type_tree::{AllocatedItem, Conversion, Form, Template};
 use std::alloc::{AllocError, Global};
 
 /// The reference in IN or in SET, if one stands: T1 or T2 where it is no scalar variable, or another fault of it.
@@ -44,72 +45,137 @@ fn place_given<'a>(
         return Ok(None);
     };
     let denoted = referred(alloc, naming, Role::Locator, reference)?;
-    let referent = only_variable(denoted, first_token(reference))?;
+    let referent = only_variable(denoted, own_token(reference))?;
     Ok(Some(referent))
 }
 
-/// What SET sets, where it is a POINTER.
-fn pointer_in(target: Referent<'_>) -> Option<TypedReference>
-    ensures { option_map typed.reference_view result
-        ≡ pointer_at (referent_view target.entry).reference (referent_view target.entry).description }
-{
-    match target.description {
-        Description::Pointer => Some(target.reference),
-        _ => {
-            drop(target);
-            None
-        }
-    }
-}
-
-/// The POINTER that is set: that in SET, or without SET the one that BASED names.
-fn pointer_set(
+/// The locator that is set: that in SET, or without SET the one that BASED names.
+fn locator_set(
     alloc: Global,
     target: Option<Referent<'_>>,
-    implied: Option<NamedPointer>,
-) -> Option<TypedReference>
-    ensures { option_map typed.reference_view result
-        ≡ spec.pointer_set (option_map referent_view target.entry) (option_map pointer_view implied) }
+    implied: Option<NamedLocator>,
+) -> Option<LocatorVariable>
+    ensures { option_map variable_view result
+        ≡ spec.locator_set (option_map referent_view target.entry) (option_map named_view implied) }
 {
     match target {
-        Some(target) => pointer_in(target),
+        Some(target) => locator_at(target),
         None => match implied {
-            Some(pointer) => Some(pointer.reference(alloc)),
+            Some(locator) => Some(LocatorVariable::named(alloc, locator)),
             None => None,
         },
     }
 }
 
-/// A BASED variable of this template, if it sets a pointer.
-fn placed_by(
+/// A BASED variable in an area, of whose block this locator gets the pointer, an OFFSET as an offset of its own area.
+fn placed_within(
+    alloc: Global,
+    area: Beginning,
+    template: Template,
     temporary: usize,
-    template: Option<Template>,
-    target: Option<TypedReference>,
+    locator: LocatorVariable,
+) -> AllocatedItem
+    ensures { allocated_view result ≡ spec.placed_within area (template_view template) temporary (variable_view locator) }
+{
+    match locator.area {
+        None => AllocatedItem::InArea {
+            area: area.whole(),
+            template,
+            temporary,
+            target: locator.reference,
+            conversion: Conversion::ByOperations(Vec::new(alloc)),
+        },
+        Some(own) => AllocatedItem::InArea {
+            area: area.whole(),
+            template,
+            temporary,
+            target: locator.reference,
+            conversion: Conversion::AsOffsetIn(own.whole()),
+        },
+    }
+}
+
+/// A BASED variable in free storage, or where the locator is an OFFSET, in the area that this names (own).
+fn placed_freely(
+    alloc: Global,
+    template: Template,
+    temporary: usize,
+    locator: LocatorVariable,
+) -> AllocatedItem
+    ensures { allocated_view result ≡ spec.placed_freely (template_view template) temporary (variable_view locator) }
+{
+    match locator.area {
+        None => AllocatedItem::Based {
+            template,
+            temporary,
+            target: locator.reference,
+        },
+        Some(own) => placed_within(alloc, own, template, temporary, locator),
+    }
+}
+
+/// Where a BASED variable is placed: in the area in IN, if one stands, which must be that of an area.
+fn placed_in(
+    alloc: Global,
+    area: Option<Referent<'_>>,
+    template: Template,
+    temporary: usize,
+    locator: LocatorVariable,
 ) -> Option<AllocatedItem>
     ensures { option_map allocated_view result
-        ≡ spec.placed_by temporary (option_map template_view template) (option_map typed.reference_view target) }
+        ≡ spec.placed_in (option_map referent_view area.entry) (template_view template) temporary (variable_view locator) }
+{
+    let Some(area) = area else {
+        return Some(placed_freely(alloc, template, temporary, locator));
+    };
+    let begins = area_meant(&area.reference, area.description);
+    drop(area);
+    match begins {
+        Some(begins) => Some(placed_within(alloc, begins, template, temporary, locator)),
+        None => {
+            drop(template);
+            drop(locator);
+            None
+        }
+    }
+}
+
+/// A BASED variable of this template, if there is a locator to set.
+fn placed_by(
+    alloc: Global,
+    temporary: usize,
+    area: Option<Referent<'_>>,
+    template: Option<Template>,
+    locator: Option<LocatorVariable>,
+) -> Option<AllocatedItem>
+    ensures { option_map allocated_view result
+        ≡ spec.placed_by temporary (option_map referent_view area.entry) (option_map template_view template) (option_map variable_view locator) }
 {
     let Some(template) = template else {
-        drop(target);
+        drop(area);
+        drop(locator);
         return None;
     };
-    let Some(target) = target else {
+    let Some(locator) = locator else {
+        drop(area);
         drop(template);
         return None;
     };
-    Some(AllocatedItem::Based {
-        template,
-        temporary,
-        target,
-    })
+    placed_in(alloc, area, template, temporary, locator)
 }
 
 /// A CONTROLLED variable, where neither IN nor SET stands.
-fn stacked(begins: Beginning, target: Option<Referent<'_>>) -> Option<AllocatedItem>
+#[tactic(auto, using(crate::proofs::StackedAlone::not_within, crate::proofs::StackedAlone::not_set))]
+fn stacked(
+    begins: Beginning,
+    area: Option<Referent<'_>>,
+    target: Option<Referent<'_>>,
+) -> Option<AllocatedItem>
     ensures { (n : names.Naming) → (temporary : ℕ) → (is_parameter : Bool) → option_map allocated_view result
-        ≡ spec.taken_in n temporary (names.Begins (beginning_view begins) is_parameter) [] None (option_map referent_view target.entry) }
+        ≡ spec.taken_in n temporary (names.Begins (root_at begins) is_parameter) [] (option_map referent_view area.entry) (option_map referent_view target.entry) }
 {
-    if target.is_some() {
+    if area.is_some() || target.is_some() {
+        drop(area);
         drop(target);
         return None;
     }
@@ -119,7 +185,7 @@ fn stacked(begins: Beginning, target: Option<Referent<'_>>) -> Option<AllocatedI
     }
 }
 
-/// What a variable takes in ALLOCATE: at level 1, where IN does not stand, which is to be of an AREA (X3.74).
+/// What a variable takes in ALLOCATE, at level 1 (X3.74; areas own).
 fn taken_in(
     alloc: Global,
     naming: &Naming<'_>,
@@ -134,27 +200,28 @@ fn taken_in(
         ≡ spec.taken_in (naming_in naming.now) temporary w.storage w.path (option_map referent_view area.entry)
         (option_map referent_view target.entry)) }
 {
-    if variable.is_member || area.is_some() {
+    if variable.is_member {
         drop(area);
         drop(target);
         return Ok(None);
     }
     match variable.storage {
-        NamedStorage::Begins { begins, .. } => Ok(stacked(begins, target)),
+        NamedStorage::Begins { begins, .. } => Ok(stacked(begins, area, target)),
         NamedStorage::Based {
             block,
             number,
             implied,
         } => {
-            let target = pointer_set(alloc, target, implied);
+            let locator = locator_set(alloc, target, implied);
             let template = match templates.based_copy(alloc, block, number) {
                 Ok(template) => template,
                 Err(error) => {
-                    drop(target);
+                    drop(area);
+                    drop(locator);
                     return Err(error);
                 }
             };
-            Ok(placed_by(temporary, template, target))
+            Ok(placed_by(alloc, temporary, area, template, locator))
         }
     }
 }
@@ -227,7 +294,7 @@ fn kept_for(item: &AllocatedItem) -> usize
 {
     match item {
         AllocatedItem::Controlled { .. } => 0,
-        AllocatedItem::Based { .. } => 1,
+        AllocatedItem::Based { .. } | AllocatedItem::InArea { .. } => 1,
     }
 }
 

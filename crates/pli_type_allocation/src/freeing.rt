@@ -12,16 +12,16 @@ ghost use Rattle.pli_type_tree.specs.TypedTree as tree;
 ghost use Rattle.pli_type_tree.specs.views.TypedView as typed;
 ghost use Rattle.pli_type_tree.specs.views.TypedView.{form_view, freed_view};
 
-use crate::variables::{first_token, only_variable};
+use crate::variables::only_variable;
 use pli_base::syntax::Reference;
 use pli_base::{Code, fault};
-use pli_type_expression::{Role, TypeError, referred};
+use pli_type_expression::{Role, TypeError, own_token, referred};
 use pli_type_names::Naming;
 use pli_type_tree::{Form, FreedItem, Root, TypedReference};
 use std::alloc::Global;
 
-/// What is freed that begins there: the newest generation of a CONTROLLED variable, or the generation of a BASED one to
-/// which its locator leads.
+/// What is freed that begins there: the newest generation of a CONTROLLED variable, or the generation or the block of a
+/// BASED one to which its locator leads.
 fn released_at(root: Root) -> Option<FreedItem>
     ensures { option_map freed_view result ≡ spec.released (tree.Whole (typed.root_view root)) }
 {
@@ -54,12 +54,13 @@ fn released(reference: TypedReference) -> Option<FreedItem>
     }
 }
 
-/// An item of FREE: the faults of its reference, then T11 at its first token where it can't be freed (X3.74).
+/// An item of FREE: the faults of its reference, then T11 where that can't be freed (X3.74), at its first name behind
+/// its last arrow (own).
 fn freed(alloc: Global, naming: &Naming<'_>, reference: &Reference) -> Result<FreedItem, TypeError>
     requires { later_reference (compiled_in naming.now) (reference_view reference.now) ≡ false }
     ensures { Gives freed_view result (spec.freed (naming_in naming.now) (reference_view reference.now)) }
 {
-    let at = first_token(reference);
+    let at = own_token(reference);
     let denoted = referred(alloc, naming, Role::Target, reference)?;
     let referent = only_variable(denoted, at)?;
     match released(referent.reference) {

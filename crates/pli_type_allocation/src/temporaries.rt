@@ -3,7 +3,8 @@ ghost use Rattle.std.specs.Prelude.{◌≡◌, ◌+◌, IfOk};
 
 use std::alloc::AllocError;
 
-/// So many temporaries behind others. More than a word counts are want of memory.
+/// The number of the temporary that stands so many behind this one. Where a word has no room for it, `AllocError`, as
+/// where memory is wanting: a unit of so many is more than memory holds.
 pub fn counted(temporary: usize, more: usize) -> Result<usize, AllocError>
     ensures { IfOk result (λ sum. sum ≡ temporary + more) }
 {

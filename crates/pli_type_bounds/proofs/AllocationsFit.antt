@@ -1,16 +1,17 @@
 -- ALLOCATE and FREE are of what is within the limits.
-use Rattle.std.specs.Prelude.{ℕ, zero, suc, ◌+◌, Option, Some, None, List, [], ◌∷◌, slice_get}
+use Rattle.std.specs.Prelude.{ℕ, zero, suc, ◌+◌, Option, Some, None, option_map, List, [], ◌∷◌, slice_get}
 use Rattle.std.specs.List.{AllByRecursion}
 use Rattle.pli_base.specs.Statements.{Allocation}
-use Rattle.pli_base.specs.Syntax.{Reference, first_token}
+use Rattle.pli_base.specs.Syntax.{Reference}
 use Rattle.pli_base.specs.declared.code.Code.TheVariants.{CannotAllocateOrFree}
-use Rattle.pli_map.specs.Description.{Description, Pointer}
-use Rattle.pli_type.specs.AllocationTyping.{in_turn, only_variable, place_given, pointer_set, placed_by, taken_in, taken, allocated, all_allocated, released, freed}
-use Rattle.pli_type.specs.FunctionCalls.{Denoted, DenotesVariable, DenotesResult}
-use Rattle.pli_type.specs.Names.{NamedStorage, Begins, IsBased, NamedAs, AVariable, Naming}
-use Rattle.pli_type.specs.References.{AsLocator, AsTarget, Referent, pointer_at}
+use Rattle.pli_type.specs.AllocationTyping.{in_turn, only_variable, place_given, locator_set, placed_within, placed_freely, placed_in, placed_by, taken_in, taken, allocated, all_allocated, released, freed}
+use Rattle.pli_type.specs.Beginnings.{area_meant, whole_at}
+use Rattle.pli_type.specs.FunctionCalls.{Denoted, DenotesVariable, DenotesResult, DenotesEmpty}
+use Rattle.pli_type.specs.Names.{LocatorVariable, OfPointer, OfOffset, NamedStorage, Begins, IsBased, NamedAs, AVariable, Naming}
+use Rattle.pli_type.specs.References.{AsLocator, AsTarget, Referent}
+use Rattle.pli_type.specs.declared.beginning.Beginning.{Beginning}
 use Rattle.pli_type.specs.StatementTyping.{allocate_typed, free_typed}
-use Rattle.pli_type.specs.Typing.{referred}
+use Rattle.pli_type.specs.Typing.{own_token, referred}
 use Rattle.pli_type_tree.specs.Allocations.{kept_for}
 use Rattle.pli_type_tree.specs.Templates.{Template}
 use Rattle.pli_type_tree.specs.TypedTree.{NewestOf, Located, TypedReference, Whole, TypedUnit}
@@ -19,7 +20,8 @@ use Rattle.pli_type_laws.proofs.Denotations.{OnRead}
 use Rattle.pli_type_laws.proofs.Expressions.{read_option}
 use Rattle.pli_type_laws.proofs.References.{read_then}
 use Rattle.pli_type_bounds.proofs.ExpressionsFit.{N, referred_fits}
-use Rattle.pli_type_bounds.proofs.Meanings.{IsStorage, IsMeaning, IsReferent, IsDenoted}
+use Rattle.pli_type_bounds.proofs.Meanings.{IsAreaNamed, IsLocatorVariable, IsImplied, locator_fits, IsStorage, IsMeaning, IsReferent, IsDenoted}
+use Rattle.pli_type_bounds.proofs.OperatorsFit.{area_fits}
 use Rattle.pli_source_laws.specs.Sources.{IsSourceReference, IsSourceAllocation}
 use Rattle.pli_deck_laws.specs.Limits.{IfThere, IsTemplate}
 use Rattle.pli_deck_laws.specs.WellFormed.{IsReference, IsAllocated, IsFreed, IsForm}
@@ -34,36 +36,53 @@ module _ (t : TypedUnit) where
   abbrev IsGiven : Option Referent → Type 0
   IsGiven o = IfThere (IsReferent t) o
 
-  -- ALLOCATE
-  pointer_kept : (r : TypedReference) (d : Description) → IsReference t r → OnGiven (IsReference t) (pointer_at r d)
-  pointer_kept r Pointer h = h
-  pointer_kept r d h = tt
+  -- ALLOCATE: the locator that is set
+  set_fits : (target : Option Referent) (implied : Option LocatorVariable) → IsGiven target → IsImplied t implied
+      → IsImplied t (locator_set target implied)
+  set_fits None implied h k = k
+  set_fits (Some r) implied h k = locator_fits t r.reference r.description r.area h.reference h.area
 
-  pointer_fits : (target : Option Referent) (implied : Option TypedReference) → IsGiven target → IfThere (IsReference t) implied
-      → OnGiven (IsReference t) (pointer_set target implied)
-  pointer_fits None None h k = tt
-  pointer_fits None (Some r) h k = k
-  pointer_fits (Some r) implied h k = pointer_kept r.reference r.description h.reference
+  -- a BASED variable in an area
+  module _ (temporary : ℕ) (x : Template) (made : IsTemplate x) where
+    within_fits : (area : Beginning) → IsReference t (whole_at area) → (locator : LocatorVariable) → IsLocatorVariable t locator
+        → IsAllocated t (placed_within area x temporary locator)
+    within_fits area h (OfPointer target) k = (h, made, k, tt)
+    within_fits area h (OfOffset target own) k = (h, made, k.0, k.1)
 
-  based_placed : (temporary : ℕ) (x : Option Template) (target : Option TypedReference) → OnGiven IsTemplate x → OnGiven (IsReference t) target
-      → OnGiven (IsAllocated t) (placed_by temporary x target)
-  based_placed temporary (Some x) (Some target) h k = (h, k)
-  based_placed temporary (Some x) None h k = tt
-  based_placed temporary None target h k = tt
+    freely_fits : (locator : LocatorVariable) → IsLocatorVariable t locator → IsAllocated t (placed_freely x temporary locator)
+    freely_fits (OfPointer target) k = (made, k)
+    freely_fits (OfOffset target own) k = within_fits own k.1 (OfOffset target own) k
+
+    in_area : (locator : LocatorVariable) → IsLocatorVariable t locator → (o : Option Beginning) → IsAreaNamed t o
+        → OnGiven (IsAllocated t) (option_map (λ area. placed_within area x temporary locator) o)
+    in_area locator k (Some area) h = within_fits area h locator k
+    in_area locator k None h = tt
+
+    somewhere_fits : (area : Option Referent) → IsGiven area → (locator : LocatorVariable) → IsLocatorVariable t locator
+        → OnGiven (IsAllocated t) (placed_in area x temporary locator)
+    somewhere_fits None h locator k = freely_fits locator k
+    somewhere_fits (Some r) h locator k =
+        in_area locator k (area_meant r.reference r.description) (area_fits t r.reference r.description h.reference)
+
+  based_placed : (temporary : ℕ) (area : Option Referent) → IsGiven area → (x : Option Template) (locator : Option LocatorVariable)
+      → OnGiven IsTemplate x → IsImplied t locator → OnGiven (IsAllocated t) (placed_by temporary area x locator)
+  based_placed temporary area g (Some x) (Some locator) h k = somewhere_fits temporary x h area g locator k
+  based_placed temporary area g (Some x) None h k = tt
+  based_placed temporary area g None locator h k = tt
 
   module _ (n : Naming) (templates : (block : ℕ) → AllByRecursion IsTemplate (n.based block)) where
-    stored_taken : (temporary : ℕ) (storage : NamedStorage) (path : List ℕ) → IsStorage t storage → (area target : Option Referent) → IsGiven target
-        → OnGiven (IsAllocated t) (taken_in n temporary storage path area target)
-    stored_taken temporary (Begins (NewestOf number) is_parameter) [] h None None k = h
-    stored_taken temporary (IsBased block number implied) [] h None target k =
-        based_placed temporary (slice_get (n.based block) number) (pointer_set target implied)
-        (template_at (n.based block) number (templates block)) (pointer_fits target implied k h)
-    stored_taken temporary storage path h area target k = tt
+    stored_taken : (temporary : ℕ) (storage : NamedStorage) (path : List ℕ) → IsStorage t storage → (area target : Option Referent) → IsGiven area
+        → IsGiven target → OnGiven (IsAllocated t) (taken_in n temporary storage path area target)
+    stored_taken temporary (Begins (NewestOf number) is_parameter) [] h None None g k = h
+    stored_taken temporary (IsBased block number implied) [] h area target g k =
+        based_placed temporary area g (slice_get (n.based block) number) (locator_set target implied)
+        (template_at (n.based block) number (templates block)) (set_fits target implied k h)
+    stored_taken temporary storage path h area target g k = tt
 
-    one_taken : (temporary : ℕ) (a : NamedAs) → IsMeaning t a → (area target : Option Referent) → IsGiven target
+    one_taken : (temporary : ℕ) (a : NamedAs) → IsMeaning t a → (area target : Option Referent) → IsGiven area → IsGiven target
         → OnGiven (IsAllocated t) (taken n temporary a area target)
-    one_taken temporary (AVariable v) h area target k = stored_taken temporary v.storage v.path h.storage area target k
-    one_taken temporary a h area target k = tt
+    one_taken temporary (AVariable v) h area target g k = stored_taken temporary v.storage v.path h.storage area target g k
+    one_taken temporary a h area target g k = tt
 
   -- FREE
   one_released : (r : TypedReference) → IsReference t r → OnGiven (IsFreed t) (released r)
@@ -74,16 +93,18 @@ module _ (t : TypedUnit) where
   only_fits : (at : ℕ) (d : Denoted) → IsDenoted t d → OnRead (IsReferent t) (only_variable at d)
   only_fits at (DenotesVariable r) h = h
   only_fits at (DenotesResult v) h = tt
+  only_fits at DenotesEmpty h = tt
 
-module _ (t : TypedUnit) (based : ℕ → List Template) (meaning : ℕ → NamedAs) (known : (at : ℕ) → IsMeaning t (meaning at)) where
+module _ (t : TypedUnit) (based : ℕ → List Template) (areas : ℕ → Option Beginning) (meaning : ℕ → NamedAs)
+    (known : (at : ℕ) → IsMeaning t (meaning at)) where
   abbrev M : Naming
-  M = N t based meaning known
+  M = N t based areas meaning known
 
   given_fits : (o : Option Reference) → IfThere IsSourceReference o → OnRead (IsGiven t) (place_given M o)
   given_fits None l = tt
   given_fits (Some r) l =
-      read_then (IsDenoted t) (IsGiven t) (referred M AsLocator r) _ (referred_fits t based meaning known AsLocator r l)
-      (λ d h. read_then (IsReferent t) (IsGiven t) (only_variable (first_token r) d) _ (only_fits t (first_token r) d h) (λ q k. k))
+      read_then (IsDenoted t) (IsGiven t) (referred M AsLocator r) _ (referred_fits t based areas meaning known AsLocator r l)
+      (λ d h. read_then (IsReferent t) (IsGiven t) (only_variable (own_token r) d) _ (only_fits t (own_token r) d h) (λ q k. k))
 
   module _ (templates : (block : ℕ) → AllByRecursion IsTemplate (based block)) where
     one_allocated : (temporary : ℕ) (a : Allocation) → IsSourceAllocation a → OnRead (IsAllocated t) (allocated M temporary a)
@@ -91,7 +112,7 @@ module _ (t : TypedUnit) (based : ℕ → List Template) (meaning : ℕ → Name
         read_then (IsGiven t) (IsAllocated t) (place_given M a.area) _ (given_fits a.area l.0)
         (λ area h. read_then (IsGiven t) (IsAllocated t) (place_given M a.target) _ (given_fits a.target l.1)
         (λ target k. read_option (IsAllocated t) CannotAllocateOrFree a.name.at (taken M temporary (meaning a.name.at) area target)
-        (one_taken t M templates temporary (meaning a.name.at) (known a.name.at) area target k)))
+        (one_taken t M templates temporary (meaning a.name.at) (known a.name.at) area target h k)))
 
     each_allocated : (temporary : ℕ) (list : List Allocation) → AllByRecursion IsSourceAllocation list
         → OnRead (AllByRecursion (IsAllocated t)) (all_allocated M temporary list)
@@ -108,9 +129,9 @@ module _ (t : TypedUnit) (based : ℕ → List Template) (meaning : ℕ → Name
 
   one_freed : (r : Reference) → IsSourceReference r → OnRead (IsFreed t) (freed M r)
   one_freed r l =
-      read_then (IsDenoted t) (IsFreed t) (referred M AsTarget r) _ (referred_fits t based meaning known AsTarget r l)
-      (λ d h. read_then (IsReferent t) (IsFreed t) (only_variable (first_token r) d) _ (only_fits t (first_token r) d h)
-      (λ q k. read_option (IsFreed t) CannotAllocateOrFree (first_token r) (released q.reference) (one_released t q.reference k.reference)))
+      read_then (IsDenoted t) (IsFreed t) (referred M AsTarget r) _ (referred_fits t based areas meaning known AsTarget r l)
+      (λ d h. read_then (IsReferent t) (IsFreed t) (only_variable (own_token r) d) _ (only_fits t (own_token r) d h)
+      (λ q k. read_option (IsFreed t) CannotAllocateOrFree (own_token r) (released q.reference) (one_released t q.reference k.reference)))
 
   all_freed : (list : List Reference) → AllByRecursion IsSourceReference list → OnRead (AllByRecursion (IsFreed t)) (in_turn (freed M) list)
   all_freed [] l = tt

@@ -15,6 +15,7 @@ use Rattle.pli_resolve.specs.TreeBlocks as source
 use Rattle.pli_resolve.specs.declared.block_numbers.ResolvedBlockKind.TheVariants as kinds
 use Rattle.pli_type.specs.Checked.{external_of, unit_of}
 use Rattle.pli_type.specs.Names.{NamedUnit, NamedAs}
+use Rattle.pli_type.specs.declared.beginning.Beginning.{Beginning}
 use Rattle.pli_type.specs.StatementTyping.{Surroundings, naming_at, block_at, leaves_nothing, condition, iteration, WithProcedures, of_own, together}
 use Rattle.pli_type.specs.StatementTyping.{made, head_of, procedure_of, as_procedure, put_before, inside, behind_limits, in_begin, in_group, in_procedure}
 use Rattle.pli_type.specs.StatementTyping.{statement_typed, body_typed, alternative_typed, statements_typed}
@@ -212,11 +213,12 @@ module _ (sizes : ℕ → ℕ) where
 
 -- ---- statements
 
-module _ (program : ExternalProcedure) (is_later is_based : ℕ → Bool) (based : List ℕ → ℕ → List Template) (meaning : List ℕ → ℕ → NamedAs) (parameters : ℕ → List Description)
-    (returned : ℕ → Option Description) (automatic : ℕ → List Template) (globals : List Global)
+module _ (program : ExternalProcedure) (is_based : ℕ → Bool) (based : List ℕ → ℕ → List Template) (areas : List ℕ → ℕ → Option Beginning)
+    (meaning : List ℕ → ℕ → NamedAs) (parameters : ℕ → List Description) (returned : ℕ → Option Description) (automatic : ℕ → List Template)
+    (globals : List Global)
     (begins : (number : ℕ) (b : SourceBlock) → slice_get (unit_blocks program) number ≡ Some b → b.kind ≡ kinds.Begin → parameters number ≡ []) where
   abbrev U : NamedUnit
-  U = unit_with program is_later is_based based meaning parameters returned automatic globals
+  U = unit_with program is_based based areas meaning parameters returned automatic globals
 
   abbrev All : List SourceBlock
   All = unit_blocks program

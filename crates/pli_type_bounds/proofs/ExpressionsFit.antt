@@ -12,31 +12,33 @@ use Rattle.pli_gen_emit.specs.TreeTranslation.{argument_count}
 use Rattle.pli_map.specs.Description as described
 use Rattle.pli_map.specs.Description.{Description}
 use Rattle.pli_map.specs.Same.{same}
-use Rattle.pli_map.specs.Scalars.{is_aggregate}
+use Rattle.pli_map.specs.Scalars.{is_aggregate, is_area}
 use Rattle.pli_map.specs.Sizes.{size_of}
+use Rattle.pli_type.specs.Beginnings.{area_meant, whole_at}
 use Rattle.pli_type.specs.ExpressionTypes.{TypedValue, precision_of, prefix_value, infix_value, converted}
 use Rattle.pli_resolve.specs.declared.built_in.BuiltInFunction.{BuiltInFunction}
 use Rattle.pli_resolve.specs.declared.built_in.BuiltInFunction.TheVariants as functions
-use Rattle.pli_type.specs.FunctionCalls.{Denoted, DenotesVariable, DenotesResult, Meant, OneValue, WholeAggregate, meant_as, Argument}
+use Rattle.pli_type.specs.FunctionCalls.{Denoted, DenotesVariable, DenotesResult, DenotesEmpty, Meant, OneValue, WholeAggregate, meant_as, Argument}
 use Rattle.pli_type.specs.FunctionCalls.{roles_of, function_called}
-use Rattle.pli_type.specs.Names.{NamedAs, AVariable, AFunction, AProcedure, NamedStorage, Begins, IsBased, NamedVariable, NamedProcedure, Naming}
-use Rattle.pli_type.specs.ProcedureCalls.{passed_place, passed_value, passed, passed_before, all_passed, or_wrong_argument}
+use Rattle.pli_type.specs.Names.{LocatorVariable, OfPointer, OfOffset, NamedAs, AVariable, AFunction, AProcedure, NamedStorage, Begins, IsBased, NamedVariable, NamedProcedure, Naming}
+use Rattle.pli_type.specs.ProcedureCalls.{place_of, passed_place, passed_value, passed, passed_before, all_passed, or_wrong_argument}
 use Rattle.pli_type.specs.ProcedureCalls.{arguments_passed, result_of, type_returned}
 use Rattle.pli_type.specs.References.{Role, AsValue, AsArgument, AsLocator, wants_scalar, variable_meant, StridedPart, part_of, with_subscripts, subscripts_at, reference_to, Referent, permitted, settled}
-use Rattle.pli_type.specs.References.{LocatorBefore, NotLocated, LocatedBy, LocatedWrongly, locator_held, root_by, begins_somewhere, referent_from}
+use Rattle.pli_type.specs.References.{LocatorBefore, NotLocated, LocatedBy, LocatedWrongly, locator_at, located_by, pointer_of, root_by, begins_somewhere, referent_from}
 use Rattle.pli_type.specs.Typing.{first_token, how_many, or_fault, one_value}
-use Rattle.pli_type.specs.Typing.{subscript_value, Segment, OfVariable, OfFunction, OfNoVariable, is_call, with_more, ended, as_locator, named_alone, procedure_called, roles_or_none}
+use Rattle.pli_type.specs.Typing.{subscript_value, Segment, OfVariable, OfFunction, OfEmpty, OfNoVariable, is_call, with_more, ended, as_locator, named_alone, given_by, procedure_called, roles_or_none}
 use Rattle.pli_type.specs.Typing.{as_value, denoted, meant, referred, joined, begun, subscripts_in, all_subscripts, all_arguments, value_of}
+use Rattle.pli_type.specs.declared.beginning.Beginning.{Beginning}
 use Rattle.pli_type.specs.declared.expression_type.ExpressionType.{ExpressionType}
 use Rattle.pli_type_tree.specs.Templates.{Template}
 use Rattle.pli_type_tree.specs.TypedTree.{Root, Stride, TypedExpression, TypedReference, TypedArguments, TypedUnit}
-use Rattle.pli_type_laws.proofs.Conversions.{OnGiven}
+use Rattle.pli_type_laws.proofs.Conversions.{OnGiven, given_if}
 use Rattle.pli_type_laws.proofs.Denotations.{OnRead}
 use Rattle.pli_type_laws.proofs.Expressions.{read_option}
 use Rattle.pli_type_laws.proofs.References.{read_then, read_if}
 use Rattle.pli_type_name_laws.proofs.InitialHeld.{all_behind}
-use Rattle.pli_type_bounds.proofs.Meanings.{IsPart, IsStorage, IsLocator, IsVariable, IsProcedureNamed, IsMeaning, IsValue, IsReferent, IsMeant, IsDenoted, AreArgumentsGiven, IsSegment}
-use Rattle.pli_type_bounds.proofs.OperatorsFit.{given_made, constant_fits, prefix_fits, infix_fits, converted_fits, denoted_fits, functions_fit}
+use Rattle.pli_type_bounds.proofs.Meanings.{IsPart, IsAreaNamed, IsLocatorVariable, IsImplied, locator_fits, IsStorage, IsLocator, IsVariable, IsProcedureNamed, IsMeaning, IsKind, IsValue, IsReferent, IsMeant, IsDenoted, AreArgumentsGiven, IsSegment}
+use Rattle.pli_type_bounds.proofs.OperatorsFit.{given_made, constant_fits, prefix_fits, infix_fits, converted_fits, kinds_held, area_fits, denoted_fits, functions_fit}
 use Rattle.pli_source_laws.specs.Sources.{IsSource, IsSourceReference, AreSourceParts, AreSourceArguments, AreSources}
 use Rattle.pli_deck_laws.specs.Limits.{parameter_limit, IsDescription, IsMade, IsStride}
 use Rattle.pli_deck_laws.specs.WellFormed.{IsRoot, IsExpression, IsReference, AreSubscripts, AreArguments}
@@ -56,6 +58,15 @@ module _ (t : TypedUnit) where
   reference_fits root [] q (x ∷ xs) r h k = (r, h.offset, h.described, subscripts_fit q.strides (x ∷ xs) h.strides k)
   reference_fits root (i ∷ path) q xs r h k = (r, h.offset, h.described, subscripts_fit q.strides xs h.strides k)
 
+  -- what a variable gives that leads to BASED ones
+  pointer_given : (locator : LocatorVariable) → IsLocatorVariable t locator → IsExpression t (pointer_of locator)
+  pointer_given (OfPointer reference) h = h
+  pointer_given (OfOffset reference area) h = (h.1, h.0)
+
+  located_fits : (o : Option LocatorVariable) → IsImplied t o → IsLocator t (located_by o)
+  located_fits None h = tt
+  located_fits (Some locator) h = pointer_given locator h
+
   -- where a reference begins
   root_fits : (storage : NamedStorage) (whole : Description) (locator : LocatorBefore) → IsStorage t storage → IsDescription whole
       → IsLocator t locator → OnGiven (IsRoot t) (root_by storage whole locator)
@@ -63,7 +74,7 @@ module _ (t : TypedUnit) where
   root_fits (Begins root is_parameter) whole (LocatedBy e) h good k = tt
   root_fits (Begins root is_parameter) whole LocatedWrongly h good k = tt
   root_fits (IsBased block number None) whole NotLocated h good k = tt
-  root_fits (IsBased block number (Some implied)) whole NotLocated h good k = (h, good)
+  root_fits (IsBased block number (Some implied)) whole NotLocated h good k = (pointer_given implied h, good)
   root_fits (IsBased block number None) whole (LocatedBy e) h good k = (k, good)
   root_fits (IsBased block number (Some implied)) whole (LocatedBy e) h good k = (k, good)
   root_fits (IsBased block number None) whole LocatedWrongly h good k = tt
@@ -82,7 +93,11 @@ module _ (t : TypedUnit) where
     with_root : (q : StridedPart) → IsPart q → (o : Option Root) → OnGiven (IsRoot t) o
         → OnGiven (IsReferent t) (option_map (referent_from v xs q) o)
     with_root q part None h = tt
-    with_root q part (Some root) h = record { reference = reference_fits root v.path q xs h part given; described = part.described }
+    with_root q part (Some root) h = record {
+      reference = reference_fits root v.path q xs h part given;
+      described = part.described;
+      area = known.area;
+    }
 
     with_part : (p : StridedPart) → part_of v ≡ Some p → (o : Option StridedPart) → with_subscripts (length xs) p ≡ o
         → OnRead (IsReferent t) (settled role locator at v xs o)
@@ -108,32 +123,45 @@ module _ (t : TypedUnit) where
   bytes_small false false = omega arith
 
   -- what is converted is a scalar, and small
-  small : (d : Description) (v : TypedValue) (e : TypedExpression) → IsDescription d → converted 31 d v ≡ Some e → size_of d ≤ 1000000
+  small : (d : Description) (v : TypedValue) (e : TypedExpression) → IsDescription d → converted 31 None d v ≡ Some e → size_of d ≤ 1000000
   small (described.FixedBinary p) v e h k = bytes_small (nat_le p 15) (nat_le p 31)
   small (described.Character n) v e h k = omega (arith, h)
   small (described.Varying n) v e h k = omega (arith, h)
   small (described.Bit n) v e h k = omega (arith, h)
   small described.Pointer v e h k = omega arith
+  small described.Offset v e h k = omega arith
   small d v e h k = absurd (cc)
 
-  place_if : (b : Bool) (r : TypedReference) → IsReference t r → OnGiven (IsReference t) (if b then Some r else None)
-  place_if true r h = h
-  place_if false r h = tt
+  -- a place that is handed over: that of a whole area, or any
+  whole_fits : (o : Option Beginning) → IsAreaNamed t o → OnGiven (IsReference t) (option_map whole_at o)
+  whole_fits (Some b) h = h
+  whole_fits None h = tt
+
+  place_chosen : (b : Bool) (o q : Option TypedReference) → OnGiven (IsReference t) o → OnGiven (IsReference t) q
+      → OnGiven (IsReference t) (if b then o else q)
+  place_chosen true o q h k = h
+  place_chosen false o q h k = k
+
+  place_of_fits : (r : TypedReference) (d : Description) → IsReference t r → OnGiven (IsReference t) (place_of r d)
+  place_of_fits r d h =
+      place_chosen (is_area d) (option_map whole_at (area_meant r d)) (Some r) (whole_fits (area_meant r d) (area_fits t r d h)) h
 
   place_fits : (d : Description) (a : Denoted) → IsDenoted t a → OnGiven (IsReference t) (passed_place d a)
-  place_fits d (DenotesVariable r) h = place_if (same r.description d) r.reference h.reference
+  place_fits d (DenotesVariable r) h =
+      given_if (IsReference t) (same r.description d) (place_of r.reference r.description) (place_of_fits r.reference r.description h.reference)
   place_fits d (DenotesResult v) h = tt
+  place_fits d DenotesEmpty h = tt
 
   abbrev IsDummy : Description → TypedExpression → Type 0
   IsDummy d e = IsMade d × IsExpression t e
 
-  dummy_of : (d : Description) (v : TypedValue) (o : Option TypedExpression) → IsDescription d → converted 31 d v ≡ o → OnGiven (IsExpression t) o
+  dummy_of : (d : Description) (v : TypedValue) (o : Option TypedExpression) → IsDescription d → converted 31 None d v ≡ o → OnGiven (IsExpression t) o
       → OnGiven (IsDummy d) o
   dummy_of d v (Some e) good is h = ((good, small d v e good is), h)
   dummy_of d v None good is h = tt
 
   value_fits : (d : Description) (m : Meant) → IsDescription d → IsMeant t m → OnGiven (IsDummy d) (passed_value 31 d m)
-  value_fits d (OneValue v) good h = dummy_of d v (converted 31 d v) good refl (converted_fits t d v good h)
+  value_fits d (OneValue v) good h = dummy_of d v (converted 31 None d v) good refl (converted_fits t None tt d v good h)
   value_fits d (WholeAggregate r) good h = tt
 
   abbrev pub Pass : List Description → TypedArguments → Type 0
@@ -171,16 +199,9 @@ module _ (t : TypedUnit) where
       (or_wrong at p.parameters (all_passed 31 p.parameters gs) (all_pass p.parameters gs known.described h)) tt
 
   result_fits : (p : NamedProcedure) → IsProcedureNamed t p → (xs : TypedArguments) → Pass p.parameters xs → (at : ℕ) (o : Option ExpressionType)
-      → OnRead (IsValue t) (result_of at p.callee xs o)
-  result_fits p known xs h at None = tt
-  result_fits p known xs h at (Some kind) = (known.callee, subst (λ n. n ≤ parameter_limit) (sym h.1) known.few, h.0)
-
-  procedure_fits : (p : NamedProcedure) → IsProcedureNamed t p → (at : ℕ) (gs : List Argument) → AreArgumentsGiven t gs
-      → OnRead (IsSegment t) (procedure_called 31 p at gs)
-  procedure_fits p known at gs h =
-      read_then (Pass p.parameters) (IsSegment t) (arguments_passed 31 p at gs) _ (arguments_fit p known at gs h)
-      (λ xs fit. read_then (IsValue t) (IsSegment t) (result_of at p.callee xs (type_returned p.returned)) _
-      (result_fits p known xs fit at (type_returned p.returned)) (λ v k. k))
+      → OnGiven (IsKind t) o → OnRead (IsValue t) (result_of at p.callee xs o)
+  result_fits p known xs h at None k = tt
+  result_fits p known xs h at (Some kind) k = ((known.callee, subst (λ n. n ≤ parameter_limit) (sym h.1) known.few, h.0), k)
 
   -- ---- segments
 
@@ -191,37 +212,56 @@ module _ (t : TypedUnit) where
   more_segment : (g : Segment) (ys : List TypedExpression) → IsSegment t g → AllByRecursion (IsExpression t) ys → IsSegment t (with_more g ys)
   more_segment (OfVariable locator at v xs) ys h k = (h.0, all_behind (IsExpression t) xs ys h.1 k, h.2)
   more_segment (OfFunction v) ys h k = h
+  more_segment OfEmpty ys h k = tt
   more_segment (OfNoVariable at) ys h k = tt
 
-  -- what stands in front of an arrow, and NULL without parentheses
-  held_locator : (r : TypedReference) (d : Description) → IsReference t r → IsLocator t (locator_held r d)
-  held_locator r described.Pointer h = h
-  held_locator r d h = tt
-
-  locator_fits : (d : Denoted) → IsDenoted t d → IsLocator t (as_locator d)
-  locator_fits (DenotesVariable r) h = held_locator r.reference r.description h.reference
-  locator_fits (DenotesResult v) h = tt
+  -- what stands in front of an arrow; NULL and EMPTY without parentheses; and what a function gives
+  before_arrow : (d : Denoted) → IsDenoted t d → IsLocator t (as_locator d)
+  before_arrow (DenotesVariable r) h =
+      located_fits (locator_at r.reference r.description r.area) (locator_fits t r.reference r.description r.area h.reference h.area)
+  before_arrow (DenotesResult v) h = tt
+  before_arrow DenotesEmpty h = tt
 
   alone_fits : (at : ℕ) (function : BuiltInFunction) → IsSegment t (named_alone at function)
-  alone_fits at functions.Null = refl
+  alone_fits at functions.Null = (refl, tt)
+  alone_fits at functions.Empty = tt
   alone_fits at function = tt
+
+  given_fits : (function : BuiltInFunction) (v : TypedValue) → IsValue t v → IsSegment t (given_by function v)
+  given_fits functions.Empty v h = tt
+  given_fits function v h = h
 
   ended_fits : (role : Role) (g : Segment) → IsSegment t g → OnRead (IsDenoted t) (ended role g)
   ended_fits role (OfVariable locator at v xs) h =
       read_then (IsReferent t) (IsDenoted t) (variable_meant role locator at v xs) _ (variable_fits role locator h.2 at v h.0 xs h.1) (λ r g. g)
   ended_fits role (OfFunction v) h = h
+  ended_fits role OfEmpty h = tt
   ended_fits role (OfNoVariable at) h = tt
 
-module _ (t : TypedUnit) (based : ℕ → List Template) (meaning : ℕ → NamedAs) (known : (at : ℕ) → IsMeaning t (meaning at)) where
+module _ (t : TypedUnit) (based : ℕ → List Template) (areas : ℕ → Option Beginning) (meaning : ℕ → NamedAs)
+    (known : (at : ℕ) → IsMeaning t (meaning at)) where
   abbrev pub N : Naming
-  N = record { greatest = 31; based = based; meaning = meaning }
+  N = record { greatest = 31; based = based; returned_area = areas; meaning = meaning }
+
+  -- of which a result is
+  returned_kind : (area : Option Beginning) → IsAreaNamed t area → (o : Option Description) → OnGiven (IsKind t) (type_returned area o)
+  returned_kind area k None = tt
+  returned_kind area k (Some d) = kinds_held t area k d
+
+  procedure_fits : (p : NamedProcedure) → IsProcedureNamed t p → (at : ℕ) (gs : List Argument) → AreArgumentsGiven t gs
+      → OnRead (IsSegment t) (procedure_called N p at gs)
+  procedure_fits p k at gs h =
+      let kind : Option ExpressionType = type_returned p.area p.returned in
+      read_then (Pass t p.parameters) (IsSegment t) (arguments_passed 31 p at gs) _ (arguments_fit t p k at gs h)
+      (λ xs fit. read_then (IsValue t) (IsSegment t) (result_of at p.callee xs kind) _
+      (result_fits t p k xs fit at kind (returned_kind p.area k.area p.returned)) (λ v g. g))
 
   value_read : (at : ℕ) (r : Result Denoted Fault) → OnRead (IsDenoted t) r → OnRead (IsValue t) (as_value at r)
   value_read at r h =
       read_then (IsDenoted t) (IsValue t) r (λ d. one_value at (meant_as d)) h (λ d k. one_meant t at (meant_as d) (denoted_fits t d k))
 
   mutual
-    denoted_all : (role : Role) (e : Expression) → IsSource e → OnRead (IsDenoted t) (denoted N role e)
+    pub denoted_all : (role : Role) (e : Expression) → IsSource e → OnRead (IsDenoted t) (denoted N role e)
     denoted_all role (Referred reference) l = referred_fits role reference l
     denoted_all role (Constant at value) l = constant_fits t value l
     denoted_all role (Parenthesized at inner) l =
@@ -256,7 +296,7 @@ module _ (t : TypedUnit) (based : ℕ → List Template) (meaning : ℕ → Name
         read_then (IsDenoted t) (IsDenoted t) (ended AsLocator g) _ (ended_fits t AsLocator g h)
         (λ locator k. read_then (IsSegment t) (IsDenoted t)
         (begun N (meaning name.at) (is_call role true more) (as_locator locator) name.at arguments) _
-        (begun_fits (meaning name.at) (known name.at) (is_call role true more) (as_locator locator) (locator_fits t locator k) name.at arguments l.0)
+        (begun_fits (meaning name.at) (known name.at) (is_call role true more) (as_locator locator) (before_arrow t locator k) name.at arguments l.0)
         (λ s u. joined_fits role s u more l.1))
 
     begun_fits : (a : NamedAs) → IsMeaning t a → (call : Bool) (locator : LocatorBefore) → IsLocator t locator → (at : ℕ) (arguments : Arguments)
@@ -269,10 +309,10 @@ module _ (t : TypedUnit) (based : ℕ → List Template) (meaning : ℕ → Name
         read_then (AreArgumentsGiven t) (IsSegment t) (all_arguments N (roles_or_none (roles_of function (how_many list))) list) _
         (list_fits (roles_or_none (roles_of function (how_many list))) list l)
         (λ gs h. read_then (IsValue t) (IsSegment t) (function_called 31 function at (roles_of function (how_many list)) gs) _
-        (functions_fit t function at (roles_of function (how_many list)) gs h) (λ v g. g))
+        (functions_fit t function at (roles_of function (how_many list)) gs h) (λ v g. given_fits t function v g))
     begun_fits (AProcedure p) k true locator located at (Given list) l =
         read_then (AreArgumentsGiven t) (IsSegment t) (all_arguments N [] list) _ (list_fits [] list l)
-        (λ gs h. procedure_fits t p k at gs h)
+        (λ gs h. procedure_fits p k at gs h)
     begun_fits a k call locator located at (Given list) l =
         read_then (AreArgumentsGiven t) (IsSegment t) (all_arguments N [] list) _ (list_fits [] list l) (λ gs h. tt)
     begun_fits a k call locator located at Absent l = tt
@@ -289,7 +329,7 @@ module _ (t : TypedUnit) (based : ℕ → List Template) (meaning : ℕ → Name
         (value_read (first_token first) (denoted N AsValue first) (denoted_all AsValue first l.0))
         (λ v h. read_then (IsExpression t) (AllByRecursion (IsExpression t)) (subscript_value 31 (first_token first) v) _
         (read_option (IsExpression t) WrongOperandType (first_token first) (option_map (λ p. v.expression) (precision_of 31 v.kind))
-        (given_made (IsExpression t) (λ p. v.expression) (precision_of 31 v.kind) (λ p. h)))
+        (given_made (IsExpression t) (λ p. v.expression) (precision_of 31 v.kind) (λ p. h.0)))
         (λ x k. read_then (AllByRecursion (IsExpression t)) (AllByRecursion (IsExpression t)) (all_subscripts N more) _ (indices_fit more l.1)
         (λ xs j. (k, j))))
 

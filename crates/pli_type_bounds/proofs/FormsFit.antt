@@ -1,43 +1,45 @@
 -- Forms without statements in them are within the limits.
-use Rattle.std.specs.Prelude.{◌≡◌, ℕ, suc, ◌≤◌, Bool, true, false, not, ◌&&◌, Option, Some, None, is_none, option_map, List, [], ◌∷◌, length}
+use Rattle.std.specs.Prelude.{◌≡◌, ℕ, suc, ◌≤◌, Bool, true, false, not, ◌&&◌, Option, Some, None, is_none, option_map, option_and_then, List, [], ◌∷◌, length, slice_get}
 use Rattle.std.specs.Prelude.{Ok, refl, if◌then◌else◌}
 use Rattle.std.specs.List.{AllByRecursion}
 use Rattle.std.proofs.Common.{arith, subst, sym}
 use Rattle.pli_base.specs.Reading.{at_fault}
 use Rattle.pli_base.specs.Statements as tree
 use Rattle.pli_base.specs.Statements.{Range}
-use Rattle.pli_base.specs.Syntax.{Expression, Referred, Reference, Arguments, Absent, Given}
+use Rattle.pli_base.specs.Syntax.{Expression, Reference, Arguments, Absent, Given}
 use Rattle.pli_base.specs.declared.code.Code.TheVariants.{WrongOperandType, CannotAssign, CannotPrint, NotYetBuilt, WrongReturn}
 use Rattle.pli_base.specs.declared.syntax.Identifier.{Identifier}
 use Rattle.pli_map.specs.Description.{Description}
 use Rattle.pli_map.specs.Same.{same}
-use Rattle.pli_map.specs.Scalars.{is_aggregate}
-use Rattle.pli_type.specs.ExpressionTypes.{TypedValue, precision_of, converted, conversions, printed}
-use Rattle.pli_type.specs.FunctionCalls.{Denoted, DenotesVariable, DenotesResult, Meant, OneValue, WholeAggregate, Argument}
+use Rattle.pli_map.specs.Scalars.{is_aggregate, is_area}
+use Rattle.pli_type.specs.Beginnings.{area_meant, whole_at}
+use Rattle.pli_type.specs.ExpressionTypes.{TypedValue, precision_of, converted, conversion, printed}
+use Rattle.pli_type.specs.FunctionCalls.{Denoted, DenotesVariable, DenotesResult, DenotesEmpty, area_of, Meant, OneValue, WholeAggregate, Argument}
 use Rattle.pli_type.specs.Names.{NamedAs, AProcedure, ALabel, NamedProcedure, Naming}
 use Rattle.pli_type.specs.ProcedureCalls.{arguments_passed}
-use Rattle.pli_type.specs.References.{AsArgument, AsLocator, AsTarget, Referent}
-use Rattle.pli_type.specs.StatementTyping.{aggregate_assigned, scalar_assigned, assigned, assignment, truth_of, condition, item, items}
+use Rattle.pli_type.specs.References.{AsArgument, AsLocator, AsTarget, AsValue, Referent}
+use Rattle.pli_type.specs.StatementTyping.{aggregate_assigned, scalar_assigned, area_put, area_assigned, variable_assigned, assigned, assignment, truth_of, condition, item, items}
 use Rattle.pli_type.specs.StatementTyping.{Surroundings, Enclosing, label_found, jump_to, jump, goto_typed, arguments_typed, no_function, call_of}
-use Rattle.pli_type.specs.StatementTyping.{call_typed, returned_value, return_typed, number_of, limit, possible_limit, limits}
+use Rattle.pli_type.specs.StatementTyping.{call_typed, area_here, returned_value, return_typed, number_of, limit, possible_limit, limits}
 use Rattle.pli_type.specs.StatementTyping.{without_subscripts, has_locator, suits_range, suited_control, controls, possible_condition, next_value, with_repeat}
 use Rattle.pli_type.specs.StatementTyping.{iteration}
-use Rattle.pli_type.specs.Typing.{first_token, or_fault, meant, referred, value_of}
+use Rattle.pli_type.specs.Typing.{first_token, own_token, or_fault, denoted, meant, referred, value_of}
+use Rattle.pli_type.specs.declared.beginning.Beginning.{Beginning}
 use Rattle.pli_type.specs.declared.expression_type.ExpressionType.{ExpressionType}
 use Rattle.pli_type.specs.declared.expression_type.ExpressionType.TheVariants as types
 use Rattle.pli_type_tree.specs.Templates.{Template}
 use Rattle.pli_type_tree.specs.TypedTree as typed
-use Rattle.pli_type_tree.specs.TypedTree.{TypedExpression, TypedReference, TypedArguments, TypedRange, TypedUnit}
+use Rattle.pli_type_tree.specs.TypedTree.{TypedExpression, TypedArguments, TypedRange, TypedUnit}
 use Rattle.pli_type_laws.proofs.Conversions.{OnGiven}
 use Rattle.pli_type_laws.proofs.Denotations.{OnRead}
 use Rattle.pli_type_laws.proofs.Expressions.{read_option}
 use Rattle.pli_type_laws.proofs.References.{read_then, read_if}
-use Rattle.pli_type_bounds.proofs.ExpressionsFit.{N, Pass, arguments_fit, referred_fits, list_fits, meant_fits, value_of_fits}
-use Rattle.pli_type_bounds.proofs.Meanings.{IsProcedureNamed, IsMeaning, IsValue, IsReferent, IsMeant, IsDenoted, AreArgumentsGiven}
-use Rattle.pli_type_bounds.proofs.OperatorsFit.{given_made, converted_fits, conversions_fit, printed_fits}
+use Rattle.pli_type_bounds.proofs.ExpressionsFit.{N, Pass, arguments_fit, denoted_all, referred_fits, list_fits, meant_fits, value_of_fits}
+use Rattle.pli_type_bounds.proofs.Meanings.{IsAreaNamed, IsProcedureNamed, IsMeaning, IsValue, IsReferent, IsMeant, IsDenoted, AreArgumentsGiven}
+use Rattle.pli_type_bounds.proofs.OperatorsFit.{given_made, converted_fits, conversion_fits, unconverted_fits, area_fits, area_given, printed_fits}
 use Rattle.pli_source_laws.specs.Sources.{IsSource, IsSourceReference, AreSourceArguments, IsSourceRange, IsSourceControl}
-use Rattle.pli_deck_laws.specs.Limits.{link_limit, parameter_limit, IfThere, IsDescription, IsOperation}
-use Rattle.pli_deck_laws.specs.WellFormed.{IsExpression, IsReference, IsRange, IsIteration, IsForm}
+use Rattle.pli_deck_laws.specs.Limits.{link_limit, parameter_limit, IfThere, IsDescription}
+use Rattle.pli_deck_laws.specs.WellFormed.{IsExpression, IsReference, IsConversion, IsRange, IsIteration, IsForm}
 
 module _ (t : TypedUnit) where
   truth_fits : (e : TypedExpression) (kind : ExpressionType) → IsExpression t e
@@ -51,6 +53,18 @@ module _ (t : TypedUnit) where
   aggregate_fits equals target h (WholeAggregate source) k =
       read_if (IsForm t) (same target.description source.description) (Ok (typed.AssignAggregate target.reference source.reference)) _
       (h.reference, k.reference) tt
+
+  -- to an area another one, or EMPTY
+  source_fits : (target : Beginning) → IsReference t (whole_at target) → (o : Option Beginning) → IsAreaNamed t o
+      → OnGiven (IsForm t) (option_map (λ source. typed.AssignArea (whole_at target) (whole_at source)) o)
+  source_fits target h (Some source) k = (h, k)
+  source_fits target h None k = tt
+
+  put_fits : (target : Option Beginning) → IsAreaNamed t target → (d : Denoted) → IsDenoted t d → OnGiven (IsForm t) (area_put target d)
+  put_fits None h d k = tt
+  put_fits (Some target) h DenotesEmpty k = h
+  put_fits (Some target) h (DenotesVariable r) k = source_fits target h (area_of (DenotesVariable r)) (area_given t (DenotesVariable r) k)
+  put_fits (Some target) h (DenotesResult v) k = tt
 
   -- how far a label is, where these blocks are around
   label_near : (bs : List Enclosing) (label outward : ℕ) → label_found bs label ≡ Some outward → suc outward ≤ length bs
@@ -70,19 +84,20 @@ module _ (t : TypedUnit) where
       by true e rest = omega (arith, same_some e)
       by false e rest = next (label_found bs label) refl e rest
 
-module _ (t : TypedUnit) (based : ℕ → List Template) (meaning : ℕ → NamedAs) (known : (at : ℕ) → IsMeaning t (meaning at)) where
+module _ (t : TypedUnit) (based : ℕ → List Template) (areas : ℕ → Option Beginning) (meaning : ℕ → NamedAs)
+    (known : (at : ℕ) → IsMeaning t (meaning at)) where
   abbrev M : Naming
-  M = N t based meaning known
+  M = N t based areas meaning known
 
   pub condition_fits : (e : Expression) → IsSource e → OnRead (IsExpression t) (condition M e)
   condition_fits e l =
-      read_then (IsValue t) (IsExpression t) (value_of M e) _ (value_of_fits t based meaning known e l)
-      (λ v h. read_option (IsExpression t) WrongOperandType (first_token e) (truth_of v) (truth_fits t v.expression v.kind h))
+      read_then (IsValue t) (IsExpression t) (value_of M e) _ (value_of_fits t based areas meaning known e l)
+      (λ v h. read_option (IsExpression t) WrongOperandType (first_token e) (truth_of v) (truth_fits t v.expression v.kind h.0))
 
   item_fits : (e : Expression) → IsSource e → OnRead (IsExpression t) (item M e)
   item_fits e l =
-      read_then (IsValue t) (IsExpression t) (value_of M e) _ (value_of_fits t based meaning known e l)
-      (λ v h. read_option (IsExpression t) CannotPrint (first_token e) (printed v) (printed_fits t v.expression v.kind h))
+      read_then (IsValue t) (IsExpression t) (value_of M e) _ (value_of_fits t based areas meaning known e l)
+      (λ v h. read_option (IsExpression t) CannotPrint (first_token e) (printed v) (printed_fits t v.expression v.kind h.0))
 
   pub items_fit : (es : List Expression) → AllByRecursion IsSource es → OnRead (AllByRecursion (IsExpression t)) (items M es)
   items_fit [] l = tt
@@ -90,26 +105,40 @@ module _ (t : TypedUnit) (based : ℕ → List Template) (meaning : ℕ → Name
       read_then (IsExpression t) (AllByRecursion (IsExpression t)) (item M e) _ (item_fits e l.0)
       (λ x h. read_then (AllByRecursion (IsExpression t)) (AllByRecursion (IsExpression t)) (items M es) _ (items_fit es l.1) (λ xs k. (h, k)))
 
-  scalar_fits : (equals : ℕ) (r : TypedReference) (d : Description) → IsReference t r → IsDescription d → (e : Expression) → IsSource e
-      → OnRead (IsForm t) (scalar_assigned M equals r d e)
-  scalar_fits equals r d placed good e l =
-      read_then (IsValue t) (IsForm t) (value_of M e) _ (value_of_fits t based meaning known e l)
-      (λ v h. read_then (IsExpression t) (IsForm t) (or_fault CannotAssign equals (converted 31 d v)) _
-      (read_option (IsExpression t) CannotAssign equals (converted 31 d v) (converted_fits t d v good h))
-      (λ x k. (placed, k)))
+  scalar_fits : (equals : ℕ) (target : Referent) → IsReferent t target → (e : Expression) → IsSource e
+      → OnRead (IsForm t) (scalar_assigned M equals target e)
+  scalar_fits equals target placed e l =
+      let d : Description = target.description in
+      read_then (IsValue t) (IsForm t) (value_of M e) _ (value_of_fits t based areas meaning known e l)
+      (λ v h. read_then (IsExpression t) (IsForm t) (or_fault CannotAssign equals (converted 31 target.area d v)) _
+      (read_option (IsExpression t) CannotAssign equals (converted 31 target.area d v) (converted_fits t target.area placed.area d v placed.described h))
+      (λ x k. (placed.reference, k)))
 
-  assigned_fits : (at equals : ℕ) (d : Denoted) → IsDenoted t d → (e : Expression) → IsSource e → OnRead (IsForm t) (assigned M at equals d e)
-  assigned_fits at equals (DenotesVariable target) h e l =
+  area_assigned_fits : (equals : ℕ) (target : Option Beginning) → IsAreaNamed t target → (e : Expression) → IsSource e
+      → OnRead (IsForm t) (area_assigned M equals target e)
+  area_assigned_fits equals target h e l =
+      read_then (IsDenoted t) (IsForm t) (denoted M AsValue e) _ (denoted_all t based areas meaning known AsValue e l)
+      (λ d k. read_option (IsForm t) CannotAssign equals (area_put target d) (put_fits t target h d k))
+
+  variable_assigned_fits : (equals : ℕ) (target : Referent) → IsReferent t target → (e : Expression) → IsSource e
+      → OnRead (IsForm t) (variable_assigned M equals target e)
+  variable_assigned_fits equals target h e l =
       read_if (IsForm t) (is_aggregate target.description) _ _
       (read_then (IsMeant t) (IsForm t) (meant M AsArgument e) (aggregate_assigned equals target)
-      (meant_fits t based meaning known AsArgument e l) (aggregate_fits t equals target h))
-      (scalar_fits equals target.reference target.description h.reference h.described e l)
+      (meant_fits t based areas meaning known AsArgument e l) (aggregate_fits t equals target h))
+      (read_if (IsForm t) (is_area target.description) _ _
+      (area_assigned_fits equals (area_meant target.reference target.description) (area_fits t target.reference target.description h.reference) e l)
+      (scalar_fits equals target h e l))
+
+  assigned_fits : (at equals : ℕ) (d : Denoted) → IsDenoted t d → (e : Expression) → IsSource e → OnRead (IsForm t) (assigned M at equals d e)
+  assigned_fits at equals (DenotesVariable target) h e l = variable_assigned_fits equals target h e l
   assigned_fits at equals (DenotesResult v) h e l = tt
+  assigned_fits at equals DenotesEmpty h e l = tt
 
   pub assignment_fits : (at : ℕ) (target : Reference) (equals : ℕ) (e : Expression) → IsSourceReference target → IsSource e
       → OnRead (IsForm t) (assignment M at target equals e)
   assignment_fits at target equals e l m =
-      read_then (IsDenoted t) (IsForm t) (referred M AsTarget target) _ (referred_fits t based meaning known AsTarget target l)
+      read_then (IsDenoted t) (IsForm t) (referred M AsTarget target) _ (referred_fits t based areas meaning known AsTarget target l)
       (λ d h. assigned_fits at equals d h e m)
 
   -- calls
@@ -126,7 +155,7 @@ module _ (t : TypedUnit) (based : ℕ → List Template) (meaning : ℕ → Name
 
   arguments_read : (a : Arguments) → AreSourceArguments a → OnRead (AreArgumentsGiven t) (arguments_typed M a)
   arguments_read Absent l = tt
-  arguments_read (Given list) l = list_fits t based meaning known [] list l
+  arguments_read (Given list) l = list_fits t based areas meaning known [] list l
 
   pub call_fits : (name : Identifier) (a : Arguments) → AreSourceArguments a → OnRead (IsForm t) (call_typed M name a)
   call_fits name a l =
@@ -134,22 +163,32 @@ module _ (t : TypedUnit) (based : ℕ → List Template) (meaning : ℕ → Name
       (λ gs h. call_of_fits name.at (meaning name.at) (known name.at) gs h)
 
   -- returns, where few BEGIN blocks are left, and what is returned is described
-  module _ (su : Surroundings) (near : su.begins ≤ link_limit) (good : IfThere IsDescription su.value) where
+  module _ (there : (block : ℕ) → IsAreaNamed t (areas block)) (su : Surroundings) (near : su.begins ≤ link_limit)
+      (good : IfThere IsDescription su.value) where
     without_value : (at : ℕ) (b : Bool) → OnRead (IsForm t) (if b then Ok (typed.Return su.begins) else at_fault WrongReturn at)
     without_value at true = near
     without_value at false = tt
 
+    -- the area that RETURNS names here
+    around_there : (o : Option Enclosing) → IsAreaNamed t (option_and_then (λ (b : Enclosing). areas b.number) o)
+    around_there None = tt
+    around_there (Some b) = there b.number
+
+    here_there : IsAreaNamed t (area_here M su)
+    here_there = around_there (slice_get su.blocks su.begins)
+
     with_value : (at first : ℕ) (v : TypedValue) → IsValue t v → (o : Option Description) → IfThere IsDescription o
-        → OnRead (IsForm t) (returned_value 31 at first su.begins o v)
+        → OnRead (IsForm t) (returned_value 31 (area_here M su) at first su.begins o v)
     with_value at first v h None g = tt
     with_value at first v h (Some d) g =
-        read_then (IsExpression t) (IsForm t) (or_fault CannotAssign first (converted 31 d v)) _
-        (read_option (IsExpression t) CannotAssign first (converted 31 d v) (converted_fits t d v g h)) (λ x k. (near, k))
+        let area : Option Beginning = area_here M su in
+        read_then (IsExpression t) (IsForm t) (or_fault CannotAssign first (converted 31 area d v)) _
+        (read_option (IsExpression t) CannotAssign first (converted 31 area d v) (converted_fits t area here_there d v g h)) (λ x k. (near, k))
 
     pub return_fits : (at : ℕ) (v : Option Expression) → IfThere IsSource v → OnRead (IsForm t) (return_typed M su at v)
     return_fits at None l = without_value at (is_none su.value)
     return_fits at (Some e) l =
-        read_then (IsValue t) (IsForm t) (value_of M e) _ (value_of_fits t based meaning known e l)
+        read_then (IsValue t) (IsForm t) (value_of M e) _ (value_of_fits t based areas meaning known e l)
         (λ v h. with_value at (first_token e) v h su.value good)
 
   -- jumps, where few blocks are around
@@ -168,9 +207,9 @@ module _ (t : TypedUnit) (based : ℕ → List Template) (meaning : ℕ → Name
   -- groups with a control variable
   limit_fits : (e : Expression) → IsSource e → OnRead (IsExpression t) (limit M e)
   limit_fits e l =
-      read_then (IsValue t) (IsExpression t) (value_of M e) _ (value_of_fits t based meaning known e l)
+      read_then (IsValue t) (IsExpression t) (value_of M e) _ (value_of_fits t based areas meaning known e l)
       (λ v h. read_option (IsExpression t) WrongOperandType (first_token e) (number_of 31 v)
-      (given_made (IsExpression t) (λ p. v.expression) (precision_of 31 v.kind) (λ p. h)))
+      (given_made (IsExpression t) (λ p. v.expression) (precision_of 31 v.kind) (λ p. h.0)))
 
   possible_limit_fits : (o : Option Expression) → IfThere IsSource o → OnRead (IfThere (IsExpression t)) (possible_limit M o)
   possible_limit_fits None l = tt
@@ -194,40 +233,42 @@ module _ (t : TypedUnit) (based : ℕ → List Template) (meaning : ℕ → Name
   controls_fit : (at : ℕ) (is_located : Bool) (range : TypedRange) (d : Denoted) → IsDenoted t d
       → OnRead (IsReferent t) (controls at is_located range d)
   controls_fit at is_located range (DenotesVariable r) h =
-      read_if (IsReferent t) (without_subscripts r.reference && not is_located) _ _ (control_fits at r (suits_range r.description range) h) tt
+      read_if (IsReferent t) (without_subscripts r.reference && not is_located && not (is_area r.description)) _ _ (control_fits at r (suits_range r.description range) h) tt
   controls_fit at is_located range (DenotesResult v) h = tt
+  controls_fit at is_located range DenotesEmpty h = tt
 
   possible_condition_fits : (o : Option Expression) → IfThere IsSource o → OnRead (IfThere (IsExpression t)) (possible_condition M o)
   possible_condition_fits None l = tt
   possible_condition_fits (Some e) l =
       read_then (IsExpression t) (IfThere (IsExpression t)) (condition M e) _ (condition_fits e l) (λ x h. h)
 
-  next_fits : (d : Description) → IsDescription d → (e : Expression) → IsSource e → OnRead (IsRange t) (next_value M d e)
-  next_fits d good e l =
-      read_then (IsValue t) (IsRange t) (value_of M e) _ (value_of_fits t based meaning known e l)
-      (λ v h. read_then (IsExpression t) (IsRange t) (or_fault CannotAssign (first_token e) (converted 31 d v)) _
-      (read_option (IsExpression t) CannotAssign (first_token e) (converted 31 d v) (converted_fits t d v good h)) (λ x k. k))
+  next_fits : (r : Referent) → IsReferent t r → (e : Expression) → IsSource e → OnRead (IsRange t) (next_value M r e)
+  next_fits r placed e l =
+      let d : Description = r.description in
+      read_then (IsValue t) (IsRange t) (value_of M e) _ (value_of_fits t based areas meaning known e l)
+      (λ v h. read_then (IsExpression t) (IsRange t) (or_fault CannotAssign (first_token e) (converted 31 r.area d v)) _
+      (read_option (IsExpression t) CannotAssign (first_token e) (converted 31 r.area d v)
+      (converted_fits t r.area placed.area d v placed.described h)) (λ x k. k))
 
-  turns_fit : (d : Description) → IsDescription d → (kept : TypedRange) (range : Option Range) → IfThere IsSourceRange range → IsRange t kept
-      → OnRead (IsRange t) (with_repeat M d kept range)
-  turns_fit d good kept (Some (tree.Repeat next)) l h = next_fits d good next l
-  turns_fit d good kept (Some (tree.To to by)) l h = h
-  turns_fit d good kept (Some (tree.By by to)) l h = h
-  turns_fit d good kept None l h = h
+  turns_fit : (r : Referent) → IsReferent t r → (kept : TypedRange) (range : Option Range) → IfThere IsSourceRange range → IsRange t kept
+      → OnRead (IsRange t) (with_repeat M r kept range)
+  turns_fit r placed kept (Some (tree.Repeat next)) l h = next_fits r placed next l
+  turns_fit r placed kept (Some (tree.To to by)) l h = h
+  turns_fit r placed kept (Some (tree.By by to)) l h = h
+  turns_fit r placed kept None l h = h
 
   pub iteration_fits : (temporary : ℕ) (variable : Reference) (equals : ℕ) (first : Expression) (range : Option Range)
       (tested : Option Expression) → IsSourceControl (tree.Iterate variable equals first range tested)
       → OnRead (IsIteration t) (iteration M temporary variable equals first range tested)
   iteration_fits temporary variable equals first range tested l =
-      read_then (IsValue t) (IsIteration t) (value_of M first) _ (value_of_fits t based meaning known first l.1)
+      read_then (IsValue t) (IsIteration t) (value_of M first) _ (value_of_fits t based areas meaning known first l.1)
       (λ v h. read_then (IsRange t) (IsIteration t) (limits M range) _ (limits_fit range l.2)
-      (λ kept k. read_then (IsDenoted t) (IsIteration t) (referred M AsLocator variable) _ (referred_fits t based meaning known AsLocator variable l.0)
-      (λ d g. read_then (IsReferent t) (IsIteration t) (controls (first_token (Referred variable)) (has_locator variable) kept d) _
-      (controls_fit (first_token (Referred variable)) (has_locator variable) kept d g)
-      (λ r m. read_then (AllByRecursion IsOperation) (IsIteration t) (or_fault CannotAssign equals (conversions 31 r.description v.kind)) _
-      (read_option (AllByRecursion IsOperation) CannotAssign equals (conversions 31 r.description v.kind)
-      (conversions_fit t r.description v.kind m.described))
-      (λ operations c. read_then (IfThere (IsExpression t)) (IsIteration t) (possible_condition M tested) _ (possible_condition_fits tested l.3)
-      (λ x w. read_then (IsRange t) (IsIteration t) (with_repeat M r.description kept range) _
-      (turns_fit r.description m.described kept range l.2 k)
-      (λ turns s. (m.reference, c, h, s, w))))))))
+      (λ kept k. read_then (IsDenoted t) (IsIteration t) (referred M AsLocator variable) _ (referred_fits t based areas meaning known AsLocator variable l.0)
+      (λ d g. read_then (IsReferent t) (IsIteration t) (controls (own_token variable) (has_locator variable) kept d) _
+      (controls_fit (own_token variable) (has_locator variable) kept d g)
+      (λ r m. read_then (IsConversion t) (IsIteration t) (or_fault CannotAssign equals (conversion 31 r.area r.description v.kind)) _
+      (read_option (IsConversion t) CannotAssign equals (conversion 31 r.area r.description v.kind)
+      (conversion_fits t r.area m.area r.description v.kind m.described h.1))
+      (λ converts c. read_then (IfThere (IsExpression t)) (IsIteration t) (possible_condition M tested) _ (possible_condition_fits tested l.3)
+      (λ x w. read_then (IsRange t) (IsIteration t) (with_repeat M r kept range) _ (turns_fit r m kept range l.2 k)
+      (λ turns s. (m.reference, c, unconverted_fits t r.description v h, s, w))))))))

@@ -1,12 +1,17 @@
 -- What names are to mean, for what is typed of them to be within the limits.
-use Rattle.std.specs.Prelude.{◌≡◌, ℕ, ◌≤◌, ◌<◌, Some, List, [], ◌∷◌, length}
+use Rattle.std.specs.Prelude.{◌≡◌, ℕ, ◌≤◌, ◌<◌, Option, Some, None, List, [], ◌∷◌, length}
 use Rattle.std.specs.List.{AllByRecursion}
+use Rattle.pli_map.specs.Description.{Description, Pointer, Offset}
+use Rattle.pli_type.specs.Beginnings.{whole_at}
 use Rattle.pli_type.specs.ExpressionTypes.{TypedValue}
-use Rattle.pli_type.specs.FunctionCalls.{Denoted, DenotesVariable, DenotesResult, Meant, OneValue, WholeAggregate, Argument}
-use Rattle.pli_type.specs.Names.{NamedStorage, Begins, IsBased, NamedVariable, NamedProcedure, NamedAs, AVariable, AProcedure}
-use Rattle.pli_type.specs.References.{StridedPart, part_of, with_subscripts, Referent, LocatorBefore, NotLocated, LocatedBy, LocatedWrongly}
-use Rattle.pli_type.specs.Typing.{Segment, OfVariable, OfFunction, OfNoVariable}
-use Rattle.pli_type_tree.specs.TypedTree.{TypedUnit}
+use Rattle.pli_type.specs.FunctionCalls.{Denoted, DenotesVariable, DenotesResult, DenotesEmpty, Meant, OneValue, WholeAggregate, Argument}
+use Rattle.pli_type.specs.Names.{LocatorVariable, OfPointer, OfOffset, NamedStorage, Begins, IsBased, NamedVariable, NamedProcedure, NamedAs, AVariable, AProcedure}
+use Rattle.pli_type.specs.References.{StridedPart, part_of, with_subscripts, Referent, LocatorBefore, NotLocated, LocatedBy, LocatedWrongly, locator_at}
+use Rattle.pli_type.specs.Typing.{Segment, OfVariable, OfFunction, OfEmpty, OfNoVariable}
+use Rattle.pli_type.specs.declared.beginning.Beginning.{Beginning}
+use Rattle.pli_type.specs.declared.expression_type.ExpressionType.{ExpressionType}
+use Rattle.pli_type.specs.declared.expression_type.ExpressionType.TheVariants as types
+use Rattle.pli_type_tree.specs.TypedTree.{TypedReference, TypedUnit}
 use Rattle.pli_deck_laws.specs.Limits.{parameter_limit, word_limit, IfThere, IsDescription, IsStride}
 use Rattle.pli_deck_laws.specs.WellFormed.{IsRoot, IsCallee, IsExpression, IsReference}
 
@@ -17,10 +22,29 @@ pub record IsPart (q : StridedPart) : Type 0 where
   pub strides : AllByRecursion IsStride q.strides
 
 module _ (t : TypedUnit) where
-  -- storage begins where there is something; or a POINTER that BASED names does
+  -- an area that a declaration names begins where there is something
+  abbrev pub IsAreaNamed : Option Beginning → Type 0
+  IsAreaNamed area = IfThere (λ b. IsReference t (whole_at b)) area
+
+  -- so does a variable that leads to BASED ones, and the area that it names
+  abbrev pub IsLocatorVariable : LocatorVariable → Type 0
+  IsLocatorVariable (OfPointer reference) = IsReference t reference
+  IsLocatorVariable (OfOffset reference area) = IsReference t reference × IsReference t (whole_at area)
+
+  abbrev pub IsImplied : Option LocatorVariable → Type 0
+  IsImplied locator = IfThere IsLocatorVariable locator
+
+  pub locator_fits : (r : TypedReference) (d : Description) (area : Option Beginning) → IsReference t r → IsAreaNamed area
+      → IsImplied (locator_at r d area)
+  locator_fits r Pointer None h k = h
+  locator_fits r Pointer (Some area) h k = h
+  locator_fits r Offset (Some area) h k = (h, k)
+  locator_fits r d area h k = tt
+
+  -- storage begins where there is something; or a locator that BASED names does
   abbrev pub IsStorage : NamedStorage → Type 0
   IsStorage (Begins root is_parameter) = IsRoot t root
-  IsStorage (IsBased block number implied) = IfThere (IsReference t) implied
+  IsStorage (IsBased block number implied) = IsImplied implied
 
   -- what stands in front of an arrow is within the limits
   abbrev pub IsLocator : LocatorBefore → Type 0
@@ -28,17 +52,19 @@ module _ (t : TypedUnit) where
   IsLocator (LocatedBy e) = IsExpression t e
   IsLocator LocatedWrongly = Unit {0}
 
-  -- it has storage, and each of its parts is within the limits
+  -- it has storage, each of its parts is within the limits, and so is the area that its OFFSET names
   pub record IsVariable (v : NamedVariable) : Type 0 where
     pub storage : IsStorage v.storage
     pub whole : IsDescription v.whole
+    pub area : IsAreaNamed v.area
     pub parts : (p q : StridedPart) (given : ℕ) → part_of v ≡ Some p → with_subscripts given p ≡ Some q → IsPart q
 
-  -- it is there, and has few parameters
+  -- it is there, has few parameters, and so is the area that its RETURNS names
   pub record IsProcedureNamed (p : NamedProcedure) : Type 0 where
     pub callee : IsCallee t p.callee
     pub few : length p.parameters ≤ parameter_limit
     pub described : AllByRecursion IsDescription p.parameters
+    pub area : IsAreaNamed p.area
 
   abbrev pub IsMeaning : NamedAs → Type 0
   IsMeaning (AVariable v) = IsVariable v
@@ -46,12 +72,17 @@ module _ (t : TypedUnit) where
   IsMeaning other = Unit {0}
 
   -- what is typed of them
+  abbrev pub IsKind : ExpressionType → Type 0
+  IsKind (types.Offset area) = IsAreaNamed area
+  IsKind kind = Unit {0}
+
   abbrev pub IsValue : TypedValue → Type 0
-  IsValue v = IsExpression t v.expression
+  IsValue v = IsExpression t v.expression × IsKind v.kind
 
   pub record IsReferent (r : Referent) : Type 0 where
     pub reference : IsReference t r.reference
     pub described : IsDescription r.description
+    pub area : IsAreaNamed r.area
 
   abbrev pub IsMeant : Meant → Type 0
   IsMeant (OneValue v) = IsValue v
@@ -60,6 +91,7 @@ module _ (t : TypedUnit) where
   abbrev pub IsDenoted : Denoted → Type 0
   IsDenoted (DenotesVariable r) = IsReferent r
   IsDenoted (DenotesResult v) = IsValue v
+  IsDenoted DenotesEmpty = Unit {0}
 
   abbrev pub AreArgumentsGiven : List Argument → Type 0
   AreArgumentsGiven [] = Unit {0}
@@ -68,4 +100,5 @@ module _ (t : TypedUnit) where
   abbrev pub IsSegment : Segment → Type 0
   IsSegment (OfVariable locator at v xs) = IsVariable v × AllByRecursion (IsExpression t) xs × IsLocator locator
   IsSegment (OfFunction v) = IsValue v
+  IsSegment OfEmpty = Unit {0}
   IsSegment (OfNoVariable at) = Unit {0}

@@ -9,28 +9,30 @@ use Rattle.std.proofs.lemmas.Option.{same_Some, none-some, slice_get_within, get
 use Rattle.pli_base.specs.Statements.{ExternalProcedure}
 use Rattle.pli_base.specs.declared.syntax.Identifier.{Identifier}
 use Rattle.pli_declare.specs.Resolution.{resolution_faults}
-use Rattle.pli_map.specs.Description.{Description, Pointer}
+use Rattle.pli_map.specs.Description.{Description, Area}
 use Rattle.pli_map.specs.Sizes.{size_of}
 use Rattle.pli_resolve.specs.ResolvedUnits.{ResolvedUnit, ResolvedBlock, resolved_unit_of, all_symbols, symbol_at, meaning_at}
 use Rattle.pli_resolve.specs.Symbols.{Symbol, SymbolKind, Variable, Member, Label, Procedure, Entry, BuiltIn}
 use Rattle.pli_resolve.specs.declared.symbol.StorageClass.{StorageClass}
 use Rattle.pli_resolve.specs.declared.symbol.StorageClass.TheVariants as classes
 use Rattle.pli_resolve.specs.declared.symbol.SymbolKey.{SymbolKey}
-use Rattle.pli_type.specs.NamedUnits.{is_plain, is_automatic, is_based, is_passed_class, root_of, pointer_part, pointer_on, pointer_in, pointer_meant, pointer_named}
-use Rattle.pli_type.specs.NamedUnits.{block_symbols, of_block, is_procedure, parameter_numbers, description_in, parameters_of, returned_by, returned_of}
+use Rattle.pli_type.specs.Beginnings.{beginning_of}
+use Rattle.pli_type.specs.NamedUnits.{may_stand, is_automatic, is_based, is_passed_class, root_of, area_on, area_in, area_at, area_named, locator_part, locator_on, locator_in, locator_meant, locator_named}
+use Rattle.pli_type.specs.NamedUnits.{block_symbols, of_block, is_procedure, parameter_numbers, description_in, parameters_of, returned_by, returned_of, returned_area_of}
 use Rattle.pli_type.specs.NamedUnits.{outward_to, is_reached, all_globals, templates_of, named_as}
-use Rattle.pli_type.specs.References.{StridedPart, part_on, whole_part, pointer_at, reference_to, subscripts_at}
-use Rattle.pli_type.specs.Names.{NamedStorage, Begins, IsBased, NamedVariable, NamedProcedure, NamedAs, AVariable, AFunction, AProcedure, ALabel, Untyped}
-use Rattle.pli_type_name_laws.proofs.NamesMean.{StandsIn, IsStored, IsThere, variable_begins, procedure_named_so}
+use Rattle.pli_type.specs.References.{StridedPart, part_on, whole_part, locator_at, reference_to, subscripts_at}
+use Rattle.pli_type.specs.Names.{LocatorVariable, NamedStorage, Begins, IsBased, NamedVariable, NamedProcedure, NamedAs, AVariable, AFunction, AProcedure, ALabel, Untyped}
+use Rattle.pli_type.specs.declared.beginning.Beginning.{Beginning}
+use Rattle.pli_type_name_laws.proofs.NamesMean.{StandsIn, IsStored, IsNamedArea, IsThere, variable_begins, procedure_named_so}
 use Rattle.pli_type_name_laws.proofs.RootsStand.{Standing, IsOf, IsEntry, root_begins, descriptions, automatic_stored, based_stored, entry_stands}
 use Rattle.pli_program.specs.declared.kind.VariableKind.{VariableKind}
 use Rattle.pli_program.specs.declared.kind.VariableKind.TheVariants.{Static, Controlled}
 use Rattle.pli_type_tree.specs.Globals.{description_of, described_as, signature_of}
 use Rattle.pli_type_tree.specs.laws.GlobalLaws.{described_parts}
 use Rattle.pli_type_tree.specs.Templates.{Template}
-use Rattle.pli_type_tree.specs.TypedTree.{Root, InSlot, OfProgram, NewestOf, Located, Stride, TypedReference, Callee, OfBlock, OfEntry, Global, OwnVariable, ExternalVariable, EntryPoint, Signature, TypedUnit}
+use Rattle.pli_type_tree.specs.TypedTree.{Root, InSlot, OfProgram, NewestOf, Located, Stride, Callee, OfBlock, OfEntry, Global, OwnVariable, ExternalVariable, EntryPoint, Signature, TypedUnit}
 use Rattle.pli_resolve_bounds.proofs.SymbolsWithin.{parameters_are_few}
-use Rattle.pli_type_bounds.proofs.Meanings.{IsPart, IsStorage, IsVariable, IsProcedureNamed, IsMeaning}
+use Rattle.pli_type_bounds.proofs.Meanings.{IsPart, IsAreaNamed, IsImplied, locator_fits, IsStorage, IsVariable, IsProcedureNamed, IsMeaning}
 use Rattle.pli_type_bounds.proofs.PartsFit.{way_fits, parts_fit}
 use Rattle.pli_type_bounds.proofs.SymbolsFit.{symbol_fits, initial_fits}
 use Rattle.pli_resolve_bounds.specs.SymbolBounds.{IsLimited}
@@ -90,7 +92,7 @@ module _ (u : ExternalProcedure) (none : resolution_faults u ≡ []) where
   kind_described i (Member root path initial area) h = tt
   kind_described i (Label statement) h = tt
   kind_described i (Procedure block returned area) h = tt
-  kind_described i (Entry parameters returned) h = tt
+  kind_described i (Entry parameters returned area) h = tt
   kind_described i BuiltIn h = tt
 
   parameter_described : (block number : ℕ) (o : Option Symbol) → slice_get (block_symbols R block) number ≡ o → IsDescription (description_in o)
@@ -127,7 +129,7 @@ module _ (u : ExternalProcedure) (none : resolution_faults u ≡ []) where
   kind_returned i (Member root path initial area) h = tt
   kind_returned i (Label statement) h = tt
   kind_returned i (Procedure block returned area) h = h
-  kind_returned i (Entry parameters returned) h = tt
+  kind_returned i (Entry parameters returned area) h = tt
   kind_returned i BuiltIn h = tt
 
   symbol_returned : (key : SymbolKey) (o : Option Symbol) → symbol_at R key ≡ o → IfThere IsDescription (returned_by o)
@@ -237,9 +239,18 @@ module _ (u : ExternalProcedure) (none : resolution_faults u ≡ []) where
     root_fits blocks is_parameter (NewestOf number) d near inside h = global_fits Controlled number d h
     root_fits blocks is_parameter (Located locator whole) d near inside h = absurd h
 
-    -- the POINTER that BASED names
-    abbrev IsImplied : Option TypedReference → Type 0
-    IsImplied o = IfThere (IsReference t) o
+    -- the area that a declaration names
+    root_named : (root : Root) → IsRoot t root → IsAreaNamed t (beginning_of root)
+    root_named (InSlot outward slot) h = h
+    root_named (OfProgram number) h = h
+    root_named (NewestOf number) h = h
+    root_named (Located locator whole) h = tt
+
+    on_named : (path : List ℕ) (whole : Description) (o : Option Root) → ((root : Root) → o ≡ Some root → IsRoot t root)
+        → IsAreaNamed t (area_on path whole o)
+    on_named [] (Area bytes) None h = tt
+    on_named [] (Area bytes) (Some root) h = root_named root (h root refl)
+    on_named path whole o h = tt
 
     -- without dimensions, of what begins somewhere
     scalar_fits : (root : Root) (path : List ℕ) (q : StridedPart) → IsRoot t root → IsPart q → IsReference t (reference_to root path q [])
@@ -250,71 +261,121 @@ module _ (u : ExternalProcedure) (none : resolution_faults u ≡ []) where
         alone [] = tt
         alone (s ∷ ss) = tt
 
-    pointer_fits : (r : TypedReference) (d : Description) → IsReference t r → IsImplied (pointer_at r d)
-    pointer_fits r Pointer h = h
-    pointer_fits r d h = tt
-
-    implied_if : (b : Bool) (o : Option TypedReference) → IsImplied o → IsImplied (if b then o else None)
+    implied_if : (b : Bool) (o : Option LocatorVariable) → IsImplied t o → IsImplied t (if b then o else None)
     implied_if true o h = h
     implied_if false o h = tt
 
-    part_fits : (root : Root) (path : List ℕ) (o : Option StridedPart) → IsRoot t root → ((q : StridedPart) → o ≡ Some q → IsPart q)
-        → IsImplied (pointer_part root path o)
-    part_fits root path None h k = tt
-    part_fits root path (Some q) h k =
-        implied_if (nat_eq (length q.strides) 0) (pointer_at (reference_to root path q []) q.description)
-        (pointer_fits (reference_to root path q []) q.description (scalar_fits root path q h (k q refl)))
+    part_fits : (root : Root) (path : List ℕ) (area : Option Beginning) → IsAreaNamed t area → (o : Option StridedPart) → IsRoot t root
+        → ((q : StridedPart) → o ≡ Some q → IsPart q) → IsImplied t (locator_part root path area o)
+    part_fits root path area there None h k = tt
+    part_fits root path area there (Some q) h k =
+        implied_if (nat_eq (length q.strides) 0) (locator_at (reference_to root path q []) q.description area)
+        (locator_fits t (reference_to root path q []) q.description area (scalar_fits root path q h (k q refl)) there)
 
     module _ (blocks : List ℕ) (near : length blocks ≤ link_limit) (inside : IsInside blocks) where
-      on_fits : (key : SymbolKey) (class : StorageClass) (d : Description) (path : List ℕ) (s : Symbol)
+      -- areas
+      begun_fits : (key : SymbolKey) (class : StorageClass) (d : Description) (s : Symbol)
+          → slice_get (block_symbols R key.block) key.number ≡ Some s → IsOf class d s.kind → (root : Root)
+          → root_of 31 R blocks key class d ≡ Some root → IsRoot t root
+      begun_fits key class d s there of root is =
+          let begun = root_begins 31 R blocks key d root s there class of is in
+          (root_fits blocks (is_passed_class class) root d near inside begun.0).0
+
+      area_kind_fits : (key : SymbolKey) (path : List ℕ) (s : Symbol) (kind : SymbolKind)
+          → slice_get (block_symbols R key.block) key.number ≡ Some s → s.kind ≡ kind
+          → IsAreaNamed t (area_in 31 R blocks key path (Some (record { identifier = s.identifier; kind = kind })))
+      area_kind_fits key path s (Variable d class scope initial area) there is =
+          on_named path d (root_of 31 R blocks key class d)
+          (λ root e. begun_fits key class d s there (subst (IsOf class d) (sym is) (refl, refl)) root e)
+      area_kind_fits key path s (Member root p initial area) there is = tt
+      area_kind_fits key path s (Label statement) there is = tt
+      area_kind_fits key path s (Procedure block returned area) there is = tt
+      area_kind_fits key path s (Entry parameters returned area) there is = tt
+      area_kind_fits key path s BuiltIn there is = tt
+
+      area_symbol_fits : (key : SymbolKey) (path : List ℕ) (o : Option Symbol) → slice_get (block_symbols R key.block) key.number ≡ o
+          → IsAreaNamed t (area_in 31 R blocks key path o)
+      area_symbol_fits key path None there = tt
+      area_symbol_fits key path (Some s) there = area_kind_fits key path s s.kind there refl
+
+      area_meant_fits : (key : SymbolKey) (o : Option Symbol) → slice_get (block_symbols R key.block) key.number ≡ o
+          → IsAreaNamed t (area_at 31 R blocks key o)
+      area_meant_fits key None there = tt
+      area_meant_fits key (Some s) there = by s.kind refl
+        where
+          by : (kind : SymbolKind) → s.kind ≡ kind
+              → IsAreaNamed t (area_at 31 R blocks key (Some (record { identifier = s.identifier; kind = kind })))
+          by (Variable d class scope initial area) is = area_kind_fits key [] s (Variable d class scope initial area) there is
+          by (Member root path initial area) is =
+              area_symbol_fits (record { block = key.block; number = root }) path (slice_get (block_symbols R key.block) root) refl
+          by (Label statement) is = tt
+          by (Procedure block returned area) is = tt
+          by (Entry parameters returned area) is = tt
+          by BuiltIn is = tt
+
+      area_fits : (named : Option SymbolKey) → IsAreaNamed t (area_named 31 R blocks named)
+      area_fits None = tt
+      area_fits (Some key) = area_meant_fits key (symbol_at R key) refl
+
+      named_area : (area : Option Beginning) → IsNamedArea 31 R blocks area → IsAreaNamed t area
+      named_area area (named, is) = subst (IsAreaNamed t) (sym is) (area_fits named)
+
+      -- locators
+      on_fits : (key : SymbolKey) (class : StorageClass) (d : Description) (path : List ℕ) (named : Option SymbolKey) (s : Symbol)
           → slice_get (block_symbols R key.block) key.number ≡ Some s → IsOf class d s.kind → (o : Option Root)
-          → root_of 31 R blocks key class d ≡ o → IsImplied (pointer_on o d path)
-      on_fits key class d path s there of None is = tt
-      on_fits key class d path s there of (Some root) is =
+          → root_of 31 R blocks key class d ≡ o → IsImplied t (locator_on o d path (area_named 31 R blocks named))
+      on_fits key class d path named s there of None is = tt
+      on_fits key class d path named s there of (Some root) is =
           let begun = root_begins 31 R blocks key d root s there class of is in
           let both = root_fits blocks (is_passed_class class) root d near inside begun.0 in
-          let small : size_of d ≤ 1000000 = leb-true (size_of d) 1000000 (and_parts (is_plain 31 d) (nat_le (size_of d) 1000000) begun.1).1 in
-          part_fits root path (part_on (whole_part d) path) both.0 (λ q e. way_fits d path both.1 small q e)
+          let small : size_of d ≤ 1000000 = leb-true (size_of d) 1000000 (and_parts (may_stand 31 d) (nat_le (size_of d) 1000000) begun.1).1 in
+          part_fits root path (area_named 31 R blocks named) (area_fits named) (part_on (whole_part d) path) both.0
+          (λ q e. way_fits d path both.1 small q e)
 
-      kind_fits : (key : SymbolKey) (path : List ℕ) (s : Symbol) (kind : SymbolKind)
+      kind_fits : (key : SymbolKey) (path : List ℕ) (named : Option SymbolKey) (s : Symbol) (kind : SymbolKind)
           → slice_get (block_symbols R key.block) key.number ≡ Some s → s.kind ≡ kind
-          → IsImplied (pointer_in 31 R blocks key path (Some (record { identifier = s.identifier; kind = kind })))
-      kind_fits key path s (Variable d class scope initial area) there is =
-          on_fits key class d path s there (subst (IsOf class d) (sym is) (refl, refl)) (root_of 31 R blocks key class d) refl
-      kind_fits key path s (Member root p initial area) there is = tt
-      kind_fits key path s (Label statement) there is = tt
-      kind_fits key path s (Procedure block returned area) there is = tt
-      kind_fits key path s (Entry parameters returned) there is = tt
-      kind_fits key path s BuiltIn there is = tt
+          → IsImplied t (locator_in 31 R blocks key path (area_named 31 R blocks named) (Some (record { identifier = s.identifier; kind = kind })))
+      kind_fits key path named s (Variable d class scope initial area) there is =
+          on_fits key class d path named s there (subst (IsOf class d) (sym is) (refl, refl)) (root_of 31 R blocks key class d) refl
+      kind_fits key path named s (Member root p initial area) there is = tt
+      kind_fits key path named s (Label statement) there is = tt
+      kind_fits key path named s (Procedure block returned area) there is = tt
+      kind_fits key path named s (Entry parameters returned area) there is = tt
+      kind_fits key path named s BuiltIn there is = tt
 
-      in_fits : (key : SymbolKey) (path : List ℕ) (o : Option Symbol) → slice_get (block_symbols R key.block) key.number ≡ o
-          → IsImplied (pointer_in 31 R blocks key path o)
-      in_fits key path None there = tt
-      in_fits key path (Some s) there = kind_fits key path s s.kind there refl
+      in_fits : (key : SymbolKey) (path : List ℕ) (named : Option SymbolKey) (o : Option Symbol)
+          → slice_get (block_symbols R key.block) key.number ≡ o
+          → IsImplied t (locator_in 31 R blocks key path (area_named 31 R blocks named) o)
+      in_fits key path named None there = tt
+      in_fits key path named (Some s) there = kind_fits key path named s s.kind there refl
 
       meant_fits : (key : SymbolKey) (o : Option Symbol) → slice_get (block_symbols R key.block) key.number ≡ o
-          → IsImplied (pointer_meant 31 R blocks key o)
+          → IsImplied t (locator_meant 31 R blocks key o)
       meant_fits key None there = tt
       meant_fits key (Some s) there = by s.kind refl
         where
           by : (kind : SymbolKind) → s.kind ≡ kind
-              → IsImplied (pointer_meant 31 R blocks key (Some (record { identifier = s.identifier; kind = kind })))
-          by (Variable d class scope initial area) is = kind_fits key [] s (Variable d class scope initial area) there is
+              → IsImplied t (locator_meant 31 R blocks key (Some (record { identifier = s.identifier; kind = kind })))
+          by (Variable d class scope initial area) is = kind_fits key [] area s (Variable d class scope initial area) there is
           by (Member root path initial area) is =
-              in_fits (record { block = key.block; number = root }) path (slice_get (block_symbols R key.block) root) refl
+              in_fits (record { block = key.block; number = root }) path area (slice_get (block_symbols R key.block) root) refl
           by (Label statement) is = tt
           by (Procedure block returned area) is = tt
-          by (Entry parameters returned) is = tt
+          by (Entry parameters returned area) is = tt
           by BuiltIn is = tt
 
-      implied_fits : (locator : Option SymbolKey) → IsImplied (pointer_named 31 R blocks locator)
+      implied_fits : (locator : Option SymbolKey) → IsImplied t (locator_named 31 R blocks locator)
       implied_fits None = tt
       implied_fits (Some key) = meant_fits key (symbol_at R key) refl
 
       -- storage
       storage_fits : (storage : NamedStorage) (d : Description) → StandsIn 31 R blocks storage d → IsStorage t storage
       storage_fits (Begins root is_parameter) d h = (root_fits blocks is_parameter root d near inside h).0
-      storage_fits (IsBased block number implied) d h = subst IsImplied (sym h.3) (implied_fits h.0)
+      storage_fits (IsBased block number implied) d h = subst (IsImplied t) (sym h.3) (implied_fits h.0)
+
+      -- the area that RETURNS of a function names
+      pub areas_fit : (block : ℕ) → IsAreaNamed t (area_named 31 R blocks (returned_area_of R block))
+      areas_fit block = area_fits (returned_area_of R block)
 
     -- what a symbol is, is described
     of_described : (class : StorageClass) (d : Description) (kind : SymbolKind) → IsOf class d kind → IsLimited kind → IsDescription d
@@ -322,7 +383,7 @@ module _ (u : ExternalProcedure) (none : resolution_faults u ≡ []) where
     of_described class d (Member root path values area) h g = absurd h
     of_described class d (Label statement) h g = absurd h
     of_described class d (Procedure block returned area) h g = absurd h
-    of_described class d (Entry parameters returned) h g = absurd h
+    of_described class d (Entry parameters returned area) h g = absurd h
     of_described class d BuiltIn h g = absurd h
 
     whole_fits : (blocks : List ℕ) (storage : NamedStorage) (d : Description) → length blocks ≤ link_limit → IsInside blocks
@@ -334,10 +395,11 @@ module _ (u : ExternalProcedure) (none : resolution_faults u ≡ []) where
     variable_fits : (blocks : List ℕ) (v : NamedVariable) → length blocks ≤ link_limit → IsInside blocks → IsStored 31 R blocks v → IsVariable t v
     variable_fits blocks v near inside b =
         let good = whole_fits blocks v.storage v.whole near inside b.0 in
-        let small : size_of v.whole ≤ 1000000 = leb-true (size_of v.whole) 1000000 (and_parts (is_plain 31 v.whole) (nat_le (size_of v.whole) 1000000) b.1).1 in
+        let small : size_of v.whole ≤ 1000000 = leb-true (size_of v.whole) 1000000 (and_parts (may_stand 31 v.whole) (nat_le (size_of v.whole) 1000000) b.1).1 in
         record {
           storage = storage_fits blocks near inside v.storage v.whole b.0;
           whole = good;
+          area = named_area blocks near inside v.area b.2;
           parts = λ p q given e f. parts_fit v good small p q given e f;
         }
 
@@ -352,7 +414,7 @@ module _ (u : ExternalProcedure) (none : resolution_faults u ≡ []) where
 
     entry_parts : (p : NamedProcedure) (kind : SymbolKind) → IsEntry p.parameters p.returned kind → IsLimited kind
         → (length p.parameters ≤ parameter_limit) × AllByRecursion IsDescription p.parameters
-    entry_parts p (Entry ps o) h g =
+    entry_parts p (Entry ps o area) h g =
         (subst (λ (ds : List Description). length ds ≤ parameter_limit) h.0 g.0, subst (AllByRecursion IsDescription) h.0 (all_described ps g.1))
     entry_parts p (Variable d class scope values area) h g = absurd h
     entry_parts p (Member root path values area) h g = absurd h
@@ -360,15 +422,17 @@ module _ (u : ExternalProcedure) (none : resolution_faults u ≡ []) where
     entry_parts p (Procedure block returned area) h g = absurd h
     entry_parts p BuiltIn h g = absurd h
 
-    callee_fits : (blocks : List ℕ) (p : NamedProcedure) (c : Callee) → p.callee ≡ c → IsThere 31 R blocks p c → IsProcedureNamed t p
-    callee_fits blocks p (OfBlock block) is h =
+    callee_fits : (blocks : List ℕ) (p : NamedProcedure) (c : Callee) → p.callee ≡ c → IsThere 31 R blocks p c → IsAreaNamed t p.area
+        → IsProcedureNamed t p
+    callee_fits blocks p (OfBlock block) is h area =
         let same : parameters_of R block ≡ p.parameters = ap (λ (q : NamedProcedure). q.parameters) h.0 in
         record {
           callee = subst (IsCallee t) (sym is) (has.blocks block (reached_within blocks block (slice_get R.blocks block) refl h.1));
           few = subst (λ (ds : List Description). length ds ≤ parameter_limit) same (parameters_few block);
           described = subst (AllByRecursion IsDescription) same (parameters_described block);
+          area = area;
         }
-    callee_fits blocks p (OfEntry number) is h =
+    callee_fits blocks p (OfEntry number) is h area =
         let parts = entry_parts p h.symbol.kind h.entry (symbol_in h.key.block h.key.number h.symbol h.there) in
         let within = entry_within Globals _ _ (entry_stands 31 R h.key h.symbol p.parameters p.returned h.there h.entry) in
         record {
@@ -377,13 +441,15 @@ module _ (u : ExternalProcedure) (none : resolution_faults u ≡ []) where
               (subst (λ (gs : List Global). number < length gs) (sym has.globals) (subst (λ k. k < length Globals) (sym h.is) within));
           few = parts.0;
           described = parts.1;
+          area = area;
         }
 
     named_fits : (blocks : List ℕ) (at : ℕ) → length blocks ≤ link_limit → IsInside blocks → (a : NamedAs) → named_as 31 R blocks (meaning_at R at) ≡ a
         → IsMeaning t a
     named_fits blocks at near inside (AVariable v) e = variable_fits blocks v near inside (variable_begins 31 R blocks v (meaning_at R at) e)
     named_fits blocks at near inside (AProcedure p) e =
-        callee_fits blocks p p.callee refl ((procedure_named_so 31 R blocks p (meaning_at R at) e).there)
+        let known = procedure_named_so 31 R blocks p (meaning_at R at) e in
+        callee_fits blocks p p.callee refl known.there (named_area blocks near inside p.area known.area)
     named_fits blocks at near inside (AFunction f) e = tt
     named_fits blocks at near inside (ALabel statement) e = tt
     named_fits blocks at near inside Untyped e = tt

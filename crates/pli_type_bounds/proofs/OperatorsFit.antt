@@ -11,7 +11,7 @@ use Rattle.pli_base.specs.declared.syntax.InfixOperator.TheVariants as infixes
 use Rattle.pli_base.specs.declared.syntax.PrefixOperator.{PrefixOperator}
 use Rattle.pli_base.specs.declared.syntax.PrefixOperator.TheVariants as prefixes
 use Rattle.pli_map.specs.Description as described
-use Rattle.pli_map.specs.Description.{Description, Array}
+use Rattle.pli_map.specs.Description.{Description, Area, Array}
 use Rattle.pli_map.specs.declared.description.Bounds.{Bounds}
 use Rattle.pli_operation.specs.declared.operation.Operation.{Operation}
 use Rattle.pli_operation.specs.declared.operation.Operation.TheVariants.{ToCharacters, Add, Subtract, Multiply, Divide, Compare, Concatenate, And, Or, Rest, Substring}
@@ -19,24 +19,28 @@ use Rattle.pli_operation.specs.declared.operation.Relation.{Relation}
 use Rattle.pli_operation.specs.declared.operation.Relation.TheVariants.{Equal, Unequal, Less, AtMost, Greater, AtLeast}
 use Rattle.pli_resolve.specs.declared.built_in.BuiltInFunction.{BuiltInFunction}
 use Rattle.pli_resolve.specs.declared.built_in.BuiltInFunction.TheVariants as functions
-use Rattle.pli_type.specs.ExpressionTypes.{TypedValue, precision_of, precisions, all_operands, constant, with_one, with_plus, with_minus, with_not}
+use Rattle.pli_type.specs.Beginnings.{area_meant, whole_at}
+use Rattle.pli_type.specs.ExpressionTypes.{TypedValue, precision_of, precisions, all_operands, constant, null_offset, with_one, with_plus, with_minus, with_not}
 use Rattle.pli_type.specs.ExpressionTypes.{prefix_value, infix_value, on_numbers, sum_precision, product_precision, columns, width_of, decimal_digits}
-use Rattle.pli_type.specs.ExpressionTypes.{string_type, string_as, on_strings, as_bits, is_pointer, compared, pointers_compared, comparison, concatenation, of_bits_alone}
-use Rattle.pli_type.specs.ExpressionTypes.{number_as_characters, as_characters, only_bits, suited, converted, string_conversions, bit_conversions, suiting, conversions, printed_from}
-use Rattle.pli_type.specs.FunctionCalls.{Meant, OneValue, WholeAggregate, meant_as, Argument, Denoted, DenotesVariable, DenotesResult, meant_by}
+use Rattle.pli_type.specs.ExpressionTypes.{string_type, string_as, on_strings, as_bits, is_locator, as_pointer, as_offset, are_offsets, locators_compared, locators_beside, compared, comparison, concatenation, of_bits_alone}
+use Rattle.pli_type.specs.ExpressionTypes.{number_as_characters, as_characters, only_bits, suited, converted, string_conversions, bit_conversions, suiting, printed_from}
+use Rattle.pli_type.specs.ExpressionTypes.{pointer_conversion, offset_conversion, conversion, null_as_offset, unconverted, type_of}
+use Rattle.pli_type.specs.FunctionCalls.{Meant, OneValue, WholeAggregate, meant_as, Argument, Denoted, DenotesVariable, DenotesResult, DenotesEmpty, meant_by}
 use Rattle.pli_type.specs.FunctionCalls.{call_type, operation_of, calculation, of_values, bound_value, bound_in, the_bound, generations_in, generations_of, address_in, address_of}
+use Rattle.pli_type.specs.FunctionCalls.{string_kind, of_one_kind, with_number, a_count, area_of, offset_within, pointer_within, located_within}
 use Rattle.pli_type.specs.FunctionCalls.{value_in, values_in, divided, of_arguments, or_bad_argument, function_called, number_type}
 use Rattle.pli_type.specs.References.{Role, Referent}
+use Rattle.pli_type.specs.declared.beginning.Beginning.{Beginning}
 use Rattle.pli_type.specs.declared.expression_type.ExpressionType.{ExpressionType}
 use Rattle.pli_type.specs.declared.expression_type.ExpressionType.TheVariants as types
-use Rattle.pli_type_tree.specs.TypedTree.{NewestOf, TypedOperation, Fit, Operate, TypedExpression, TypedReference, Whole, TypedUnit}
+use Rattle.pli_type_tree.specs.TypedTree.{InSlot, OfProgram, NewestOf, Located, TypedOperation, Fit, Operate, TypedExpression, ByOperations, TypedReference, Whole, TypedUnit}
 use Rattle.pli_type_laws.proofs.Conversions.{OnGiven, given_if}
 use Rattle.pli_type_laws.proofs.Denotations.{OnRead}
 use Rattle.pli_type_laws.proofs.Operators.{given_map}
-use Rattle.pli_type_bounds.proofs.Meanings.{IsValue, IsReferent, IsMeant, IsDenoted, AreArgumentsGiven}
+use Rattle.pli_type_bounds.proofs.Meanings.{IsAreaNamed, IsKind, IsValue, IsReferent, IsMeant, IsDenoted, AreArgumentsGiven}
 use Rattle.pli_source_laws.specs.Sources.{IsWritten}
 use Rattle.pli_deck_laws.specs.Limits.{IsDescription, IsBound, AreBounds, IsOperation}
-use Rattle.pli_deck_laws.specs.WellFormed.{IsExpression, IsReference, AreOperands}
+use Rattle.pli_deck_laws.specs.WellFormed.{IsExpression, IsReference, AreOperands, IsConversion}
 
 -- no number becomes more characters than a byte counts
 -- whatever it is made from
@@ -49,10 +53,10 @@ width_fits digits = omega arith
 
 module _ (t : TypedUnit) where
   pub constant_fits : (value : ConstantValue) → IsWritten value → IsValue t (constant value)
-  constant_fits (constants.Decimal value digits) h = h
-  constant_fits (constants.Binary value digits) h = h
-  constant_fits (constants.Characters text) h = h
-  constant_fits (constants.Bits bits) h = h
+  constant_fits (constants.Decimal value digits) h = (h, tt)
+  constant_fits (constants.Binary value digits) h = (h, tt)
+  constant_fits (constants.Characters text) h = (h, tt)
+  constant_fits (constants.Bits bits) h = (h, tt)
 
   operands_fit : (es : List TypedExpression) → AllByRecursion (IsExpression t) es → AreOperands t (all_operands es)
   operands_fit [] h = tt
@@ -65,23 +69,23 @@ module _ (t : TypedUnit) where
   plus v None h = tt
 
   minus : (v : TypedValue) (o : Option ℕ) → IsValue t v → OnGiven (IsValue t) (with_minus v o)
-  minus v (Some p) h = (tt, (h, tt))
+  minus v (Some p) h = ((tt, (h.0, tt)), h.1)
   minus v None h = tt
 
   negation : (e : TypedExpression) (kind : ExpressionType) → IsExpression t e → OnGiven (IsValue t) (with_not e kind)
-  negation e types.Bits h = (tt, (h, tt))
+  negation e types.Bits h = ((tt, (h, tt)), tt)
   negation e other h = tt
 
   pub prefix_fits : (operator : PrefixOperator) (v : TypedValue) → IsValue t v → OnGiven (IsValue t) (prefix_value 31 operator v)
   prefix_fits prefixes.Plus v h = plus v (precision_of 31 v.kind) h
   prefix_fits prefixes.Minus v h = minus v (precision_of 31 v.kind) h
-  prefix_fits prefixes.Not v h = negation v.expression v.kind h
+  prefix_fits prefixes.Not v h = negation v.expression v.kind h.0
 
   -- ---- infix operators
 
   numbers_fit : (operation : Operation) (precision : (p q : ℕ) → ℕ) (v w : TypedValue) → IsOperation (Operate operation) → IsValue t v → IsValue t w
       → OnGiven (IsValue t) (on_numbers 31 operation precision v w)
-  numbers_fit operation precision v w good a b = given_made (IsValue t) _ (precisions 31 v.kind w.kind) (λ ps. (good, (a, (b, tt))))
+  numbers_fit operation precision v w good a b = given_made (IsValue t) _ (precisions 31 v.kind w.kind) (λ ps. ((good, (a.0, (b.0, tt))), tt))
 
   string_fits : (e : TypedExpression) (from to : ExpressionType) → IsExpression t e → IsExpression t (string_as e from to)
   string_fits e types.Bits types.Characters h = (tt, (h, tt))
@@ -90,34 +94,83 @@ module _ (t : TypedUnit) where
   strings_fit : (operation : Operation) (v w : TypedValue) (kind : ExpressionType) → IsOperation (Operate operation) → IsValue t v → IsValue t w
       → IsExpression t (on_strings operation v w kind)
   strings_fit operation v w kind good a b =
-      (good, (string_fits v.expression v.kind kind a, (string_fits w.expression w.kind kind b, tt)))
+      (good, (string_fits v.expression v.kind kind a.0, (string_fits w.expression w.kind kind b.0, tt)))
 
   compared_fits : (relation : Relation) (v w : TypedValue) (o : Option ExpressionType) → IsValue t v → IsValue t w
       → OnGiven (IsValue t) (compared 31 relation v w o)
-  compared_fits relation v w (Some kind) a b = strings_fit (Compare relation) v w kind tt a b
+  compared_fits relation v w (Some kind) a b = (strings_fit (Compare relation) v w kind tt a b, tt)
   compared_fits relation v w None a b =
-      given_map (IsValue t) (IsValue t) (λ v. as_bits v.expression) (on_numbers 31 (Compare relation) (sum_precision 31) v w) (λ x h. h)
+      given_map (IsValue t) (IsValue t) (λ v. as_bits v.expression) (on_numbers 31 (Compare relation) (sum_precision 31) v w) (λ x h. (h.0, tt))
       (numbers_fit (Compare relation) (sum_precision 31) v w tt a b)
 
-  comparison_fits : (relation : Relation) (v w : TypedValue) → IsValue t v → IsValue t w → OnGiven (IsValue t) (comparison 31 relation v w)
-  comparison_fits relation v w a b = by (is_pointer v.kind && is_pointer w.kind)
-    where
-      pointers : (relation : Relation) → OnGiven (IsValue t) (pointers_compared relation v.expression w.expression)
-      pointers Equal = (tt, (a, (b, tt)))
-      pointers Unequal = (tt, (a, (b, tt)))
-      pointers other = tt
+  -- locators
+  null_offset_fits : IsExpression t null_offset
+  null_offset_fits = refl
 
-      by : (c : Bool) → OnGiven (IsValue t) (if c then pointers_compared relation v.expression w.expression
+  pointer_fits : (e : TypedExpression) (kind : ExpressionType) → IsExpression t e → IsKind t kind → OnGiven (IsExpression t) (as_pointer e kind)
+  pointer_fits e types.Pointer h k = h
+  pointer_fits e types.Null h k = h
+  pointer_fits e (types.Offset (Some area)) h k = (k, h)
+  pointer_fits e (types.Offset None) h k = tt
+  pointer_fits e kind h k = tt
+
+  offset_fits : (area : Option Beginning) → IsAreaNamed t area → (e : TypedExpression) (kind : ExpressionType) → IsExpression t e
+      → OnGiven (IsExpression t) (as_offset area e kind)
+  offset_fits None there e (types.Offset other) h = h
+  offset_fits (Some area) there e (types.Offset other) h = h
+  offset_fits None there e types.Null h = null_offset_fits
+  offset_fits (Some area) there e types.Null h = null_offset_fits
+  offset_fits (Some area) there e types.Pointer h = (there, h)
+  offset_fits area there e kind h = tt
+
+  locators_fit : (relation : Relation) (o q : Option TypedExpression) → OnGiven (IsExpression t) o → OnGiven (IsExpression t) q
+      → OnGiven (IsValue t) (locators_compared relation o q)
+  locators_fit Equal (Some e) (Some f) a b = ((tt, (a, (b, tt))), tt)
+  locators_fit Unequal (Some e) (Some f) a b = ((tt, (a, (b, tt))), tt)
+  locators_fit Equal (Some e) None a b = tt
+  locators_fit Unequal (Some e) None a b = tt
+  locators_fit Equal None q a b = tt
+  locators_fit Unequal None q a b = tt
+  locators_fit relation o q a b = tt
+
+  beside_fits : (relation : Relation) (v w : TypedValue) → IsValue t v → IsValue t w → OnGiven (IsValue t) (locators_beside relation v w)
+  beside_fits relation v w a b = by (are_offsets v.kind w.kind)
+    where
+      by : (c : Bool)
+          → OnGiven (IsValue t)
+          (if c then locators_compared relation (as_offset None v.expression v.kind) (as_offset None w.expression w.kind)
+          else locators_compared relation (as_pointer v.expression v.kind) (as_pointer w.expression w.kind))
+      by true =
+          locators_fit relation (as_offset None v.expression v.kind) (as_offset None w.expression w.kind)
+          (offset_fits None tt v.expression v.kind a.0) (offset_fits None tt w.expression w.kind b.0)
+      by false =
+          locators_fit relation (as_pointer v.expression v.kind) (as_pointer w.expression w.kind)
+          (pointer_fits v.expression v.kind a.0 a.1) (pointer_fits w.expression w.kind b.0 b.1)
+
+  comparison_fits : (relation : Relation) (v w : TypedValue) → IsValue t v → IsValue t w → OnGiven (IsValue t) (comparison 31 relation v w)
+  comparison_fits relation v w a b = by (is_locator v.kind && is_locator w.kind)
+    where
+      by : (c : Bool) → OnGiven (IsValue t) (if c then locators_beside relation v w
           else compared 31 relation v w (string_type v.kind w.kind))
-      by true = pointers relation
+      by true = beside_fits relation v w a b
       by false = compared_fits relation v w (string_type v.kind w.kind) a b
 
+  -- strings are of a kind that names no area
+  strings_are : (a b : ExpressionType) → OnGiven (IsKind t) (string_type a b)
+  strings_are types.Characters types.Characters = tt
+  strings_are types.Characters types.Bits = tt
+  strings_are types.Bits types.Characters = tt
+  strings_are types.Bits types.Bits = tt
+  strings_are a b = tt
+
   concatenation_fits : (v w : TypedValue) → IsValue t v → IsValue t w → OnGiven (IsValue t) (concatenation v w)
-  concatenation_fits v w a b = given_made (IsValue t) _ (string_type v.kind w.kind) (λ kind. strings_fit Concatenate v w kind tt a b)
+  concatenation_fits v w a b =
+      given_map (IsKind t) (IsValue t) _ (string_type v.kind w.kind) (λ kind k. (strings_fit Concatenate v w kind tt a b, k))
+      (strings_are v.kind w.kind)
 
   bits_fit : (operation : Operation) (e f : TypedExpression) (one other : ExpressionType) → IsOperation (Operate operation) → IsExpression t e → IsExpression t f
       → OnGiven (IsValue t) (of_bits_alone operation e f one other)
-  bits_fit operation e f types.Bits types.Bits good a b = (good, (a, (b, tt)))
+  bits_fit operation e f types.Bits types.Bits good a b = ((good, (a, (b, tt))), tt)
   bits_fit operation e f one other good a b = tt
 
   pub infix_fits : (operator : InfixOperator) (v w : TypedValue) → IsValue t v → IsValue t w → OnGiven (IsValue t) (infix_value 31 operator v w)
@@ -131,8 +184,8 @@ module _ (t : TypedUnit) where
   infix_fits infixes.Greater v w a b = comparison_fits Greater v w a b
   infix_fits infixes.GreaterOrEqual v w a b = comparison_fits AtLeast v w a b
   infix_fits infixes.Concatenate v w a b = concatenation_fits v w a b
-  infix_fits infixes.And v w a b = bits_fit And v.expression w.expression v.kind w.kind tt a b
-  infix_fits infixes.Or v w a b = bits_fit Or v.expression w.expression v.kind w.kind tt a b
+  infix_fits infixes.And v w a b = bits_fit And v.expression w.expression v.kind w.kind tt a.0 b.0
+  infix_fits infixes.Or v w a b = bits_fit Or v.expression w.expression v.kind w.kind tt a.0 b.0
 
   -- ---- conversions
 
@@ -148,7 +201,7 @@ module _ (t : TypedUnit) where
   widths types.Bits = tt
   widths types.Pointer = tt
   widths types.Null = tt
-  widths types.Offset = tt
+  widths (types.Offset area) = tt
   widths types.Area = tt
 
   characters_fit : (e : TypedExpression) (kind : ExpressionType) → IsExpression t e → OnGiven (IsExpression t) (as_characters e kind)
@@ -167,11 +220,13 @@ module _ (t : TypedUnit) where
   suited_fits (described.Bit k) e kind h = only_bits_fit e kind h
   suited_fits other e kind h = tt
 
-  pub converted_fits : (d : Description) (v : TypedValue) → IsDescription d → IsValue t v → OnGiven (IsExpression t) (converted 31 d v)
-  converted_fits described.Pointer v good h = given_if (IsExpression t) (is_pointer v.kind) (Some v.expression) h
-  converted_fits d v good h =
+  pub converted_fits : (area : Option Beginning) → IsAreaNamed t area → (d : Description) (v : TypedValue) → IsDescription d → IsValue t v
+      → OnGiven (IsExpression t) (converted 31 area d v)
+  converted_fits area there described.Pointer v good h = pointer_fits v.expression v.kind h.0 h.1
+  converted_fits area there described.Offset v good h = offset_fits area there v.expression v.kind h.0
+  converted_fits area there d v good h =
       given_map (IsExpression t) (IsExpression t) (with_one (Fit d)) (suited 31 d v.expression v.kind) (λ e k. (good, (k, tt)))
-      (suited_fits d v.expression v.kind h)
+      (suited_fits d v.expression v.kind h.0)
 
   pub printed_fits : (e : TypedExpression) (kind : ExpressionType) → IsExpression t e → OnGiven (IsExpression t) (printed_from e kind)
   printed_fits e types.Characters h = h
@@ -205,32 +260,72 @@ module _ (t : TypedUnit) where
   then_fitted d [] good h = (good, tt)
   then_fitted d (o ∷ os) good h = (h.0, then_fitted d os good h.1)
 
-  pub conversions_fit : (d : Description) (kind : ExpressionType) → IsDescription d → OnGiven (AllByRecursion IsOperation) (conversions 31 d kind)
-  conversions_fit described.Pointer kind good = given_if (AllByRecursion IsOperation) (is_pointer kind) (Some []) tt
-  conversions_fit d kind good =
-      given_map (AllByRecursion IsOperation) (AllByRecursion IsOperation) (λ operations. operations ++ Fit d ∷ []) (suiting 31 d kind)
+  -- a locator is converted by an area, or not at all
+  to_pointer : (kind : ExpressionType) → IsKind t kind → OnGiven (IsConversion t) (pointer_conversion kind)
+  to_pointer types.Pointer k = tt
+  to_pointer types.Null k = tt
+  to_pointer (types.Offset (Some area)) k = k
+  to_pointer (types.Offset None) k = tt
+  to_pointer kind k = tt
+
+  to_offset : (area : Option Beginning) → IsAreaNamed t area → (kind : ExpressionType) → OnGiven (IsConversion t) (offset_conversion area kind)
+  to_offset None there (types.Offset other) = tt
+  to_offset (Some area) there (types.Offset other) = tt
+  to_offset None there types.Null = tt
+  to_offset (Some area) there types.Null = tt
+  to_offset (Some area) there types.Pointer = there
+  to_offset area there kind = tt
+
+  pub conversion_fits : (area : Option Beginning) → IsAreaNamed t area → (d : Description) (kind : ExpressionType) → IsDescription d
+      → IsKind t kind → OnGiven (IsConversion t) (conversion 31 area d kind)
+  conversion_fits area there described.Pointer kind good k = to_pointer kind k
+  conversion_fits area there described.Offset kind good k = to_offset area there kind
+  conversion_fits area there d kind good k =
+      given_map (AllByRecursion IsOperation) (IsConversion t) (λ operations. ByOperations (operations ++ Fit d ∷ [])) (suiting 31 d kind)
       (λ os h. then_fitted d os good h) (suiting_operations d kind)
+
+  -- a value that is kept before it is converted
+  as_null : (e : TypedExpression) (kind : ExpressionType) → IsExpression t e → IsExpression t (null_as_offset e kind)
+  as_null e types.Null h = null_offset_fits
+  as_null e kind h = h
+
+  pub unconverted_fits : (d : Description) (v : TypedValue) → IsValue t v → IsExpression t (unconverted d v)
+  unconverted_fits described.Offset v h = as_null v.expression v.kind h.0
+  unconverted_fits d v h = h.0
 
   -- ---- what is denoted
 
-  abbrev as_referent : TypedReference → Description → Bool → Referent
-  as_referent r d passed = record { reference = r; description = d; is_parameter = passed }
+  -- what a variable holds is of a kind whose area is there
+  pub kinds_held : (area : Option Beginning) → IsAreaNamed t area → (d : Description) → OnGiven (IsKind t) (type_of area d)
+  kinds_held area there (described.FixedBinary p) = tt
+  kinds_held area there (described.Character k) = tt
+  kinds_held area there (described.Varying k) = tt
+  kinds_held area there (described.Bit k) = tt
+  kinds_held area there described.Pointer = tt
+  kinds_held area there described.Offset = there
+  kinds_held area there (described.Area k) = tt
+  kinds_held area there (described.Array bounds element) = tt
+  kinds_held area there (described.Structure ds) = tt
 
-  held_fits : (r : TypedReference) (d : Description) (passed : Bool) → IsReferent t (as_referent r d passed)
-      → IsMeant t (meant_by (as_referent r d passed))
-  held_fits r (described.FixedBinary p) passed h = h.reference
-  held_fits r (described.Character k) passed h = h.reference
-  held_fits r (described.Varying k) passed h = h.reference
-  held_fits r (described.Bit k) passed h = h.reference
-  held_fits r described.Pointer passed h = h.reference
-  held_fits r described.Offset passed h = h.reference
-  held_fits r (described.Area k) passed h = h.reference
-  held_fits r (described.Array bounds element) passed h = h
-  held_fits r (described.Structure ds) passed h = h
+  abbrev as_referent : TypedReference → Description → Bool → Option Beginning → Referent
+  as_referent r d passed area = record { reference = r; description = d; is_parameter = passed; area = area }
+
+  held_fits : (r : TypedReference) (d : Description) (passed : Bool) (area : Option Beginning) → IsReferent t (as_referent r d passed area)
+      → IsMeant t (meant_by (as_referent r d passed area))
+  held_fits r (described.FixedBinary p) passed area h = (h.reference, tt)
+  held_fits r (described.Character k) passed area h = (h.reference, tt)
+  held_fits r (described.Varying k) passed area h = (h.reference, tt)
+  held_fits r (described.Bit k) passed area h = (h.reference, tt)
+  held_fits r described.Pointer passed area h = (h.reference, tt)
+  held_fits r described.Offset passed area h = (h.reference, h.area)
+  held_fits r (described.Area k) passed area h = (h.reference, tt)
+  held_fits r (described.Array bounds element) passed area h = h
+  held_fits r (described.Structure ds) passed area h = h
 
   pub denoted_fits : (d : Denoted) → IsDenoted t d → IsMeant t (meant_as d)
-  denoted_fits (DenotesVariable r) h = held_fits r.reference r.description r.is_parameter h
+  denoted_fits (DenotesVariable r) h = held_fits r.reference r.description r.is_parameter r.area h
   denoted_fits (DenotesResult v) h = h
+  denoted_fits DenotesEmpty h = (refl, tt)
 
   -- ---- built-in functions
 
@@ -239,10 +334,34 @@ module _ (t : TypedUnit) where
   IsBare o = IsOperation (Operate o)
 
   calculated_fits : (o : Option Operation) (kind : Option ExpressionType) (es : List TypedExpression) → OnGiven IsBare o
-      → AllByRecursion (IsExpression t) es → OnGiven (IsValue t) (calculation o kind es)
-  calculated_fits (Some operation) (Some kind) es good h = (good, operands_fit es h)
-  calculated_fits (Some operation) None es good h = tt
-  calculated_fits None kind es good h = tt
+      → OnGiven (IsKind t) kind → AllByRecursion (IsExpression t) es → OnGiven (IsValue t) (calculation o kind es)
+  calculated_fits (Some operation) (Some kind) es good k h = ((good, operands_fit es h), k)
+  calculated_fits (Some operation) None es good k h = tt
+  calculated_fits None kind es good k h = tt
+
+  -- what functions of values give is of a kind that names no area
+  string_is : (kind : ExpressionType) → OnGiven (IsKind t) (string_kind kind)
+  string_is types.Characters = tt
+  string_is types.Bits = tt
+  string_is kind = tt
+
+  with_a_number : (kind : Option ExpressionType) (o : Option ℕ) → OnGiven (IsKind t) kind → OnGiven (IsKind t) (with_number kind o)
+  with_a_number kind None h = tt
+  with_a_number kind (Some p) h = h
+
+  call_kind : (function : BuiltInFunction) (kinds : List ExpressionType) → OnGiven (IsKind t) (call_type 31 function kinds)
+  call_kind functions.Abs (x ∷ []) = given_made (IsKind t) number_type (precision_of 31 x) (λ p. tt)
+  call_kind functions.Sign (x ∷ []) = with_a_number (Some a_count) (precision_of 31 x) tt
+  call_kind functions.Length (s ∷ []) = given_made (IsKind t) (λ kind. a_count) (string_kind s) (λ kind. tt)
+  call_kind functions.Max (x ∷ y ∷ []) = given_made (IsKind t) _ (precisions 31 x y) (λ ps. tt)
+  call_kind functions.Min (x ∷ y ∷ []) = given_made (IsKind t) _ (precisions 31 x y) (λ ps. tt)
+  call_kind functions.Mod (x ∷ y ∷ []) = given_made (IsKind t) _ (precisions 31 x y) (λ ps. tt)
+  call_kind functions.Index (s ∷ u ∷ []) = given_made (IsKind t) (λ kind. a_count) (of_one_kind s u) (λ kind. tt)
+  call_kind functions.Substring (s ∷ i ∷ []) = with_a_number (string_kind s) (precision_of 31 i) (string_is s)
+  call_kind functions.Substring (s ∷ i ∷ n ∷ []) =
+      with_a_number (with_number (string_kind s) (precision_of 31 i)) (precision_of 31 n)
+      (with_a_number (string_kind s) (precision_of 31 i) (string_is s))
+  call_kind function kinds = tt
 
   rest_or_part : (b : Bool) → IsBare (if b then Rest else Substring)
   rest_or_part true = tt
@@ -261,33 +380,34 @@ module _ (t : TypedUnit) where
 
   expressions_of : (vs : List TypedValue) → AllByRecursion (IsValue t) vs → AllByRecursion (IsExpression t) (map (λ v. v.expression) vs)
   expressions_of [] h = tt
-  expressions_of (v ∷ vs) h = (h.0, expressions_of vs h.1)
+  expressions_of (v ∷ vs) h = (h.0.0, expressions_of vs h.1)
 
   values_fit : (function : BuiltInFunction) (vs : List TypedValue) → AllByRecursion (IsValue t) vs → OnGiven (IsValue t) (of_values 31 function vs)
   values_fit function vs h =
       calculated_fits (operation_of function (length vs)) (call_type 31 function (map (λ v. v.kind) vs)) (map (λ v. v.expression) vs)
-      (operation_good function (length vs)) (expressions_of vs h)
+      (operation_good function (length vs)) (call_kind function (map (λ v. v.kind) vs)) (expressions_of vs h)
 
   -- DIVIDE
   quotient_by : (precision : ℕ) (b : Bool) (kind : Option ExpressionType) (es : List TypedExpression)
-      → ((nat_le 1 precision && nat_le precision 31) ≡ b) → AllByRecursion (IsExpression t) es
+      → ((nat_le 1 precision && nat_le precision 31) ≡ b) → OnGiven (IsKind t) kind → AllByRecursion (IsExpression t) es
       → OnGiven (IsValue t) (calculation (Some (Divide precision)) (if b then kind else None) es)
-  quotient_by precision true kind es e h =
+  quotient_by precision true kind es e k h =
       let both : (nat_le 1 precision ≡ true) × (nat_le precision 31 ≡ true) = and_parts _ _ e in
-      calculated_fits (Some (Divide precision)) kind es (leb-true 1 precision both.0, leb-true precision 31 both.1) h
-  quotient_by precision false kind es e h = tt
+      calculated_fits (Some (Divide precision)) kind es (leb-true 1 precision both.0, leb-true precision 31 both.1) k h
+  quotient_by precision false kind es e k h = tt
 
   division_fits : (x y : Meant) (written : Option ℕ) → IsMeant t x → IsMeant t y → OnGiven (IsValue t) (divided 31 x y written)
   division_fits (OneValue v) (OneValue w) None a b = tt
   division_fits (OneValue v) (OneValue w) (Some precision) a b =
       quotient_by precision (nat_le 1 precision && nat_le precision 31)
-      (option_map (λ ps. number_type precision) (precisions 31 v.kind w.kind)) (v.expression ∷ w.expression ∷ []) refl (a, (b, tt))
+      (option_map (λ ps. number_type precision) (precisions 31 v.kind w.kind)) (v.expression ∷ w.expression ∷ []) refl
+      (given_made (IsKind t) (λ ps. number_type precision) (precisions 31 v.kind w.kind) (λ ps. tt)) (a.0, (b.0, tt))
   division_fits (OneValue v) (WholeAggregate r) written a b = tt
   division_fits (WholeAggregate r) y written a b = tt
 
   -- LBOUND and HBOUND
   bound_fits : (x : ℤ) → IsBound x → IsValue t (bound_value x)
-  bound_fits x h = omega (arith, h)
+  bound_fits x h = (omega (arith, h), tt)
 
   abbrev Keeps : (Bounds → ℤ) → Type 0
   Keeps which = (b : Bounds) → AreBounds b → IsBound (which b)
@@ -311,21 +431,56 @@ module _ (t : TypedUnit) where
 
   -- ALLOCATION
   generations_fit : (r : TypedReference) → IsReference t r → OnGiven (IsValue t) (generations_in r)
-  generations_fit (Whole (NewestOf number)) h = h
+  generations_fit (Whole (NewestOf number)) h = (h, tt)
   generations_fit r h = tt
 
   generations_given : (d : Denoted) → IsDenoted t d → OnGiven (IsValue t) (generations_of d)
   generations_given (DenotesVariable r) h = generations_fit r.reference h.reference
   generations_given (DenotesResult v) h = tt
+  generations_given DenotesEmpty h = tt
 
   -- ADDR
   address_fits : (passed : Bool) (r : TypedReference) → IsReference t r → OnGiven (IsValue t) (address_in passed r)
-  address_fits false (Whole root) h = h
+  address_fits false (Whole root) h = (h, tt)
   address_fits passed r h = tt
 
   address_given : (d : Denoted) → IsDenoted t d → OnGiven (IsValue t) (address_of d)
   address_given (DenotesVariable r) h = address_fits r.is_parameter r.reference h.reference
   address_given (DenotesResult v) h = tt
+  address_given DenotesEmpty h = tt
+
+  -- POINTER and OFFSET
+  pub area_fits : (r : TypedReference) (d : Description) → IsReference t r → IsAreaNamed t (area_meant r d)
+  area_fits (Whole (InSlot outward slot)) (Area bytes) h = h
+  area_fits (Whole (OfProgram number)) (Area bytes) h = h
+  area_fits (Whole (NewestOf number)) (Area bytes) h = h
+  area_fits (Whole (Located locator whole)) (Area bytes) h = tt
+  area_fits r d h = tt
+
+  pub area_given : (d : Denoted) → IsDenoted t d → IsAreaNamed t (area_of d)
+  area_given (DenotesVariable r) h = area_fits r.reference r.description h.reference
+  area_given (DenotesResult v) h = tt
+  area_given DenotesEmpty h = tt
+
+  -- what makes something of a locator in an area
+  abbrev MakesLocator : ((area : Beginning) → TypedExpression → ExpressionType → Option TypedValue) → Type 0
+  MakesLocator make =
+      (area : Beginning) → IsReference t (whole_at area) → (e : TypedExpression) (kind : ExpressionType) → IsExpression t e
+      → OnGiven (IsValue t) (make area e kind)
+
+  offset_makes : MakesLocator offset_within
+  offset_makes area there e (types.Offset other) h = ((there, h), tt)
+  offset_makes area there e kind h = tt
+
+  pointer_makes : MakesLocator pointer_within
+  pointer_makes area there e types.Pointer h = ((there, h), tt)
+  pointer_makes area there e types.Null h = ((there, h), tt)
+  pointer_makes area there e kind h = tt
+
+  located_fits : (make : (area : Beginning) → TypedExpression → ExpressionType → Option TypedValue) → MakesLocator make → (m : Meant)
+      (o : Option Beginning) → IsMeant t m → IsAreaNamed t o → OnGiven (IsValue t) (located_within make m o)
+  located_fits make makes (OneValue v) (Some area) h there = makes area there v.expression v.kind h.0
+  located_fits make makes m o h there = tt
 
   -- arguments that are values
   one_value_in : (m : Meant) → IsMeant t m → OnGiven (IsValue t) (value_in m)
@@ -356,7 +511,12 @@ module _ (t : TypedUnit) where
   arguments_give functions.HighBound (a ∷ n ∷ []) h = bound_of (λ b. b.high) (λ b k. k.2) (meant_as a.denoted) n.written (denoted_fits a.denoted h.0)
   arguments_give functions.Allocation (a ∷ []) h = generations_given a.denoted h.0
   arguments_give functions.Address (a ∷ []) h = address_given a.denoted h.0
-  arguments_give functions.Null [] h = refl
+  arguments_give functions.Null [] h = (refl, tt)
+  arguments_give functions.Empty [] h = (refl, tt)
+  arguments_give functions.Pointer (o ∷ a ∷ []) h =
+      located_fits offset_within offset_makes (meant_as o.denoted) (area_of a.denoted) (denoted_fits o.denoted h.0) (area_given a.denoted h.1.0)
+  arguments_give functions.Offset (p ∷ a ∷ []) h =
+      located_fits pointer_within pointer_makes (meant_as p.denoted) (area_of a.denoted) (denoted_fits p.denoted h.0) (area_given a.denoted h.1.0)
   arguments_give function gs h = given_values function (values_in gs) (all_values_in gs h)
 
   or_bad : (at : ℕ) (o : Option TypedValue) → OnGiven (IsValue t) o → OnRead (IsValue t) (or_bad_argument at o)

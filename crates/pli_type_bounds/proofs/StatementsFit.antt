@@ -12,6 +12,7 @@ use Rattle.pli_parse_expression.specs.Expressions.{Deeper}
 use Rattle.pli_resolve.specs.TreeBlocks as blocks
 use Rattle.pli_type.specs.NamedUnits.{names_based}
 use Rattle.pli_type.specs.Names.{NamedUnit, NamedAs}
+use Rattle.pli_type.specs.declared.beginning.Beginning.{Beginning}
 use Rattle.pli_type.specs.StatementTyping.{Enclosing, Surroundings, naming_at, block_at, leaves_nothing, assignment, items}
 use Rattle.pli_type.specs.StatementTyping.{condition, iteration, allocate_typed, free_typed, call_typed, goto_typed, return_typed, WithProcedures, of_own, together}
 use Rattle.pli_type.specs.StatementTyping.{made, head_of, function_end, procedure_of, as_procedure, put_before, inside, behind_limits, in_begin, in_group, in_procedure, with_labels, labels_of}
@@ -30,14 +31,15 @@ use Rattle.pli_type_bounds.proofs.FormsFit.{condition_fits, items_fit, assignmen
 use Rattle.pli_type_laws.proofs.Denotations.{OnRead}
 use Rattle.pli_type_laws.proofs.TypedParts.{OnTyped}
 use Rattle.pli_type_name_laws.proofs.InitialHeld.{all_behind}
-use Rattle.pli_type_bounds.proofs.Meanings.{IsMeaning}
+use Rattle.pli_type_bounds.proofs.Meanings.{IsAreaNamed, IsMeaning}
 use Rattle.pli_deck_laws.specs.Limits.{link_limit, parameter_limit, word_limit, IfThere, IsDescription, IsTemplate}
 use Rattle.pli_source_laws.specs.Sources.{IsSourceStatement, IsSourceBody, IsSourceElse, AreSourceStatements}
 use Rattle.pli_deck_laws.specs.WellFormed.{HasBlock, IsHead, IsExpression, IsIteration, IsStatement, IsForm, IsElse, AreStatements, IsProcedure, kept_in, kept_in_form, kept_in_else, kept_among}
 
 -- what is to be known of a unit: names mean what is within the limits, blocks have few parameters and templates
 -- within the limits, and so many of them are those of the typed unit; and where BASED variables are named is known
-pub record UnitFits (t : TypedUnit) (is_based : ℕ → Bool) (based : (blocks : List ℕ) → (block : ℕ) → List Template) (meaning : (blocks : List ℕ) → ℕ → NamedAs) (parameters : (block : ℕ) → List Description)
+pub record UnitFits (t : TypedUnit) (is_based : ℕ → Bool) (based : (blocks : List ℕ) → (block : ℕ) → List Template)
+    (areas : (blocks : List ℕ) → (block : ℕ) → Option Beginning) (meaning : (blocks : List ℕ) → ℕ → NamedAs) (parameters : (block : ℕ) → List Description)
     (returned : (block : ℕ) → Option Description) (automatic : (block : ℕ) → List Template) (size : ℕ) : Type 0 where
   pub names : (blocks : List ℕ) (at : ℕ) → length blocks ≤ link_limit → AllByRecursion (λ b. b < size) blocks → IsMeaning t (meaning blocks at)
   pub few : (block : ℕ) → length (parameters block) ≤ parameter_limit
@@ -45,6 +47,7 @@ pub record UnitFits (t : TypedUnit) (is_based : ℕ → Bool) (based : (blocks :
   pub templates : (block : ℕ) → AllByRecursion IsTemplate (automatic block)
   pub blocks : (number : ℕ) → number < size → HasBlock t number
   pub based_fits : (blocks : List ℕ) (block : ℕ) → AllByRecursion IsTemplate (based blocks block)
+  pub areas_fit : (blocks : List ℕ) (block : ℕ) → length blocks ≤ link_limit → AllByRecursion (λ b. b < size) blocks → IsAreaNamed t (areas blocks block)
   pub knows : (blocks : List ℕ) (at : ℕ) → names_based (meaning blocks at) ≡ is_based at
 
 -- a place of the text: blocks may nest so many levels deeper
@@ -140,17 +143,20 @@ module _ (t : TypedUnit) where
   put_fits true x y m n none h k = (k.0, omega (arith, k.1, none refl))
   put_fits false x y m n none h k = ((h.0, k.0), omega (arith, h.1, k.1))
 
-module _ (t : TypedUnit) (program : ExternalProcedure) (is_later is_based : ℕ → Bool) (based : List ℕ → ℕ → List Template) (meaning : List ℕ → ℕ → NamedAs)
-    (parameters : ℕ → List Description) (returned : ℕ → Option Description) (automatic : ℕ → List Template) (globals : List Global)
-    (size : ℕ) (fits : UnitFits t is_based based meaning parameters returned automatic size) where
+module _ (t : TypedUnit) (program : ExternalProcedure) (is_based : ℕ → Bool) (based : List ℕ → ℕ → List Template) (areas : List ℕ → ℕ → Option Beginning)
+    (meaning : List ℕ → ℕ → NamedAs) (parameters : ℕ → List Description) (returned : ℕ → Option Description) (automatic : ℕ → List Template)
+    (globals : List Global) (size : ℕ) (fits : UnitFits t is_based based areas meaning parameters returned automatic size) where
   abbrev U : NamedUnit
-  U = unit_with program is_later is_based based meaning parameters returned automatic globals
+  U = unit_with program is_based based areas meaning parameters returned automatic globals
 
   abbrev numbers : Surroundings → List ℕ
   numbers s = map (λ b. b.number) s.blocks
 
   known : (levels : ℕ) (s : Surroundings) → Sits size levels s → (at : ℕ) → IsMeaning t (meaning (numbers s) at)
   known levels s sits at = fits.names (numbers s) at (omega (arith, map_length s.blocks, sits.deep)) sits.around
+
+  there : (levels : ℕ) (s : Surroundings) → Sits size levels s → (block : ℕ) → IsAreaNamed t (areas (numbers s) block)
+  there levels s sits block = fits.areas_fit (numbers s) block (omega (arith, map_length s.blocks, sits.deep)) sits.around
 
   -- ---- places inside
 
@@ -236,7 +242,7 @@ module _ (t : TypedUnit) (program : ExternalProcedure) (is_later is_based : ℕ 
     body_fits d m s x number at a tree.Null sits n h lt low room l = ((tt, omega arith), tt)
     body_fits d m s x number at a (tree.Assign target equals value) sits n h lt low room l =
         form_fits t (assignment (naming_at U s) at target equals value)
-        (assignment_fits t (based (numbers s)) (meaning (numbers s)) (known m s sits) at target equals value l.0 l.1)
+        (assignment_fits t (based (numbers s)) (areas (numbers s)) (meaning (numbers s)) (known m s sits) at target equals value l.0 l.1)
     body_fits d m s x number at a (tree.Declare declared) sits n h lt low room l = ((tt, omega arith), tt)
     body_fits d m s x number at a (tree.Procedure heading ss end) sits n h lt low room l =
         deeper_in m (λ m. ListNests true m ss) _ n.1
@@ -263,7 +269,7 @@ module _ (t : TypedUnit) (program : ExternalProcedure) (is_later is_based : ℕ 
         (λ i e g. both_fit t (IsExpression t) (ListFits t (temporaries_among is_based ss)) (FormFits t (temporaries_of is_based (tree.Do (Some (tree.While tested)) ss end)))
         typed.While (of_own (condition (naming_at U s) tested)) (statements_typed U (in_group ss s) x ss)
         (λ c list j k. ((j, k.0), omega (arith, k.1)))
-        (own_fits t (IsExpression t) (condition (naming_at U s) tested) (condition_fits t (based (numbers s)) (meaning (numbers s)) (known m s sits) tested l.0))
+        (own_fits t (IsExpression t) (condition (naming_at U s) tested) (condition_fits t (based (numbers s)) (areas (numbers s)) (meaning (numbers s)) (known m s sits) tested l.0))
         (list_fits false i (in_group ss s) x a ss (in_a_group i s ss (subst (λ k. Sits size k s) e sits)) g h.0 (omega (arith, low)) room l.1))
     body_fits d m s x number at a (tree.Do (Some (tree.Iterate variable equals first range tested)) ss end) sits n h lt low room l =
         deeper_in m (λ m. ListNests false m ss) _ n
@@ -273,7 +279,7 @@ module _ (t : TypedUnit) (program : ExternalProcedure) (is_later is_based : ℕ 
         (statements_typed U (in_group ss s) (behind_limits range x) ss) (λ c list j k. ((j.0, k.0), omega (arith, j.1.1, k.1)))
         (own_fits t (λ i. IsIteration t i × HasOwn x.temporary range i) (iteration (naming_at U s) x.temporary variable equals first range tested)
         (both_read (IsIteration t) (HasOwn x.temporary range) (iteration (naming_at U s) x.temporary variable equals first range tested)
-        (iteration_fits t (based (numbers s)) (meaning (numbers s)) (known m s sits) x.temporary variable equals first range tested l.0)
+        (iteration_fits t (based (numbers s)) (areas (numbers s)) (meaning (numbers s)) (known m s sits) x.temporary variable equals first range tested l.0)
         (iteration_keeps (naming_at U s) x.temporary variable equals first range tested)))
         (list_fits false i (in_group ss s) (behind_limits range x) a ss (in_a_group i s ss (subst (λ k. Sits size k s) e sits)) g h.0
         (omega (arith, low)) room l.1))
@@ -285,7 +291,7 @@ module _ (t : TypedUnit) (program : ExternalProcedure) (is_later is_based : ℕ 
         (λ c b. typed.If c b.0 b.1) (of_own (condition (naming_at U s) tested))
         (together (λ y z. (y, z)) (statement_typed U s x consequence) (alternative_typed U s (behind is_based x consequence) alternative))
         (λ c b j k. ((j, k.0.0, k.1.0), omega (arith, k.0.1, k.1.1)))
-        (own_fits t (IsExpression t) (condition (naming_at U s) tested) (condition_fits t (based (numbers s)) (meaning (numbers s)) (known m s sits) tested l.0))
+        (own_fits t (IsExpression t) (condition (naming_at U s) tested) (condition_fits t (based (numbers s)) (areas (numbers s)) (meaning (numbers s)) (known m s sits) tested l.0))
         (both_fit t (StatementFits t (temporaries_in is_based consequence)) (ElseFits t (temporaries_behind is_based alternative))
         (λ (b : TypedStatement × OtherWise). StatementFits t (temporaries_in is_based consequence) b.0 × ElseFits t (temporaries_behind is_based alternative) b.1)
         (λ y z. (y, z))
@@ -298,22 +304,22 @@ module _ (t : TypedUnit) (program : ExternalProcedure) (is_later is_based : ℕ 
     body_fits d m s x number at a (tree.Allocate list) sits n h lt low room l =
         own_fits t (FormFits t (based_among is_based list)) (allocate_typed (naming_at U s) x.temporary list)
         (both_read (IsForm t) (λ f. based_among is_based list ≤ kept_in_form f) (allocate_typed (naming_at U s) x.temporary list)
-        (allocate_fits t (based (numbers s)) (meaning (numbers s)) (known m s sits) (fits.based_fits (numbers s)) x.temporary list l)
+        (allocate_fits t (based (numbers s)) (areas (numbers s)) (meaning (numbers s)) (known m s sits) (fits.based_fits (numbers s)) x.temporary list l)
         (allocation_kept x.temporary (based_among is_based list) (allocate_typed (naming_at U s) x.temporary list)
         (allocate_keeps (naming_at U s) is_based (fits.knows (numbers s)) x.temporary list)))
     body_fits d m s x number at a (tree.Free list) sits n h lt low room l =
-        form_fits t (free_typed (naming_at U s) list) (free_fits t (based (numbers s)) (meaning (numbers s)) (known m s sits) list l)
+        form_fits t (free_typed (naming_at U s) list) (free_fits t (based (numbers s)) (areas (numbers s)) (meaning (numbers s)) (known m s sits) list l)
     body_fits d m s x number at a (tree.Call name arguments) sits n h lt low room l =
-        form_fits t (call_typed (naming_at U s) name arguments) (call_fits t (based (numbers s)) (meaning (numbers s)) (known m s sits) name arguments l)
+        form_fits t (call_typed (naming_at U s) name arguments) (call_fits t (based (numbers s)) (areas (numbers s)) (meaning (numbers s)) (known m s sits) name arguments l)
     body_fits d m s x number at a (tree.Goto label) sits n h lt low room l =
         form_fits t (goto_typed (naming_at U s) s label)
-        (goto_fits t (based (numbers s)) (meaning (numbers s)) (known m s sits) s (near m s sits) label)
+        (goto_fits t (based (numbers s)) (areas (numbers s)) (meaning (numbers s)) (known m s sits) s (near m s sits) label)
     body_fits d m s x number at a (tree.Return value) sits n h lt low room l =
         form_fits t (return_typed (naming_at U s) s at value)
-        (return_fits t (based (numbers s)) (meaning (numbers s)) (known m s sits) s (few_begins m s sits) sits.value at value l)
+        (return_fits t (based (numbers s)) (areas (numbers s)) (meaning (numbers s)) (known m s sits) (there m s sits) s (few_begins m s sits) sits.value at value l)
     body_fits d m s x number at a (tree.Put skip list) sits n h lt low room l =
         made_fits t (AllByRecursion (IsExpression t)) (FormFits t 0) (typed.Put skip) (of_own (items (naming_at U s) list)) (λ xs k. (k, omega arith))
-        (own_fits t (AllByRecursion (IsExpression t)) (items (naming_at U s) list) (items_fit t (based (numbers s)) (meaning (numbers s)) (known m s sits) list l))
+        (own_fits t (AllByRecursion (IsExpression t)) (items (naming_at U s) list) (items_fit t (based (numbers s)) (areas (numbers s)) (meaning (numbers s)) (known m s sits) list l))
     body_fits d m s x number at a other sits n h lt low room l = tt
 
     alternative_fits : (m : ℕ) (s : Surroundings) (x : Next) (a : ℕ) (e : Alternative) → Sits size m s → ElseNests m e

@@ -12,7 +12,7 @@ use Rattle.std.proofs.lemmas.List.Sorted.{All-permutation}
 use Rattle.pli_base.specs.Name.{Name}
 use Rattle.pli_declare_attributes.specs.declared.completed.ScopeAttribute.{ScopeAttribute}
 use Rattle.pli_declare_attributes.specs.declared.completed.ScopeAttribute.TheVariants as scopes
-use Rattle.pli_map.specs.Description.{Description, FixedBinary, Character, Varying, Bit, Pointer, Array, Structure, Members, NoMembers, MemberThen}
+use Rattle.pli_map.specs.Description.{Description, FixedBinary, Character, Varying, Bit, Pointer, Offset, Area, Array, Structure, Members, NoMembers, MemberThen}
 use Rattle.pli_bytes.specs.Contents.{scalar_on, spread, scalars_at, scalars_behind}
 use Rattle.pli_bytes.proofs.Rising.{Rise, rises}
 use Rattle.pli_bytes.proofs.Scalars.{scalar_moved}
@@ -25,7 +25,7 @@ use Rattle.pli_map.specs.Values.{holds}
 use Rattle.pli_resolve.specs.Symbols.{Symbol, SymbolKind, Variable, Member, Label, Procedure, Entry, BuiltIn}
 use Rattle.pli_resolve.specs.declared.symbol.StorageClass.{StorageClass}
 use Rattle.pli_type.specs.InitialScalars.{counted_from, scalars_on, scalars_in_member, as_held, each_with, values_written, InitialItem, initial_scalars, template_of}
-use Rattle.pli_type.specs.NamedUnits.{is_plain, all_plain, is_stored, is_global, kind_of_class, member_items, template_at, templates_from}
+use Rattle.pli_type.specs.NamedUnits.{is_plain, all_plain, may_stand, is_stored, is_global, kind_of_class, member_items, template_at, templates_from}
 use Rattle.pli_type.specs.NamedUnits.{global_of, global_with, globals_from, globals_of, all_globals}
 use Rattle.pli_type.specs.NamedUnits.{PlacedGlobal, placed, block_globals}
 use Rattle.pli_type.specs.TextOrder.{in_order}
@@ -120,6 +120,10 @@ kept_is Pointer (Number x) plain one = (refl, refl)
 kept_is Pointer (Characters s) plain one = (refl, refl)
 kept_is Pointer (Bits s) plain one = (refl, refl)
 kept_is Pointer (Located l) plain one = (refl, refl)
+kept_is Offset (Number x) plain one = (refl, refl)
+kept_is Offset (Characters s) plain one = (refl, refl)
+kept_is Offset (Bits s) plain one = (refl, refl)
+kept_is Offset (Located l) plain one = (refl, refl)
 kept_is (Array bs e) v plain one = absurd (not_true one)
 kept_is (Structure ds) v plain one = absurd (not_true one)
 kept_is d v plain one = absurd (not_true plain)
@@ -143,6 +147,7 @@ plain_byte (Bit k) plain one =
     let some = ltb-true 0 k (and_parts (nat_lt 0 k) (nat_le k 32767) plain).0 in
     packed_byte k some
 plain_byte Pointer plain one = omega arith
+plain_byte Offset plain one = omega arith
 plain_byte (Array bs e) plain one = absurd (not_true one)
 plain_byte (Structure ds) plain one = absurd (not_true one)
 plain_byte d plain one = absurd (not_true plain)
@@ -221,6 +226,7 @@ mutual
   item_scalars whole (Varying k) path front back at plain split = one_scalar whole front back (Varying k) at plain refl split
   item_scalars whole (Bit k) path front back at plain split = one_scalar whole front back (Bit k) at plain refl split
   item_scalars whole Pointer path front back at plain split = one_scalar whole front back Pointer at plain refl split
+  item_scalars whole Offset path front back at plain split = one_scalar whole front back Offset at plain refl split
   item_scalars whole d path front back at plain split = absurd (not_true plain)
 
   member_scalars : (whole : List PlacedPart) (ds : Members) (i : ℕ) (path : List ℕ) (front back : List PlacedPart) (at ended : ℕ)
@@ -260,13 +266,23 @@ items_fit d (i ∷ is) plain =
     (item_scalars (scalars_at d) d i.path [] [] 0 plain (sym whole)))
     (items_fit d is plain)
 
+-- an area has no scalars, so it has no initial values
+area_items : (bytes : ℕ) (items : List InitialItem) → AllByRecursion (IsInitial (Area bytes)) (flat_map (initial_scalars (Area bytes)) items)
+area_items bytes [] = tt
+area_items bytes (i ∷ is) = area_items bytes is
+
+items_stand : (d : Description) (items : List InitialItem) → may_stand 31 d ≡ true
+    → AllByRecursion (IsInitial d) (flat_map (initial_scalars d) items)
+items_stand (Area bytes) items h = area_items bytes items
+items_stand d items h = items_fit d items h
+
 -- ---- templates
 
 template_fits : (d : Description) (items : List InitialItem) → is_stored 31 d ≡ true → IsDescription d
     → length (template_of d items).initial < word_limit → IsTemplate (template_of d items)
 template_fits d items stored h few =
-    let parts = and_parts (is_plain 31 d) (nat_le (size_of d) 1000000) stored in
-    ((h, leb-true (size_of d) 1000000 parts.1), items_fit d items parts.0, few)
+    let parts = and_parts (may_stand 31 d) (nat_le (size_of d) 1000000) stored in
+    ((h, leb-true (size_of d) 1000000 parts.1), items_stand d items parts.0, few)
 
 -- the members of a variable among symbols
 abbrev pub AreSymbols : List Symbol → Type 0
@@ -287,7 +303,7 @@ module _ (is_such : StorageClass → Description → Bool) (stored : (class : St
   symbol_fits number (Member root path values area) h few = tt
   symbol_fits number (Label statement) h few = tt
   symbol_fits number (Procedure block returned area) h few = tt
-  symbol_fits number (Entry parameters returned) h few = tt
+  symbol_fits number (Entry parameters returned area) h few = tt
   symbol_fits number BuiltIn h few = tt
 
   pub templates_fit : (number : ℕ) (ss : List Symbol) → AreSymbols ss → HaveFewInitial all number ss
@@ -319,7 +335,7 @@ module _ (all : List Symbol) where
   global_fits number name (Member root path values area) h few = tt
   global_fits number name (Label statement) h few = tt
   global_fits number name (Procedure block returned area) h few = tt
-  global_fits number name (Entry parameters returned) h few = ((h.0, all_described parameters h.1, h.2), tt)
+  global_fits number name (Entry parameters returned area) h few = ((h.0, all_described parameters h.1, h.2), tt)
   global_fits number name BuiltIn h few = tt
 
   -- with their tokens

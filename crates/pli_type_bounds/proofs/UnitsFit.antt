@@ -20,9 +20,10 @@ use Rattle.pli_resolve.specs.ResolvedUnits.{ResolvedUnit, resolved_unit_of, all_
 use Rattle.pli_resolve.specs.TreeBlocks as source
 use Rattle.pli_type.specs.Checked as typing
 use Rattle.pli_type.specs.Checked.{in_unit, first_inside, typed_as, checked, unless_unbuilt}
-use Rattle.pli_type.specs.NamedUnits.{is_automatic, is_based, all_globals, block_symbols, parameters_of, returned_of, means_later, names_based, named_as}
+use Rattle.pli_type.specs.NamedUnits.{is_automatic, is_based, all_globals, area_named, block_symbols, parameters_of, returned_of, returned_area_of, names_based, named_as}
 use Rattle.pli_type.specs.NamedUnits.{named_unit, templates_of, checked_unit}
 use Rattle.pli_type.specs.Names.{NamedUnit, NamedAs}
+use Rattle.pli_type.specs.declared.beginning.Beginning.{Beginning}
 use Rattle.pli_type.specs.StatementTyping.{WithProcedures, enclosing, function_end, statements_typed}
 use Rattle.pli_type.specs.Temporaries.{temporaries_among}
 use Rattle.pli_type_laws.proofs.BlocksKnown.{Sits, sits_all}
@@ -42,7 +43,7 @@ use Rattle.pli_gen_emit.specs.TreeTranslation.{blocks_among}
 use Rattle.pli_type_bounds.proofs.BlocksThere.{AreHere, list_here, has_block, has_slot}
 use Rattle.pli_type_laws.proofs.TypedParts.{OnTyped}
 use Rattle.pli_type_laws.specs.TypedUnits.{unit_with}
-use Rattle.pli_type_bounds.proofs.NamesFit.{Has, Automatic, automatic_fit, based_fit, all_globals_fit, meanings_fit, parameters_few, parameters_described, returned_described}
+use Rattle.pli_type_bounds.proofs.NamesFit.{Has, Automatic, automatic_fit, based_fit, all_globals_fit, areas_fit, meanings_fit, parameters_few, parameters_described, returned_described}
 use Rattle.pli_type_bounds.proofs.StatementsFit as fitting
 use Rattle.pli_type_bounds.proofs.StatementsFit.{UnitFits, Fit, ListFits, list_fits}
 use Rattle.pli_type_bounds.specs.UnitLaws.{TypedUnitsAreWellFormed}
@@ -96,8 +97,11 @@ module _ (texts : Tokens) (u : ExternalProcedure) (read : unit_of texts ≡ Ok u
   abbrev based : List ℕ → ℕ → List Template
   based = λ blocks block. templates_of (is_based 31) (block_symbols R block)
 
+  abbrev areas : List ℕ → ℕ → Option Beginning
+  areas = λ blocks block. area_named 31 R blocks (returned_area_of R block)
+
   abbrev U : NamedUnit
-  U = unit_with u (λ at. means_later (meaning_at R at)) named based meaning (parameters_of R) (returned_of R)
+  U = unit_with u named based areas meaning (parameters_of R) (returned_of R)
       (λ block. templates_of (is_automatic 31) (block_symbols R block)) (all_globals 31 (all_symbols R))
 
   -- how many statements there are
@@ -128,7 +132,7 @@ module _ (texts : Tokens) (u : ExternalProcedure) (read : unit_of texts ≡ Ok u
 
   blocks_here : OnTyped (AreHere (λ k. length (parameters_of R k) + length (Automatic u none k)) blocks_among 1 (1 + source.blocks_among u.statements)) Given
   blocks_here =
-      list_here u (λ at. means_later (meaning_at R at)) named based meaning (parameters_of R) (returned_of R)
+      list_here u named based areas meaning (parameters_of R) (returned_of R)
       (λ block. templates_of (is_automatic 31) (block_symbols R block)) (all_globals 31 (all_symbols R)) facts.begins
       (in_unit (returned_of R 0) u.statements) first_inside u.statements all_sit.1
 
@@ -142,13 +146,13 @@ module _ (texts : Tokens) (u : ExternalProcedure) (read : unit_of texts ≡ Ok u
     has : Has u none T
     has = record {
       globals = refl;
-      blocks = λ block lt. has_block u (λ at. means_later (meaning_at R at)) named based meaning (parameters_of R) (returned_of R)
+      blocks = λ block lt. has_block u named based areas meaning (parameters_of R) (returned_of R)
           (λ block. templates_of (is_automatic 31) (block_symbols R block)) (all_globals 31 (all_symbols R)) facts.begins y here block (omega (arith, lt, size_is));
-      slots = λ block slot lt within. has_slot u (λ at. means_later (meaning_at R at)) named based meaning (parameters_of R) (returned_of R)
+      slots = λ block slot lt within. has_slot u named based areas meaning (parameters_of R) (returned_of R)
           (λ block. templates_of (is_automatic 31) (block_symbols R block)) (all_globals 31 (all_symbols R)) facts.begins y here block slot (omega (arith, lt, size_is)) within;
     }
 
-    fits : UnitFits T named based meaning (parameters_of R) (returned_of R) (λ block. templates_of (is_automatic 31) (block_symbols R block)) (length R.blocks)
+    fits : UnitFits T named based areas meaning (parameters_of R) (returned_of R) (λ block. templates_of (is_automatic 31) (block_symbols R block)) (length R.blocks)
     fits = record {
       names = λ blocks at near inside. meanings_fit u none T has blocks at near inside;
       few = parameters_few u none;
@@ -156,6 +160,7 @@ module _ (texts : Tokens) (u : ExternalProcedure) (read : unit_of texts ≡ Ok u
       templates = automatic_fit u none;
       blocks = has.blocks;
       based_fits = λ blocks block. based_fit u none block;
+      areas_fit = λ blocks block near inside. areas_fit u none T has blocks near inside block;
       knows = λ blocks at. based_known R blocks at;
     }
 
@@ -170,7 +175,7 @@ module _ (texts : Tokens) (u : ExternalProcedure) (read : unit_of texts ≡ Ok u
 
     statements_fit : OnTyped (Fit T (ListFits T (temporaries_among named u.statements))) Given
     statements_fit =
-        list_fits T u (λ at. means_later (meaning_at R at)) named based meaning (parameters_of R) (returned_of R)
+        list_fits T u named based areas meaning (parameters_of R) (returned_of R)
         (λ block. templates_of (is_automatic 31) (block_symbols R block)) (all_globals 31 (all_symbols R)) (length R.blocks) fits
         true 63 (in_unit (returned_of R 0) u.statements) first_inside 2 u.statements start (unit_nests texts u read) (unit_numbered texts u read)
         (omega (arith, few)) (omega (arith, size_is)) list_good

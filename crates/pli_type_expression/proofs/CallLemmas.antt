@@ -12,13 +12,18 @@ use Rattle.pli_type.specs.ExpressionTypes.{TypedValue}
 use Rattle.pli_resolve.specs.declared.built_in.BuiltInFunction.{BuiltInFunction}
 use Rattle.pli_resolve.specs.declared.built_in.BuiltInFunction.TheVariants as functions
 use Rattle.pli_type.specs.FunctionCalls.{Meant, OneValue, WholeAggregate, meant_by, meant_as, bound_value, bound_in}
-use Rattle.pli_type.specs.FunctionCalls.{address_of, the_bound, value_in, divided, Argument, of_values, of_arguments, values_in}
+use Rattle.pli_type.specs.FunctionCalls.{address_of, area_of, the_bound, value_in, divided, Argument, located_within, of_values, of_arguments}
+use Rattle.pli_type.specs.FunctionCalls.{values_in}
+use Rattle.pli_type.specs.declared.beginning.Beginning.{Beginning}
 use Rattle.pli_type.specs.References.{Referent}
 use Rattle.pli_type_tree.specs.TypedTree.{TypedReference}
 use Rattle.pli_type_expression.specs.Bounded.{is_bound}
 use Rattle.pli_type_expression.specs.declared.argument.Argument.{Argument as Code}
 use Rattle.pli_type_expression.specs.views.TypingView.{argument_view, denoted_view}
 use Rattle.pli_type_expression.specs.Quotients.{precision_written, quotient_of}
+use Rattle.pli_type_expression.specs.Within.{area_given, built_in, located_of, made_within}
+use Rattle.pli_type_expression.specs.declared.within.LocatorFunction.{LocatorFunction}
+use Rattle.pli_type_expression.specs.declared.within.LocatorFunction.TheVariants as locators
 
 -- the bounds of a dimension, counted from 1
 pub bound_found : (which : Bounds → ℤ) (number : ℕ) (bounds : List Bounds) (element : Description)
@@ -32,20 +37,20 @@ bound_found which number bounds element b stands e =
 -- only an aggregate has bounds
 pub bound_of_variable : (which : Bounds → ℤ) (number : ℕ) (r : Referent)
     → the_bound which (meant_by r) (Some number) ≡ bound_in which number r.description
-bound_of_variable which number r = by_description r.reference r.description r.is_parameter
+bound_of_variable which number r = by_description r.reference r.description r.is_parameter r.area
   where
-    by_description : (reference : TypedReference) (d : Description) (passed : Bool)
-        → the_bound which (meant_by (record { reference = reference; description = d; is_parameter = passed })) (Some number)
+    by_description : (reference : TypedReference) (d : Description) (passed : Bool) (area : Option Beginning)
+        → the_bound which (meant_by (record { reference = reference; description = d; is_parameter = passed; area = area })) (Some number)
         ≡ bound_in which number d
-    by_description reference (described.FixedBinary p) passed = refl
-    by_description reference (described.Character n) passed = refl
-    by_description reference (described.Varying n) passed = refl
-    by_description reference (described.Bit n) passed = refl
-    by_description reference described.Pointer passed = refl
-    by_description reference described.Offset passed = refl
-    by_description reference (described.Area n) passed = refl
-    by_description reference (described.Array bounds d) passed = refl
-    by_description reference (described.Structure _) passed = refl
+    by_description reference (described.FixedBinary p) passed area = refl
+    by_description reference (described.Character n) passed area = refl
+    by_description reference (described.Varying n) passed area = refl
+    by_description reference (described.Bit n) passed area = refl
+    by_description reference described.Pointer passed area = refl
+    by_description reference described.Offset passed area = refl
+    by_description reference (described.Area n) passed area = refl
+    by_description reference (described.Array bounds d) passed area = refl
+    by_description reference (described.Structure _) passed area = refl
 
 -- and no number says which one
 pub bound_unwritten : (which : Bounds → ℤ) (m : Meant) → the_bound which m None ≡ None
@@ -160,6 +165,17 @@ pub no_null : (greatest : ℕ) (gs : List Argument) → (length gs ≡ 0 → ⊥
 no_null greatest [] h = absurd (h refl)
 no_null greatest (a ∷ gs) h = null_of_values greatest (values_in (a ∷ gs))
 
+-- and so is EMPTY
+empty_of_values : (greatest : ℕ) (vs : Option (List TypedValue))
+    → None ≡ option_and_then (of_values greatest functions.Empty) vs
+empty_of_values greatest None = refl
+empty_of_values greatest (Some vs) = refl
+
+pub no_empty : (greatest : ℕ) (gs : List Argument) → (length gs ≡ 0 → ⊥)
+    → None ≡ of_arguments greatest functions.Empty gs
+no_empty greatest [] h = absurd (h refl)
+no_empty greatest (a ∷ gs) h = empty_of_values greatest (values_in (a ∷ gs))
+
 -- and of three a quotient
 pub no_quotient : (greatest : ℕ) (gs : List Argument) → (length gs ≡ 3 → ⊥)
     → None ≡ of_arguments greatest functions.Divide gs
@@ -214,3 +230,70 @@ no_quotient_without greatest gs h = no_quotient greatest gs (three gs h)
     three (a ∷ b ∷ []) h e = omega (arith, e)
     three (a ∷ b ∷ c ∷ []) h e = cc
     three (a ∷ b ∷ c ∷ d ∷ gs) h e = omega (arith, e)
+
+-- of two arguments there may be a locator within an area
+
+located_of_values : (greatest : ℕ) (function : LocatorFunction) (vs : Option (List TypedValue))
+    → None ≡ option_and_then (of_values greatest (built_in function)) vs
+located_of_values greatest locators.Pointer None = refl
+located_of_values greatest locators.Offset None = refl
+located_of_values greatest locators.Pointer (Some vs) = refl
+located_of_values greatest locators.Offset (Some vs) = refl
+
+not_two : (greatest : ℕ) (function : LocatorFunction) (gs : List Argument) → (length gs ≡ 2 → ⊥)
+    → option_and_then (of_values greatest (built_in function)) (values_in gs) ≡ of_arguments greatest (built_in function) gs
+not_two greatest locators.Pointer [] h = refl
+not_two greatest locators.Pointer (a ∷ []) h = refl
+not_two greatest locators.Pointer (a ∷ b ∷ []) h = absurd (h refl)
+not_two greatest locators.Pointer (a ∷ b ∷ c ∷ gs) h = refl
+not_two greatest locators.Offset [] h = refl
+not_two greatest locators.Offset (a ∷ []) h = refl
+not_two greatest locators.Offset (a ∷ b ∷ []) h = absurd (h refl)
+not_two greatest locators.Offset (a ∷ b ∷ c ∷ gs) h = refl
+
+pub none_located : (greatest : ℕ) (function : LocatorFunction) (gs : List Argument) → area_given gs ≡ None
+    → None ≡ of_arguments greatest (built_in function) gs
+none_located greatest function gs h =
+    located_of_values greatest function (values_in gs) ∙ not_two greatest function gs (two gs h)
+  where
+    two : (gs : List Argument) → area_given gs ≡ None → length gs ≡ 2 → ⊥
+    two [] h e = omega (arith, e)
+    two (a ∷ []) h e = omega (arith, e)
+    two (a ∷ b ∷ []) h e = cc
+    two (a ∷ b ∷ c ∷ gs) h e = omega (arith, e)
+
+pub no_area_given : (gs : List Argument) → (length gs ≡ 2 → ⊥) → None ≡ area_given gs
+no_area_given [] h = refl
+no_area_given (a ∷ []) h = refl
+no_area_given (a ∷ b ∷ []) h = absurd (h refl)
+no_area_given (a ∷ b ∷ c ∷ gs) h = refl
+
+-- by the value of the first
+located_by : (function : LocatorFunction) (x : Meant) (area : Option Beginning)
+    → located_within (made_within function) x area
+    ≡ option_and_then (λ vs. located_of function vs area)
+    (option_and_then (λ v. option_map (λ vs. v ∷ vs) (Some [])) (value_in x))
+located_by function (OneValue v) None = refl
+located_by function (OneValue v) (Some area) = refl
+located_by function (WholeAggregate r) None = refl
+located_by function (WholeAggregate r) (Some area) = refl
+
+of_two : (greatest : ℕ) (function : LocatorFunction) (a b : Argument)
+    → of_arguments greatest (built_in function) (a ∷ b ∷ [])
+    ≡ located_within (made_within function) (meant_as a.denoted) (area_of b.denoted)
+of_two greatest locators.Pointer a b = refl
+of_two greatest locators.Offset a b = refl
+
+pub located_by_values : (greatest : ℕ) (function : LocatorFunction) (gs : List Argument) (area : Option Beginning)
+    → area_given gs ≡ Some area
+    → of_arguments greatest (built_in function) gs ≡ option_and_then (λ vs. located_of function vs area) (values_in (take 1 gs))
+located_by_values greatest function [] area h = cc
+located_by_values greatest function (a ∷ []) area h = cc
+located_by_values greatest function (a ∷ b ∷ []) area h =
+    of_two greatest function a b
+    ∙ located_by function (meant_as a.denoted) (area_of b.denoted)
+    ∙ ap (λ x. option_and_then (λ vs. located_of function vs x) (values_in (a ∷ []))) (some_same h)
+  where
+    some_same : {v w : Option Beginning} → Some v ≡ Some w → v ≡ w
+    some_same e = cc
+located_by_values greatest function (a ∷ b ∷ c ∷ gs) area h = cc

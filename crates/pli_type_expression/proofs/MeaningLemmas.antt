@@ -14,14 +14,15 @@ use Rattle.pli_type.specs.Names.{Naming, NamedAs, AVariable, AFunction, AProcedu
 use Rattle.pli_type.specs.Names as names
 use Rattle.pli_type.specs.ExpressionTypes.{null_value}
 use Rattle.pli_type.specs.References.{Role, AsValue, AsArgument, LocatorBefore, NotLocated, Referent, variable_meant}
-use Rattle.pli_type.specs.Typing.{Segment, OfFunction, OfNoVariable, named_alone, begun, ended, with_more, is_call, procedure_called}
+use Rattle.pli_type.specs.Typing.{Segment, OfFunction, OfEmpty, OfNoVariable, named_alone, given_by, begun, ended, with_more, is_call}
+use Rattle.pli_type.specs.Typing.{procedure_called}
 use Rattle.pli_type.specs.Typing.{all_subscripts, all_arguments, roles_or_none, how_many}
 use Rattle.pli_type_names.specs.SymbolMeaning.{IsMeantAs, IsVariable, IsProcedure}
 use Rattle.pli_type_names.specs.declared.naming.NamedAs.TheVariants as answers
 use Rattle.pli_type_names.specs.declared.naming.NamedProcedure.{NamedProcedure}
 use Rattle.pli_type_names.specs.declared.naming.NamedVariable.{NamedVariable}
 use Rattle.pli_type_tree.specs.TypedTree.{TypedExpression}
-use Rattle.pli_type_expression.specs.Segments.{function_typed, means_null}
+use Rattle.pli_type_expression.specs.Segments.{function_typed, is_empty_function, is_null_function, means_one}
 use Rattle.pli_base.specs.answers.FailureAnswers.{Fails, Gives}
 use Rattle.pli_type_expression.specs.views.TypingView.{of_name}
 use Rattle.pli_base.specs.declared.failure.Failure.{Failure}
@@ -42,11 +43,11 @@ begun_at_variable n Untyped v p call locator at list = absurd p
 -- a call of a built-in function
 pub begun_at_function : (n : Naming) (w : NamedAs) (f : BuiltInFunction) → IsMeantAs (answers.Function f) w
     → (locator : LocatorBefore) (at : ℕ) (list : Expressions)
-    → begun n w true locator at (Given list) ≡ (function_typed n f at list >>= λ v. Ok (OfFunction v))
+    → begun n w true locator at (Given list) ≡ (function_typed n f at list >>= λ v. Ok (given_by f v))
 begun_at_function n (AFunction g) f p locator at list =
     sym (bind_assoc (all_arguments n (roles_or_none (roles_of g (how_many list))) list)
-    (λ gs. function_called n.greatest g at (roles_of g (how_many list)) gs) (λ v. Ok (OfFunction v)))
-    ∙ ap (λ h. function_typed n h at list >>= λ v. Ok (OfFunction v)) (sym p)
+    (λ gs. function_called n.greatest g at (roles_of g (how_many list)) gs) (λ v. Ok (given_by g v)))
+    ∙ ap (λ h. function_typed n h at list >>= λ v. Ok (given_by h v)) (sym p)
 begun_at_function n (AVariable u) f p locator at list = absurd p
 begun_at_function n (AProcedure q) f p locator at list = absurd p
 begun_at_function n (ALabel s) f p locator at list = absurd p
@@ -56,10 +57,10 @@ begun_at_function n Untyped f p locator at list = absurd p
 pub call_given : {X : Type 0} (view : X → Segment) (result : Result X (Failure Fault)) (n : Naming) (w : NamedAs)
     (p : NamedProcedure) → IsMeantAs (answers.Procedure p) w → (locator : LocatorBefore) (at : ℕ) (list : Expressions)
     (gs : List Argument) → all_arguments n [] list ≡ Ok gs
-    → ((q : names.NamedProcedure) → IsProcedure p q → Gives view result (procedure_called n.greatest q at gs))
+    → ((q : names.NamedProcedure) → IsProcedure p q → Gives view result (procedure_called n q at gs))
     → Gives view result (begun n w true locator at (Given list))
 call_given view result n (AProcedure q) p is locator at list gs e h =
-    gives_as view result _ _ (bind_ok (all_arguments n [] list) gs (λ gs. procedure_called n.greatest q at gs) e) (h q is)
+    gives_as view result _ _ (bind_ok (all_arguments n [] list) gs (λ gs. procedure_called n q at gs) e) (h q is)
 call_given view result n (AVariable u) p is locator at list gs e h = absurd is
 call_given view result n (AFunction f) p is locator at list gs e h = absurd is
 call_given view result n (ALabel s) p is locator at list gs e h = absurd is
@@ -102,90 +103,126 @@ begun_at_untyped n (AFunction g) p call locator at list = absurd p
 begun_at_untyped n (AProcedure q) p call locator at list = absurd p
 begun_at_untyped n (ALabel s) p call locator at list = absurd p
 
--- a name alone: whether it means NULL
-pub function_is_null : (f : BuiltInFunction) (w : NamedAs) → IsMeantAs (answers.Function f) w → means_null (AFunction f) ≡ means_null w
-function_is_null f (AFunction g) h = ap (λ k. means_null (AFunction k)) h
-function_is_null f (AVariable u) h = absurd h
-function_is_null f (AProcedure q) h = absurd h
-function_is_null f (ALabel s) h = absurd h
-function_is_null f Untyped h = absurd h
+-- a name alone: whether it means such a function
+pub function_is_such : (is_such : BuiltInFunction → Bool) (f : BuiltInFunction) (w : NamedAs) → IsMeantAs (answers.Function f) w
+    → is_such f ≡ means_one is_such w
+function_is_such is_such f (AFunction g) h = ap is_such h
+function_is_such is_such f (AVariable u) h = absurd h
+function_is_such is_such f (AProcedure q) h = absurd h
+function_is_such is_such f (ALabel s) h = absurd h
+function_is_such is_such f Untyped h = absurd h
 
-pub variable_is_no_null : (v : NamedVariable) (w : NamedAs) → IsMeantAs (answers.Variable v) w → false ≡ means_null w
-variable_is_no_null v (AVariable u) h = refl
-variable_is_no_null v (AFunction g) h = absurd h
-variable_is_no_null v (AProcedure q) h = absurd h
-variable_is_no_null v (ALabel s) h = absurd h
-variable_is_no_null v Untyped h = absurd h
+pub variable_is_none_such : (is_such : BuiltInFunction → Bool) (v : NamedVariable) (w : NamedAs) → IsMeantAs (answers.Variable v) w
+    → false ≡ means_one is_such w
+variable_is_none_such is_such v (AVariable u) h = refl
+variable_is_none_such is_such v (AFunction g) h = absurd h
+variable_is_none_such is_such v (AProcedure q) h = absurd h
+variable_is_none_such is_such v (ALabel s) h = absurd h
+variable_is_none_such is_such v Untyped h = absurd h
 
-pub procedure_is_no_null : (p : NamedProcedure) (w : NamedAs) → IsMeantAs (answers.Procedure p) w → false ≡ means_null w
-procedure_is_no_null p (AVariable u) h = absurd h
-procedure_is_no_null p (AFunction g) h = absurd h
-procedure_is_no_null p (AProcedure q) h = refl
-procedure_is_no_null p (ALabel s) h = absurd h
-procedure_is_no_null p Untyped h = absurd h
+pub procedure_is_none_such : (is_such : BuiltInFunction → Bool) (p : NamedProcedure) (w : NamedAs) → IsMeantAs (answers.Procedure p) w
+    → false ≡ means_one is_such w
+procedure_is_none_such is_such p (AVariable u) h = absurd h
+procedure_is_none_such is_such p (AFunction g) h = absurd h
+procedure_is_none_such is_such p (AProcedure q) h = refl
+procedure_is_none_such is_such p (ALabel s) h = absurd h
+procedure_is_none_such is_such p Untyped h = absurd h
 
-pub label_is_no_null : (s : ℕ) (w : NamedAs) → IsMeantAs (answers.Label s) w → false ≡ means_null w
-label_is_no_null s (AVariable u) h = absurd h
-label_is_no_null s (AFunction g) h = absurd h
-label_is_no_null s (AProcedure q) h = absurd h
-label_is_no_null s (ALabel t) h = refl
-label_is_no_null s Untyped h = absurd h
+pub label_is_none_such : (is_such : BuiltInFunction → Bool) (s : ℕ) (w : NamedAs) → IsMeantAs (answers.Label s) w
+    → false ≡ means_one is_such w
+label_is_none_such is_such s (AVariable u) h = absurd h
+label_is_none_such is_such s (AFunction g) h = absurd h
+label_is_none_such is_such s (AProcedure q) h = absurd h
+label_is_none_such is_such s (ALabel t) h = refl
+label_is_none_such is_such s Untyped h = absurd h
 
-pub untyped_is_no_null : (w : NamedAs) → IsMeantAs answers.Untyped w → false ≡ means_null w
-untyped_is_no_null (AVariable u) h = absurd h
-untyped_is_no_null (AFunction g) h = absurd h
-untyped_is_no_null (AProcedure q) h = absurd h
-untyped_is_no_null (ALabel s) h = absurd h
-untyped_is_no_null Untyped h = refl
+pub untyped_is_none_such : (is_such : BuiltInFunction → Bool) (w : NamedAs) → IsMeantAs answers.Untyped w → false ≡ means_one is_such w
+untyped_is_none_such is_such (AVariable u) h = absurd h
+untyped_is_none_such is_such (AFunction g) h = absurd h
+untyped_is_none_such is_such (AProcedure q) h = absurd h
+untyped_is_none_such is_such (ALabel s) h = absurd h
+untyped_is_none_such is_such Untyped h = refl
 
--- what it begins
-called_as_null : (n : Naming) (w : NamedAs) (locator : LocatorBefore) (at : ℕ) → means_null w ≡ true
-    → Ok (OfFunction null_value) ≡ begun n w true locator at Absent
-called_as_null n (AFunction functions.Null) locator at e = refl
-called_as_null n (AFunction functions.Abs) locator at e = absurd (false≢true e)
-called_as_null n (AFunction functions.Max) locator at e = absurd (false≢true e)
-called_as_null n (AFunction functions.Min) locator at e = absurd (false≢true e)
-called_as_null n (AFunction functions.Mod) locator at e = absurd (false≢true e)
-called_as_null n (AFunction functions.Divide) locator at e = absurd (false≢true e)
-called_as_null n (AFunction functions.Sign) locator at e = absurd (false≢true e)
-called_as_null n (AFunction functions.Length) locator at e = absurd (false≢true e)
-called_as_null n (AFunction functions.Index) locator at e = absurd (false≢true e)
-called_as_null n (AFunction functions.Allocation) locator at e = absurd (false≢true e)
-called_as_null n (AFunction functions.LowBound) locator at e = absurd (false≢true e)
-called_as_null n (AFunction functions.HighBound) locator at e = absurd (false≢true e)
-called_as_null n (AFunction functions.Substring) locator at e = absurd (false≢true e)
-called_as_null n (AFunction functions.Address) locator at e = absurd (false≢true e)
-called_as_null n (AFunction functions.Empty) locator at e = absurd (false≢true e)
-called_as_null n (AFunction functions.Pointer) locator at e = absurd (false≢true e)
-called_as_null n (AFunction functions.Offset) locator at e = absurd (false≢true e)
-called_as_null n (AVariable u) locator at e = absurd (false≢true e)
-called_as_null n (AProcedure q) locator at e = absurd (false≢true e)
-called_as_null n (ALabel s) locator at e = absurd (false≢true e)
-called_as_null n Untyped locator at e = absurd (false≢true e)
+-- what it begins, by the function that it means
+function_alone : (n : Naming) (f : BuiltInFunction) (locator : LocatorBefore) (at : ℕ)
+    → Ok (named_alone at f) ≡ begun n (AFunction f) true locator at Absent
+function_alone n f locator at = refl
 
-pub begun_as_null : (n : Naming) (w : NamedAs) (call : Bool) (locator : LocatorBefore) (at : ℕ) → call ≡ true → means_null w ≡ true
-    → Ok (OfFunction null_value) ≡ begun n w call locator at Absent
-begun_as_null n w true locator at c e = called_as_null n w locator at e
+alone_null : (at : ℕ) (f : BuiltInFunction) → is_null_function f ≡ true → OfFunction null_value ≡ named_alone at f
+alone_null at functions.Null e = refl
+alone_null at functions.Abs e = absurd (false≢true e)
+alone_null at functions.Max e = absurd (false≢true e)
+alone_null at functions.Min e = absurd (false≢true e)
+alone_null at functions.Mod e = absurd (false≢true e)
+alone_null at functions.Divide e = absurd (false≢true e)
+alone_null at functions.Sign e = absurd (false≢true e)
+alone_null at functions.Length e = absurd (false≢true e)
+alone_null at functions.Index e = absurd (false≢true e)
+alone_null at functions.Allocation e = absurd (false≢true e)
+alone_null at functions.LowBound e = absurd (false≢true e)
+alone_null at functions.HighBound e = absurd (false≢true e)
+alone_null at functions.Substring e = absurd (false≢true e)
+alone_null at functions.Address e = absurd (false≢true e)
+alone_null at functions.Empty e = absurd (false≢true e)
+alone_null at functions.Pointer e = absurd (false≢true e)
+alone_null at functions.Offset e = absurd (false≢true e)
+
+alone_empty : (at : ℕ) (f : BuiltInFunction) → is_empty_function f ≡ true → OfEmpty ≡ named_alone at f
+alone_empty at functions.Empty e = refl
+alone_empty at functions.Null e = absurd (false≢true e)
+alone_empty at functions.Abs e = absurd (false≢true e)
+alone_empty at functions.Max e = absurd (false≢true e)
+alone_empty at functions.Min e = absurd (false≢true e)
+alone_empty at functions.Mod e = absurd (false≢true e)
+alone_empty at functions.Divide e = absurd (false≢true e)
+alone_empty at functions.Sign e = absurd (false≢true e)
+alone_empty at functions.Length e = absurd (false≢true e)
+alone_empty at functions.Index e = absurd (false≢true e)
+alone_empty at functions.Allocation e = absurd (false≢true e)
+alone_empty at functions.LowBound e = absurd (false≢true e)
+alone_empty at functions.HighBound e = absurd (false≢true e)
+alone_empty at functions.Substring e = absurd (false≢true e)
+alone_empty at functions.Address e = absurd (false≢true e)
+alone_empty at functions.Pointer e = absurd (false≢true e)
+alone_empty at functions.Offset e = absurd (false≢true e)
+
+-- no value
+alone_nothing : (at : ℕ) (f : BuiltInFunction) → is_null_function f ≡ false → is_empty_function f ≡ false → OfNoVariable at ≡ named_alone at f
+alone_nothing at functions.Null e h = absurd (false≢true (sym e))
+alone_nothing at functions.Empty e h = absurd (false≢true (sym h))
+alone_nothing at functions.Abs e h = refl
+alone_nothing at functions.Max e h = refl
+alone_nothing at functions.Min e h = refl
+alone_nothing at functions.Mod e h = refl
+alone_nothing at functions.Divide e h = refl
+alone_nothing at functions.Sign e h = refl
+alone_nothing at functions.Length e h = refl
+alone_nothing at functions.Index e h = refl
+alone_nothing at functions.Allocation e h = refl
+alone_nothing at functions.LowBound e h = refl
+alone_nothing at functions.HighBound e h = refl
+alone_nothing at functions.Substring e h = refl
+alone_nothing at functions.Address e h = refl
+alone_nothing at functions.Pointer e h = refl
+alone_nothing at functions.Offset e h = refl
+
+pub begun_as_null : (n : Naming) (w : NamedAs) (call : Bool) (locator : LocatorBefore) (at : ℕ) → call ≡ true
+    → means_one is_null_function w ≡ true → Ok (OfFunction null_value) ≡ begun n w call locator at Absent
 begun_as_null n w false locator at c e = absurd (false≢true c)
+begun_as_null n (AFunction g) true locator at c e = ap (λ s. Ok s) (alone_null at g e) ∙ function_alone n g locator at
+begun_as_null n (AVariable u) true locator at c e = absurd (false≢true e)
+begun_as_null n (AProcedure q) true locator at c e = absurd (false≢true e)
+begun_as_null n (ALabel s) true locator at c e = absurd (false≢true e)
+begun_as_null n Untyped true locator at c e = absurd (false≢true e)
 
-no_null : (at : ℕ) (g : BuiltInFunction) → means_null (AFunction g) ≡ false → OfNoVariable at ≡ named_alone at g
-no_null at functions.Null e = absurd (false≢true (sym e))
-no_null at functions.Abs e = refl
-no_null at functions.Max e = refl
-no_null at functions.Min e = refl
-no_null at functions.Mod e = refl
-no_null at functions.Divide e = refl
-no_null at functions.Sign e = refl
-no_null at functions.Length e = refl
-no_null at functions.Index e = refl
-no_null at functions.Allocation e = refl
-no_null at functions.LowBound e = refl
-no_null at functions.HighBound e = refl
-no_null at functions.Substring e = refl
-no_null at functions.Address e = refl
-no_null at functions.Empty e = refl
-no_null at functions.Pointer e = refl
-no_null at functions.Offset e = refl
+pub begun_as_empty : (n : Naming) (w : NamedAs) (call : Bool) (locator : LocatorBefore) (at : ℕ) → call ≡ true
+    → means_one is_empty_function w ≡ true → Ok OfEmpty ≡ begun n w call locator at Absent
+begun_as_empty n w false locator at c e = absurd (false≢true c)
+begun_as_empty n (AFunction g) true locator at c e = ap (λ s. Ok s) (alone_empty at g e) ∙ function_alone n g locator at
+begun_as_empty n (AVariable u) true locator at c e = absurd (false≢true e)
+begun_as_empty n (AProcedure q) true locator at c e = absurd (false≢true e)
+begun_as_empty n (ALabel s) true locator at c e = absurd (false≢true e)
+begun_as_empty n Untyped true locator at c e = absurd (false≢true e)
 
 pub begun_uncalled : (n : Naming) (w : NamedAs) (call : Bool) (locator : LocatorBefore) (at : ℕ) → call ≡ false
     → Ok (of_name w locator at []) ≡ begun n w call locator at Absent
@@ -196,14 +233,15 @@ begun_uncalled n (AProcedure q) false locator at c = refl
 begun_uncalled n (ALabel s) false locator at c = refl
 begun_uncalled n Untyped false locator at c = refl
 
-pub begun_as_name : (n : Naming) (w : NamedAs) (call : Bool) (locator : LocatorBefore) (at : ℕ) → call ≡ true → means_null w ≡ false
+pub begun_as_name : (n : Naming) (w : NamedAs) (call : Bool) (locator : LocatorBefore) (at : ℕ) → call ≡ true
+    → means_one is_null_function w ≡ false → means_one is_empty_function w ≡ false
     → Ok (of_name w locator at []) ≡ begun n w call locator at Absent
-begun_as_name n w false locator at c e = absurd (false≢true c)
-begun_as_name n (AVariable u) true locator at c e = refl
-begun_as_name n (AFunction g) true locator at c e = ap (λ s. Ok s) (no_null at g e)
-begun_as_name n (AProcedure q) true locator at c e = refl
-begun_as_name n (ALabel s) true locator at c e = refl
-begun_as_name n Untyped true locator at c e = refl
+begun_as_name n w false locator at c e h = absurd (false≢true c)
+begun_as_name n (AVariable u) true locator at c e h = refl
+begun_as_name n (AFunction g) true locator at c e h = ap (λ s. Ok s) (alone_nothing at g e h)
+begun_as_name n (AProcedure q) true locator at c e h = refl
+begun_as_name n (ALabel s) true locator at c e h = refl
+begun_as_name n Untyped true locator at c e h = refl
 
 -- further subscripts
 pub more_behind_name : (w : NamedAs) (locator : LocatorBefore) (at : ℕ) (xs ys : List TypedExpression)
@@ -252,7 +290,7 @@ pub procedure_unmeant : (n : Naming) (w : NamedAs) (p : NamedProcedure) → IsMe
     → (call : Bool) (locator : LocatorBefore) (at : ℕ) (list : Expressions) (error : Failure Fault)
     → Fails error (all_arguments n [] list) → Fails error (begun n w call locator at (Given list))
 procedure_unmeant n (AProcedure q) p is true locator at list error e =
-    fails_on error (all_arguments n [] list) (λ gs. procedure_called n.greatest q at gs) e
+    fails_on error (all_arguments n [] list) (λ gs. procedure_called n q at gs) e
 procedure_unmeant n (AVariable u) p is true locator at list error e = absurd is
 procedure_unmeant n (AFunction g) p is true locator at list error e = absurd is
 procedure_unmeant n (ALabel s) p is true locator at list error e = absurd is

@@ -1,6 +1,6 @@
 -- What is not left for later, part by part.
 use Rattle.std.proofs.Common.{◌≡◌, ℕ, ◌+◌, ◌<◌, ◌∷◌, true, false, List, refl, ap, ◌∙◌, sym}
-use Rattle.std.proofs.Common.{drop, get_or, length, not, ◌||◌}
+use Rattle.std.proofs.Common.{drop, get_or, length, not}
 use Rattle.std.proofs.lemmas.Bool.{or_parts, not-false}
 use Rattle.std.proofs.lemmas.List.{drop_more}
 use Rattle.pli_base.specs.declared.statement.Procedure.{Procedure}
@@ -33,8 +33,7 @@ pub reference_built : (n : Compiled) (r : Reference) → later_reference n (refe
 reference_built n r p =
     let x = out-Reference r in
     let whole = sym (ap (later_reference n) (reference_out r)) ∙ p in
-    let halves = or_parts (n.is_later x.first.name.at || later_arguments n (arguments_view x.first.arguments)) (later_joined n (joined_view x.joined.items)) whole in
-    ((or_parts (n.is_later x.first.name.at) (later_arguments n (arguments_view x.first.arguments)) halves.0).1, halves.1)
+    or_parts (later_arguments n (arguments_view x.first.arguments)) (later_joined n (joined_view x.joined.items)) whole
 
 -- a part that is joined, and those behind it
 pub part_built : (n : Compiled) (xs : List part.JoinedPart) (i : ℕ) (x : part.JoinedPart) → i < length xs
@@ -44,8 +43,7 @@ pub part_built : (n : Compiled) (xs : List part.JoinedPart) (i : ℕ) (x : part.
 part_built n xs i x within is p =
     let more = drop (i + 1) xs in
     let whole = sym (ap (λ ys. later_joined n (joined_view ys)) (drop_more xs i x within ∙ ap (λ y. y ∷ more) (sym is))) ∙ p in
-    let halves = or_parts (n.is_later x.part.name.at || later_arguments n (arguments_view x.part.arguments)) (later_joined n (joined_view more)) whole in
-    ((or_parts (n.is_later x.part.name.at) (later_arguments n (arguments_view x.part.arguments)) halves.0).1, halves.1)
+    or_parts (later_arguments n (arguments_view x.part.arguments)) (later_joined n (joined_view more)) whole
 
 -- an expression in a list, and those behind it
 pub item_built : (n : Compiled) (xs : List program.Expression) (i : ℕ) (x : program.Expression) → i < length xs

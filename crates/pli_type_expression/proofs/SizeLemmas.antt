@@ -10,9 +10,9 @@ abbrev mutual
   pub expression_size : Expression → ℕ
   expression_size (Referred reference) = 1 + reference_size reference
   expression_size (Constant at value) = 1
-  expression_size (Parenthesized at inner) = 2 + expression_size inner
-  expression_size (Prefix operator at operand) = 2 + expression_size operand
-  expression_size (Infix operator at left right) = 2 + expression_size left + expression_size right
+  expression_size (Parenthesized at inner) = 3 + expression_size inner
+  expression_size (Prefix operator at operand) = 4 + expression_size operand
+  expression_size (Infix operator at left right) = 4 + expression_size left + expression_size right
 
   pub reference_size : Reference → ℕ
   reference_size (Named name arguments more) = 5 + arguments_size arguments + parts_size more
@@ -27,11 +27,11 @@ abbrev mutual
 
   pub list_size : Expressions → ℕ
   list_size Empty = 0
-  list_size (Listed first more) = 1 + expression_size first + list_size more
+  list_size (Listed first more) = 2 + expression_size first + list_size more
 
 -- an expression in a list, and a part among those joined
 pub item_size : (xs : List program.Expression) (i : ℕ) (x : program.Expression) → i < length xs
-    → x ≡ get_or xs i x → expression_size (expression_view x) < list_size (expressions_view xs)
+    → x ≡ get_or xs i x → 1 + expression_size (expression_view x) < list_size (expressions_view xs)
 item_size [] i x within is = absurd (omega arith)
 item_size (e ∷ es) zero x within is = omega (arith, ap (λ e. expression_size (expression_view e)) is)
 item_size (e ∷ es) (suc i) x within is = omega (arith, item_size es i x (omega arith) is)

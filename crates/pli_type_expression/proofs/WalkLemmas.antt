@@ -2,26 +2,26 @@
 use Rattle.std.proofs.Common.{◌≡◌, ℕ, ◌+◌, ◌∷◌, ◌++◌, [], List, Bool, true, false, Result, Ok, Err, refl, ap, sym}
 use Rattle.std.proofs.Common.{◌∙◌, suc, zero, drop, get_or, add-one}
 use Rattle.pli_base.specs.Results.{◌>>=◌}
-use Rattle.pli_base.specs.Syntax.{Expression, Parenthesized, Prefix, Infix, Named, JoinedParts, Alone, Joined}
+use Rattle.pli_base.specs.Syntax.{Expression, Infix, Parenthesized, Named, JoinedParts, Alone, Joined}
 use Rattle.pli_base.specs.Syntax.{Arguments, Expressions, Listed}
 use Rattle.pli_base.specs.declared.syntax.Identifier.{Identifier}
 use Rattle.pli_base.specs.declared.syntax.JoinedPart.{JoinedPart}
 use Rattle.pli_base.specs.declared.syntax.Reference.{Reference, out-Reference}
 use Rattle.pli_base.specs.laws.SyntaxLaws.{reference_out}
 use Rattle.pli_base.specs.views.SyntaxView.{reference_view, arguments_view, joined_view}
-use Rattle.pli_base.specs.declared.syntax.PrefixOperator.{PrefixOperator}
 use Rattle.pli_base.specs.declared.syntax.InfixOperator.{InfixOperator}
 use Rattle.pli_base.specs.declared.syntax.Joining.TheVariants.{Member, Located}
 use Rattle.pli_base.specs.declared.code.Code.TheVariants.{WrongOperandType}
 use Rattle.pli_base.specs.declared.token.Fault.{Fault}
-use Rattle.pli_type.specs.ExpressionTypes.{TypedValue, prefix_value, infix_value}
+use Rattle.pli_type.specs.ExpressionTypes.{TypedValue, infix_value}
 use Rattle.pli_type.specs.FunctionCalls.{Denoted, DenotesResult, Argument}
 use Rattle.pli_type.specs.Names.{Naming}
 use Rattle.pli_type.specs.References.{Role, AsValue, AsArgument, AsTarget, AsLocator, NotLocated}
 use Rattle.pli_type.specs.Typing.{Segment, first_token, denoted, value_of, referred, joined, begun, as_locator}
 use Rattle.pli_type.specs.Typing.{all_subscripts, subscripts_in, all_arguments, argument}
-use Rattle.pli_type.specs.Typing.{or_fault, subscript_value, ended, with_more, is_call}
+use Rattle.pli_type.specs.Typing.{as_value, or_fault, subscript_value, ended, with_more, is_call}
 use Rattle.pli_type_tree.specs.TypedTree.{TypedExpression}
+use Rattle.pli_type_expression.specs.Operated.{infix_of, right_of, infixed}
 use Rattle.pli_type_expression.specs.Segments.{last_segment}
 use Rattle.pli_base.specs.answers.FailureAnswers.{Fails}
 use Rattle.pli_base.specs.declared.failure.Failure.{Failure}
@@ -199,7 +199,7 @@ module _ (n : Naming) (role : Role) (r : Reference) (parts : List JoinedPart) (c
       ∙ referred_ends n role x.first.name (arguments_view x.first.arguments) (joined_view x.joined.items) s t (so ∙ p)
       (sym (ap (λ xs. last_segment n s (joined_view xs)) same) ∙ q)
 
--- parentheses and operators
+-- parentheses
 
 pub parenthesized_typed : (n : Naming) (role : Role) (at : ℕ) (inner : Expression) (v : TypedValue)
     → value_of n inner ≡ Ok v → denoted n role (Parenthesized at inner) ≡ Ok (DenotesResult v)
@@ -209,55 +209,63 @@ pub parenthesized_unmeant : (n : Naming) (role : Role) (at : ℕ) (inner : Expre
     → Fails error (value_of n inner) → Fails error (denoted n role (Parenthesized at inner))
 parenthesized_unmeant n role at inner error p = fails_on error (value_of n inner) (λ v. Ok (DenotesResult v)) p
 
-abbrev prefix_of : Naming → PrefixOperator → (at : ℕ) → TypedValue → Result Denoted Fault
-prefix_of n operator at v =
-    or_fault WrongOperandType at (prefix_value n.greatest operator v) >>= λ u. Ok (DenotesResult u)
+-- operators
 
-module _ (n : Naming) (role : Role) (operator : PrefixOperator) (at : ℕ) (operand : Expression) where
-  pub prefix_typed : (v u : TypedValue) → value_of n operand ≡ Ok v
-      → or_fault WrongOperandType at (prefix_value n.greatest operator v) ≡ Ok u
-      → denoted n role (Prefix operator at operand) ≡ Ok (DenotesResult u)
-  prefix_typed v u p q = ap (λ s. s >>= prefix_of n operator at) p ∙ ap (λ s. s >>= λ u. Ok (DenotesResult u)) q
+-- what a value denotes has this one value
+result_kept : (at : ℕ) (r : Result TypedValue Fault) → as_value at (r >>= λ u. Ok (DenotesResult u)) ≡ r
+result_kept at (Ok u) = refl
+result_kept at (Err f) = refl
 
-  pub prefix_unmeant : (error : Failure Fault) → Fails error (value_of n operand)
-      → Fails error (denoted n role (Prefix operator at operand))
-  prefix_unmeant error p = fails_on error (value_of n operand) (prefix_of n operator at) p
+module _ (n : Naming) (operator : InfixOperator) (at : ℕ) (left right : Expression) where
+  pub infix_denotes : (role : Role)
+      → denoted n role (Infix operator at left right) ≡ (infixed n operator at left right >>= λ u. Ok (DenotesResult u))
+  infix_denotes role = on_left (value_of n left)
+    where
+      on_right : (v : TypedValue) (r : Result TypedValue Fault)
+          → (r >>= λ w. (infix_of n.greatest operator at v w >>= λ u. Ok (DenotesResult u)))
+          ≡ ((r >>= infix_of n.greatest operator at v) >>= λ u. Ok (DenotesResult u))
+      on_right v (Ok w) = refl
+      on_right v (Err f) = refl
 
-  pub prefix_refused : (v : TypedValue) (error : Failure Fault) → value_of n operand ≡ Ok v
-      → Fails error (or_fault WrongOperandType at (prefix_value n.greatest operator v))
-      → Fails error (denoted n role (Prefix operator at operand))
-  prefix_refused v error p q =
-      fails_as error _ _ (ap (λ s. s >>= prefix_of n operator at) p)
-      (fails_on error (or_fault WrongOperandType at (prefix_value n.greatest operator v)) (λ u. Ok (DenotesResult u)) q)
+      on_left : (l : Result TypedValue Fault)
+          → (l >>= λ v. (value_of n right >>= λ w. (infix_of n.greatest operator at v w >>= λ u. Ok (DenotesResult u))))
+          ≡ ((l >>= right_of n operator at right) >>= λ u. Ok (DenotesResult u))
+      on_left (Ok v) = on_right v (value_of n right)
+      on_left (Err f) = refl
 
-abbrev infix_of : Naming → InfixOperator → (at : ℕ) → (v w : TypedValue) → Result Denoted Fault
-infix_of n operator at v w =
+  pub infix_valued : value_of n (Infix operator at left right) ≡ infixed n operator at left right
+  infix_valued =
+      ap (as_value (first_token (Infix operator at left right))) (infix_denotes AsValue)
+      ∙ result_kept (first_token (Infix operator at left right)) (infixed n operator at left right)
+
+abbrev infix_denoted : Naming → InfixOperator → (at : ℕ) → (v w : TypedValue) → Result Denoted Fault
+infix_denoted n operator at v w =
     or_fault WrongOperandType at (infix_value n.greatest operator v w) >>= λ u. Ok (DenotesResult u)
 
-abbrev right_of : Naming → InfixOperator → (at : ℕ) → (right : Expression) → TypedValue → Result Denoted Fault
-right_of n operator at right v = value_of n right >>= λ w. infix_of n operator at v w
+abbrev right_denoted : Naming → InfixOperator → (at : ℕ) → (right : Expression) → TypedValue → Result Denoted Fault
+right_denoted n operator at right v = value_of n right >>= λ w. infix_denoted n operator at v w
 
 module _ (n : Naming) (role : Role) (operator : InfixOperator) (at : ℕ) (left right : Expression) where
   pub infix_typed : (v w u : TypedValue) → value_of n left ≡ Ok v → value_of n right ≡ Ok w
       → or_fault WrongOperandType at (infix_value n.greatest operator v w) ≡ Ok u
       → denoted n role (Infix operator at left right) ≡ Ok (DenotesResult u)
   infix_typed v w u p q e =
-      ap (λ s. s >>= right_of n operator at right) p ∙ ap (λ s. s >>= infix_of n operator at v) q
+      ap (λ s. s >>= right_denoted n operator at right) p ∙ ap (λ s. s >>= infix_denoted n operator at v) q
       ∙ ap (λ s. s >>= λ u. Ok (DenotesResult u)) e
 
   pub left_unmeant : (error : Failure Fault) → Fails error (value_of n left)
       → Fails error (denoted n role (Infix operator at left right))
-  left_unmeant error p = fails_on error (value_of n left) (right_of n operator at right) p
+  left_unmeant error p = fails_on error (value_of n left) (right_denoted n operator at right) p
 
   pub right_unmeant : (v : TypedValue) (error : Failure Fault) → value_of n left ≡ Ok v
       → Fails error (value_of n right) → Fails error (denoted n role (Infix operator at left right))
   right_unmeant v error p q =
-      fails_as error _ _ (ap (λ s. s >>= right_of n operator at right) p)
-      (fails_on error (value_of n right) (infix_of n operator at v) q)
+      fails_as error _ _ (ap (λ s. s >>= right_denoted n operator at right) p)
+      (fails_on error (value_of n right) (infix_denoted n operator at v) q)
 
   pub infix_refused : (v w : TypedValue) (error : Failure Fault) → value_of n left ≡ Ok v → value_of n right ≡ Ok w
       → Fails error (or_fault WrongOperandType at (infix_value n.greatest operator v w))
       → Fails error (denoted n role (Infix operator at left right))
   infix_refused v w error p q e =
-      fails_as error _ _ (ap (λ s. s >>= right_of n operator at right) p ∙ ap (λ s. s >>= infix_of n operator at v) q)
+      fails_as error _ _ (ap (λ s. s >>= right_denoted n operator at right) p ∙ ap (λ s. s >>= infix_denoted n operator at v) q)
       (fails_on error (or_fault WrongOperandType at (infix_value n.greatest operator v w)) (λ u. Ok (DenotesResult u)) e)

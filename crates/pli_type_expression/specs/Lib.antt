@@ -1,5 +1,7 @@
 pub mod Bounded
 pub mod Literals
-pub mod Segments
-pub mod views
+pub mod Operated
 pub mod Quotients
+pub mod Segments
+pub mod Within
+pub mod views

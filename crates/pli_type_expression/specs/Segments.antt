@@ -15,10 +15,20 @@ use Rattle.pli_type.specs.References.{AsLocator}
 use Rattle.pli_type.specs.Typing.{Segment, subscripts_in, with_more, ended, begun, all_arguments}
 use Rattle.pli_type.specs.Typing.{roles_or_none, how_many, as_locator}
 
--- a name means NULL
-abbrev pub means_null : NamedAs → Bool
-means_null (AFunction functions.Null) = true
-means_null meant = false
+-- NULL
+abbrev pub is_null_function : BuiltInFunction → Bool
+is_null_function functions.Null = true
+is_null_function function = false
+
+-- EMPTY
+abbrev pub is_empty_function : BuiltInFunction → Bool
+is_empty_function functions.Empty = true
+is_empty_function function = false
+
+-- a name means such a built-in function
+abbrev pub means_one : (is_such : BuiltInFunction → Bool) → NamedAs → Bool
+means_one is_such (AFunction function) = is_such function
+means_one is_such meant = false
 
 -- the segment behind a part that is joined to one
 abbrev pub next_segment : Naming → Segment → Joining → Identifier → Arguments → Result Segment Fault

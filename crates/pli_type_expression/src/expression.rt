@@ -5,6 +5,7 @@ ghost use Rattle.pli_base.specs.views.SyntaxView as syntax;
 ghost use Rattle.pli_type.specs.Typing as typing;
 ghost use Rattle.pli_type.specs.Unbuilt.{later_expression, later_reference, later_joined, later_arguments, later_list};
 ghost use Rattle.pli_type.specs.views.ValueView.{value_view};
+ghost use Rattle.pli_type_expression.specs.Operated as operated;
 ghost use Rattle.pli_type_expression.specs.Segments.{next_segment, last_segment, function_typed};
 ghost use Rattle.pli_type_names.specs.UnitNaming.{compiled_in, naming_in};
 ghost use Rattle.pli_base.specs.answers.FailureAnswers.{Gives};
@@ -18,12 +19,14 @@ use crate::function::{function_called, roles_of};
 use crate::locator::{LocatorBefore, as_locator};
 use crate::meaning::{Denoted, ExpressionMeaning};
 use crate::names::greatest;
-use crate::operator::{infix, prefix};
+use crate::operator::{infix, prefix_denoted};
 use crate::procedure::procedure_called;
 use crate::role::{Role, role_at};
 use crate::segment::{Segment, begun_alone, is_call};
 use crate::subscripts::subscript;
-use pli_base::syntax::{Expression, JoinedPart, Joining, Part, Reference};
+use pli_base::syntax::{
+    Expression, InfixOperator, JoinedPart, Joining, Part, PrefixOperator, Reference,
+};
 use pli_base::{Code, fault};
 use pli_resolve::BuiltInFunction;
 use pli_type::TypedValue;
@@ -31,8 +34,7 @@ use pli_type_names::{NamedAs, Naming};
 use pli_type_tree::TypedExpression;
 use std::alloc::{AllocError, Global};
 
-/// What an expression is in its role, or its first fault of types. Its constants are within the language's limits, and
-/// none of its names means a function that is not compiled yet.
+/// What an expression is in its role, or its first fault of types. Its constants are within the language's limits.
 pub fn meant<'a>(
     alloc: Global,
     naming: &Naming<'a>,
@@ -60,9 +62,31 @@ pub fn arguments<'a>(
 }
 
 /// One value of an expression: T2 at its first token where it is an aggregate. Its constants are within the language's
-/// limits, and none of its names means a function that is not compiled yet.
+/// limits.
 #[cycle(typed)]
 pub fn value_of(
+    alloc: Global,
+    naming: &Naming<'_>,
+    expression: &Expression,
+) -> Result<TypedValue, TypeError>
+    requires { later_expression (compiled_in naming.now) (syntax.expression_view expression.now) ≡ false }
+    ensures { Gives value_view result (typing.value_of (naming_in naming.now) (syntax.expression_view expression.now)) }
+{
+    match expression {
+        Expression::Infix {
+            operator,
+            at,
+            left,
+            right,
+        } => infixed(alloc, naming, *operator, *at, left, right),
+        _ => value_denoted(alloc, naming, expression),
+    }
+}
+
+/// The one value of what an expression denotes.
+#[cycle(typed)]
+#[inline(never)]
+fn value_denoted(
     alloc: Global,
     naming: &Naming<'_>,
     expression: &Expression,
@@ -100,11 +124,7 @@ pub fn denoted<'a>(
             operator,
             at,
             operand,
-        } => {
-            let operand_value = value_of(alloc, naming, operand)?;
-            let given = prefix(alloc, greatest(naming), *operator, *at, operand_value)?;
-            Ok(Denoted::Result(given))
-        }
+        } => prefixed(alloc, naming, *operator, *at, operand),
         Expression::Infix {
             operator,
             at,
@@ -128,6 +148,51 @@ pub fn denoted<'a>(
                 right_value,
             )?;
             Ok(Denoted::Result(combined))
+        }
+    }
+}
+
+/// What a prefix operator denotes. Apart from `denoted`, so that each level of an expression takes little stack.
+#[cycle(typed)]
+#[inline(never)]
+fn prefixed<'a>(
+    alloc: Global,
+    naming: &Naming<'a>,
+    operator: PrefixOperator,
+    at: u32,
+    operand: &Expression,
+) -> Result<Denoted<'a>, TypeError>
+    requires { later_expression (compiled_in naming.now) (syntax.expression_view operand.now) ≡ false }
+    ensures { Gives denoted_view result (operated.prefixed (naming_in naming.now) operator at (syntax.expression_view operand.now)) }
+{
+    let value = value_of(alloc, naming, operand)?;
+    prefix_denoted(alloc, greatest(naming), operator, at, value)
+}
+
+/// What an infix operator makes of its operands, where a value is wanted. Operators nest a thousand deep there, so a level
+/// of them is this function and `value_of` alone. `denoted` has the same steps: with two callers `infix`, whose work takes
+/// much stack, is a call of its own to either compiler.
+#[cycle(typed)]
+#[inline(never)]
+fn infixed(
+    alloc: Global,
+    naming: &Naming<'_>,
+    operator: InfixOperator,
+    at: u32,
+    left: &Expression,
+    right: &Expression,
+) -> Result<TypedValue, TypeError>
+    requires left { later_expression (compiled_in naming.now) (syntax.expression_view left.now) ≡ false }
+    requires right { later_expression (compiled_in naming.now) (syntax.expression_view right.now) ≡ false }
+    ensures { Gives value_view result
+        (operated.infixed (naming_in naming.now) operator at (syntax.expression_view left.now) (syntax.expression_view right.now)) }
+{
+    let first = value_of(alloc, naming, left)?;
+    match value_of(alloc, naming, right) {
+        Ok(second) => infix(alloc, greatest(naming), operator, at, first, second),
+        Err(error) => {
+            drop(first);
+            Err(error)
         }
     }
 }
@@ -256,7 +321,7 @@ fn begun_with(
         NamedAs::Function(function) => {
             if call {
                 let value = called(alloc, naming, function, at, list)?;
-                return Ok(Segment::Function(value));
+                return Ok(Segment::given(function, value));
             }
             all_arguments(alloc, naming, &[], list)?;
             Ok(Segment::named(alloc, LocatorBefore::NotLocated, at))
@@ -264,7 +329,7 @@ fn begun_with(
         NamedAs::Procedure(procedure) => {
             let arguments = all_arguments(alloc, naming, &[], list)?;
             if call {
-                return procedure_called(alloc, greatest(naming), procedure, at, arguments);
+                return procedure_called(alloc, naming, procedure, at, arguments);
             }
             Ok(Segment::named(alloc, LocatorBefore::NotLocated, at))
         }

@@ -13,10 +13,13 @@ use crate::answer::TypeError;
 use crate::argument::Argument;
 use crate::meaning::{Denoted, ExpressionMeaning};
 use crate::role::Role;
+use crate::within::{LocatorFunction, located_called};
 use pli_base::{Code, fault};
 use pli_map::{Bounds, Description};
 use pli_resolve::BuiltInFunction;
-use pli_type::{ExpressionType, TypedValue, address, call, generations, null_value, quotient};
+use pli_type::{
+    ExpressionType, TypedValue, address, call, empty_value, generations, null_value, quotient,
+};
 use pli_type_tree::TypedExpression;
 use pli_value::Value;
 use std::alloc::{AllocError, Global};
@@ -24,9 +27,9 @@ use std::alloc::{AllocError, Global};
 /// The precision of LBOUND and HBOUND (own).
 const BOUND_PRECISION: u8 = 15;
 
-/// For what the arguments of a built-in function stand, where it may have so many: SUBSTR has two or three, NULL none.
-/// The array of LBOUND and HBOUND and the variable of ALLOCATION are not evaluated, and the number of a dimension and the
-/// precision of DIVIDE are constants (X3.74).
+/// For what the arguments of a built-in function stand, where it may have so many: SUBSTR has two or three, NULL and
+/// EMPTY none. The array of LBOUND and HBOUND and the variable of ALLOCATION are not evaluated, and the number of a
+/// dimension and the precision of DIVIDE are constants (X3.74).
 pub(crate) fn roles_of(function: BuiltInFunction, given: usize) -> Option<&'static [Role]>
     ensures { option_map (λ roles. map role_view roles.now) result ≡ spec.roles_of function given }
 {
@@ -37,12 +40,13 @@ pub(crate) fn roles_of(function: BuiltInFunction, given: usize) -> Option<&'stat
         | BuiltInFunction::Min
         | BuiltInFunction::Mod
         | BuiltInFunction::Index
-        | BuiltInFunction::Substring => &[Role::Value, Role::Value],
+        | BuiltInFunction::Substring
+        | BuiltInFunction::Pointer
+        | BuiltInFunction::Offset => &[Role::Value, Role::Value],
         BuiltInFunction::Divide => &[Role::Value, Role::Value, Role::Argument],
         BuiltInFunction::LowBound | BuiltInFunction::HighBound => &[Role::Argument, Role::Argument],
         BuiltInFunction::Allocation | BuiltInFunction::Address => &[Role::Argument],
-        BuiltInFunction::Null => &[],
-        _ => return None,
+        BuiltInFunction::Null | BuiltInFunction::Empty => &[],
     };
     if given == roles.len() {
         Some(roles)
@@ -62,7 +66,7 @@ fn value_in(meant: ExpressionMeaning<'_>) -> Option<TypedValue>
 }
 
 /// The values that arguments are, where each is one value.
-fn values_in(
+pub(crate) fn values_in(
     alloc: Global,
     arguments: Vec<Argument<'_>>,
 ) -> Result<Option<Vec<TypedValue>>, AllocError>
@@ -194,7 +198,7 @@ fn generations_of(denoted: &Denoted<'_>) -> Option<TypedValue>
 {
     match denoted {
         Denoted::Variable(referent) => generations(&referent.reference),
-        Denoted::Result(_) => None,
+        Denoted::Result(_) | Denoted::Empty => None,
     }
 }
 
@@ -219,6 +223,7 @@ fn address_of(denoted: Denoted<'_>) -> Option<TypedValue>
             drop(value);
             None
         }
+        Denoted::Empty => None,
     }
 }
 
@@ -247,6 +252,18 @@ fn null_called(arguments: &[Argument<'_>]) -> Option<TypedValue>
 {
     match arguments {
         [] => Some(null_value()),
+        _ => None,
+    }
+}
+
+/// What EMPTY gives of no arguments.
+#[tactic(auto, using(crate::proofs::CallLemmas::no_empty))]
+fn empty_called(arguments: &[Argument<'_>]) -> Option<TypedValue>
+    ensures { (greatest : ℕ) → option_map value_view result
+        ≡ spec.of_arguments greatest BuiltInFunction.Empty (map argument_view arguments.now) }
+{
+    match arguments {
+        [] => Some(empty_value()),
         _ => None,
     }
 }
@@ -289,6 +306,15 @@ fn of_arguments(
         BuiltInFunction::Allocation => Ok(allocation_called(arguments.as_slice())),
         BuiltInFunction::Address => Ok(address_called(arguments)),
         BuiltInFunction::Null => Ok(null_called(arguments.as_slice())),
+        BuiltInFunction::Empty => Ok(empty_called(arguments.as_slice())),
+        BuiltInFunction::Pointer => {
+            let given = located_called(alloc, LocatorFunction::Pointer, arguments)?;
+            Ok(given)
+        }
+        BuiltInFunction::Offset => {
+            let given = located_called(alloc, LocatorFunction::Offset, arguments)?;
+            Ok(given)
+        }
         _ => match values_in(alloc, arguments)? {
             Some(values) => of_values(alloc, greatest, function, values),
             None => Ok(None),

@@ -16,11 +16,13 @@ mod segment;
 mod subscripts;
 mod token;
 mod variable;
+mod within;
 
 pub use answer::TypeError;
 pub use argument::Argument;
 pub use expression::{arguments, denoted, meant, referred, value_of};
+pub use locator::{LocatorVariable, locator_at};
 pub use meaning::{Denoted, ExpressionMeaning, Referent};
 pub use procedure::pass;
 pub use role::Role;
-pub use token::first_token;
+pub use token::{first_token, own_token};

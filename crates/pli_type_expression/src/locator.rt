@@ -1,29 +1,87 @@
 //! What stands in front of names.
 ghost use Rattle.std.specs.Prelude.{◌≡◌, ℕ, Some, IfOk, option_map};
 ghost use Rattle.pli_map.specs.views.DescriptionView.{description_view};
+ghost use Rattle.pli_type.specs.Beginnings.{root_at};
 ghost use Rattle.pli_type.specs.Names.{IsBased};
-ghost use Rattle.pli_type.specs.References.{NotLocated, root_by};
+ghost use Rattle.pli_type.specs.References.{NotLocated, locator_at, pointer_of, root_by};
 ghost use Rattle.pli_type.specs.Typing.{as_locator};
-ghost use Rattle.pli_type_expression.specs.views.TypingView.{denoted_view, locator_view};
-ghost use Rattle.pli_type_names.specs.views.StorageView.{beginning_view, pointer_view, storage_view};
+ghost use Rattle.pli_type_expression.specs.views.TypingView.{denoted_view, locator_view, variable_view};
+ghost use Rattle.pli_type_names.specs.views.StorageView.{locator_view as named_view, storage_view};
 ghost use Rattle.pli_type_tree.specs.TypedTree.{Located};
-ghost use Rattle.pli_type_tree.specs.views.TypedView.{expression_view, root_view};
+ghost use Rattle.pli_type_tree.specs.views.TypedView.{expression_view, reference_view, root_view};
 
-use crate::meaning::Denoted;
+use crate::meaning::{Denoted, Referent};
 use pli_map::Description;
-use pli_type_names::{Beginning, NamedPointer, NamedStorage, NamedVariable};
-use pli_type_tree::{Root, TypedExpression};
+use pli_type::{Beginning, pointer_into};
+use pli_type_names::{NamedLocator, NamedStorage, NamedVariable};
+use pli_type_tree::{Root, TypedExpression, TypedReference};
 use std::alloc::{AllocError, Global};
+
+/// A variable that leads to BASED ones: a POINTER, or an OFFSET whose declaration names an area.
+#[derive(Drop)]
+pub struct LocatorVariable {
+    pub reference: TypedReference,
+    /// The area that an OFFSET names, seen from where it is used; none of a POINTER.
+    pub area: Option<Beginning>,
+}
 
 /// What stands in front of a name.
 #[derive(Drop)]
 pub(crate) enum LocatorBefore {
     /// No arrow.
     NotLocated,
-    /// An arrow behind a POINTER, which holds this.
+    /// An arrow behind a locator, which gives this pointer.
     LocatedBy(Box<TypedExpression>),
-    /// An arrow behind what is no POINTER.
+    /// An arrow behind what leads nowhere.
     LocatedWrongly,
+}
+
+impl LocatorVariable {
+    /// The locator that BASED names.
+    pub fn named(alloc: Global, locator: NamedLocator) -> LocatorVariable
+        ensures { variable_view result ≡ named_view locator }
+    {
+        LocatorVariable {
+            reference: locator.reference(alloc),
+            area: locator.area,
+        }
+    }
+}
+
+/// A variable or a part of one that leads to BASED ones; none of what is no POINTER, and no OFFSET that names an area.
+pub fn locator_at(referent: Referent<'_>) -> Option<LocatorVariable>
+    ensures { option_map variable_view result
+        ≡ locator_at (reference_view referent.entry.reference) (description_view referent.entry.description.now) referent.entry.area }
+{
+    match (referent.description, referent.area) {
+        (Description::Pointer, _) => Some(LocatorVariable {
+            reference: referent.reference,
+            area: None,
+        }),
+        (Description::Offset, Some(area)) => Some(LocatorVariable {
+            reference: referent.reference,
+            area: Some(area),
+        }),
+        _ => {
+            drop(referent);
+            None
+        }
+    }
+}
+
+/// The pointer that a locator gives: an offset is one in its area.
+fn pointer_of(alloc: Global, locator: LocatorVariable) -> Result<Box<TypedExpression>, AllocError>
+    ensures { IfOk result (λ made. expression_view made.value ≡ pointer_of (variable_view locator)) }
+{
+    let LocatorVariable { reference, area } = locator;
+    let held = TypedExpression::Held(reference);
+    match area {
+        None => Ok(Box::new(alloc, held)?),
+        Some(area) => {
+            let pointer = pointer_into(alloc, area, held)?;
+            Ok(Box::new(alloc, pointer)?)
+        }
+    }
 }
 
 /// What is denoted in front of an arrow.
@@ -34,15 +92,12 @@ pub(crate) fn as_locator(alloc: Global, denoted: Denoted<'_>) -> Result<LocatorB
         drop(denoted);
         return Ok(LocatorBefore::LocatedWrongly);
     };
-    match referent.description {
-        Description::Pointer => {
-            let held = Box::new(alloc, TypedExpression::Held(referent.reference))?;
-            Ok(LocatorBefore::LocatedBy(held))
+    match locator_at(referent) {
+        Some(locator) => {
+            let pointer = pointer_of(alloc, locator)?;
+            Ok(LocatorBefore::LocatedBy(pointer))
         }
-        _ => {
-            drop(referent);
-            Ok(LocatorBefore::LocatedWrongly)
-        }
+        None => Ok(LocatorBefore::LocatedWrongly),
     }
 }
 
@@ -65,27 +120,27 @@ fn located(
 }
 
 /// Where a variable begins, as the root of a reference.
-fn root_at(alloc: Global, begins: Beginning) -> Result<Option<Box<Root>>, AllocError>
-    ensures { IfOk result (λ made. option_map (λ r. root_view r.value) made ≡ Some (beginning_view begins)) }
+fn begun_root(alloc: Global, begins: Beginning) -> Result<Option<Box<Root>>, AllocError>
+    ensures { IfOk result (λ made. option_map (λ r. root_view r.value) made ≡ Some (root_at begins)) }
 {
     let root = Box::new(alloc, begins.root())?;
     Ok(Some(root))
 }
 
-/// The root at what the POINTER that BASED names leads to, if it names one.
+/// The root at what the locator that BASED names leads to, if it names one.
 fn implied_root(
     alloc: Global,
-    implied: Option<NamedPointer>,
+    implied: Option<NamedLocator>,
     whole: &Description,
 ) -> Result<Option<Box<Root>>, AllocError>
     ensures { IfOk result (λ made. (block number : ℕ) → option_map (λ r. root_view r.value) made
-        ≡ root_by (IsBased block number (option_map pointer_view implied)) (description_view whole.now) NotLocated) }
+        ≡ root_by (IsBased block number (option_map named_view implied)) (description_view whole.now) NotLocated) }
 {
-    let Some(pointer) = implied else {
+    let Some(locator) = implied else {
         return Ok(None);
     };
-    let held = Box::new(alloc, TypedExpression::Held(pointer.reference(alloc)))?;
-    located(alloc, held, whole)
+    let pointer = pointer_of(alloc, LocatorVariable::named(alloc, locator))?;
+    located(alloc, pointer, whole)
 }
 
 /// Where a reference to a variable begins, by what stands in front of its name: a BASED variable at what the locator
@@ -99,7 +154,9 @@ pub(crate) fn root_by(
         ≡ root_by (storage_view variable.entry.storage) (description_view variable.entry.whole.now) (locator_view locator)) }
 {
     match (variable.storage, locator) {
-        (NamedStorage::Begins { begins, .. }, LocatorBefore::NotLocated) => root_at(alloc, begins),
+        (NamedStorage::Begins { begins, .. }, LocatorBefore::NotLocated) => begun_root(
+            alloc, begins,
+        ),
         (NamedStorage::Based { implied, .. }, LocatorBefore::NotLocated) => {
             implied_root(alloc, implied, variable.whole)
         }

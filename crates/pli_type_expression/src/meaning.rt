@@ -1,7 +1,7 @@
 //! What references and expressions are.
 ghost use Rattle.std.specs.Prelude.{◌≡◌};
 ghost use Rattle.pli_base.specs.views.SyntaxView.{expression_view};
-ghost use Rattle.pli_type.specs.FunctionCalls.{meant_as, meant_by};
+ghost use Rattle.pli_type.specs.FunctionCalls.{area_of, meant_as, meant_by};
 ghost use Rattle.pli_type.specs.Typing.{first_token, one_value};
 ghost use Rattle.pli_type.specs.views.ValueView.{value_view};
 ghost use Rattle.pli_base.specs.answers.FailureAnswers.{Gives};
@@ -12,16 +12,18 @@ use crate::token::first_token;
 use pli_base::syntax::Expression;
 use pli_base::{Code, fault};
 use pli_map::Description;
-use pli_type::{ExpressionType, TypedValue};
+use pli_type::{Beginning, ExpressionType, TypedValue, area_meant, empty_value};
 use pli_type_tree::{TypedExpression, TypedReference};
 
-/// A variable or a part of one, a scalar or an aggregate, with its description.
+/// A variable or a part of one, a scalar, an area or an aggregate, with its description.
 #[derive(Drop)]
 pub struct Referent<'a> {
     pub reference: TypedReference,
     pub description: &'a Description,
     /// Whether it is, or is in, a parameter.
     pub is_parameter: bool,
+    /// The area that OFFSET in its declaration names, seen from where it is used.
+    pub area: Option<Beginning>,
 }
 
 /// What an expression is.
@@ -40,6 +42,8 @@ pub enum Denoted<'a> {
     Variable(Referent<'a>),
     /// Any other value.
     Result(TypedValue),
+    /// EMPTY, where it is that alone.
+    Empty,
 }
 
 impl<'a> Referent<'a> {
@@ -47,7 +51,7 @@ impl<'a> Referent<'a> {
     pub(crate) fn as_expression(self) -> ExpressionMeaning<'a>
         ensures { meant_view result ≡ meant_by (referent_view self.entry) }
     {
-        match ExpressionType::of(self.description) {
+        match ExpressionType::of(self.description, self.area) {
             None => ExpressionMeaning::Aggregate(self),
             Some(kind) => ExpressionMeaning::Value(TypedValue {
                 expression: TypedExpression::Held(self.reference),
@@ -65,6 +69,17 @@ impl<'a> Denoted<'a> {
         match self {
             Denoted::Variable(referent) => referent.as_expression(),
             Denoted::Result(value) => ExpressionMeaning::Value(value),
+            Denoted::Empty => ExpressionMeaning::Value(empty_value()),
+        }
+    }
+
+    /// Where the area begins, if it is the reference of one.
+    pub fn area(&self) -> Option<Beginning>
+        ensures { result ≡ area_of (denoted_view self.now) }
+    {
+        match self {
+            Denoted::Variable(referent) => area_meant(&referent.reference, referent.description),
+            Denoted::Result(_) | Denoted::Empty => None,
         }
     }
 }

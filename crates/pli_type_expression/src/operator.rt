@@ -5,15 +5,18 @@ ghost use Rattle.pli_type.specs.ExpressionTypes as spec;
 ghost use Rattle.pli_type.specs.Typing.{or_fault};
 ghost use Rattle.pli_type.specs.views.ValueView.{value_view};
 ghost use Rattle.pli_base.specs.answers.FailureAnswers.{Gives};
+ghost use Rattle.pli_type_expression.specs.Operated.{prefix_of};
+ghost use Rattle.pli_type_expression.specs.views.TypingView.{denoted_view};
 
 use crate::answer::TypeError;
+use crate::meaning::Denoted;
 use pli_base::syntax::{InfixOperator, PrefixOperator};
 use pli_base::{Code, fault};
 use pli_type::{TypedValue, infix_value, prefix_value};
 use std::alloc::Global;
 
 /// What a prefix operator at a token gives: T4 there where it does not take the operand (X3.74).
-pub(crate) fn prefix(
+fn prefix(
     alloc: Global,
     greatest: u8,
     operator: PrefixOperator,
@@ -29,6 +32,7 @@ pub(crate) fn prefix(
 }
 
 /// What an infix operator at a token gives: T4 there where it does not take the operands (X3.74).
+#[inline(never)]
 pub(crate) fn infix(
     alloc: Global,
     greatest: u8,
@@ -44,4 +48,20 @@ pub(crate) fn infix(
         Some(value) => Ok(value),
         None => Err(fault(Code::WrongOperandType, at)),
     }
+}
+
+/// What a prefix operator at a token makes of a value, as an expression denotes it: T4 there where it does not take the
+/// operand.
+#[inline(never)]
+pub(crate) fn prefix_denoted<'a>(
+    alloc: Global,
+    greatest: u8,
+    operator: PrefixOperator,
+    at: u32,
+    operand: TypedValue,
+) -> Result<Denoted<'a>, TypeError>
+    ensures { Gives denoted_view result (prefix_of greatest operator at (value_view operand)) }
+{
+    let value = prefix(alloc, greatest, operator, at, operand)?;
+    Ok(Denoted::Result(value))
 }

@@ -1,25 +1,27 @@
 //! Calls of procedures and of functions of the program.
 ghost use Rattle.std.specs.Prelude.{◌≡◌, length, map, option_map, None, IfOk};
 ghost use Rattle.pli_map.specs.views.DescriptionView.{description_view};
-ghost use Rattle.pli_type.specs.FunctionCalls.{meant_as};
+ghost use Rattle.pli_type.specs.FunctionCalls.{meant_as, meant_by};
 ghost use Rattle.pli_type.specs.Names as names;
 ghost use Rattle.pli_type.specs.ProcedureCalls as spec;
 ghost use Rattle.pli_type.specs.Typing as typing;
 ghost use Rattle.pli_type.specs.views.ValueView.{value_view};
 ghost use Rattle.pli_base.specs.answers.FailureAnswers.{Gives};
-ghost use Rattle.pli_type_expression.specs.views.TypingView.{argument_view, denoted_view, meant_view, segment_view};
+ghost use Rattle.pli_type_expression.specs.views.TypingView.{argument_view, denoted_view, meant_view, referent_view, segment_view};
 ghost use Rattle.pli_type_names.specs.SymbolMeaning.{IsProcedure};
+ghost use Rattle.pli_type_names.specs.UnitNaming.{naming_in};
 ghost use Rattle.pli_type_tree.specs.TypedTree as tree;
-ghost use Rattle.pli_type_tree.specs.views.TypedView.{argument_before, arguments_view, callee_view};
+ghost use Rattle.pli_type_tree.specs.views.TypedView.{argument_before, arguments_view, callee_view, reference_view};
 
 use crate::answer::TypeError;
 use crate::argument::Argument;
-use crate::meaning::{Denoted, ExpressionMeaning};
+use crate::meaning::{Denoted, ExpressionMeaning, Referent};
+use crate::names::greatest;
 use crate::segment::Segment;
 use pli_base::{Code, fault};
-use pli_map::Description;
-use pli_type::{ExpressionType, TypedValue, converted};
-use pli_type_names::NamedProcedure;
+use pli_map::{Description, is_area};
+use pli_type::{Beginning, ExpressionType, TypedValue, area_meant, converted, empty_value};
+use pli_type_names::{NamedProcedure, Naming};
 use pli_type_tree::{Callee, TypedArgument, TypedExpression};
 use std::alloc::{AllocError, Global};
 
@@ -37,7 +39,7 @@ fn dummy(
     let ExpressionMeaning::Value(value) = meant else {
         return Ok(None);
     };
-    match converted(alloc, greatest, description, value)? {
+    match converted(alloc, greatest, None, description, value)? {
         Some(value) => {
             let description = match description.copy(alloc) {
                 Ok(description) => description,
@@ -49,6 +51,31 @@ fn dummy(
             Ok(Some(TypedArgument::ByDummy { description, value }))
         }
         None => Ok(None),
+    }
+}
+
+/// What denotes a variable of the parameter's very description is handed over as its place, an area where it is a whole
+/// one; anything else is none that suits, or a dummy argument.
+fn handed(
+    alloc: Global,
+    greatest: u8,
+    description: &Description,
+    referent: Referent<'_>,
+) -> Result<Option<TypedArgument>, AllocError>
+    ensures { IfOk result (λ passed. (more : tree.TypedArguments) → option_map (λ a. argument_before a more) passed
+        ≡ spec.passed (description_view description.now)
+        (spec.place_of (reference_view referent.entry.reference) (description_view referent.entry.description.now))
+        (spec.passed_value greatest (description_view description.now) (meant_by (referent_view referent.entry))) more) }
+{
+    if !is_area(referent.description) {
+        return Ok(Some(TypedArgument::ByPlace(referent.reference)));
+    }
+    match area_meant(&referent.reference, referent.description) {
+        Some(area) => {
+            drop(referent);
+            Ok(Some(TypedArgument::ByPlace(area.whole())))
+        }
+        None => dummy(alloc, greatest, description, referent.as_expression()),
     }
 }
 
@@ -68,7 +95,7 @@ fn passed(
     match denoted {
         Denoted::Variable(referent) => {
             if *referent.description == *description {
-                return Ok(Some(TypedArgument::ByPlace(referent.reference)));
+                return handed(alloc, greatest, description, referent);
             }
             dummy(alloc, greatest, description, referent.as_expression())
         }
@@ -77,6 +104,12 @@ fn passed(
             greatest,
             description,
             ExpressionMeaning::Value(value),
+        ),
+        Denoted::Empty => dummy(
+            alloc,
+            greatest,
+            description,
+            ExpressionMeaning::Value(empty_value()),
         ),
     }
 }
@@ -123,21 +156,22 @@ pub fn pass(
     }
 }
 
-/// What a function gives: T8 at the called name of what is none.
+/// What a function gives, in whose RETURNS OFFSET names this area: T8 at the called name of what is none.
 #[tactic(auto, using(pli_type_tree::specs::laws::TypedTreeLaws::called_made))]
 fn result_of(
     at: u32,
     callee: Callee,
     arguments: Vec<TypedArgument>,
     returned: Option<&Description>,
+    area: Option<Beginning>,
 ) -> Result<TypedValue, TypeError>
     ensures { Gives value_view result (spec.result_of at (callee_view callee) (arguments_view arguments.items)
-        (spec.type_returned (option_map (λ d. description_view d.now) returned.entry))) }
+        (spec.type_returned area (option_map (λ d. description_view d.now) returned.entry))) }
 {
     let Some(description) = returned else {
         return Err(fault(Code::NotCallableHere, at));
     };
-    match ExpressionType::of(description) {
+    match ExpressionType::of(description, area) {
         Some(kind) => Ok(TypedValue {
             expression: TypedExpression::Called { callee, arguments },
             kind,
@@ -149,16 +183,22 @@ fn result_of(
 /// A call of a function of the program: T6, T7 or T8 at its name, in this order (own).
 pub(crate) fn procedure_called(
     alloc: Global,
-    greatest: u8,
+    naming: &Naming<'_>,
     procedure: NamedProcedure<'_, '_>,
     at: u32,
     arguments: Vec<Argument<'_>>,
 ) -> Result<Segment, TypeError>
-    ensures { (n : names.Naming) → (named : names.NamedProcedure) → IsProcedure procedure.entry named
-        → Gives (segment_view n) result
-        (typing.procedure_called greatest named at (map argument_view arguments.entry.items)) }
+    ensures { (named : names.NamedProcedure) → IsProcedure procedure.entry named
+        → Gives (segment_view (naming_in naming.now)) result
+        (typing.procedure_called (naming_in naming.now) named at (map argument_view arguments.entry.items)) }
 {
-    let passed = pass(alloc, greatest, procedure, at, arguments)?;
-    let value = result_of(at, procedure.callee, passed, procedure.returned)?;
+    let passed = pass(alloc, greatest(naming), procedure, at, arguments)?;
+    let value = result_of(
+        at,
+        procedure.callee,
+        passed,
+        procedure.returned,
+        procedure.area,
+    )?;
     Ok(Segment::Function(value))
 }

@@ -6,7 +6,8 @@ ghost use Rattle.pli_type.specs.Names as names;
 ghost use Rattle.pli_type.specs.Typing as typing;
 ghost use Rattle.pli_base.specs.answers.FailureAnswers.{Gives};
 ghost use Rattle.pli_type_expression.specs.views.TypingView.{denoted_view, locator_view, of_name, role_view, segment_view};
-ghost use Rattle.pli_type_expression.specs.Segments.{means_null};
+ghost use Rattle.pli_type.specs.views.ValueView.{value_view};
+ghost use Rattle.pli_type_expression.specs.Segments.{is_empty_function, is_null_function, means_one};
 ghost use Rattle.pli_type_names.specs.UnitNaming.{naming_in};
 ghost use Rattle.pli_type_tree.specs.views.TypedView.{expression_view};
 
@@ -26,8 +27,8 @@ use std::alloc::{AllocError, Global};
 /// What stands between arrows, so far.
 #[derive(Drop)]
 pub(crate) enum Segment {
-    /// The name at a token, of a variable or of what is none, with what stands in front of it, and the subscripts behind
-    /// it and behind the members that are joined to it.
+    /// The name at a token, of a variable or of what is none, with what stands in front of it, and the subscripts
+    /// behind it and behind the members that are joined to it.
     Named {
         locator: LocatorBefore,
         at: u32,
@@ -35,6 +36,8 @@ pub(crate) enum Segment {
     },
     /// What a function gives.
     Function(TypedValue),
+    /// EMPTY.
+    Empty,
 }
 
 /// Whether parentheses behind a reference's first name are those of a call: where it stands alone, and a value is
@@ -50,9 +53,9 @@ pub(crate) fn is_call(role: Role, joined: &[JoinedPart]) -> bool
 }
 
 /// Whether the name at a token means NULL.
-#[tactic(auto, using(crate::proofs::MeaningLemmas::function_is_null, crate::proofs::MeaningLemmas::variable_is_no_null, crate::proofs::MeaningLemmas::procedure_is_no_null, crate::proofs::MeaningLemmas::label_is_no_null, crate::proofs::MeaningLemmas::untyped_is_no_null))]
+#[tactic(auto, using(crate::proofs::MeaningLemmas::function_is_such, crate::proofs::MeaningLemmas::variable_is_none_such, crate::proofs::MeaningLemmas::procedure_is_none_such, crate::proofs::MeaningLemmas::label_is_none_such, crate::proofs::MeaningLemmas::untyped_is_none_such))]
 fn is_null(naming: &Naming<'_>, at: u32) -> bool
-    ensures { result ≡ means_null ((naming_in naming.now).meaning at) }
+    ensures { result ≡ means_one is_null_function ((naming_in naming.now).meaning at) }
 {
     match naming.meaning(at) {
         NamedAs::Function(function) => function == BuiltInFunction::Null,
@@ -61,8 +64,20 @@ fn is_null(naming: &Naming<'_>, at: u32) -> bool
     }
 }
 
-/// A segment that begins with a name without parentheses: NULL is a value where one is wanted.
-#[tactic(auto, using(crate::proofs::MeaningLemmas::begun_as_null, crate::proofs::MeaningLemmas::begun_uncalled, crate::proofs::MeaningLemmas::begun_as_name))]
+/// Whether the name at a token means EMPTY.
+#[tactic(auto, using(crate::proofs::MeaningLemmas::function_is_such, crate::proofs::MeaningLemmas::variable_is_none_such, crate::proofs::MeaningLemmas::procedure_is_none_such, crate::proofs::MeaningLemmas::label_is_none_such, crate::proofs::MeaningLemmas::untyped_is_none_such))]
+fn is_empty(naming: &Naming<'_>, at: u32) -> bool
+    ensures { result ≡ means_one is_empty_function ((naming_in naming.now).meaning at) }
+{
+    match naming.meaning(at) {
+        NamedAs::Function(function) => function == BuiltInFunction::Empty,
+        NamedAs::Variable(_) | NamedAs::Procedure(_) | NamedAs::Label(_) | NamedAs::Untyped =>
+            false,
+    }
+}
+
+/// A segment that begins with a name without parentheses: NULL and EMPTY are values where one is wanted.
+#[tactic(auto, using(crate::proofs::MeaningLemmas::begun_as_null, crate::proofs::MeaningLemmas::begun_as_empty, crate::proofs::MeaningLemmas::begun_uncalled, crate::proofs::MeaningLemmas::begun_as_name))]
 pub(crate) fn begun_alone(
     alloc: Global,
     naming: &Naming<'_>,
@@ -78,7 +93,11 @@ pub(crate) fn begun_alone(
     }
     if is_null(naming, at) {
         drop(locator);
-        Segment::Function(null_value())
+        return Segment::Function(null_value());
+    }
+    if is_empty(naming, at) {
+        drop(locator);
+        Segment::Empty
     } else {
         Segment::named(alloc, locator, at)
     }
@@ -93,6 +112,19 @@ impl Segment {
             locator,
             at,
             subscripts: Vec::new(alloc),
+        }
+    }
+
+    /// What a built-in function gives.
+    pub(crate) fn given(function: BuiltInFunction, value: TypedValue) -> Segment
+        ensures { (n : names.Naming) → segment_view n result ≡ typing.given_by function (value_view value) }
+    {
+        match function {
+            BuiltInFunction::Empty => {
+                drop(value);
+                Segment::Empty
+            }
+            _ => Segment::Function(value),
         }
     }
 
@@ -116,6 +148,7 @@ impl Segment {
                 })
             }
             Segment::Function(value) => Ok(Segment::Function(value)),
+            Segment::Empty => Ok(Segment::Empty),
         }
     }
 
@@ -144,6 +177,7 @@ impl Segment {
                 | NamedAs::Untyped => Err(fault(Code::NotAVariable, at)),
             },
             Segment::Function(value) => Ok(Denoted::Result(value)),
+            Segment::Empty => Ok(Denoted::Empty),
         }
     }
 }

@@ -1,9 +1,9 @@
-//! Where expressions begin.
+//! Where expressions begin, and where the faults of references stand.
 ghost use Rattle.std.specs.Prelude.{◌≡◌};
-ghost use Rattle.pli_base.specs.views.SyntaxView.{expression_view};
-ghost use Rattle.pli_type.specs.Typing.{first_token};
+ghost use Rattle.pli_base.specs.views.SyntaxView.{expression_view, joined_view, reference_view};
+ghost use Rattle.pli_type.specs.Typing.{behind_arrows, first_token, own_token};
 
-use pli_base::syntax::Expression;
+use pli_base::syntax::{Expression, JoinedPart, Joining, Reference};
 
 /// The first token of an expression, counted from 0: a parenthesis, a sign, a constant or a name. It calls itself as
 /// often as infix operators stand in a row.
@@ -17,4 +17,26 @@ pub fn first_token(expression: &Expression) -> u32
         | Expression::Prefix { at, .. } => *at,
         Expression::Infix { left, .. } => first_token(left),
     }
+}
+
+/// The token of the last name behind an arrow among the parts, or the token `at` where none stands there.
+fn behind_arrows(at: u32, joined: &[JoinedPart]) -> u32
+    ensures { result ≡ behind_arrows at (joined_view joined.now) }
+{
+    let mut last = at;
+    for part in joined {
+        match part.joining {
+            Joining::Member => {}
+            Joining::Located => last = part.part.name.at,
+        }
+    }
+    last
+}
+
+/// The token at which faults of a reference itself stand, counted from 0: its first name behind its last arrow (own).
+#[tactic(auto, using(pli_base::specs::laws::SyntaxLaws::reference_out))]
+pub fn own_token(reference: &Reference) -> u32
+    ensures { result ≡ own_token (reference_view reference.now) }
+{
+    behind_arrows(reference.first.name.at, reference.joined.as_slice())
 }

@@ -117,6 +117,7 @@ fn referent<'a>(
         reference,
         description: part.description,
         is_parameter: variable.storage.is_parameter(),
+        area: variable.area,
     })
 }
 

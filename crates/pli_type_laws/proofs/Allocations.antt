@@ -1,79 +1,93 @@
 -- ALLOCATE and FREE take CONTROLLED and BASED variables.
-use Rattle.std.specs.Prelude.{◌≡◌, ℕ, zero, suc, ◌+◌, Bool, false, Option, Some, None, List, [], ◌∷◌, map, slice_get}
-use Rattle.std.specs.List.{list_any}
+use Rattle.std.specs.Prelude.{◌≡◌, ℕ, zero, suc, ◌+◌, Bool, false, Option, Some, None, option_map, List, [], ◌∷◌, slice_get, refl}
+use Rattle.std.specs.List.{list_any, AllByRecursion}
 use Rattle.pli_base.specs.Statements.{Allocation}
-use Rattle.pli_base.specs.Syntax.{Reference, first_token}
+use Rattle.pli_base.specs.Syntax.{Reference}
 use Rattle.pli_base.specs.declared.code.Code.TheVariants.{CannotAllocateOrFree}
-use Rattle.pli_map.specs.Description.{Description, Pointer}
+use Rattle.pli_map.specs.Description.{Description, Pointer, Offset}
 use Rattle.pli_program.specs.declared.kind.VariableKind.TheVariants.{Controlled}
-use Rattle.pli_type.specs.AllocationTyping.{in_turn, only_variable, place_given, pointer_set, placed_by, taken_in, taken, allocated, all_allocated, released, freed}
-use Rattle.pli_type.specs.FunctionCalls.{Denoted, DenotesVariable, DenotesResult}
-use Rattle.pli_type.specs.Names.{NamedStorage, Begins, IsBased, NamedAs, AVariable, Naming, Compiled}
-use Rattle.pli_type.specs.References.{AsLocator, AsTarget, Referent, pointer_at}
+use Rattle.pli_type.specs.AllocationTyping.{in_turn, only_variable, place_given, locator_set, placed_within, placed_freely, placed_in, placed_by, taken_in, taken, allocated, all_allocated, released, freed}
+use Rattle.pli_type.specs.Beginnings.{area_meant, whole_at}
+use Rattle.pli_type.specs.FunctionCalls.{Denoted, DenotesVariable, DenotesResult, DenotesEmpty}
+use Rattle.pli_type.specs.Names.{LocatorVariable, OfPointer, OfOffset, NamedStorage, Begins, IsBased, NamedAs, AVariable, Naming, Compiled}
+use Rattle.pli_type.specs.References.{AsLocator, AsTarget, Referent}
+use Rattle.pli_type.specs.declared.beginning.Beginning.{Beginning}
 use Rattle.pli_type.specs.StatementTyping.{allocate_typed, free_typed}
-use Rattle.pli_type.specs.Typing.{referred}
+use Rattle.pli_type.specs.Typing.{own_token, referred}
 use Rattle.pli_type.specs.Unbuilt.{later_part, later_reference, later_allocation}
 use Rattle.pli_type_laws.proofs.Conversions.{OnGiven}
 use Rattle.pli_type_laws.proofs.Denotations.{OnRead, IsReferent, IsDenoted}
 use Rattle.pli_type_laws.proofs.Expressions.{IsMeaning, N, C, or_parts, read_option, referred_typed}
-use Rattle.pli_type_laws.proofs.References.{read_then}
-use Rattle.pli_type_name_laws.specs.NameFacts.{IsPointed, IsStoredIn}
+use Rattle.pli_type_laws.proofs.Functions.{area_typed}
+use Rattle.pli_type_laws.proofs.References.{read_then, locator_kept}
+use Rattle.pli_type_name_laws.specs.NameFacts.{IsAreaNamed, IsLocatorThere, IsImplied, IsStoredIn, IsBasedTemplate}
 use Rattle.pli_type_tree.specs.Allocations.{kept_for}
-use Rattle.pli_type_tree.specs.Templates.{Template, variable_of}
+use Rattle.pli_type_tree.specs.Templates.{Template}
 use Rattle.pli_type_tree.specs.laws.GlobalLaws.{described_parts}
 use Rattle.pli_type_tree.specs.TypedTree.{NewestOf, Located, TypedReference, Whole}
-use Rattle.pli_type_tree.specs.WellTyped.{TypingContext, IsMade, AreMade, IsPlaced, IsAllocated, AreAllocated, IsFreed, AreFreed, IsTypedForm}
+use Rattle.pli_type_tree.specs.ValueTypes.{Pointers, Offsets}
+use Rattle.pli_type_tree.specs.WellTyped.{TypingContext, IsPlaced, IsAreaReference, IsAllocated, AreAllocated, IsFreed, AreFreed, IsTypedForm}
 
 -- the reference in IN or in SET, if one stands, is to a part of a variable
 abbrev IsGiven : TypingContext → Option Referent → Type 0
 IsGiven s None = Unit {0}
 IsGiven s (Some r) = IsReferent s r
 
--- a template of which variables are made well
-abbrev IsMadeFrom : Template → Type 0
-IsMadeFrom t = IsMade (variable_of t)
-
-made_at : (ts : List Template) (k : ℕ) → AreMade (map variable_of ts) → OnGiven IsMadeFrom (slice_get ts k)
+made_at : (ts : List Template) (k : ℕ) → AllByRecursion IsBasedTemplate ts → OnGiven IsBasedTemplate (slice_get ts k)
 made_at [] k h = tt
 made_at (t ∷ ts) zero h = h.0
 made_at (t ∷ ts) (suc k) h = made_at ts k h.1
 
 module _ (s : TypingContext) where
-  -- a reference to a POINTER
-  abbrev IsPointer : TypedReference → Type 0
-  IsPointer r = IsPlaced 31 s r Pointer
+  -- ALLOCATE: the locator that is set
+  locator_typed : (target : Option Referent) (implied : Option LocatorVariable) → IsGiven s target → IsImplied 31 s implied
+      → IsImplied 31 s (locator_set target implied)
+  locator_typed None implied h k = k
+  locator_typed (Some r) implied h k = locator_kept s r.reference r.description r.area h.0 h.3
 
-  -- ALLOCATE
-  pointer_kept : (r : TypedReference) (d : Description) → IsPlaced 31 s r d → OnGiven IsPointer (pointer_at r d)
-  pointer_kept r Pointer placed = placed
-  pointer_kept r d placed = tt
+  -- a BASED variable in an area
+  module _ (temporary : ℕ) (t : Template) (made : IsBasedTemplate t) where
+    within_typed : (area : Beginning) → IsAreaReference 31 s (whole_at area) → (locator : LocatorVariable) → IsLocatorThere 31 s locator
+        → IsAllocated 31 s (placed_within area t temporary locator)
+    within_typed area h (OfPointer target) k = (h, made, (Pointer, k, (Pointers, refl, tt)))
+    within_typed area h (OfOffset target own) k = (h, made, (Offset, k.0, (k.1, refl, (Offsets, refl, tt))))
 
-  pointer_typed : (target : Option Referent) (implied : Option TypedReference) → IsGiven s target → IsPointed 31 s implied
-      → OnGiven IsPointer (pointer_set target implied)
-  pointer_typed None None h k = tt
-  pointer_typed None (Some r) h k = k
-  pointer_typed (Some r) implied h k = pointer_kept r.reference r.description h.0
+    freely_typed : (locator : LocatorVariable) → IsLocatorThere 31 s locator → IsAllocated 31 s (placed_freely t temporary locator)
+    freely_typed (OfPointer target) k = (made.0, k)
+    freely_typed (OfOffset target own) k = within_typed own k.1 (OfOffset target own) k
 
-  based_placed : (temporary : ℕ) (t : Option Template) (target : Option TypedReference) → OnGiven IsMadeFrom t → OnGiven IsPointer target
-      → OnGiven (IsAllocated 31 s) (placed_by temporary t target)
-  based_placed temporary (Some t) (Some target) h k = (h, k)
-  based_placed temporary (Some t) None h k = tt
-  based_placed temporary None target h k = tt
+    in_area : (locator : LocatorVariable) → IsLocatorThere 31 s locator → (o : Option Beginning) → IsAreaNamed 31 s o
+        → OnGiven (IsAllocated 31 s) (option_map (λ area. placed_within area t temporary locator) o)
+    in_area locator k (Some area) h = within_typed area h locator k
+    in_area locator k None h = tt
 
-  module _ (n : Naming) (made : (block : ℕ) → AreMade (map variable_of (n.based block))) where
+    somewhere_typed : (area : Option Referent) → IsGiven s area → (locator : LocatorVariable) → IsLocatorThere 31 s locator
+        → OnGiven (IsAllocated 31 s) (placed_in area t temporary locator)
+    somewhere_typed None h locator k = freely_typed locator k
+    somewhere_typed (Some r) h locator k =
+        in_area locator k (area_meant r.reference r.description) (area_typed s r.reference r.description h.0)
+
+  based_placed : (temporary : ℕ) (area : Option Referent) → IsGiven s area → (t : Option Template) (locator : Option LocatorVariable)
+      → OnGiven IsBasedTemplate t → IsImplied 31 s locator → OnGiven (IsAllocated 31 s) (placed_by temporary area t locator)
+  based_placed temporary area g (Some t) (Some locator) h k = somewhere_typed temporary t h area g locator k
+  based_placed temporary area g (Some t) None h k = tt
+  based_placed temporary area g None locator h k = tt
+
+  module _ (n : Naming) (made : (block : ℕ) → AllByRecursion IsBasedTemplate (n.based block)) where
     stored_taken : (temporary : ℕ) (storage : NamedStorage) (path : List ℕ) (whole : Description) → IsStoredIn 31 s storage whole
-        → (area target : Option Referent) → IsGiven s target → OnGiven (IsAllocated 31 s) (taken_in n temporary storage path area target)
-    stored_taken temporary (Begins (NewestOf number) is_parameter) [] whole h None None k =
+        → (area target : Option Referent) → IsGiven s area → IsGiven s target
+        → OnGiven (IsAllocated 31 s) (taken_in n temporary storage path area target)
+    stored_taken temporary (Begins (NewestOf number) is_parameter) [] whole h None None g k =
         (described_parts Controlled (slice_get s.globals number) whole h.0).0
-    stored_taken temporary (IsBased block number implied) [] whole h None target k =
-        based_placed temporary (slice_get (n.based block) number) (pointer_set target implied)
-        (made_at (n.based block) number (made block)) (pointer_typed target implied k h)
-    stored_taken temporary storage path whole h area target k = tt
+    stored_taken temporary (IsBased block number implied) [] whole h area target g k =
+        based_placed temporary area g (slice_get (n.based block) number) (locator_set target implied)
+        (made_at (n.based block) number (made block)) (locator_typed target implied k h)
+    stored_taken temporary storage path whole h area target g k = tt
 
-    one_taken : (temporary : ℕ) (a : NamedAs) → IsMeaning s a → (area target : Option Referent) → IsGiven s target
+    one_taken : (temporary : ℕ) (a : NamedAs) → IsMeaning s a → (area target : Option Referent) → IsGiven s area → IsGiven s target
         → OnGiven (IsAllocated 31 s) (taken n temporary a area target)
-    one_taken temporary (AVariable v) h area target k = stored_taken temporary v.storage v.path v.whole h.begins area target k
-    one_taken temporary a h area target k = tt
+    one_taken temporary (AVariable v) h area target g k = stored_taken temporary v.storage v.path v.whole h.begins area target g k
+    one_taken temporary a h area target g k = tt
 
   -- FREE
   one_released : (r : TypedReference) (d : Description) → IsPlaced 31 s r d → OnGiven (IsFreed 31 s) (released r)
@@ -84,28 +98,30 @@ module _ (s : TypingContext) where
   only_typed : (at : ℕ) (d : Denoted) → IsDenoted s d → OnRead (IsReferent s) (only_variable at d)
   only_typed at (DenotesVariable r) h = h
   only_typed at (DenotesResult v) h = tt
+  only_typed at DenotesEmpty h = tt
 
-module _ (is_later is_based : ℕ → Bool) (based : ℕ → List Template) (meaning : ℕ → NamedAs) (s : TypingContext) (known : (at : ℕ) → IsMeaning s (meaning at)) where
+module _ (is_based : ℕ → Bool) (based : ℕ → List Template) (areas : ℕ → Option Beginning) (meaning : ℕ → NamedAs) (s : TypingContext)
+    (known : (at : ℕ) → IsMeaning s (meaning at)) where
   abbrev M : Naming
-  M = N is_later is_based based meaning s known
+  M = N is_based based areas meaning s known
 
   abbrev L : Compiled
-  L = C is_later is_based based meaning s known
+  L = C is_based based areas meaning s known
 
   given_typed : (o : Option Reference) → later_part (later_reference L) o ≡ false → OnRead (IsGiven s) (place_given M o)
   given_typed None l = tt
   given_typed (Some r) l =
-      read_then (IsDenoted s) (IsGiven s) (referred M AsLocator r) _ (referred_typed is_later is_based based meaning s known AsLocator r l)
-      (λ d h. read_then (IsReferent s) (IsGiven s) (only_variable (first_token r) d) _ (only_typed s (first_token r) d h) (λ q k. k))
+      read_then (IsDenoted s) (IsGiven s) (referred M AsLocator r) _ (referred_typed is_based based areas meaning s known AsLocator r l)
+      (λ d h. read_then (IsReferent s) (IsGiven s) (only_variable (own_token r) d) _ (only_typed s (own_token r) d h) (λ q k. k))
 
-  module _ (made : (block : ℕ) → AreMade (map variable_of (based block))) where
+  module _ (made : (block : ℕ) → AllByRecursion IsBasedTemplate (based block)) where
     one_allocated : (temporary : ℕ) (a : Allocation) → later_allocation L a ≡ false → OnRead (IsAllocated 31 s) (allocated M temporary a)
     one_allocated temporary a l =
         let parts : (later_part (later_reference L) a.area ≡ false) × (later_part (later_reference L) a.target ≡ false) = or_parts _ _ l in
         read_then (IsGiven s) (IsAllocated 31 s) (place_given M a.area) _ (given_typed a.area parts.0)
         (λ area h. read_then (IsGiven s) (IsAllocated 31 s) (place_given M a.target) _ (given_typed a.target parts.1)
         (λ target k. read_option (IsAllocated 31 s) CannotAllocateOrFree a.name.at (taken M temporary (meaning a.name.at) area target)
-        (one_taken s M made temporary (meaning a.name.at) (known a.name.at) area target k)))
+        (one_taken s M made temporary (meaning a.name.at) (known a.name.at) area target h k)))
 
     each_allocated : (temporary : ℕ) (list : List Allocation) → list_any (later_allocation L) list ≡ false
         → OnRead (AreAllocated 31 s) (all_allocated M temporary list)
@@ -123,9 +139,9 @@ module _ (is_later is_based : ℕ → Bool) (based : ℕ → List Template) (mea
 
   one_freed : (r : Reference) → later_reference L r ≡ false → OnRead (IsFreed 31 s) (freed M r)
   one_freed r l =
-      read_then (IsDenoted s) (IsFreed 31 s) (referred M AsTarget r) _ (referred_typed is_later is_based based meaning s known AsTarget r l)
-      (λ d h. read_then (IsReferent s) (IsFreed 31 s) (only_variable (first_token r) d) _ (only_typed s (first_token r) d h)
-      (λ q k. read_option (IsFreed 31 s) CannotAllocateOrFree (first_token r) (released q.reference)
+      read_then (IsDenoted s) (IsFreed 31 s) (referred M AsTarget r) _ (referred_typed is_based based areas meaning s known AsTarget r l)
+      (λ d h. read_then (IsReferent s) (IsFreed 31 s) (only_variable (own_token r) d) _ (only_typed s (own_token r) d h)
+      (λ q k. read_option (IsFreed 31 s) CannotAllocateOrFree (own_token r) (released q.reference)
       (one_released s q.reference q.description k.0)))
 
   all_freed : (list : List Reference) → list_any (later_reference L) list ≡ false → OnRead (AreFreed 31 s) (in_turn (freed M) list)

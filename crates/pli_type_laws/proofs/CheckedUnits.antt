@@ -11,7 +11,7 @@ use Rattle.pli_type.specs.Checked.{checked, is_nothing, typed_as, unit_of, unles
 use Rattle.pli_type.specs.Names.{NamedUnit}
 use Rattle.pli_type.specs.StatementTyping.{WithProcedures}
 use Rattle.pli_type.specs.Unbuilt.{is_main}
-use Rattle.pli_type.specs.NamedUnits.{is_automatic, is_based, all_globals, block_symbols, parameters_of, returned_of, means_later, names_based, named_as}
+use Rattle.pli_type.specs.NamedUnits.{is_automatic, is_based, all_globals, area_named, block_symbols, parameters_of, returned_of, returned_area_of, names_based, named_as}
 use Rattle.pli_type.specs.NamedUnits.{named_unit, templates_of, checked_unit}
 use Rattle.pli_type_laws.proofs.NumberedUnits.{units_are_numbered}
 use Rattle.pli_type_laws.proofs.Units.{unit_is_typed}
@@ -33,8 +33,9 @@ module _ (r : ResolvedUnit) (t : TypedUnit) (nests : ListNests true 63 r.tree.st
   resolved_is_typed : BlocksAreOfTree r → checked_unit r ≡ Ok t → IsTypedUnit 31 t
   unfolding checked_unit
   resolved_is_typed blocks e =
-      unit_is_typed r.tree (λ at. means_later (meaning_at r at)) (λ at. names_based (named_as 31 r [] (meaning_at r at)))
-      (λ blocks block. templates_of (is_based 31) (block_symbols r block)) (λ blocks at. named_as 31 r blocks (meaning_at r at))
+      unit_is_typed r.tree (λ at. names_based (named_as 31 r [] (meaning_at r at)))
+      (λ blocks block. templates_of (is_based 31) (block_symbols r block)) (λ blocks block. area_named 31 r blocks (returned_area_of r block))
+      (λ blocks at. named_as 31 r blocks (meaning_at r at))
       (parameters_of r) (returned_of r) (λ block. templates_of (is_automatic 31) (block_symbols r block))
       (all_globals 31 (all_symbols r)) (facts_hold r blocks) nests t e
 

@@ -13,7 +13,7 @@ use Rattle.pli_type.specs.StatementTyping.{Enclosing, Surroundings, label_found}
 use Rattle.pli_type_laws.proofs.BlocksKnown.{Within, within_both, AreHome, StandsDirectly}
 use Rattle.pli_type_laws.proofs.Calls.{IsCallable}
 use Rattle.pli_type_laws.proofs.Expressions.{IsMeaning}
-use Rattle.pli_type_name_laws.specs.NameFacts.{HaveSlots, VariableFacts, IsCalled, ProcedureFacts, NameFacts, StandsAround}
+use Rattle.pli_type_name_laws.specs.NameFacts.{HaveSlots, IsAreaNamed, VariableFacts, IsCalled, ProcedureFacts, NameFacts, StandsAround}
 use Rattle.pli_type_name_laws.specs.SourceBlocks.{SourceBlock, unit_blocks, innermost, slots_in, known_blocks, known_procedures}
 use Rattle.pli_type_tree.specs.WellTyped.{BlockAround, KnownProcedure, TypingContext, AreAround, IsCallee, IsReached, blocks_from, knows_label}
 use Rattle.pli_type_tree.specs.WellTyped as trees
@@ -171,13 +171,18 @@ module _ (u : NamedUnit) where
     callee_known p (OfEntry number) f = ap (λ gs. signature_of (slice_get gs number)) knows.globals ∙ f
 
     callable : (p : NamedProcedure) → ProcedureFacts u (map (λ x. x.number) here.blocks) p → IsCallable s p
-    callable p f = record { there = callee_known p p.callee f.called; plain = f.plain }
+    callable p f = record {
+      there = callee_known p p.callee f.called;
+      plain = f.plain;
+      area = f.area 31 s knows.globals (slots_known here.blocks s.blocks knows.blocks);
+    }
 
     pub known_as : (at : ℕ) (a : NamedAs) → (u.naming (map (λ x. x.number) here.blocks)).meaning at ≡ a → IsMeaning s a
     known_as at (AVariable v) e =
         let own : VariableFacts u (map (λ x. x.number) here.blocks) v = facts.variables (map (λ x. x.number) here.blocks) at v e in
         record {
           begins = own.begins 31 s knows.globals (slots_known here.blocks s.blocks knows.blocks);
+          area = own.area 31 s knows.globals (slots_known here.blocks s.blocks knows.blocks);
           leads = own.leads;
           whole = own.whole;
         }
@@ -185,3 +190,8 @@ module _ (u : NamedUnit) where
     known_as at (AFunction f) e = tt
     known_as at (ALabel statement) e = tt
     known_as at Untyped e = tt
+
+    -- the areas that RETURNS of functions name
+    pub areas_known : (block : ℕ) → IsAreaNamed 31 s ((u.naming (map (λ x. x.number) here.blocks)).returned_area block)
+    areas_known block =
+        facts.returned_areas (map (λ x. x.number) here.blocks) block 31 s knows.globals (slots_known here.blocks s.blocks knows.blocks)

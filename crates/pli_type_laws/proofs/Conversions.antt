@@ -4,14 +4,17 @@ use Rattle.std.proofs.Common.{arith, subst}
 use Rattle.pli_map.specs.Description as described
 use Rattle.pli_map.specs.Description.{Description}
 use Rattle.pli_operation.specs.declared.operation.Operation.TheVariants.{ToCharacters}
-use Rattle.pli_type.specs.ExpressionTypes.{TypedValue, with_one, suited, only_pointer, converted, printed, printed_from, as_characters, columns, decimal_digits}
+use Rattle.pli_type.specs.ExpressionTypes.{TypedValue, null_offset, with_one, suited, as_pointer, as_offset, converted, printed, printed_from, as_characters, columns, decimal_digits}
+use Rattle.pli_type.specs.declared.beginning.Beginning.{Beginning}
 use Rattle.pli_type.specs.declared.expression_type.ExpressionType.{ExpressionType}
 use Rattle.pli_type.specs.declared.expression_type.ExpressionType.TheVariants as types
 use Rattle.pli_type_laws.specs.ExpressionTyping.{HasType, IsShort, ConvertedIsHeld, PrintedIsString}
 use Rattle.pli_type_laws.proofs.Widths.{near_has_columns}
+use Rattle.pli_type_name_laws.specs.NameFacts.{IsAreaNamed}
 use Rattle.pli_type_tree.specs.TypedTree.{Fit, Operate, TypedExpression}
-use Rattle.pli_type_tree.specs.ValueTypes.{ValueType, Numbers, Strings, Pointers, StringKind, OfCharacters, OfBits, type_held, IsFitted, IsWithin, HaveColumns}
+use Rattle.pli_type_tree.specs.ValueTypes.{ValueType, Numbers, Strings, Pointers, Offsets, StringKind, OfCharacters, OfBits, type_held, IsFitted, IsWithin, HaveColumns}
 use Rattle.pli_type_tree.specs.WellTyped.{TypingContext, IsTyped, IsValueFor}
+use Rattle.pli_value.specs.declared.locator.Locator.TheVariants as locators
 
 -- what is there, if something is
 abbrev pub OnGiven : {A : Type 0} → (A → Type 0) → Option A → Type 0
@@ -22,11 +25,17 @@ pub given_if : {A : Type 0} (P : A → Type 0) (b : Bool) (o : Option A) → OnG
 given_if P true o h = h
 given_if P false o h = tt
 
+-- what is there has what follows
+pub given_weaker : {A : Type 0} (P Q : A → Type 0) (o : Option A) → ((x : A) → P x → Q x) → OnGiven P o → OnGiven Q o
+given_weaker P Q (Some x) g h = g x h
+given_weaker P Q None g h = tt
+
 pub within_self : (t : ValueType) → IsWithin t t
 within_self (Numbers p) = omega arith
 within_self (Strings OfCharacters a b) = (omega arith, omega arith)
 within_self (Strings OfBits a b) = (omega arith, omega arith)
 within_self Pointers = tt
+within_self Offsets = tt
 
 some_same : {A : Type 0} {x y : A} → Some x ≡ Some y → x ≡ y
 some_same e = cc
@@ -80,8 +89,8 @@ module _ (s : TypingContext) where
   )
   characters_fit d t held fits e types.Pointer h = tt
   characters_fit d t held fits e types.Null h = tt
-  characters_fit d t held fits e types.Offset h = absurd h
-  characters_fit d t held fits e types.Area h = absurd h
+  characters_fit d t held fits e (types.Offset area) h = tt
+  characters_fit d t held fits e types.Area h = tt
 
   all_fit : (d : Description) (e : TypedExpression) (kind : ExpressionType) → HasType s e kind
       → OnGiven (Fits d) (suited 31 d e kind)
@@ -100,17 +109,43 @@ module _ (s : TypingContext) where
   given_fit d (Some x) h = fitted d x h
   given_fit d None h = tt
 
-  -- a pointer needs no fitting
-  pointer_held : (e : TypedExpression) (kind : ExpressionType) → HasType s e kind
-      → OnGiven (IsValueFor 31 s described.Pointer) (only_pointer e kind)
-  pointer_held e types.Pointer h = (Pointers, h, (Pointers, refl, tt))
-  pointer_held e types.Null h = (Pointers, h, (Pointers, refl, tt))
-  pointer_held e kind h = tt
+  -- an expression gives pointers, or offsets
+  abbrev pub IsAPointer : TypedExpression → Type 0
+  IsAPointer e = IsTyped 31 s e Pointers
 
-  pub conversion_held : (d : Description) (v : TypedValue) → HasType s v.expression v.kind
-      → OnGiven (IsValueFor 31 s d) (converted 31 d v)
-  conversion_held described.Pointer v h = pointer_held v.expression v.kind h
-  conversion_held d v h = given_fit d (suited 31 d v.expression v.kind) (all_fit d v.expression v.kind h)
+  abbrev pub IsAnOffset : TypedExpression → Type 0
+  IsAnOffset e = IsTyped 31 s e Offsets
+
+  -- a locator as a pointer, and as an offset
+  pub pointer_made : (e : TypedExpression) (kind : ExpressionType) → HasType s e kind → OnGiven IsAPointer (as_pointer e kind)
+  pointer_made e types.Pointer h = h
+  pointer_made e types.Null h = h
+  pointer_made e (types.Offset (Some area)) h = (h.0, h.1, refl)
+  pointer_made e (types.Offset None) h = tt
+  pointer_made e kind h = tt
+
+  pub null_offset_typed : IsAnOffset null_offset
+  null_offset_typed = (locators.Offset 0, refl, refl)
+
+  pub offset_made : (area : Option Beginning) → IsAreaNamed 31 s area → (e : TypedExpression) (kind : ExpressionType) → HasType s e kind
+      → OnGiven IsAnOffset (as_offset area e kind)
+  offset_made None there e (types.Offset other) h = h.0
+  offset_made (Some area) there e (types.Offset other) h = h.0
+  offset_made None there e types.Null h = null_offset_typed
+  offset_made (Some area) there e types.Null h = null_offset_typed
+  offset_made (Some area) there e types.Pointer h = (h, there, refl)
+  offset_made area there e kind h = tt
+
+  -- a locator needs no fitting
+  pub conversion_held : (area : Option Beginning) → IsAreaNamed 31 s area → (d : Description) (v : TypedValue)
+      → HasType s v.expression v.kind → OnGiven (IsValueFor 31 s d) (converted 31 area d v)
+  conversion_held area there described.Pointer v h =
+      given_weaker IsAPointer (IsValueFor 31 s described.Pointer) (as_pointer v.expression v.kind)
+      (λ x k. (Pointers, k, (Pointers, refl, tt))) (pointer_made v.expression v.kind h)
+  conversion_held area there described.Offset v h =
+      given_weaker IsAnOffset (IsValueFor 31 s described.Offset) (as_offset area v.expression v.kind)
+      (λ x k. (Offsets, k, (Offsets, refl, tt))) (offset_made area there v.expression v.kind h)
+  conversion_held area there d v h = given_fit d (suited 31 d v.expression v.kind) (all_fit d v.expression v.kind h)
 
   -- what is printed
   abbrev pub IsItem : TypedExpression → Type 0
@@ -127,14 +162,15 @@ module _ (s : TypingContext) where
   item_of e types.Bits h = (OfBits, h)
   item_of e types.Pointer h = tt
   item_of e types.Null h = tt
-  item_of e types.Offset h = absurd h
-  item_of e types.Area h = absurd h
+  item_of e (types.Offset area) h = tt
+  item_of e types.Area h = tt
 
   pub printing_held : (v : TypedValue) → HasType s v.expression v.kind → OnGiven IsItem (printed v)
   printing_held v h = item_of v.expression v.kind h
 
 pub converted_is_held : ConvertedIsHeld
-converted_is_held s d v e h same = when_some (IsValueFor 31 s d) (converted 31 d v) e (conversion_held s d v h) same
+converted_is_held s area d v e there h same =
+    when_some (IsValueFor 31 s d) (converted 31 area d v) e (conversion_held s area there d v h) same
 
 pub printed_is_string : PrintedIsString
 printed_is_string s v e h same = when_some (IsItem s) (printed v) e (printing_held s v h) same

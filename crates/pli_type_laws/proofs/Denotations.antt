@@ -1,17 +1,19 @@
 -- What expressions denote: parts of variables that are placed, and values of their types.
-use Rattle.std.specs.Prelude.{◌≡◌, Bool, false, IsTrue, Some, List, [], ◌∷◌, Result, Ok, Err, refl}
-use Rattle.std.proofs.Common.{arith, sym}
-use Rattle.std.proofs.lemmas.Bool.{and_parts, leb-true, true≢false}
+use Rattle.std.specs.Prelude.{◌≡◌, Bool, false, IsTrue, Option, Some, List, [], ◌∷◌, Result, Ok, Err, refl}
+use Rattle.std.proofs.Common.{arith}
+use Rattle.std.proofs.lemmas.Bool.{and_parts, leb-true}
 use Rattle.pli_base.specs.declared.token.Fault.{Fault}
 use Rattle.pli_map.specs.Description.{Description, FixedBinary, Character, Varying, Bit, Pointer, Offset, Area, Array, Structure}
 use Rattle.pli_type.specs.ExpressionTypes.{type_of}
-use Rattle.pli_type.specs.FunctionCalls.{Denoted, DenotesVariable, DenotesResult, Meant, OneValue, WholeAggregate, meant_by, meant_as}
+use Rattle.pli_type.specs.FunctionCalls.{Denoted, DenotesVariable, DenotesResult, DenotesEmpty, Meant, OneValue, WholeAggregate, meant_by, meant_as}
 use Rattle.pli_type.specs.FunctionCalls.{Argument}
-use Rattle.pli_type.specs.NamedUnits.{is_plain}
+use Rattle.pli_type.specs.NamedUnits.{may_stand}
 use Rattle.pli_type.specs.References.{Referent}
+use Rattle.pli_type.specs.declared.beginning.Beginning.{Beginning}
 use Rattle.pli_type_laws.proofs.Conversions.{OnGiven}
 use Rattle.pli_type_laws.proofs.Operators.{HasValue}
 use Rattle.pli_type_laws.specs.ExpressionTyping.{HasType}
+use Rattle.pli_type_name_laws.specs.NameFacts.{IsAreaNamed}
 use Rattle.pli_type_tree.specs.TypedTree.{TypedExpression, TypedReference, Whole, Part, Held}
 use Rattle.pli_type_tree.specs.ValueTypes.{ValueType, type_held}
 use Rattle.pli_type_tree.specs.WellTyped.{TypingContext, BeginsWhole, IsTyped, IsPlaced}
@@ -26,11 +28,12 @@ abbrev pub IsOfWhole : TypingContext → TypedReference → Type 0
 IsOfWhole s (Whole root) = BeginsWhole s root
 IsOfWhole s (Part root offset d subscripts) = Unit {0}
 
--- a part is placed, and plain; and it is of whole generations, but where it is in a parameter
+-- a part is placed, and plain, or it is an area; it is of whole generations, but where it is in a parameter; and the
+-- area is there that its OFFSET names
 abbrev pub IsReferent : TypingContext → Referent → Type 0
 IsReferent s r =
-    IsPlaced 31 s r.reference r.description × IsTrue (is_plain 31 r.description)
-    × (r.is_parameter ≡ false → IsOfWhole s r.reference)
+    IsPlaced 31 s r.reference r.description × IsTrue (may_stand 31 r.description)
+    × (r.is_parameter ≡ false → IsOfWhole s r.reference) × IsAreaNamed 31 s r.area
 
 abbrev pub IsMeant : TypingContext → Meant → Type 0
 IsMeant s (OneValue v) = HasValue s v
@@ -39,6 +42,7 @@ IsMeant s (WholeAggregate r) = IsReferent s r
 abbrev pub IsDenoted : TypingContext → Denoted → Type 0
 IsDenoted s (DenotesVariable r) = IsReferent s r
 IsDenoted s (DenotesResult v) = HasValue s v
+IsDenoted s DenotesEmpty = Unit {0}
 
 abbrev pub AreArguments : TypingContext → List Argument → Type 0
 AreArguments s [] = Unit {0}
@@ -49,38 +53,39 @@ module _ (s : TypingContext) where
   abbrev IsOfType : TypedExpression → Description → Type 0
   IsOfType e d = (t : ValueType) → type_held d ≡ Some t → IsTyped 31 s e t
 
-  pub scalar_typed : (e : TypedExpression) (d : Description) → IsTrue (is_plain 31 d) → IsOfType e d
-      → OnGiven (HasType s e) (type_of d)
-  scalar_typed e (FixedBinary p) plain h =
+  pub scalar_typed : (area : Option Beginning) → IsAreaNamed 31 s area → (e : TypedExpression) (d : Description)
+      → IsTrue (may_stand 31 d) → IsOfType e d → OnGiven (HasType s e) (type_of area d)
+  scalar_typed area there e (FixedBinary p) plain h =
       (p, h _ refl, (omega arith, leb-true p 31 plain, leb-true p 31 plain))
-  scalar_typed e (Character k) plain h = (k, k, h _ refl, leb-true k 32767 ((and_parts _ _ plain).1))
-  scalar_typed e (Varying k) plain h = (0, k, h _ refl, leb-true k 32767 ((and_parts _ _ plain).1))
-  scalar_typed e (Bit k) plain h = (k, k, h _ refl, leb-true k 32767 ((and_parts _ _ plain).1))
-  scalar_typed e Pointer plain h = h _ refl
-  scalar_typed e Offset plain h = absurd (true≢false (sym plain))
-  scalar_typed e (Area k) plain h = absurd (true≢false (sym plain))
-  scalar_typed e (Array bounds element) plain h = tt
-  scalar_typed e (Structure _) plain h = tt
+  scalar_typed area there e (Character k) plain h = (k, k, h _ refl, leb-true k 32767 ((and_parts _ _ plain).1))
+  scalar_typed area there e (Varying k) plain h = (0, k, h _ refl, leb-true k 32767 ((and_parts _ _ plain).1))
+  scalar_typed area there e (Bit k) plain h = (k, k, h _ refl, leb-true k 32767 ((and_parts _ _ plain).1))
+  scalar_typed area there e Pointer plain h = h _ refl
+  scalar_typed area there e Offset plain h = (h _ refl, there)
+  scalar_typed area there e (Area k) plain h = tt
+  scalar_typed area there e (Array bounds element) plain h = tt
+  scalar_typed area there e (Structure _) plain h = tt
 
   held_as : (r : TypedReference) (d : Description) → IsPlaced 31 s r d → IsOfType (Held r) d
   held_as r d placed t e = (d, placed, e)
 
   -- what a variable holds
-  abbrev as_referent : TypedReference → Description → Bool → Referent
-  as_referent r d passed = record { reference = r; description = d; is_parameter = passed }
+  abbrev as_referent : TypedReference → Description → Bool → Option Beginning → Referent
+  as_referent r d passed area = record { reference = r; description = d; is_parameter = passed; area = area }
 
-  held_typed : (r : TypedReference) (d : Description) (passed : Bool) → IsReferent s (as_referent r d passed)
-      → IsMeant s (meant_by (as_referent r d passed))
-  held_typed r (FixedBinary p) passed h = scalar_typed (Held r) (FixedBinary p) h.1 (held_as r (FixedBinary p) h.0)
-  held_typed r (Character k) passed h = scalar_typed (Held r) (Character k) h.1 (held_as r (Character k) h.0)
-  held_typed r (Varying k) passed h = scalar_typed (Held r) (Varying k) h.1 (held_as r (Varying k) h.0)
-  held_typed r (Bit k) passed h = scalar_typed (Held r) (Bit k) h.1 (held_as r (Bit k) h.0)
-  held_typed r Pointer passed h = scalar_typed (Held r) Pointer h.1 (held_as r Pointer h.0)
-  held_typed r Offset passed h = absurd (true≢false (sym h.1))
-  held_typed r (Area k) passed h = absurd (true≢false (sym h.1))
-  held_typed r (Array bounds element) passed h = h
-  held_typed r (Structure _) passed h = h
+  held_typed : (r : TypedReference) (d : Description) (passed : Bool) (area : Option Beginning) → IsReferent s (as_referent r d passed area)
+      → IsMeant s (meant_by (as_referent r d passed area))
+  held_typed r (FixedBinary p) passed area h = scalar_typed area h.3 (Held r) (FixedBinary p) h.1 (held_as r (FixedBinary p) h.0)
+  held_typed r (Character k) passed area h = scalar_typed area h.3 (Held r) (Character k) h.1 (held_as r (Character k) h.0)
+  held_typed r (Varying k) passed area h = scalar_typed area h.3 (Held r) (Varying k) h.1 (held_as r (Varying k) h.0)
+  held_typed r (Bit k) passed area h = scalar_typed area h.3 (Held r) (Bit k) h.1 (held_as r (Bit k) h.0)
+  held_typed r Pointer passed area h = scalar_typed area h.3 (Held r) Pointer h.1 (held_as r Pointer h.0)
+  held_typed r Offset passed area h = scalar_typed area h.3 (Held r) Offset h.1 (held_as r Offset h.0)
+  held_typed r (Area k) passed area h = tt
+  held_typed r (Array bounds element) passed area h = h
+  held_typed r (Structure _) passed area h = h
 
   pub denoted_meant : (d : Denoted) → IsDenoted s d → IsMeant s (meant_as d)
-  denoted_meant (DenotesVariable r) h = held_typed r.reference r.description r.is_parameter h
+  denoted_meant (DenotesVariable r) h = held_typed r.reference r.description r.is_parameter r.area h
   denoted_meant (DenotesResult v) h = h
+  denoted_meant DenotesEmpty h = tt

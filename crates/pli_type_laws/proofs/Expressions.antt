@@ -8,30 +8,30 @@ use Rattle.pli_base.specs.declared.code.Code.TheVariants.{WrongOperandType}
 use Rattle.pli_base.specs.declared.token.Fault.{Fault}
 use Rattle.pli_base.specs.declared.syntax.Joining.TheVariants.{Member, Located}
 use Rattle.pli_type.specs.ExpressionTypes.{TypedValue, precision_of, prefix_value, infix_value}
-use Rattle.pli_map.specs.Description.{Description, Pointer}
 use Rattle.pli_resolve.specs.declared.built_in.BuiltInFunction.{BuiltInFunction}
 use Rattle.pli_resolve.specs.declared.built_in.BuiltInFunction.TheVariants as functions
-use Rattle.pli_type.specs.FunctionCalls.{Denoted, DenotesVariable, DenotesResult, Meant, OneValue, WholeAggregate, meant_as, Argument}
+use Rattle.pli_type.specs.FunctionCalls.{Denoted, DenotesVariable, DenotesResult, DenotesEmpty, Meant, OneValue, WholeAggregate, meant_as, Argument}
 use Rattle.pli_type.specs.FunctionCalls.{roles_of, function_called}
 use Rattle.pli_type.specs.Names.{NamedAs, AVariable, AFunction, AProcedure, NamedProcedure, Naming, Compiled}
 use Rattle.pli_type.specs.ProcedureCalls.{arguments_passed, result_of, type_returned}
-use Rattle.pli_type.specs.References.{Role, AsValue, AsArgument, AsLocator, LocatorBefore, NotLocated, locator_held, variable_meant}
+use Rattle.pli_type.specs.References.{Role, AsValue, AsArgument, AsLocator, LocatorBefore, NotLocated, locator_at, variable_meant}
 use Rattle.pli_type.specs.Typing.{first_token, how_many, or_fault, one_value}
-use Rattle.pli_type.specs.Typing.{subscript_value, Segment, OfVariable, OfFunction, OfNoVariable, is_call, with_more, ended, as_locator, named_alone, procedure_called, roles_or_none}
+use Rattle.pli_type.specs.Typing.{subscript_value, Segment, OfVariable, OfFunction, OfEmpty, OfNoVariable, is_call, with_more, ended, as_locator, named_alone, given_by, procedure_called, roles_or_none}
 use Rattle.pli_type.specs.Typing.{as_value, denoted, meant, referred, joined, begun, subscripts_in, all_subscripts, all_arguments, value_of}
 use Rattle.pli_type.specs.Unbuilt.{later_expression, later_reference, later_joined, later_arguments, later_list}
+use Rattle.pli_type.specs.declared.beginning.Beginning.{Beginning}
 use Rattle.pli_type_laws.proofs.Calls.{IsCallable, arguments_fit, result_typed}
 use Rattle.pli_type_laws.proofs.Conversions.{OnGiven}
 use Rattle.pli_type_laws.proofs.Constants.{constant_typed}
 use Rattle.pli_type_laws.proofs.Denotations.{OnRead, IsReferent, IsMeant, IsDenoted, AreArguments, denoted_meant}
 use Rattle.pli_type_laws.proofs.Functions.{calls_have_type}
 use Rattle.pli_type_laws.proofs.Operators.{HasValue, has_precision, prefix_has_type, infix_has_type}
-use Rattle.pli_type_laws.proofs.References.{read_then, IsKnown, IsLocator, AreIndices, more_indices, variable_typed}
+use Rattle.pli_type_laws.proofs.References.{read_then, IsKnown, IsLocator, located_typed, locator_kept, AreIndices, more_indices, variable_typed}
 use Rattle.pli_type_laws.specs.ExpressionTyping.{IsNumber}
 use Rattle.pli_type_tree.specs.Templates.{Template}
-use Rattle.pli_type_tree.specs.TypedTree.{TypedExpression, TypedReference}
+use Rattle.pli_type_tree.specs.TypedTree.{TypedExpression}
 use Rattle.pli_type_tree.specs.ValueTypes.{Numbers}
-use Rattle.pli_type_tree.specs.WellTyped.{TypingContext, IsTyped, IsPlaced, ArePassed}
+use Rattle.pli_type_tree.specs.WellTyped.{TypingContext, IsTyped, ArePassed}
 use Rattle.pli_value.specs.declared.locator.Locator.TheVariants as locators
 
 pub or_parts : (a b : Bool) → (a || b) ≡ false → (a ≡ false) × (b ≡ false)
@@ -47,6 +47,7 @@ IsMeaning s other = Unit {0}
 abbrev pub IsSegment : TypingContext → Segment → Type 0
 IsSegment s (OfVariable locator at v xs) = IsKnown s v × AreIndices s xs × IsLocator s locator
 IsSegment s (OfFunction v) = HasValue s v
+IsSegment s OfEmpty = Unit {0}
 IsSegment s (OfNoVariable at) = Unit {0}
 
 pub read_option : {A : Type 0} (P : A → Type 0) (code : Code) (at : ℕ) (o : Option A) → OnGiven P o
@@ -69,43 +70,50 @@ module _ (s : TypingContext) where
       → IsSegment s (with_more g ys)
   more_segment (OfVariable locator at v xs) ys h k = (h.0, more_indices s xs ys h.1 k, h.2)
   more_segment (OfFunction v) ys h k = h
+  more_segment OfEmpty ys h k = tt
   more_segment (OfNoVariable at) ys h k = tt
 
   -- what stands in front of an arrow
-  held_locator : (r : TypedReference) (d : Description) → IsPlaced 31 s r d → IsLocator s (locator_held r d)
-  held_locator r Pointer placed = (Pointer, placed, refl)
-  held_locator r d placed = tt
-
   locator_typed : (d : Denoted) → IsDenoted s d → IsLocator s (as_locator d)
-  locator_typed (DenotesVariable r) h = held_locator r.reference r.description h.0
+  locator_typed (DenotesVariable r) h =
+      located_typed s (locator_at r.reference r.description r.area) (locator_kept s r.reference r.description r.area h.0 h.3)
   locator_typed (DenotesResult v) h = tt
+  locator_typed DenotesEmpty h = tt
 
-  -- NULL without parentheses
+  -- NULL and EMPTY without parentheses
   alone_typed : (at : ℕ) (function : BuiltInFunction) → IsSegment s (named_alone at function)
   alone_typed at functions.Null = (locators.Null, refl, refl)
+  alone_typed at functions.Empty = tt
   alone_typed at function = tt
+
+  -- what a function gives
+  given_typed : (function : BuiltInFunction) (v : TypedValue) → HasValue s v → IsSegment s (given_by function v)
+  given_typed functions.Empty v h = tt
+  given_typed function v h = h
 
   ended_typed : (role : Role) (g : Segment) → IsSegment s g → OnRead (IsDenoted s) (ended role g)
   ended_typed role (OfVariable locator at v xs) h =
       read_then (IsReferent s) (IsDenoted s) (variable_meant role locator at v xs) _
       (variable_typed s role locator h.2 at v h.0 xs h.1) (λ r g. g)
   ended_typed role (OfFunction v) h = h
+  ended_typed role OfEmpty h = tt
   ended_typed role (OfNoVariable at) h = tt
 
+module _ (is_based : ℕ → Bool) (based : ℕ → List Template) (areas : ℕ → Option Beginning) (meaning : ℕ → NamedAs) (s : TypingContext)
+    (known : (at : ℕ) → IsMeaning s (meaning at)) where
+  abbrev pub N : Naming
+  N = record { greatest = 31; based = based; returned_area = areas; meaning = meaning }
+
+  abbrev pub C : Compiled
+  C = record { greatest = 31; is_based = is_based }
+
   procedure_typed : (p : NamedProcedure) → IsCallable s p → (at : ℕ) (gs : List Argument) → AreArguments s gs
-      → OnRead (IsSegment s) (procedure_called 31 p at gs)
+      → OnRead (IsSegment s) (procedure_called N p at gs)
   procedure_typed p callable at gs h =
       read_then (λ xs. ArePassed 31 s xs p.parameters) (IsSegment s) (arguments_passed 31 p at gs) _
       (arguments_fit s p at gs h)
-      (λ xs fit. read_then (HasValue s) (IsSegment s) (result_of at p.callee xs (type_returned p.returned)) _
+      (λ xs fit. read_then (HasValue s) (IsSegment s) (result_of at p.callee xs (type_returned p.area p.returned)) _
       (result_typed s p callable xs fit at) (λ v k. k))
-
-module _ (is_later is_based : ℕ → Bool) (based : ℕ → List Template) (meaning : ℕ → NamedAs) (s : TypingContext) (known : (at : ℕ) → IsMeaning s (meaning at)) where
-  abbrev pub N : Naming
-  N = record { greatest = 31; based = based; meaning = meaning }
-
-  abbrev pub C : Compiled
-  C = record { greatest = 31; is_later = is_later; is_based = is_based }
 
   pub value_read : (at : ℕ) (r : Result Denoted Fault) → OnRead (IsDenoted s) r → OnRead (HasValue s) (as_value at r)
   value_read at r h =
@@ -139,28 +147,26 @@ module _ (is_later is_based : ℕ → Bool) (based : ℕ → List Template) (mea
     pub referred_typed : (role : Role) (r : Reference) → later_reference C r ≡ false
         → OnRead (IsDenoted s) (referred N role r)
     referred_typed role (Named name arguments more) l =
-        let parts : (_ ≡ false) × (later_joined C more ≡ false) = or_parts _ _ l in
+        let parts : (later_arguments C arguments ≡ false) × (later_joined C more ≡ false) = or_parts _ _ l in
         read_then (IsSegment s) (IsDenoted s)
         (begun N (meaning name.at) (is_call role false more) NotLocated name.at arguments) _
-        (begun_typed (meaning name.at) (known name.at) (is_call role false more) NotLocated tt name.at arguments
-        ((or_parts _ _ parts.0).1))
+        (begun_typed (meaning name.at) (known name.at) (is_call role false more) NotLocated tt name.at arguments parts.0)
         (λ g h. joined_typed role g h more parts.1)
 
     joined_typed : (role : Role) (g : Segment) → IsSegment s g → (more : JoinedParts) → later_joined C more ≡ false
         → OnRead (IsDenoted s) (joined N role g more)
     joined_typed role g h Alone l = ended_typed s role g h
     joined_typed role g h (Joined Member name arguments more) l =
-        let parts : (_ ≡ false) × (later_joined C more ≡ false) = or_parts _ _ l in
-        read_then (AreIndices s) (IsDenoted s) (subscripts_in N arguments) _
-        (subscripts_typed arguments ((or_parts _ _ parts.0).1))
+        let parts : (later_arguments C arguments ≡ false) × (later_joined C more ≡ false) = or_parts _ _ l in
+        read_then (AreIndices s) (IsDenoted s) (subscripts_in N arguments) _ (subscripts_typed arguments parts.0)
         (λ xs k. joined_typed role (with_more g xs) (more_segment s g xs h k) more parts.1)
     joined_typed role g h (Joined Located name arguments more) l =
-        let parts : (_ ≡ false) × (later_joined C more ≡ false) = or_parts _ _ l in
+        let parts : (later_arguments C arguments ≡ false) × (later_joined C more ≡ false) = or_parts _ _ l in
         read_then (IsDenoted s) (IsDenoted s) (ended AsLocator g) _ (ended_typed s AsLocator g h)
         (λ locator k. read_then (IsSegment s) (IsDenoted s)
         (begun N (meaning name.at) (is_call role true more) (as_locator locator) name.at arguments) _
         (begun_typed (meaning name.at) (known name.at) (is_call role true more) (as_locator locator) (locator_typed s locator k) name.at arguments
-        ((or_parts _ _ parts.0).1))
+        parts.0)
         (λ t u. joined_typed role t u more parts.1))
 
     begun_typed : (a : NamedAs) → IsMeaning s a → (call : Bool) (locator : LocatorBefore) → IsLocator s locator → (at : ℕ) (arguments : Arguments)
@@ -175,10 +181,10 @@ module _ (is_later is_based : ℕ → Bool) (based : ℕ → List Template) (mea
         (list_typed (roles_or_none (roles_of function (how_many list))) list l)
         (λ gs h. read_then (HasValue s) (IsSegment s)
         (function_called 31 function at (roles_of function (how_many list)) gs) _
-        (calls_have_type s function at (roles_of function (how_many list)) gs h) (λ v g. g))
+        (calls_have_type s function at (roles_of function (how_many list)) gs h) (λ v g. given_typed s function v g))
     begun_typed (AProcedure p) k true locator located at (Given list) l =
         read_then (AreArguments s) (IsSegment s) (all_arguments N [] list) _ (list_typed [] list l)
-        (λ gs h. procedure_typed s p k at gs h)
+        (λ gs h. procedure_typed p k at gs h)
     begun_typed a k call locator located at (Given list) l =
         read_then (AreArguments s) (IsSegment s) (all_arguments N [] list) _ (list_typed [] list l) (λ gs h. tt)
     begun_typed a k call locator located at Absent l = tt

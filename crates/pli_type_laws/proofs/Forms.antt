@@ -1,5 +1,5 @@
 -- Forms without statements in them are typed as the meaning of typed trees asks.
-use Rattle.std.specs.Prelude.{◌≡◌, ℕ, Bool, true, false, not, ◌&&◌, Option, Some, None, is_none, option_map, List, [], ◌∷◌, slice_get}
+use Rattle.std.specs.Prelude.{◌≡◌, ℕ, Bool, true, false, not, ◌&&◌, Option, Some, None, is_none, option_map, option_and_then, List, [], ◌∷◌, slice_get}
 use Rattle.std.specs.Prelude.{Result, Ok, Err, refl, if◌then◌else◌}
 use Rattle.std.specs.List.{list_any}
 use Rattle.std.proofs.Common.{sym, subst, ◌∙◌}
@@ -7,7 +7,7 @@ use Rattle.std.proofs.lemmas.Bool.{false≢true}
 use Rattle.pli_base.specs.Reading.{at_fault}
 use Rattle.pli_base.specs.Statements as tree
 use Rattle.pli_base.specs.Statements.{Range}
-use Rattle.pli_base.specs.Syntax.{Expression, Referred, Reference, Arguments, Absent, Given}
+use Rattle.pli_base.specs.Syntax.{Expression, Reference, Arguments, Absent, Given}
 use Rattle.pli_base.specs.declared.code.Code.TheVariants.{WrongOperandType, CannotAssign, CannotPrint, WrongReturn, NotYetBuilt}
 use Rattle.pli_base.specs.declared.syntax.Identifier.{Identifier}
 use Rattle.pli_base.specs.declared.token.Fault.{Fault}
@@ -15,35 +15,39 @@ use Rattle.pli_map.specs.Description.{Description, Array, Structure}
 use Rattle.pli_map.specs.Same.{same}
 use Rattle.pli_map.specs.laws.SameLaws.{same_decides}
 use Rattle.pli_map.specs.Scalars.{is_aggregate, is_area}
-use Rattle.pli_type.specs.ExpressionTypes.{TypedValue, precision_of, converted, conversions, printed}
-use Rattle.pli_type.specs.FunctionCalls.{Denoted, DenotesVariable, DenotesResult, Meant, OneValue, WholeAggregate, Argument}
+use Rattle.pli_type.specs.Beginnings.{area_meant, whole_at}
+use Rattle.pli_type.specs.ExpressionTypes.{TypedValue, precision_of, converted, conversion, unconverted, printed}
+use Rattle.pli_type.specs.FunctionCalls.{Denoted, DenotesVariable, DenotesResult, DenotesEmpty, area_of, Meant, OneValue, WholeAggregate, Argument}
 use Rattle.pli_type.specs.Names.{NamedAs, AProcedure, ALabel, NamedProcedure, Naming, Compiled}
 use Rattle.pli_type.specs.ProcedureCalls.{arguments_passed}
-use Rattle.pli_type.specs.References.{AsArgument, AsLocator, AsTarget, Referent}
-use Rattle.pli_type.specs.StatementTyping.{aggregate_assigned, scalar_assigned, assigned, assignment, truth_of, condition, item, items}
-use Rattle.pli_type.specs.StatementTyping.{Surroundings, label_found, jump_to, jump, goto_typed, arguments_typed, no_function, call_of}
-use Rattle.pli_type.specs.StatementTyping.{call_typed, returned_value, return_typed, number_of, limit, possible_limit, limits}
+use Rattle.pli_type.specs.References.{AsArgument, AsLocator, AsTarget, AsValue, Referent}
+use Rattle.pli_type.specs.StatementTyping.{aggregate_assigned, scalar_assigned, area_put, area_assigned, variable_assigned, assigned, assignment, truth_of, condition, item, items}
+use Rattle.pli_type.specs.StatementTyping.{Enclosing, Surroundings, label_found, jump_to, jump, goto_typed, arguments_typed, no_function, call_of}
+use Rattle.pli_type.specs.StatementTyping.{call_typed, area_here, returned_value, return_typed, number_of, limit, possible_limit, limits}
 use Rattle.pli_type.specs.StatementTyping.{without_subscripts, has_locator, suits_range, controls, possible_condition, next_value, with_repeat}
 use Rattle.pli_type.specs.StatementTyping.{iteration}
-use Rattle.pli_type.specs.Typing.{first_token, or_fault, meant, referred, value_of}
+use Rattle.pli_type.specs.Typing.{first_token, own_token, or_fault, denoted, meant, referred, value_of}
 use Rattle.pli_type.specs.Unbuilt.{later_expression, later_reference, later_arguments, later_part, later_range, later_control}
+use Rattle.pli_type.specs.declared.beginning.Beginning.{Beginning}
 use Rattle.pli_type.specs.declared.expression_type.ExpressionType.{ExpressionType}
 use Rattle.pli_type.specs.declared.expression_type.ExpressionType.TheVariants as types
 use Rattle.pli_type_laws.proofs.Calls.{IsCallable, arguments_fit, gives}
 use Rattle.pli_type_laws.proofs.Conversions.{OnGiven, IsItem, conversion_held, printing_held}
 use Rattle.pli_type_laws.proofs.Denotations.{OnRead, IsReferent, IsMeant, IsDenoted, AreArguments}
-use Rattle.pli_type_laws.proofs.Expressions.{IsMeaning, N, C, or_parts, read_option, meant_typed, referred_typed, value_typed}
+use Rattle.pli_type_laws.proofs.Expressions.{IsMeaning, N, C, or_parts, read_option, denoted_typed, meant_typed, referred_typed, value_typed}
 use Rattle.pli_type_laws.proofs.Expressions.{list_typed}
+use Rattle.pli_type_laws.proofs.Functions.{area_typed, area_given}
 use Rattle.pli_type_laws.proofs.Iterations.{Converts, conversions_hold, AreLimits, limits_range}
 use Rattle.pli_type_laws.proofs.Operators.{HasValue, has_precision}
 use Rattle.pli_type_laws.proofs.References.{read_then}
 use Rattle.pli_type_laws.specs.ExpressionTyping as Near
 use Rattle.pli_type_laws.specs.ExpressionTyping.{HasType}
+use Rattle.pli_type_name_laws.specs.NameFacts.{IsAreaNamed}
 use Rattle.pli_type_tree.specs.Templates.{Template}
 use Rattle.pli_type_tree.specs.TypedTree as typed
-use Rattle.pli_type_tree.specs.TypedTree.{TypedOperation, TypedExpression, TypedReference, TypedArguments, TypedRange, Form}
+use Rattle.pli_type_tree.specs.TypedTree.{TypedExpression, TypedArguments, Conversion, TypedRange, Form}
 use Rattle.pli_type_tree.specs.ValueTypes.{StringKind, OfBits}
-use Rattle.pli_type_tree.specs.WellTyped.{TypingContext, IsPlaced, ArePassed, IsValueFor, IsString, AreItems, IsNumber}
+use Rattle.pli_type_tree.specs.WellTyped.{TypingContext, IsPlaced, IsAreaReference, ArePassed, IsValueFor, IsString, AreItems, IsNumber}
 use Rattle.pli_type_tree.specs.WellTyped.{IsPossibleNumber, IsRange, IsPossibleCondition, IsIteration, knows_label, IsTypedForm}
 
 module _ (s : TypingContext) where
@@ -82,23 +86,37 @@ module _ (s : TypingContext) where
       )
       by false e = tt
 
-module _ (is_later is_based : ℕ → Bool) (based : ℕ → List Template) (meaning : ℕ → NamedAs) (s : TypingContext) (known : (at : ℕ) → IsMeaning s (meaning at)) where
+  -- to an area another one, or EMPTY
+  source_put : (target : Beginning) → IsAreaReference 31 s (whole_at target) → (o : Option Beginning) → IsAreaNamed 31 s o
+      → OnGiven (IsTypedForm 31 s) (option_map (λ source. typed.AssignArea (whole_at target) (whole_at source)) o)
+  source_put target h (Some source) k = (h, k)
+  source_put target h None k = tt
+
+  area_put_typed : (target : Option Beginning) → IsAreaNamed 31 s target → (d : Denoted) → IsDenoted s d
+      → OnGiven (IsTypedForm 31 s) (area_put target d)
+  area_put_typed None h d k = tt
+  area_put_typed (Some target) h DenotesEmpty k = h
+  area_put_typed (Some target) h (DenotesVariable r) k = source_put target h (area_of (DenotesVariable r)) (area_given s (DenotesVariable r) k)
+  area_put_typed (Some target) h (DenotesResult v) k = tt
+
+module _ (is_based : ℕ → Bool) (based : ℕ → List Template) (areas : ℕ → Option Beginning) (meaning : ℕ → NamedAs) (s : TypingContext)
+    (known : (at : ℕ) → IsMeaning s (meaning at)) where
   abbrev M : Naming
-  M = N is_later is_based based meaning s known
+  M = N is_based based areas meaning s known
 
   abbrev L : Compiled
-  L = C is_later is_based based meaning s known
+  L = C is_based based areas meaning s known
 
   pub condition_typed : (e : Expression) → later_expression L e ≡ false
       → OnRead (IsString 31 s OfBits) (condition M e)
   condition_typed e l =
-      read_then (HasValue s) (IsString 31 s OfBits) (value_of M e) _ (value_typed is_later is_based based meaning s known e l)
+      read_then (HasValue s) (IsString 31 s OfBits) (value_of M e) _ (value_typed is_based based areas meaning s known e l)
       (λ v h. read_option (IsString 31 s OfBits) WrongOperandType (first_token e) (truth_of v)
       (truth_typed s v.expression v.kind h))
 
   item_typed : (e : Expression) → later_expression L e ≡ false → OnRead (IsPrinted s) (item M e)
   item_typed e l =
-      read_then (HasValue s) (IsPrinted s) (value_of M e) _ (value_typed is_later is_based based meaning s known e l)
+      read_then (HasValue s) (IsPrinted s) (value_of M e) _ (value_typed is_based based areas meaning s known e l)
       (λ v h. read_option (IsPrinted s) CannotPrint (first_token e) (printed v)
       (printed_typed s (printed v) (printing_held s v h)))
 
@@ -110,33 +128,48 @@ module _ (is_later is_based : ℕ → Bool) (based : ℕ → List Template) (mea
       read_then (IsPrinted s) (AreItems 31 s) (item M e) _ (item_typed e parts.0)
       (λ x h. read_then (AreItems 31 s) (AreItems 31 s) (items M es) _ (items_typed es parts.1) (λ xs k. (h, k)))
 
-  scalar_typed : (equals : ℕ) (r : TypedReference) (d : Description) → IsPlaced 31 s r d → (e : Expression)
-      → later_expression L e ≡ false → OnRead (IsTypedForm 31 s) (scalar_assigned M equals r d e)
-  scalar_typed equals r d placed e l =
-      read_then (HasValue s) (IsTypedForm 31 s) (value_of M e) _ (value_typed is_later is_based based meaning s known e l)
-      (λ v h. read_then (IsValueFor 31 s d) (IsTypedForm 31 s) (or_fault CannotAssign equals (converted 31 d v)) _
-      (read_option (IsValueFor 31 s d) CannotAssign equals (converted 31 d v) (conversion_held s d v h))
-      (λ x k. (d, placed, k)))
+  scalar_typed : (equals : ℕ) (target : Referent) → IsReferent s target → (e : Expression) → later_expression L e ≡ false
+      → OnRead (IsTypedForm 31 s) (scalar_assigned M equals target e)
+  scalar_typed equals target placed e l =
+      let d : Description = target.description in
+      read_then (HasValue s) (IsTypedForm 31 s) (value_of M e) _ (value_typed is_based based areas meaning s known e l)
+      (λ v h. read_then (IsValueFor 31 s d) (IsTypedForm 31 s) (or_fault CannotAssign equals (converted 31 target.area d v)) _
+      (read_option (IsValueFor 31 s d) CannotAssign equals (converted 31 target.area d v) (conversion_held s target.area placed.3 d v h))
+      (λ x k. (d, placed.0, k)))
+
+  area_assigned_typed : (equals : ℕ) (target : Option Beginning) → IsAreaNamed 31 s target → (e : Expression) → later_expression L e ≡ false
+      → OnRead (IsTypedForm 31 s) (area_assigned M equals target e)
+  area_assigned_typed equals target h e l =
+      read_then (IsDenoted s) (IsTypedForm 31 s) (denoted M AsValue e) _ (denoted_typed is_based based areas meaning s known AsValue e l)
+      (λ d k. read_option (IsTypedForm 31 s) CannotAssign equals (area_put target d) (area_put_typed s target h d k))
 
   choice : (b : Bool) (r q : Result Form Fault) → (b ≡ true → OnRead (IsTypedForm 31 s) r) → OnRead (IsTypedForm 31 s) q
       → OnRead (IsTypedForm 31 s) (if b then r else q)
   choice true r q a b = a refl
   choice false r q a b = b
 
-  assigned_typed : (at equals : ℕ) (d : Denoted) → IsDenoted s d → (e : Expression) → later_expression L e ≡ false
-      → OnRead (IsTypedForm 31 s) (assigned M at equals d e)
-  assigned_typed at equals (DenotesVariable target) h e l =
+  variable_assigned_typed : (equals : ℕ) (target : Referent) → IsReferent s target → (e : Expression) → later_expression L e ≡ false
+      → OnRead (IsTypedForm 31 s) (variable_assigned M equals target e)
+  variable_assigned_typed equals target h e l =
       choice (is_aggregate target.description) _ _
       (λ aggregate. read_then (IsMeant s) (IsTypedForm 31 s) (meant M AsArgument e) (aggregate_assigned equals target)
-      (meant_typed is_later is_based based meaning s known AsArgument e l) (aggregate_typed s equals target aggregate h))
-      (scalar_typed equals target.reference target.description h.0 e l)
+      (meant_typed is_based based areas meaning s known AsArgument e l) (aggregate_typed s equals target aggregate h))
+      (choice (is_area target.description) _ _
+      (λ area. area_assigned_typed equals (area_meant target.reference target.description)
+      (area_typed s target.reference target.description h.0) e l)
+      (scalar_typed equals target h e l))
+
+  assigned_typed : (at equals : ℕ) (d : Denoted) → IsDenoted s d → (e : Expression) → later_expression L e ≡ false
+      → OnRead (IsTypedForm 31 s) (assigned M at equals d e)
+  assigned_typed at equals (DenotesVariable target) h e l = variable_assigned_typed equals target h e l
   assigned_typed at equals (DenotesResult v) h e l = tt
+  assigned_typed at equals DenotesEmpty h e l = tt
 
   pub assignment_typed : (at : ℕ) (target : Reference) (equals : ℕ) (e : Expression) → later_reference L target ≡ false
       → later_expression L e ≡ false → OnRead (IsTypedForm 31 s) (assignment M at target equals e)
   assignment_typed at target equals e l m =
       read_then (IsDenoted s) (IsTypedForm 31 s) (referred M AsTarget target) _
-      (referred_typed is_later is_based based meaning s known AsTarget target l) (λ d h. assigned_typed at equals d h e m)
+      (referred_typed is_based based areas meaning s known AsTarget target l) (λ d h. assigned_typed at equals d h e m)
 
   -- calls
   no_function_typed : (p : NamedProcedure) (callable : IsCallable s p) (xs : TypedArguments) → ArePassed 31 s xs p.parameters
@@ -154,7 +187,7 @@ module _ (is_later is_based : ℕ → Bool) (based : ℕ → List Template) (mea
 
   arguments_read : (a : Arguments) → later_arguments L a ≡ false → OnRead (AreArguments s) (arguments_typed M a)
   arguments_read Absent l = tt
-  arguments_read (Given list) l = list_typed is_later is_based based meaning s known [] list l
+  arguments_read (Given list) l = list_typed is_based based areas meaning s known [] list l
 
   pub call_is_typed : (name : Identifier) (a : Arguments) → later_arguments L a ≡ false
       → OnRead (IsTypedForm 31 s) (call_typed M name a)
@@ -163,25 +196,35 @@ module _ (is_later is_based : ℕ → Bool) (based : ℕ → List Template) (mea
       (λ gs h. call_of_typed name.at (meaning name.at) (known name.at) gs h)
 
   -- returns
-  module _ (su : Surroundings) (begins : s.begins ≡ su.begins) (value : s.value ≡ su.value) where
+  module _ (there : (block : ℕ) → IsAreaNamed 31 s (areas block)) (su : Surroundings) (begins : s.begins ≡ su.begins)
+      (value : s.value ≡ su.value) where
     without_value : (at : ℕ) (o : Option Description) → su.value ≡ o
         → OnRead (IsTypedForm 31 s) (if is_none o then Ok (typed.Return su.begins) else at_fault WrongReturn at)
     without_value at None e = (sym begins, value ∙ e)
     without_value at (Some d) e = tt
 
+    -- the area that RETURNS names here
+    around_there : (o : Option Enclosing) → IsAreaNamed 31 s (option_and_then (λ (b : Enclosing). areas b.number) o)
+    around_there None = tt
+    around_there (Some b) = there b.number
+
+    here_there : IsAreaNamed 31 s (area_here M su)
+    here_there = around_there (slice_get su.blocks su.begins)
+
     with_value : (at first : ℕ) (v : TypedValue) → HasValue s v → (o : Option Description) → su.value ≡ o
-        → OnRead (IsTypedForm 31 s) (returned_value 31 at first su.begins o v)
+        → OnRead (IsTypedForm 31 s) (returned_value 31 (area_here M su) at first su.begins o v)
     with_value at first v h None e = tt
     with_value at first v h (Some d) e =
-        read_then (IsValueFor 31 s d) (IsTypedForm 31 s) (or_fault CannotAssign first (converted 31 d v)) _
-        (read_option (IsValueFor 31 s d) CannotAssign first (converted 31 d v) (conversion_held s d v h))
+        let area : Option Beginning = area_here M su in
+        read_then (IsValueFor 31 s d) (IsTypedForm 31 s) (or_fault CannotAssign first (converted 31 area d v)) _
+        (read_option (IsValueFor 31 s d) CannotAssign first (converted 31 area d v) (conversion_held s area here_there d v h))
         (λ x k. (sym begins, (d, value ∙ e, k)))
 
     pub return_is_typed : (at : ℕ) (v : Option Expression) → later_part (later_expression L) v ≡ false
         → OnRead (IsTypedForm 31 s) (return_typed M su at v)
     return_is_typed at None l = without_value at su.value refl
     return_is_typed at (Some e) l =
-        read_then (HasValue s) (IsTypedForm 31 s) (value_of M e) _ (value_typed is_later is_based based meaning s known e l)
+        read_then (HasValue s) (IsTypedForm 31 s) (value_of M e) _ (value_typed is_based based areas meaning s known e l)
         (λ v h. with_value at (first_token e) v h su.value refl)
 
   -- jumps
@@ -206,7 +249,7 @@ module _ (is_later is_based : ℕ → Bool) (based : ℕ → List Template) (mea
 
   limit_typed : (e : Expression) → later_expression L e ≡ false → OnRead (IsNumber 31 s) (limit M e)
   limit_typed e l =
-      read_then (HasValue s) (IsNumber 31 s) (value_of M e) _ (value_typed is_later is_based based meaning s known e l)
+      read_then (HasValue s) (IsNumber 31 s) (value_of M e) _ (value_typed is_based based areas meaning s known e l)
       (λ v h. read_option (IsNumber 31 s) WrongOperandType (first_token e) (number_of 31 v)
       (limit_given v (precision_of 31 v.kind) (has_precision s v.expression v.kind h)))
 
@@ -235,7 +278,8 @@ module _ (is_later is_based : ℕ → Bool) (based : ℕ → List Template) (mea
   Suits range r = IsReferent s r × (suits_range r.description range ≡ true)
 
   suited : (at : ℕ) (is_located : Bool) (range : TypedRange) (r : Referent) → IsReferent s r → (b : Bool)
-      → (without_subscripts r.reference && not is_located) ≡ b → (c : Bool) → suits_range r.description range ≡ c
+      → (without_subscripts r.reference && not is_located && not (is_area r.description)) ≡ b → (c : Bool)
+      → suits_range r.description range ≡ c
       → OnRead (Suits range) (controls at is_located range (DenotesVariable r))
   suited at is_located range r h true e true f = rw (e, f) (h, f)
   suited at is_located range r h true e false f = rw (e, f) tt
@@ -245,6 +289,7 @@ module _ (is_later is_based : ℕ → Bool) (based : ℕ → List Template) (mea
       → OnRead (Suits range) (controls at is_located range d)
   controls_typed at is_located range (DenotesVariable r) h = suited at is_located range r h _ refl _ refl
   controls_typed at is_located range (DenotesResult v) h = tt
+  controls_typed at is_located range DenotesEmpty h = tt
 
   possible_condition_typed : (o : Option Expression) → later_part (later_expression L) o ≡ false
       → OnRead (IsPossibleCondition 31 s) (possible_condition M o)
@@ -252,22 +297,23 @@ module _ (is_later is_based : ℕ → Bool) (based : ℕ → List Template) (mea
   possible_condition_typed (Some e) l =
       read_then (IsString 31 s OfBits) (IsPossibleCondition 31 s) (condition M e) _ (condition_typed e l) (λ x h. h)
 
-  next_typed : (d : Description) (operations : List TypedOperation) (e : Expression) → later_expression L e ≡ false
-      → OnRead (IsRange 31 s operations d) (next_value M d e)
-  next_typed d operations e l =
-      read_then (HasValue s) (IsRange 31 s operations d) (value_of M e) _ (value_typed is_later is_based based meaning s known e l)
-      (λ v h. read_then (IsValueFor 31 s d) (IsRange 31 s operations d)
-      (or_fault CannotAssign (first_token e) (converted 31 d v)) _
-      (read_option (IsValueFor 31 s d) CannotAssign (first_token e) (converted 31 d v) (conversion_held s d v h))
+  next_typed : (r : Referent) → IsReferent s r → (c : Conversion) (e : Expression) → later_expression L e ≡ false
+      → OnRead (IsRange 31 s c r.description) (next_value M r e)
+  next_typed r placed c e l =
+      let d : Description = r.description in
+      read_then (HasValue s) (IsRange 31 s c d) (value_of M e) _ (value_typed is_based based areas meaning s known e l)
+      (λ v h. read_then (IsValueFor 31 s d) (IsRange 31 s c d)
+      (or_fault CannotAssign (first_token e) (converted 31 r.area d v)) _
+      (read_option (IsValueFor 31 s d) CannotAssign (first_token e) (converted 31 r.area d v) (conversion_held s r.area placed.3 d v h))
       (λ x k. k))
 
-  turns_typed : (d : Description) (operations : List TypedOperation) (kept : TypedRange) (range : Option Range)
-      → later_part (later_range L) range ≡ false → IsRange 31 s operations d kept
-      → OnRead (IsRange 31 s operations d) (with_repeat M d kept range)
-  turns_typed d operations kept (Some (tree.Repeat next)) l h = next_typed d operations next l
-  turns_typed d operations kept (Some (tree.To to by)) l h = h
-  turns_typed d operations kept (Some (tree.By by to)) l h = h
-  turns_typed d operations kept None l h = h
+  turns_typed : (r : Referent) → IsReferent s r → (c : Conversion) (kept : TypedRange) (range : Option Range)
+      → later_part (later_range L) range ≡ false → IsRange 31 s c r.description kept
+      → OnRead (IsRange 31 s c r.description) (with_repeat M r kept range)
+  turns_typed r placed c kept (Some (tree.Repeat next)) l h = next_typed r placed c next l
+  turns_typed r placed c kept (Some (tree.To to by)) l h = h
+  turns_typed r placed c kept (Some (tree.By by to)) l h = h
+  turns_typed r placed c kept None l h = h
 
   pub iteration_typed : (temporary : ℕ) (variable : Reference) (equals : ℕ) (first : Expression) (range : Option Range)
       (tested : Option Expression) → later_control L (tree.Iterate variable equals first range tested) ≡ false
@@ -276,20 +322,20 @@ module _ (is_later is_based : ℕ → Bool) (based : ℕ → List Template) (mea
       let front : (_ ≡ false) × (later_part (later_expression L) tested ≡ false) = or_parts _ _ l in
       let inner : (_ ≡ false) × (later_part (later_range L) range ≡ false) = or_parts _ _ front.0 in
       let both : (later_reference L variable ≡ false) × (later_expression L first ≡ false) = or_parts _ _ inner.0 in
-      read_then (HasValue s) (IsIteration 31 s) (value_of M first) _ (value_typed is_later is_based based meaning s known first both.1)
+      read_then (HasValue s) (IsIteration 31 s) (value_of M first) _ (value_typed is_based based areas meaning s known first both.1)
       (λ v h. read_then (AreLimits s) (IsIteration 31 s) (limits M range) _ (limits_typed range inner.1)
       (λ kept k. read_then (IsDenoted s) (IsIteration 31 s) (referred M AsLocator variable) _
-      (referred_typed is_later is_based based meaning s known AsLocator variable both.0)
-      (λ d g. read_then (Suits kept) (IsIteration 31 s) (controls (first_token (Referred variable)) (has_locator variable) kept d) _
-      (controls_typed (first_token (Referred variable)) (has_locator variable) kept d g)
-      (λ r m. read_then (Converts s r.description v.expression) (IsIteration 31 s)
-      (or_fault CannotAssign equals (conversions 31 r.description v.kind)) _
-      (read_option (Converts s r.description v.expression) CannotAssign equals (conversions 31 r.description v.kind)
-      (conversions_hold s r.description v.expression v.kind h))
-      (λ operations c. read_then (IsPossibleCondition 31 s) (IsIteration 31 s) (possible_condition M tested) _
+      (referred_typed is_based based areas meaning s known AsLocator variable both.0)
+      (λ d g. read_then (Suits kept) (IsIteration 31 s) (controls (own_token variable) (has_locator variable) kept d) _
+      (controls_typed (own_token variable) (has_locator variable) kept d g)
+      (λ r m. read_then (Converts s r.description (unconverted r.description v)) (IsIteration 31 s)
+      (or_fault CannotAssign equals (conversion 31 r.area r.description v.kind)) _
+      (read_option (Converts s r.description (unconverted r.description v)) CannotAssign equals (conversion 31 r.area r.description v.kind)
+      (conversions_hold s r.area m.0.3 r.description v h))
+      (λ converts c. read_then (IsPossibleCondition 31 s) (IsIteration 31 s) (possible_condition M tested) _
       (possible_condition_typed tested front.1)
-      (λ x w. read_then (IsRange 31 s operations r.description) (IsIteration 31 s)
-      (with_repeat M r.description kept range) _
-      (turns_typed r.description operations kept range inner.1
-      (limits_range s r.description operations kept c.1 m.1 k))
+      (λ x w. read_then (IsRange 31 s converts r.description) (IsIteration 31 s)
+      (with_repeat M r kept range) _
+      (turns_typed r m.0 converts kept range inner.1
+      (limits_range s r.description converts kept c.1 m.1 k))
       (λ turns t. (r.description, m.0.0, c.0, t, w))))))))

@@ -3,7 +3,7 @@ use Rattle.std.specs.Prelude.{◌≡◌, ℕ, zero, suc, ◌-◌, ◌≤◌, max
 use Rattle.std.specs.Prelude.{Option, Some, None, option_map, option_and_then, List, [], ◌∷◌, slice_get, refl, if◌then◌else◌}
 use Rattle.std.proofs.Common.{arith}
 use Rattle.std.proofs.lemmas.Bool.{and_parts, leb-true, false≢true}
-use Rattle.pli_map.specs.Description.{Description, Array}
+use Rattle.pli_map.specs.Description.{Description, Area, Array}
 use Rattle.pli_map.specs.declared.description.Bounds.{Bounds}
 use Rattle.pli_operation.specs.declared.operation.Operation.{Operation}
 use Rattle.pli_operation.specs.declared.operation.Operation.TheVariants.{Absolute, Sign, LengthOf, Greatest, Least, Modulo, Divide, Index, Rest, Substring}
@@ -11,21 +11,25 @@ use Rattle.pli_resolve.specs.declared.built_in.BuiltInFunction.{BuiltInFunction}
 use Rattle.pli_resolve.specs.declared.built_in.BuiltInFunction.TheVariants as functions
 use Rattle.pli_type.specs.ExpressionTypes.{TypedValue, precision_of, precisions, all_operands}
 use Rattle.pli_type.specs.FunctionCalls.{Meant, OneValue, WholeAggregate, meant_as, Argument, calculation, of_values, string_kind, with_number, of_one_kind}
-use Rattle.pli_type.specs.FunctionCalls.{Denoted, DenotesVariable, DenotesResult, a_count, number_type, bound_value, bound_in, the_bound, generations_in, generations_of, address_in, address_of, value_in, values_in}
-use Rattle.pli_type.specs.FunctionCalls.{divided, of_arguments, or_bad_argument, function_called}
-use Rattle.pli_type.specs.NamedUnits.{is_plain, are_bounds}
+use Rattle.pli_type.specs.Beginnings.{area_meant, whole_at}
+use Rattle.pli_type.specs.FunctionCalls.{Denoted, DenotesVariable, DenotesResult, DenotesEmpty, a_count, number_type, bound_value, bound_in, the_bound, generations_in, generations_of, address_in, address_of, value_in, values_in}
+use Rattle.pli_type.specs.FunctionCalls.{area_of, offset_within, pointer_within, located_within, divided, of_arguments, or_bad_argument, function_called}
+use Rattle.pli_type.specs.NamedUnits.{may_stand, are_bounds}
 use Rattle.pli_type.specs.References.{Role}
+use Rattle.pli_type.specs.declared.beginning.Beginning.{Beginning}
 use Rattle.pli_type.specs.declared.expression_type.ExpressionType.{ExpressionType}
 use Rattle.pli_type.specs.declared.expression_type.ExpressionType.TheVariants as types
 use Rattle.pli_type_laws.proofs.Conversions.{OnGiven, given_if}
 use Rattle.pli_type_laws.proofs.Denotations.{OnRead, IsOfWhole, IsMeant, IsDenoted, AreArguments, denoted_meant}
 use Rattle.pli_type_laws.proofs.Operators.{HasValue, has_precision, have_precisions, of_one, of_two, AreNumbers}
 use Rattle.pli_type_laws.specs.ExpressionTyping.{HasType, IsNumber}
+use Rattle.pli_type_name_laws.specs.NameFacts.{IsAreaNamed}
+use Rattle.pli_type_name_laws.proofs.AreasNamed.{root_named}
 use Rattle.pli_program.specs.declared.kind.VariableKind.TheVariants.{Controlled}
 use Rattle.pli_type_tree.specs.laws.GlobalLaws.{described_parts}
 use Rattle.pli_type_tree.specs.TypedTree.{NewestOf, Operate, TypedExpression, Calculated, TypedReference, Whole}
 use Rattle.pli_type_tree.specs.ValueTypes.{ValueType, Numbers, OfCharacters, OfBits, Computes}
-use Rattle.pli_type_tree.specs.WellTyped.{TypingContext, IsTyped, IsPlaced}
+use Rattle.pli_type_tree.specs.WellTyped.{TypingContext, IsTyped, IsPlaced, IsAreaReference}
 use Rattle.pli_value.specs.declared.locator.Locator.TheVariants as locators
 
 abbrev pub AreValues : TypingContext → List TypedValue → Type 0
@@ -211,7 +215,7 @@ module _ (s : TypingContext) where
   abbrev GivesSmall : (Bounds → ℤ) → Type 0
   GivesSmall which = (bs : List Bounds) → are_bounds bs ≡ true → BoundsAreSmall which bs
 
-  bound_within : (which : Bounds → ℤ) → GivesSmall which → (number : ℕ) (d : Description) → IsTrue (is_plain 31 d)
+  bound_within : (which : Bounds → ℤ) → GivesSmall which → (number : ℕ) (d : Description) → IsTrue (may_stand 31 d)
       → OnGiven (HasValue s) (bound_in which number d)
   bound_within which small number (Array [] element) plain = absurd (false≢true plain)
   bound_within which small number (Array (b ∷ bs) element) plain =
@@ -235,6 +239,7 @@ module _ (s : TypingContext) where
   generations_given : (d : Denoted) → IsDenoted s d → OnGiven (HasValue s) (generations_of d)
   generations_given (DenotesVariable r) h = generations_typed r.reference r.description h.0
   generations_given (DenotesResult v) h = tt
+  generations_given DenotesEmpty h = tt
 
   -- pointers to variables
   address_typed : (passed : Bool) (r : TypedReference) (d : Description) → IsPlaced 31 s r d → (passed ≡ false → IsOfWhole s r)
@@ -245,6 +250,37 @@ module _ (s : TypingContext) where
   address_given : (d : Denoted) → IsDenoted s d → OnGiven (HasValue s) (address_of d)
   address_given (DenotesVariable r) h = address_typed r.is_parameter r.reference r.description h.0 h.2
   address_given (DenotesResult v) h = tt
+  address_given DenotesEmpty h = tt
+
+  -- locators in areas
+  pub area_typed : (r : TypedReference) (d : Description) → IsPlaced 31 s r d → IsAreaNamed 31 s (area_meant r d)
+  area_typed (Whole root) (Area bytes) placed = root_named 31 s root (Area bytes) refl placed
+  area_typed r d placed = tt
+
+  pub area_given : (d : Denoted) → IsDenoted s d → IsAreaNamed 31 s (area_of d)
+  area_given (DenotesVariable r) h = area_typed r.reference r.description h.0
+  area_given (DenotesResult v) h = tt
+  area_given DenotesEmpty h = tt
+
+  -- what makes something of a locator in an area
+  abbrev MakesLocator : ((area : Beginning) → TypedExpression → ExpressionType → Option TypedValue) → Type 0
+  MakesLocator make =
+      (area : Beginning) → IsAreaReference 31 s (whole_at area) → (e : TypedExpression) (kind : ExpressionType) → HasType s e kind
+      → OnGiven (HasValue s) (make area e kind)
+
+  offset_makes : MakesLocator offset_within
+  offset_makes area there e (types.Offset other) h = (h.0, there, refl)
+  offset_makes area there e kind h = tt
+
+  pointer_makes : MakesLocator pointer_within
+  pointer_makes area there e types.Pointer h = ((h, there, refl), tt)
+  pointer_makes area there e types.Null h = ((h, there, refl), tt)
+  pointer_makes area there e kind h = tt
+
+  located_typed : (make : (area : Beginning) → TypedExpression → ExpressionType → Option TypedValue) → MakesLocator make → (m : Meant)
+      (o : Option Beginning) → IsMeant s m → IsAreaNamed 31 s o → OnGiven (HasValue s) (located_within make m o)
+  located_typed make makes (OneValue v) (Some area) h there = makes area there v.expression v.kind h
+  located_typed make makes m o h there = tt
 
   -- arguments that are values
   one_value_in : (m : Meant) → IsMeant s m → OnGiven (HasValue s) (value_in m)
@@ -285,6 +321,13 @@ module _ (s : TypingContext) where
   arguments_give functions.Allocation (a ∷ []) h = generations_given a.denoted h.0
   arguments_give functions.Address (a ∷ []) h = address_given a.denoted h.0
   arguments_give functions.Null [] h = (locators.Null, refl, refl)
+  arguments_give functions.Empty [] h = tt
+  arguments_give functions.Pointer (o ∷ a ∷ []) h =
+      located_typed offset_within offset_makes (meant_as o.denoted) (area_of a.denoted) (denoted_meant s o.denoted h.0)
+      (area_given a.denoted h.1.0)
+  arguments_give functions.Offset (p ∷ a ∷ []) h =
+      located_typed pointer_within pointer_makes (meant_as p.denoted) (area_of a.denoted) (denoted_meant s p.denoted h.0)
+      (area_given a.denoted h.1.0)
   arguments_give function gs h = by_values function gs h
 
   or_bad : (at : ℕ) (o : Option TypedValue) → OnGiven (HasValue s) o → OnRead (HasValue s) (or_bad_argument at o)

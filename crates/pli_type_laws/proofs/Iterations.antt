@@ -3,47 +3,48 @@ use Rattle.std.specs.Prelude.{◌≡◌, ℕ, true, Option, Some, None, option_m
 use Rattle.std.proofs.lemmas.Bool.{false≢true}
 use Rattle.pli_map.specs.Description as described
 use Rattle.pli_map.specs.Description.{Description}
-use Rattle.pli_type.specs.ExpressionTypes.{string_conversions, pointer_conversions, conversions, columns, decimal_digits}
+use Rattle.pli_type.specs.ExpressionTypes.{TypedValue, string_conversions, pointer_conversion, offset_conversion, conversion, null_as_offset, unconverted, columns, decimal_digits}
 use Rattle.pli_type.specs.StatementTyping.{suits_range}
+use Rattle.pli_type.specs.declared.beginning.Beginning.{Beginning}
 use Rattle.pli_type.specs.declared.expression_type.ExpressionType.{ExpressionType}
 use Rattle.pli_type.specs.declared.expression_type.ExpressionType.TheVariants as types
-use Rattle.pli_type_laws.proofs.Conversions.{OnGiven, within_self}
+use Rattle.pli_type_laws.proofs.Conversions.{OnGiven, within_self, null_offset_typed}
 use Rattle.pli_type_laws.proofs.Widths.{near_has_columns}
 use Rattle.pli_type_laws.specs.ExpressionTyping.{HasType}
-use Rattle.pli_type_tree.specs.TypedTree.{TypedOperation, Fit, TypedExpression, TypedRange, Once, ToBy, ByTo, Repeated}
-use Rattle.pli_type_tree.specs.ValueTypes.{ValueType, Numbers, Strings, Pointers, OfCharacters, OfBits, type_held, IsFitted}
-use Rattle.pli_type_tree.specs.WellTyped.{TypingContext, IsTyped, Convert, Counts, IsNumber, IsPossibleNumber, IsRange}
-
--- a number counts, whatever the number is that is converted to it
-abbrev pub CountsIf : Description → List TypedOperation → Type 0
-CountsIf (described.FixedBinary q) operations = Counts 31 operations (described.FixedBinary q)
-CountsIf other operations = Unit {0}
+use Rattle.pli_type_name_laws.specs.NameFacts.{IsAreaNamed}
+use Rattle.pli_type_tree.specs.TypedTree.{TypedOperation, Fit, TypedExpression, Conversion, ByOperations, TypedRange, Once, ToBy, ByTo, Repeated}
+use Rattle.pli_type_tree.specs.ValueTypes.{ValueType, Numbers, Strings, Pointers, Offsets, OfCharacters, OfBits, type_held, IsFitted}
+use Rattle.pli_type_tree.specs.WellTyped.{TypingContext, IsTyped, Convert, IsConversion, Counts, IsNumber, IsPossibleNumber, IsRange}
 
 last : (d : Description) (t u : ValueType) → IsFitted d t → type_held d ≡ Some u → Convert 31 (Fit d ∷ []) t d
 last d t u fits held = (u, (t, refl, fits, held), (u, held, within_self u))
 
 module _ (s : TypingContext) where
-  abbrev pub Converts : Description → TypedExpression → List TypedOperation → Type 0
-  Converts d e operations =
-      ((t : ValueType) × IsTyped 31 s e t × Convert 31 operations t d) × CountsIf d operations
+  -- a number counts, whatever the number is that is converted to it
+  abbrev pub CountsIf : Description → Conversion → Type 0
+  CountsIf (described.FixedBinary q) c = Counts 31 s c (described.FixedBinary q)
+  CountsIf other c = Unit {0}
 
-  numbers_convert : (p : ℕ) (e : TypedExpression) (kind : ExpressionType) → HasType s e kind
-      → OnGiven (Converts (described.FixedBinary p) e) (conversions 31 (described.FixedBinary p) kind)
-  numbers_convert p e (types.FixedDecimal digits) h = (
+  abbrev pub Converts : Description → TypedExpression → Conversion → Type 0
+  Converts d e c = ((t : ValueType) × IsTyped 31 s e t × IsConversion 31 s c t d) × CountsIf d c
+
+  numbers_convert : (area : Option Beginning) (p : ℕ) (e : TypedExpression) (kind : ExpressionType) → HasType s e kind
+      → OnGiven (Converts (described.FixedBinary p) e) (conversion 31 area (described.FixedBinary p) kind)
+  numbers_convert area p e (types.FixedDecimal digits) h = (
     (Numbers h.0, h.1, last (described.FixedBinary p) (Numbers h.0) (Numbers p) tt refl),
     ((p, refl), λ q. last (described.FixedBinary p) (Numbers q) (Numbers p) tt refl),
   )
-  numbers_convert p e (types.FixedBinary q) h = (
+  numbers_convert area p e (types.FixedBinary q) h = (
     (Numbers h.0, h.1, last (described.FixedBinary p) (Numbers h.0) (Numbers p) tt refl),
     ((p, refl), λ q. last (described.FixedBinary p) (Numbers q) (Numbers p) tt refl),
   )
-  numbers_convert p e kind h = tt
+  numbers_convert area p e kind h = tt
 
-  bits_convert : (k : ℕ) (e : TypedExpression) (kind : ExpressionType) → HasType s e kind
-      → OnGiven (Converts (described.Bit k) e) (conversions 31 (described.Bit k) kind)
-  bits_convert k e types.Bits h =
+  bits_convert : (area : Option Beginning) (k : ℕ) (e : TypedExpression) (kind : ExpressionType) → HasType s e kind
+      → OnGiven (Converts (described.Bit k) e) (conversion 31 area (described.Bit k) kind)
+  bits_convert area k e types.Bits h =
       ((Strings OfBits h.0 h.1, h.2, last (described.Bit k) (Strings OfBits h.0 h.1) (Strings OfBits k k) tt refl), tt)
-  bits_convert k e kind h = tt
+  bits_convert area k e kind h = tt
 
   -- characters of a number or of a string
   abbrev LeadsOn : Description → TypedExpression → List TypedOperation → Type 0
@@ -67,37 +68,52 @@ module _ (s : TypingContext) where
   )
   characters_convert d u held fits e types.Pointer h = tt
   characters_convert d u held fits e types.Null h = tt
-  characters_convert d u held fits e types.Offset h = absurd h
-  characters_convert d u held fits e types.Area h = absurd h
+  characters_convert d u held fits e (types.Offset area) h = tt
+  characters_convert d u held fits e types.Area h = tt
 
   fitted_last : (d : Description) (e : TypedExpression) (o : Option (List TypedOperation))
-      → ((operations : List TypedOperation) → CountsIf d operations) → OnGiven (LeadsOn d e) o
-      → OnGiven (Converts d e) (option_map (λ operations. operations ++ Fit d ∷ []) o)
-  fitted_last d e (Some operations) counts h = (h, counts (operations ++ Fit d ∷ []))
+      → ((c : Conversion) → CountsIf d c) → OnGiven (LeadsOn d e) o
+      → OnGiven (Converts d e) (option_map (λ operations. ByOperations (operations ++ Fit d ∷ [])) o)
+  fitted_last d e (Some operations) counts h = (h, counts (ByOperations (operations ++ Fit d ∷ [])))
   fitted_last d e None counts h = tt
 
-  -- a pointer needs no conversion
+  -- what becomes a pointer, and what becomes an offset: a locator of the same kind needs no conversion
   pointers_convert : (e : TypedExpression) (kind : ExpressionType) → HasType s e kind
-      → OnGiven (Converts described.Pointer e) (pointer_conversions kind)
+      → OnGiven (Converts described.Pointer e) (pointer_conversion kind)
   pointers_convert e types.Pointer h = ((Pointers, h, (Pointers, refl, tt)), tt)
   pointers_convert e types.Null h = ((Pointers, h, (Pointers, refl, tt)), tt)
+  pointers_convert e (types.Offset (Some area)) h = ((Offsets, h.0, (h.1, refl, (Pointers, refl, tt))), tt)
+  pointers_convert e (types.Offset None) h = tt
   pointers_convert e kind h = tt
 
-  pub conversions_hold : (d : Description) (e : TypedExpression) (kind : ExpressionType) → HasType s e kind
-      → OnGiven (Converts d e) (conversions 31 d kind)
-  conversions_hold (described.FixedBinary p) e kind h = numbers_convert p e kind h
-  conversions_hold (described.Character k) e kind h =
-      fitted_last (described.Character k) e (string_conversions kind) (λ operations. tt)
+  offsets_convert : (area : Option Beginning) → IsAreaNamed 31 s area → (e : TypedExpression) (kind : ExpressionType) → HasType s e kind
+      → OnGiven (Converts described.Offset (null_as_offset e kind)) (offset_conversion area kind)
+  offsets_convert None there e (types.Offset other) h = ((Offsets, h.0, (Offsets, refl, tt)), tt)
+  offsets_convert (Some area) there e (types.Offset other) h = ((Offsets, h.0, (Offsets, refl, tt)), tt)
+  offsets_convert None there e types.Null h = ((Offsets, null_offset_typed s, (Offsets, refl, tt)), tt)
+  offsets_convert (Some area) there e types.Null h = ((Offsets, null_offset_typed s, (Offsets, refl, tt)), tt)
+  offsets_convert (Some area) there e types.Pointer h = ((Pointers, h, (there, refl, (Offsets, refl, tt))), tt)
+  offsets_convert area there e kind h = tt
+
+  described_convert : (area : Option Beginning) → IsAreaNamed 31 s area → (d : Description) (e : TypedExpression) (kind : ExpressionType)
+      → HasType s e kind → OnGiven (Converts d (unconverted d (record { expression = e; kind = kind }))) (conversion 31 area d kind)
+  described_convert area there (described.FixedBinary p) e kind h = numbers_convert area p e kind h
+  described_convert area there (described.Character k) e kind h =
+      fitted_last (described.Character k) e (string_conversions kind) (λ c. tt)
       (characters_convert (described.Character k) _ refl (λ a b. tt) e kind h)
-  conversions_hold (described.Varying k) e kind h =
-      fitted_last (described.Varying k) e (string_conversions kind) (λ operations. tt)
+  described_convert area there (described.Varying k) e kind h =
+      fitted_last (described.Varying k) e (string_conversions kind) (λ c. tt)
       (characters_convert (described.Varying k) _ refl (λ a b. tt) e kind h)
-  conversions_hold (described.Bit k) e kind h = bits_convert k e kind h
-  conversions_hold described.Pointer e kind h = pointers_convert e kind h
-  conversions_hold described.Offset e kind h = tt
-  conversions_hold (described.Area k) e kind h = tt
-  conversions_hold (described.Array bounds element) e kind h = tt
-  conversions_hold (described.Structure _) e kind h = tt
+  described_convert area there (described.Bit k) e kind h = bits_convert area k e kind h
+  described_convert area there described.Pointer e kind h = pointers_convert e kind h
+  described_convert area there described.Offset e kind h = offsets_convert area there e kind h
+  described_convert area there (described.Area k) e kind h = tt
+  described_convert area there (described.Array bounds element) e kind h = tt
+  described_convert area there (described.Structure _) e kind h = tt
+
+  pub conversions_hold : (area : Option Beginning) → IsAreaNamed 31 s area → (d : Description) (v : TypedValue)
+      → HasType s v.expression v.kind → OnGiven (Converts d (unconverted d v)) (conversion 31 area d v.kind)
+  conversions_hold area there d v h = described_convert area there d v.expression v.kind h
 
   -- TO and BY are numbers
   abbrev pub AreLimits : TypedRange → Type 0
@@ -106,11 +122,11 @@ module _ (s : TypingContext) where
   AreLimits (ByTo x y) = IsNumber 31 s x × IsPossibleNumber 31 s y
   AreLimits (Repeated next) = ⊥
 
-  pub limits_range : (d : Description) (operations : List TypedOperation) (range : TypedRange) → CountsIf d operations
-      → suits_range d range ≡ true → AreLimits range → IsRange 31 s operations d range
-  limits_range d operations Once counts suits h = tt
-  limits_range (described.FixedBinary q) operations (ToBy x y) counts suits h = (counts, h.0, h.1)
-  limits_range (described.FixedBinary q) operations (ByTo x y) counts suits h = (counts, h.0, h.1)
-  limits_range d operations (ToBy x y) counts suits h = absurd (false≢true suits)
-  limits_range d operations (ByTo x y) counts suits h = absurd (false≢true suits)
-  limits_range d operations (Repeated next) counts suits h = absurd h
+  pub limits_range : (d : Description) (c : Conversion) (range : TypedRange) → CountsIf d c
+      → suits_range d range ≡ true → AreLimits range → IsRange 31 s c d range
+  limits_range d c Once counts suits h = tt
+  limits_range (described.FixedBinary q) c (ToBy x y) counts suits h = (counts, h.0, h.1)
+  limits_range (described.FixedBinary q) c (ByTo x y) counts suits h = (counts, h.0, h.1)
+  limits_range d c (ToBy x y) counts suits h = absurd (false≢true suits)
+  limits_range d c (ByTo x y) counts suits h = absurd (false≢true suits)
+  limits_range d c (Repeated next) counts suits h = absurd h

@@ -1,7 +1,6 @@
 -- Operators give values of their types.
 use Rattle.std.specs.Prelude.{◌≡◌, ℕ, ◌+◌, min, max, Bool, true, false, ◌&&◌, Option, Some, None, option_map, [], ◌∷◌}
 use Rattle.std.specs.Prelude.{if◌then◌else◌, refl}
-use Rattle.std.proofs.lemmas.Bool.{false≢true}
 use Rattle.std.proofs.Common.{arith, inl, inr, sym, subst}
 use Rattle.pli_base.specs.declared.syntax.InfixOperator.{InfixOperator}
 use Rattle.pli_base.specs.declared.syntax.InfixOperator.TheVariants as infixes
@@ -13,13 +12,13 @@ use Rattle.pli_operation.specs.declared.operation.Relation.{Relation}
 use Rattle.pli_operation.specs.declared.operation.Relation.TheVariants.{Equal, Unequal, Less, AtMost, Greater, AtLeast}
 use Rattle.pli_type.specs.ExpressionTypes.{TypedValue, precision_of, precisions, paired, with_one, with_two, with_plus, with_minus, with_not}
 use Rattle.pli_type.specs.ExpressionTypes.{prefix_value, infix_value, on_numbers, sum_precision, product_precision}
-use Rattle.pli_type.specs.ExpressionTypes.{string_type, string_as, on_strings, as_bits, is_pointer, compared, pointers_compared, comparison, concatenation, of_bits_alone}
+use Rattle.pli_type.specs.ExpressionTypes.{string_type, string_as, on_strings, as_bits, is_locator, as_pointer, as_offset, are_offsets, compared, locators_compared, locators_beside, comparison, concatenation, of_bits_alone}
 use Rattle.pli_type.specs.declared.expression_type.ExpressionType.{ExpressionType}
 use Rattle.pli_type.specs.declared.expression_type.ExpressionType.TheVariants as types
-use Rattle.pli_type_laws.proofs.Conversions.{OnGiven}
+use Rattle.pli_type_laws.proofs.Conversions.{OnGiven, pointer_made, offset_made}
 use Rattle.pli_type_laws.specs.ExpressionTyping.{HasType, IsShort, IsNumber, AreNear}
 use Rattle.pli_type_tree.specs.TypedTree.{Operate, TypedOperation, TypedExpression}
-use Rattle.pli_type_tree.specs.ValueTypes.{ValueType, Numbers, Strings, Pointers, StringKind, OfCharacters, OfBits, Computes, Operates, longest}
+use Rattle.pli_type_tree.specs.ValueTypes.{ValueType, Numbers, Strings, Pointers, Offsets, StringKind, OfCharacters, OfBits, OnLocators, Computes, Operates, longest}
 use Rattle.pli_type_tree.specs.WellTyped.{TypingContext, IsTyped}
 
 -- a value has its type
@@ -49,7 +48,7 @@ module _ (s : TypingContext) where
   has_precision e types.Bits h = tt
   has_precision e types.Pointer h = tt
   has_precision e types.Null h = tt
-  has_precision e types.Offset h = tt
+  has_precision e (types.Offset area) h = tt
   has_precision e types.Area h = tt
 
   -- one operand, two operands
@@ -89,7 +88,7 @@ module _ (s : TypingContext) where
   minus e types.Bits o h n = tt
   minus e types.Pointer o h n = tt
   minus e types.Null o h n = tt
-  minus e types.Offset o h n = tt
+  minus e (types.Offset area) o h n = tt
   minus e types.Area o h n = tt
 
   plus : (v : TypedValue) (o : Option ℕ) → HasValue s v → OnGiven (HasValue s) (with_plus v o)
@@ -104,7 +103,7 @@ module _ (s : TypingContext) where
       (h.0, h.1, of_one (Operate Not) e (Strings OfBits h.0 h.1) _ h.2 (OfBits, h.0, h.1, refl, (refl, refl)), h.3)
   negation e types.Pointer h = tt
   negation e types.Null h = tt
-  negation e types.Offset h = tt
+  negation e (types.Offset area) h = tt
   negation e types.Area h = tt
 
   pub prefix_has_type : (operator : PrefixOperator) (v : TypedValue) → HasValue s v
@@ -187,38 +186,51 @@ module _ (s : TypingContext) where
           (of_two (Compare relation) v.expression w.expression (Numbers g.0.0) (Numbers g.1.0) (Strings OfBits 1 1)
           g.0.1 g.1.1 (inl (g.0.0, g.1.0, refl, tt), refl))
 
-  -- pointers
-  pointer_value : (e : TypedExpression) (kind : ExpressionType) → HasType s e kind → is_pointer kind ≡ true → IsTyped 31 s e Pointers
-  pointer_value e types.Pointer h is = h
-  pointer_value e types.Null h is = h
-  pointer_value e other h is = absurd (false≢true is)
+  -- locators, all of one type
+  module _ (t : ValueType) (both : OnLocators (t ∷ t ∷ [])) where
+    abbrev IsOfIt : TypedExpression → Type 0
+    IsOfIt e = IsTyped 31 s e t
 
-  pointers_type : (relation : Relation) (e f : TypedExpression) → IsTyped 31 s e Pointers → IsTyped 31 s f Pointers
-      → OnGiven (HasValue s) (pointers_compared relation e f)
-  pointers_type Equal e f a b =
-      one_bit (with_two (Compare Equal) e f)
-      (of_two (Compare Equal) e f Pointers Pointers (Strings OfBits 1 1) a b (inr (inr (tt, refl)), refl))
-  pointers_type Unequal e f a b =
-      one_bit (with_two (Compare Unequal) e f)
-      (of_two (Compare Unequal) e f Pointers Pointers (Strings OfBits 1 1) a b (inr (inr (tt, refl)), refl))
-  pointers_type relation e f a b = tt
+    locators_type : (relation : Relation) (o q : Option TypedExpression) → OnGiven IsOfIt o → OnGiven IsOfIt q
+        → OnGiven (HasValue s) (locators_compared relation o q)
+    locators_type Equal (Some e) (Some f) a b =
+        one_bit (with_two (Compare Equal) e f)
+        (of_two (Compare Equal) e f t t (Strings OfBits 1 1) a b (inr (inr (tt, both)), refl))
+    locators_type Unequal (Some e) (Some f) a b =
+        one_bit (with_two (Compare Unequal) e f)
+        (of_two (Compare Unequal) e f t t (Strings OfBits 1 1) a b (inr (inr (tt, both)), refl))
+    locators_type Equal (Some e) None a b = tt
+    locators_type Unequal (Some e) None a b = tt
+    locators_type Equal None q a b = tt
+    locators_type Unequal None q a b = tt
+    locators_type relation o q a b = tt
+
+  beside_type : (relation : Relation) (v w : TypedValue) → HasValue s v → HasValue s w
+      → OnGiven (HasValue s) (locators_beside relation v w)
+  beside_type relation v w a b = by (are_offsets v.kind w.kind)
+    where
+      by : (c : Bool)
+          → OnGiven (HasValue s)
+          (if c then locators_compared relation (as_offset None v.expression v.kind) (as_offset None w.expression w.kind)
+          else locators_compared relation (as_pointer v.expression v.kind) (as_pointer w.expression w.kind))
+      by true =
+          locators_type Offsets (inr refl) relation (as_offset None v.expression v.kind) (as_offset None w.expression w.kind)
+          (offset_made s None tt v.expression v.kind a) (offset_made s None tt w.expression w.kind b)
+      by false =
+          locators_type Pointers (inl refl) relation (as_pointer v.expression v.kind) (as_pointer w.expression w.kind)
+          (pointer_made s v.expression v.kind a) (pointer_made s w.expression w.kind b)
 
   compares : (relation : Relation) (v w : TypedValue) → HasValue s v → HasValue s w
       → OnGiven (HasValue s) (comparison 31 relation v w)
-  compares relation v w a b = by (is_pointer v.kind) (is_pointer w.kind) refl refl
+  compares relation v w a b = by (is_locator v.kind && is_locator w.kind)
     where
-      others : OnGiven (HasValue s) (compared 31 relation v w (string_type v.kind w.kind))
-      others =
+      by : (c : Bool)
+          → OnGiven (HasValue s) (if c then locators_beside relation v w
+          else compared 31 relation v w (string_type v.kind w.kind))
+      by true = beside_type relation v w a b
+      by false =
           compared_type relation v w (string_type v.kind w.kind) a b
           (strings_meet v.expression v.kind w.expression w.kind a b)
-
-      by : (p q : Bool) → is_pointer v.kind ≡ p → is_pointer w.kind ≡ q
-          → OnGiven (HasValue s) (if p && q then pointers_compared relation v.expression w.expression
-          else compared 31 relation v w (string_type v.kind w.kind))
-      by true true e f =
-          pointers_type relation v.expression w.expression (pointer_value v.expression v.kind a e) (pointer_value w.expression w.kind b f)
-      by true false e f = others
-      by false q e f = others
 
   string_value : (k : StringKind) (e : TypedExpression) (kind : ExpressionType) → KindIs k kind → IsShort s k e
       → HasType s e kind

@@ -3,19 +3,20 @@ use Rattle.std.specs.Prelude.{◌≡◌, ℕ, Bool, true, false, ◌&&◌, IsTru
 use Rattle.std.proofs.Common.{sym, subst}
 use Rattle.pli_base.specs.Results.{◌>>=◌}
 use Rattle.pli_base.specs.declared.token.Fault.{Fault}
-use Rattle.pli_map.specs.Description.{Description, Pointer}
+use Rattle.pli_map.specs.Description.{Description, Pointer, Offset}
 use Rattle.pli_map.specs.Scalars.{is_aggregate}
-use Rattle.pli_type.specs.NamedUnits.{is_plain}
-use Rattle.pli_type.specs.Names.{NamedStorage, Begins, IsBased, NamedVariable}
+use Rattle.pli_type.specs.NamedUnits.{may_stand}
+use Rattle.pli_type.specs.Names.{LocatorVariable, OfPointer, OfOffset, NamedStorage, Begins, IsBased, NamedVariable}
 use Rattle.pli_type.specs.References.{Role, wants_scalar, StridedPart, part_of, with_subscripts, subscripts_at, reference_to, Referent}
-use Rattle.pli_type.specs.References.{LocatorBefore, NotLocated, LocatedBy, LocatedWrongly, root_by, is_passed, begins_somewhere}
-use Rattle.pli_type.specs.References.{permitted, referent_from, settled, variable_meant}
+use Rattle.pli_type.specs.References.{LocatorBefore, NotLocated, LocatedBy, LocatedWrongly, pointer_of, root_by, is_passed, begins_somewhere}
+use Rattle.pli_type.specs.References.{permitted, referent_from, settled, variable_meant, locator_at, located_by}
+use Rattle.pli_type.specs.declared.beginning.Beginning.{Beginning}
 use Rattle.pli_type_laws.proofs.Conversions.{OnGiven}
 use Rattle.pli_type_laws.proofs.Denotations.{OnRead, IsOfWhole, IsReferent}
-use Rattle.pli_type_tree.specs.TypedTree.{Root, Stride, TypedExpression}
+use Rattle.pli_type_tree.specs.TypedTree.{Root, Stride, TypedExpression, TypedReference}
 use Rattle.pli_type_tree.specs.ValueTypes.{Numbers, Pointers}
 use Rattle.pli_type_tree.specs.WellTyped.{TypingContext, BeginsWhole, IsTyped, IsRooted, IsPlaced, AreSubscripts, LeadTo}
-use Rattle.pli_type_name_laws.specs.NameFacts.{IsStoredIn}
+use Rattle.pli_type_name_laws.specs.NameFacts.{IsAreaNamed, IsLocatorThere, IsImplied, IsStoredIn}
 
 -- what is read behind what was read
 pub read_then : {A B : Type 0} (P : A → Type 0) (Q : B → Type 0) (r : Result A Fault) (f : A → Result B Fault)
@@ -28,12 +29,13 @@ pub read_if : {A : Type 0} (P : A → Type 0) (b : Bool) (r q : Result A Fault) 
 read_if P true r q a b = a
 read_if P false r q a b = b
 
--- a variable is there, and each reference to a part of it leads to that part
+-- a variable is there, with the area that its OFFSET names, and each reference to a part of it leads to that part
 pub record IsKnown (s : TypingContext) (v : NamedVariable) : Type 0 where
   pub begins : IsStoredIn 31 s v.storage v.whole
+  pub area : IsAreaNamed 31 s v.area
   pub leads :
       (p q : StridedPart) (xs : List TypedExpression) → part_of v ≡ Some p → with_subscripts (length xs) p ≡ Some q
-      → LeadTo v.whole q.offset (subscripts_at q.strides xs) q.description × IsTrue (is_plain 31 q.description)
+      → LeadTo v.whole q.offset (subscripts_at q.strides xs) q.description × IsTrue (may_stand 31 q.description)
   pub whole :
       (p q : StridedPart) → v.path ≡ [] → part_of v ≡ Some p → with_subscripts 0 p ≡ Some q → q.description ≡ v.whole
 
@@ -42,6 +44,23 @@ abbrev pub IsLocator : TypingContext → LocatorBefore → Type 0
 IsLocator s NotLocated = Unit {0}
 IsLocator s (LocatedBy e) = IsTyped 31 s e Pointers
 IsLocator s LocatedWrongly = Unit {0}
+
+-- a variable that leads to BASED ones gives a pointer, an offset one in the area that it names
+pub pointer_given : (s : TypingContext) (locator : LocatorVariable) → IsLocatorThere 31 s locator → IsTyped 31 s (pointer_of locator) Pointers
+pointer_given s (OfPointer reference) h = (Pointer, h, refl)
+pointer_given s (OfOffset reference area) h = ((Offset, h.0, refl), h.1, refl)
+
+-- so does one in front of an arrow
+pub located_typed : (s : TypingContext) (o : Option LocatorVariable) → IsImplied 31 s o → IsLocator s (located_by o)
+located_typed s None h = tt
+located_typed s (Some locator) h = pointer_given s locator h
+
+pub locator_kept : (s : TypingContext) (r : TypedReference) (d : Description) (area : Option Beginning) → IsPlaced 31 s r d
+    → IsAreaNamed 31 s area → IsImplied 31 s (locator_at r d area)
+locator_kept s r Pointer None placed there = placed
+locator_kept s r Pointer (Some area) placed there = placed
+locator_kept s r Offset (Some area) placed there = (placed, there)
+locator_kept s r d area placed there = tt
 
 -- subscripts are numbers
 abbrev pub AreIndices : TypingContext → List TypedExpression → Type 0
@@ -90,7 +109,7 @@ module _ (s : TypingContext) where
   root_typed (Begins root is_parameter) whole (LocatedBy e) h k = tt
   root_typed (Begins root is_parameter) whole LocatedWrongly h k = tt
   root_typed (IsBased block number None) whole NotLocated h k = tt
-  root_typed (IsBased block number (Some implied)) whole NotLocated h k = ((refl, (Pointer, h, refl)), λ own. tt)
+  root_typed (IsBased block number (Some implied)) whole NotLocated h k = ((refl, pointer_given s implied h), λ own. tt)
   root_typed (IsBased block number None) whole (LocatedBy e) h k = ((refl, k), λ own. tt)
   root_typed (IsBased block number (Some implied)) whole (LocatedBy e) h k = ((refl, k), λ own. tt)
   root_typed (IsBased block number None) whole LocatedWrongly h k = tt
@@ -110,12 +129,13 @@ module _ (s : TypingContext) where
         → OnGiven (IsRootOf v.storage v.whole) o → OnGiven (IsReferent s) (option_map (referent_from v xs q) o)
     with_root p q is given None h = tt
     with_root p q is given (Some root) h =
-        let leads : IsPart v q xs × IsTrue (is_plain 31 q.description) = known.leads p q xs is given in (
+        let leads : IsPart v q xs × IsTrue (may_stand 31 q.description) = known.leads p q xs is given in (
           placed v q v.path xs root h.0 leads.0 indices
               (λ no_path none. known.whole p q no_path is
               (subst (λ ys. with_subscripts (length ys) p ≡ Some q) none given)),
           leads.1,
           λ own. of_whole q v.path xs root (h.1 own),
+          known.area,
         )
 
     with_part : (p : StridedPart) → part_of v ≡ Some p → (o : Option StridedPart) → with_subscripts (length xs) p ≡ o

@@ -1,31 +1,33 @@
 -- Forms that have no statements in them, and the temporaries of ALLOCATE and of an iteration.
-use Rattle.std.specs.Prelude.{◌≡◌, ℕ, suc, ◌+◌, ◌≤◌, Bool, true, Option, Some, None, is_none, List, [], ◌∷◌, slice_get}
+use Rattle.std.specs.Prelude.{◌≡◌, ℕ, suc, ◌+◌, ◌≤◌, Bool, true, Option, Some, None, is_none, option_map, List, [], ◌∷◌, slice_get}
 use Rattle.std.specs.Prelude.{Result, Ok, Err, refl, if◌then◌else◌}
 use Rattle.std.specs.List.{AllByRecursion}
 use Rattle.std.proofs.Common.{arith, ap}
 use Rattle.pli_base.specs.Results.{◌>>=◌}
 use Rattle.pli_base.specs.Statements as tree
 use Rattle.pli_base.specs.Statements.{Range, Allocation}
-use Rattle.pli_base.specs.Syntax.{Expression, Referred, Reference, Arguments}
+use Rattle.pli_base.specs.Syntax.{Expression, Reference, Arguments}
 use Rattle.pli_base.specs.declared.code.Code.{Code}
 use Rattle.pli_base.specs.declared.code.Code.TheVariants.{CannotAllocateOrFree, CannotAssign, NotYetBuilt}
 use Rattle.pli_base.specs.declared.syntax.Identifier.{Identifier}
 use Rattle.pli_base.specs.declared.token.Fault.{Fault}
 use Rattle.pli_map.specs.Description.{Description}
 use Rattle.pli_map.specs.Same.{same}
-use Rattle.pli_map.specs.Scalars.{is_aggregate}
-use Rattle.pli_type.specs.AllocationTyping.{in_turn, place_given, pointer_set, placed_by, taken_in, taken, allocated, all_allocated, freed}
-use Rattle.pli_type.specs.ExpressionTypes.{TypedValue, converted, conversions}
-use Rattle.pli_type.specs.FunctionCalls.{Denoted, DenotesVariable, DenotesResult, Meant, OneValue, WholeAggregate, Argument}
+use Rattle.pli_map.specs.Scalars.{is_aggregate, is_area}
+use Rattle.pli_type.specs.AllocationTyping.{in_turn, place_given, locator_set, placed_within, placed_freely, placed_in, placed_by, taken_in, taken, allocated, all_allocated, freed}
+use Rattle.pli_type.specs.Beginnings.{area_meant, whole_at}
+use Rattle.pli_type.specs.ExpressionTypes.{TypedValue, converted, conversion}
+use Rattle.pli_type.specs.FunctionCalls.{Denoted, DenotesVariable, DenotesResult, DenotesEmpty, area_of, Meant, OneValue, WholeAggregate, Argument}
 use Rattle.pli_type.specs.NamedUnits.{is_based_whole, names_based}
-use Rattle.pli_type.specs.Names.{NamedStorage, Begins, IsBased, NamedAs, AVariable, AFunction, AProcedure, ALabel, Untyped, Naming}
+use Rattle.pli_type.specs.Names.{LocatorVariable, OfPointer, OfOffset, NamedStorage, Begins, IsBased, NamedAs, AVariable, AFunction, AProcedure, ALabel, Untyped, Naming}
 use Rattle.pli_type.specs.ProcedureCalls.{arguments_passed}
-use Rattle.pli_type.specs.References.{AsArgument, AsLocator, AsTarget, Referent}
-use Rattle.pli_type.specs.StatementTyping.{aggregate_assigned, assigned, assignment, Surroundings, label_found, jump_to, jump, goto_typed}
-use Rattle.pli_type.specs.StatementTyping.{arguments_typed, no_function, call_of, call_typed, returned_value, return_typed, allocate_typed, free_typed}
+use Rattle.pli_type.specs.References.{AsArgument, AsLocator, AsTarget, AsValue, Referent}
+use Rattle.pli_type.specs.StatementTyping.{aggregate_assigned, area_put, area_assigned, scalar_assigned, variable_assigned, assigned, assignment, Surroundings, label_found, jump_to, jump, goto_typed}
+use Rattle.pli_type.specs.StatementTyping.{arguments_typed, no_function, call_of, call_typed, area_here, returned_value, return_typed, allocate_typed, free_typed}
 use Rattle.pli_type.specs.StatementTyping.{limit, limits, controls, possible_condition, with_repeat, has_locator, iteration}
 use Rattle.pli_type.specs.Temporaries.{limits_kept, based_among}
-use Rattle.pli_type.specs.Typing.{first_token, or_fault, meant, referred, value_of}
+use Rattle.pli_type.specs.Typing.{first_token, own_token, or_fault, denoted, meant, referred, value_of}
+use Rattle.pli_type.specs.declared.beginning.Beginning.{Beginning}
 use Rattle.pli_type_laws.proofs.Conversions.{OnGiven}
 use Rattle.pli_type_laws.proofs.Denotations.{OnRead}
 use Rattle.pli_type_laws.proofs.Expressions.{read_option}
@@ -35,7 +37,7 @@ use Rattle.pli_type_tree.specs.TypedTree as typed
 use Rattle.pli_gen.specs.WellNumbered.{KeepsTemporary}
 use Rattle.pli_type_tree.specs.Allocations.{kept_for, all_kept_for}
 use Rattle.pli_type_tree.specs.Templates.{Template}
-use Rattle.pli_type_tree.specs.TypedTree.{NewestOf, TypedReference, AllocatedItem, AllocatesControlled, AllocatesBased, Form, TypedRange, Iteration, ToBy, ByTo}
+use Rattle.pli_type_tree.specs.TypedTree.{NewestOf, AllocatedItem, AllocatesControlled, AllocatesBased, AllocatesInArea, Form, TypedRange, Iteration, ToBy, ByTo}
 
 -- whatever was read
 read_any : {A B : Type 0} (Q : B → Type 0) (r : Result A Fault) (f : A → Result B Fault) → ((x : A) → OnRead Q (f x))
@@ -73,13 +75,37 @@ simple_aggregate : (equals : ℕ) (target : Referent) (m : Meant) → OnRead IsS
 simple_aggregate equals target (OneValue v) = tt
 simple_aggregate equals target (WholeAggregate r) = read_if IsSimple (same target.description r.description) _ _ tt tt
 
-simple_assigned : (n : Naming) (at equals : ℕ) (d : Denoted) (e : Expression) → OnRead IsSimple (assigned n at equals d e)
-simple_assigned n at equals (DenotesVariable target) e =
+simple_scalar : (n : Naming) (equals : ℕ) (target : Referent) (e : Expression) → OnRead IsSimple (scalar_assigned n equals target e)
+simple_scalar n equals target e =
+    read_any IsSimple (value_of n e) _
+    (λ v. read_any IsSimple (or_fault CannotAssign equals (converted n.greatest target.area target.description v)) _ (λ x. tt))
+
+simple_source : (target : Beginning) (o : Option Beginning)
+    → OnGiven IsSimple (option_map (λ source. typed.AssignArea (whole_at target) (whole_at source)) o)
+simple_source target (Some source) = tt
+simple_source target None = tt
+
+simple_put : (target : Option Beginning) (d : Denoted) → OnGiven IsSimple (area_put target d)
+simple_put None d = tt
+simple_put (Some target) DenotesEmpty = tt
+simple_put (Some target) (DenotesVariable r) = simple_source target (area_of (DenotesVariable r))
+simple_put (Some target) (DenotesResult v) = tt
+
+simple_area : (n : Naming) (equals : ℕ) (target : Option Beginning) (e : Expression) → OnRead IsSimple (area_assigned n equals target e)
+simple_area n equals target e =
+    read_any IsSimple (denoted n AsValue e) _ (λ d. read_option IsSimple CannotAssign equals (area_put target d) (simple_put target d))
+
+simple_variable : (n : Naming) (equals : ℕ) (target : Referent) (e : Expression) → OnRead IsSimple (variable_assigned n equals target e)
+simple_variable n equals target e =
     read_if IsSimple (is_aggregate target.description) _ _
     (read_any IsSimple (meant n AsArgument e) _ (λ m. simple_aggregate equals target m))
-    (read_any IsSimple (value_of n e) _
-    (λ v. read_any IsSimple (or_fault CannotAssign equals (converted n.greatest target.description v)) _ (λ x. tt)))
+    (read_if IsSimple (is_area target.description) _ _
+    (simple_area n equals (area_meant target.reference target.description) e) (simple_scalar n equals target e))
+
+simple_assigned : (n : Naming) (at equals : ℕ) (d : Denoted) (e : Expression) → OnRead IsSimple (assigned n at equals d e)
+simple_assigned n at equals (DenotesVariable target) e = simple_variable n equals target e
 simple_assigned n at equals (DenotesResult v) e = tt
+simple_assigned n at equals DenotesEmpty e = tt
 
 pub simple_assignment : (n : Naming) (at : ℕ) (target : Reference) (equals : ℕ) (e : Expression)
     → OnRead IsSimple (assignment n at target equals e)
@@ -113,16 +139,16 @@ pub simple_call : (n : Naming) (name : Identifier) (a : Arguments) → OnRead Is
 simple_call n name a =
     read_any IsSimple (arguments_typed n a) _ (λ gs. simple_call_of n.greatest name.at (n.meaning name.at) gs)
 
-simple_returned : (greatest at first begins : ℕ) (o : Option Description) (v : TypedValue)
-    → OnRead IsSimple (returned_value greatest at first begins o v)
-simple_returned greatest at first begins None v = tt
-simple_returned greatest at first begins (Some d) v =
-    read_any IsSimple (or_fault CannotAssign first (converted greatest d v)) _ (λ x. tt)
+simple_returned : (greatest : ℕ) (area : Option Beginning) (at first begins : ℕ) (o : Option Description) (v : TypedValue)
+    → OnRead IsSimple (returned_value greatest area at first begins o v)
+simple_returned greatest area at first begins None v = tt
+simple_returned greatest area at first begins (Some d) v =
+    read_any IsSimple (or_fault CannotAssign first (converted greatest area d v)) _ (λ x. tt)
 
 pub simple_return : (n : Naming) (s : Surroundings) (at : ℕ) (v : Option Expression) → OnRead IsSimple (return_typed n s at v)
 simple_return n s at None = read_if IsSimple (is_none s.value) _ _ tt tt
 simple_return n s at (Some e) =
-    read_any IsSimple (value_of n e) _ (λ v. simple_returned n.greatest at (first_token e) s.begins s.value v)
+    read_any IsSimple (value_of n e) _ (λ v. simple_returned n.greatest (area_here n s) at (first_token e) s.begins s.value v)
 
 pub simple_free : (n : Naming) (list : List Reference) → OnRead IsSimple (free_typed n list)
 simple_free n list = read_any IsSimple (in_turn (freed n) list) _ (λ xs. tt)
@@ -133,6 +159,7 @@ simple_free n list = read_any IsSimple (in_turn (freed n) list) _ (λ xs. tt)
 abbrev OwnItem : (temporary : ℕ) → AllocatedItem → Type 0
 OwnItem t (AllocatesControlled number) = Unit {0}
 OwnItem t (AllocatesBased template temporary target) = temporary ≡ t
+OwnItem t (AllocatesInArea area template temporary target conversion) = temporary ≡ t
 
 abbrev one_if : Bool → ℕ
 one_if is = if is then 1 else 0
@@ -140,18 +167,38 @@ one_if is = if is then 1 else 0
 abbrev KeepsItem : (temporary : ℕ) → Bool → AllocatedItem → Type 0
 KeepsItem t is x = (kept_for x ≡ one_if is) × OwnItem t x
 
-placed_item : (t : ℕ) (is : Bool) (template : Option Template) (target : Option TypedReference) → true ≡ is
-    → OnGiven (KeepsItem t is) (placed_by t template target)
-placed_item t is (Some x) (Some r) e = (ap one_if e, refl)
-placed_item t is (Some x) None e = tt
-placed_item t is None target e = tt
+within_item : (t : ℕ) (is : Bool) (area : Beginning) (template : Template) (locator : LocatorVariable) → true ≡ is
+    → KeepsItem t is (placed_within area template t locator)
+within_item t is area template (OfPointer target) e = (ap one_if e, refl)
+within_item t is area template (OfOffset target own) e = (ap one_if e, refl)
+
+freely_item : (t : ℕ) (is : Bool) (template : Template) (locator : LocatorVariable) → true ≡ is
+    → KeepsItem t is (placed_freely template t locator)
+freely_item t is template (OfPointer target) e = (ap one_if e, refl)
+freely_item t is template (OfOffset target own) e = (ap one_if e, refl)
+
+area_item : (t : ℕ) (is : Bool) (template : Template) (locator : LocatorVariable) → true ≡ is → (o : Option Beginning)
+    → OnGiven (KeepsItem t is) (option_map (λ area. placed_within area template t locator) o)
+area_item t is template locator e (Some area) = within_item t is area template locator e
+area_item t is template locator e None = tt
+
+somewhere_item : (t : ℕ) (is : Bool) (area : Option Referent) (template : Template) (locator : LocatorVariable) → true ≡ is
+    → OnGiven (KeepsItem t is) (placed_in area template t locator)
+somewhere_item t is None template locator e = freely_item t is template locator e
+somewhere_item t is (Some r) template locator e = area_item t is template locator e (area_meant r.reference r.description)
+
+placed_item : (t : ℕ) (is : Bool) (area : Option Referent) (template : Option Template) (locator : Option LocatorVariable) → true ≡ is
+    → OnGiven (KeepsItem t is) (placed_by t area template locator)
+placed_item t is area (Some x) (Some locator) e = somewhere_item t is area x locator e
+placed_item t is area (Some x) None e = tt
+placed_item t is area None locator e = tt
 
 module _ (n : Naming) where
   stored_item : (t : ℕ) (is : Bool) (storage : NamedStorage) (path : List ℕ) → is_based_whole storage path ≡ is
       → (area target : Option Referent) → OnGiven (KeepsItem t is) (taken_in n t storage path area target)
   stored_item t is (Begins (NewestOf number) is_parameter) [] k None None = (ap one_if k, tt)
-  stored_item t is (IsBased block number implied) [] k None target =
-      placed_item t is (slice_get (n.based block) number) (pointer_set target implied) k
+  stored_item t is (IsBased block number implied) [] k area target =
+      placed_item t is area (slice_get (n.based block) number) (locator_set target implied) k
   stored_item t is storage path k area target = tt
 
   taken_item : (t : ℕ) (is : Bool) (a : NamedAs) → names_based a ≡ is → (area target : Option Referent)
@@ -175,6 +222,8 @@ module _ (n : Naming) where
       → KeepsTemporary used size x
   one_kept t used size is (AllocatesControlled number) h u s = tt
   one_kept t used size is (AllocatesBased template temporary target) h u s = (omega (arith, h.1, u), omega (arith, h.0, h.1, s))
+  one_kept t used size is (AllocatesInArea area template temporary target conversion) h u s =
+      (omega (arith, h.1, u), omega (arith, h.0, h.1, s))
 
   module _ (is_based : (at : ℕ) → Bool) (known : (at : ℕ) → names_based (n.meaning at) ≡ is_based at) where
     -- they keep their temporaries, which are as many as BASED variables are named
@@ -226,15 +275,15 @@ limits_keep n (Some (tree.By by (Some to))) =
     read_any (Keeps (Some (tree.By by (Some to)))) (limit n by) _
     (λ x. read_some (Keeps (Some (tree.By by (Some to)))) (ByTo x) (limit n to) (λ y. refl))
 
-repeat_keeps : (n : Naming) (d : Description) (kept : TypedRange) (range : Option Range) → Keeps range kept
-    → OnRead (Keeps range) (with_repeat n d kept range)
-repeat_keeps n d kept (Some (tree.Repeat next)) h =
+repeat_keeps : (n : Naming) (r : Referent) (kept : TypedRange) (range : Option Range) → Keeps range kept
+    → OnRead (Keeps range) (with_repeat n r kept range)
+repeat_keeps n r kept (Some (tree.Repeat next)) h =
     read_any (Keeps (Some (tree.Repeat next))) (value_of n next) _
-    (λ v. read_any (Keeps (Some (tree.Repeat next))) (or_fault CannotAssign (first_token next) (converted n.greatest d v)) _
+    (λ v. read_any (Keeps (Some (tree.Repeat next))) (or_fault CannotAssign (first_token next) (converted n.greatest r.area r.description v)) _
     (λ x. refl))
-repeat_keeps n d kept (Some (tree.To to by)) h = h
-repeat_keeps n d kept (Some (tree.By by to)) h = h
-repeat_keeps n d kept None h = h
+repeat_keeps n r kept (Some (tree.To to by)) h = h
+repeat_keeps n r kept (Some (tree.By by to)) h = h
+repeat_keeps n r kept None h = h
 
 -- an iteration's temporaries begin where they should, and are as many
 abbrev pub HasOwn : (temporary : ℕ) → Option Range → Iteration → Type 0
@@ -246,8 +295,8 @@ iteration_keeps n temporary variable equals first range tested =
     read_any (HasOwn temporary range) (value_of n first) _
     (λ v. read_so (Keeps range) (HasOwn temporary range) (limits n range) _ (limits_keep n range)
     (λ kept h. read_any (HasOwn temporary range) (referred n AsLocator variable) _
-    (λ d. read_any (HasOwn temporary range) (controls (first_token (Referred variable)) (has_locator variable) kept d) _
-    (λ r. read_any (HasOwn temporary range) (or_fault CannotAssign equals (conversions n.greatest r.description v.kind)) _
-    (λ operations. read_any (HasOwn temporary range) (possible_condition n tested) _
-    (λ x. read_so (Keeps range) (HasOwn temporary range) (with_repeat n r.description kept range) _
-    (repeat_keeps n r.description kept range h) (λ turns k. (refl, k))))))))
+    (λ d. read_any (HasOwn temporary range) (controls (own_token variable) (has_locator variable) kept d) _
+    (λ r. read_any (HasOwn temporary range) (or_fault CannotAssign equals (conversion n.greatest r.area r.description v.kind)) _
+    (λ converts. read_any (HasOwn temporary range) (possible_condition n tested) _
+    (λ x. read_so (Keeps range) (HasOwn temporary range) (with_repeat n r kept range) _
+    (repeat_keeps n r kept range h) (λ turns k. (refl, k))))))))

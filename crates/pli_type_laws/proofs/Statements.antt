@@ -9,8 +9,9 @@ use Rattle.pli_map.specs.Description.{Description}
 use Rattle.pli_meaning_typed.specs.TypedPrograms.{HasEnd, context_in}
 use Rattle.pli_resolve.specs.declared.block_numbers.ResolvedBlockKind.TheVariants as kinds
 use Rattle.pli_type.specs.Names.{NamedUnit, NamedAs, Compiled}
+use Rattle.pli_type.specs.declared.beginning.Beginning.{Beginning}
 use Rattle.pli_type.specs.StatementTyping as source
-use Rattle.pli_type.specs.StatementTyping.{Enclosing, enclosing, Surroundings, naming_at, block_at, leaves_nothing, assignment, items}
+use Rattle.pli_type.specs.StatementTyping.{Enclosing, Surroundings, naming_at, block_at, leaves_nothing, assignment, items}
 use Rattle.pli_type.specs.StatementTyping.{condition, iteration, allocate_typed, free_typed, call_typed, goto_typed, return_typed, WithProcedures, of_own, together}
 use Rattle.pli_type.specs.StatementTyping.{made, head_of, function_end, procedure_of, as_procedure, put_before, inside, behind_limits}
 use Rattle.pli_type.specs.StatementTyping.{statement_typed, body_typed, alternative_typed, statements_typed}
@@ -21,19 +22,19 @@ use Rattle.pli_type.specs.Unbuilt.{later_body, later_alternative, later_statemen
 use Rattle.pli_type_laws.proofs.Allocations.{allocate_is_typed, free_is_typed}
 use Rattle.pli_type_laws.proofs.BlocksKnown.{Within, within_self, within_both, within_behind, begun_count, Sits, sits_parts}
 use Rattle.pli_type_laws.proofs.BlocksKnown.{AreHome, home_labels, StandsDirectly}
-use Rattle.pli_type_laws.proofs.Contexts.{Knows, around_self, group_known, label_known, known_as, own_procedure, procedure_there}
+use Rattle.pli_type_laws.proofs.Contexts.{Knows, around_self, group_known, label_known, known_as, areas_known, own_procedure, procedure_there}
 use Rattle.pli_type_laws.proofs.Expressions.{IsMeaning, or_parts}
 use Rattle.pli_type_laws.proofs.Forms.{condition_typed, items_typed, assignment_typed, call_is_typed, return_is_typed, goto_is_typed}
 use Rattle.pli_type_laws.proofs.Forms.{iteration_typed}
 use Rattle.pli_type_laws.proofs.TypedParts.{OnTyped, typed_map, has_front, has_back, covers_more, IsOurs, ours_both}
 use Rattle.pli_type_laws.proofs.TypedParts.{Typed, typed_made, typed_own, typed_with, typed_both, with_list}
 use Rattle.pli_type_laws.specs.TypedUnits.{unit_with}
-use Rattle.pli_type_name_laws.specs.NameFacts.{NameFacts}
+use Rattle.pli_type_name_laws.specs.NameFacts.{IsAreaNamed, NameFacts}
 use Rattle.pli_type_name_laws.specs.SourceBlocks.{SourceBlock, unit_blocks, innermost, known_blocks, known_procedures, begun_in, begun_by}
 use Rattle.pli_type_name_laws.specs.SourceBlocks.{begun_among, begun_behind}
 use Rattle.pli_type_tree.specs.Templates.{Template}
 use Rattle.pli_type_tree.specs.TypedTree as typed
-use Rattle.pli_type_tree.specs.TypedTree.{Form, TypedStatement, TypedStatements, NoStatement, StatementThen, OtherWise, NoElse, Else}
+use Rattle.pli_type_tree.specs.TypedTree.{Form, TypedStatement, TypedStatements, NoElse, Else}
 use Rattle.pli_type_tree.specs.TypedTree.{Global, TypedProcedure}
 use Rattle.pli_type_tree.specs.ValueTypes.{OfBits}
 use Rattle.pli_type_tree.specs.WellTyped as trees
@@ -48,7 +49,7 @@ no_token : (b : Bool) (at : ℕ) → token_if b at ≡ None → b ≡ false
 no_token true at e = absurd (some_none e)
 no_token false at e = refl
 
-pub no_either : (o p : Option ℕ) → or_else o p ≡ None → (o ≡ None) × (p ≡ None)
+no_either : (o p : Option ℕ) → or_else o p ≡ None → (o ≡ None) × (p ≡ None)
 no_either (Some at) p e = absurd (some_none e)
 no_either None p e = (refl, e)
 
@@ -113,13 +114,14 @@ put_typed t false x y h k = (h, k)
 begin_no_procedure : kinds.Begin ≡ kinds.Procedure → ⊥
 begin_no_procedure e = absurd (cc)
 
-module _ (program : ExternalProcedure) (is_later is_based : ℕ → Bool) (based : List ℕ → ℕ → List Template) (meaning : List ℕ → ℕ → NamedAs) (parameters : ℕ → List Description)
-    (returned : ℕ → Option Description) (automatic : ℕ → List Template) (globals : List Global) where
+module _ (program : ExternalProcedure) (is_based : ℕ → Bool) (based : List ℕ → ℕ → List Template) (areas : List ℕ → ℕ → Option Beginning)
+    (meaning : List ℕ → ℕ → NamedAs) (parameters : ℕ → List Description) (returned : ℕ → Option Description) (automatic : ℕ → List Template)
+    (globals : List Global) where
   abbrev pub U : NamedUnit
-  U = unit_with program is_later is_based based meaning parameters returned automatic globals
+  U = unit_with program is_based based areas meaning parameters returned automatic globals
 
   abbrev L : Compiled
-  L = record { greatest = 31; is_later = is_later; is_based = is_based }
+  L = record { greatest = 31; is_based = is_based }
 
   abbrev All : List SourceBlock
   All = unit_blocks program
@@ -132,6 +134,9 @@ module _ (program : ExternalProcedure) (is_later is_based : ℕ → Bool) (based
     module _ (s : Surroundings) (home : AreHome All s.blocks) (t : TypingContext) (knows : Knows U t s) where
       known : (at : ℕ) → IsMeaning t (meaning (numbers s) at)
       known at = known_as U facts direct t s knows home at (meaning (numbers s) at) refl
+
+      named : (block : ℕ) → IsAreaNamed 31 t (areas (numbers s) block)
+      named block = areas_known U facts direct t s knows home block
 
       -- a group of these statements
       grouped : (ss : Statements) (list : TypedStatements) → Within (source.labels_of ss) (trees.labels_of list)
@@ -258,7 +263,7 @@ module _ (program : ExternalProcedure) (is_later is_based : ℕ → Bool) (based
       body_is_typed s x number first at (tree.Assign target equals value) l home within sits t knows =
           let parts : (_ ≡ false) × (later_expression L value ≡ false) = or_parts _ _ (no_token _ first l) in
           typed_own U (IsTypedForm 31 t) x.block (assignment (naming_at U s) at target equals value)
-          (assignment_typed is_later is_based (based (numbers s)) (meaning (numbers s)) t (known s home t knows) at target equals value parts.0 parts.1)
+          (assignment_typed is_based (based (numbers s)) (areas (numbers s)) (meaning (numbers s)) t (known s home t knows) at target equals value parts.0 parts.1)
       body_is_typed s x number first at (tree.Declare declared) l home within sits t knows = (tt, tt, tt)
       body_is_typed s x number first at (tree.Procedure heading ss end) l home within sits t knows =
           procedure_typed s x.block number end ss _ sits.0 refl refl within t _
@@ -266,7 +271,7 @@ module _ (program : ExternalProcedure) (is_later is_based : ℕ → Bool) (based
           (with_list U (statements_typed U (source.in_procedure x.block (returned x.block) ss s) (inside x) ss)
           (Within_it s x.block number end ss _ sits.0 refl refl)
           (λ t. Knows U t (source.in_procedure x.block (returned x.block) ss s)) (suc x.block) _
-          (list_is_typed (source.in_procedure x.block (returned x.block) ss s) (inside x) ss ((no_either _ _ l).1)
+          (list_is_typed (source.in_procedure x.block (returned x.block) ss s) (inside x) ss l
           ((_, sits.0, refl, within_self (source.labels_of ss)), home) tt sits.1)
           (typed_map _ _ (statements_typed U (source.in_procedure x.block (returned x.block) ss s) (inside x) ss)
           (λ y f. entered s x.block number end ss _ sits.0 refl refl y.part f)
@@ -291,7 +296,7 @@ module _ (program : ExternalProcedure) (is_later is_based : ℕ → Bool) (based
           typed_with U (IsString 31 t OfBits) (λ list. AreTypedStatements 31 (trees.in_group list t) list) (IsTypedForm 31 t)
           typed.While x.block _ (condition (naming_at U s) tested) (statements_typed U (source.in_group ss s) x ss)
           (λ c list h k. (h, k))
-          (condition_typed is_later is_based (based (numbers s)) (meaning (numbers s)) t (known s home t knows) tested (no_token _ first parts.0))
+          (condition_typed is_based (based (numbers s)) (areas (numbers s)) (meaning (numbers s)) t (known s home t knows) tested (no_token _ first parts.0))
           (group_typed s home t knows x ss _
           (list_is_typed (source.in_group ss s) x ss parts.1 (home_labels All (source.labels_of ss) s.blocks home)
           (inside_group (source.labels_of ss) s.blocks within) sits))
@@ -302,7 +307,7 @@ module _ (program : ExternalProcedure) (is_later is_based : ℕ → Bool) (based
           typed_with U (IsIteration 31 t) (λ list. AreTypedStatements 31 (trees.in_group list t) list) (IsTypedForm 31 t)
           typed.Iterate x.block _ (iteration (naming_at U s) x.temporary variable equals start range tested)
           (statements_typed U (source.in_group ss s) (behind_limits range x) ss) (λ c list h k. (h, k))
-          (iteration_typed is_later is_based (based (numbers s)) (meaning (numbers s)) t (known s home t knows) x.temporary variable equals start range tested
+          (iteration_typed is_based (based (numbers s)) (areas (numbers s)) (meaning (numbers s)) t (known s home t knows) x.temporary variable equals start range tested
           (no_token _ first parts.0))
           (group_typed s home t knows (behind_limits range x) ss _
           (list_is_typed (source.in_group ss s) (behind_limits range x) ss parts.1
@@ -320,7 +325,7 @@ module _ (program : ExternalProcedure) (is_later is_based : ℕ → Bool) (based
           (λ c b. typed.If c b.0 b.1) x.block _ (condition (naming_at U s) tested)
           (together (λ y z. (y, z)) (statement_typed U s x consequence) (alternative_typed U s (behind is_based x consequence) alternative))
           (λ c b h k. (h, k.0, k.1))
-          (condition_typed is_later is_based (based (numbers s)) (meaning (numbers s)) t (known s home t knows) tested (no_token _ first parts.0))
+          (condition_typed is_based (based (numbers s)) (areas (numbers s)) (meaning (numbers s)) t (known s home t knows) tested (no_token _ first parts.0))
           (typed_both U (IsTypedStatement 31 t) (IsTypedElse 31 t) (λ b. IsTypedStatement 31 t b.0 × IsTypedElse 31 t b.1)
           (λ y z. (y, z)) x.block (blocks.blocks_in consequence) _ _ (statement_typed U s x consequence)
           (alternative_typed U s (behind is_based x consequence) alternative) (begun_count s.blocks x.block consequence)
@@ -329,27 +334,27 @@ module _ (program : ExternalProcedure) (is_later is_based : ℕ → Bool) (based
       body_is_typed s x number first at tree.Stop l home within sits t knows = (tt, tt, tt)
       body_is_typed s x number first at (tree.Allocate list) l home within sits t knows =
           typed_own U (IsTypedForm 31 t) x.block (allocate_typed (naming_at U s) x.temporary list)
-          (allocate_is_typed is_later is_based (based (numbers s)) (meaning (numbers s)) t (known s home t knows) (facts.based (numbers s)) x.temporary list
+          (allocate_is_typed is_based (based (numbers s)) (areas (numbers s)) (meaning (numbers s)) t (known s home t knows) (facts.based (numbers s)) x.temporary list
           (no_token _ first l))
       body_is_typed s x number first at (tree.Free list) l home within sits t knows =
           typed_own U (IsTypedForm 31 t) x.block (free_typed (naming_at U s) list)
-          (free_is_typed is_later is_based (based (numbers s)) (meaning (numbers s)) t (known s home t knows) list (no_token _ first l))
+          (free_is_typed is_based (based (numbers s)) (areas (numbers s)) (meaning (numbers s)) t (known s home t knows) list (no_token _ first l))
       body_is_typed s x number first at (tree.Call name arguments) l home within sits t knows =
           typed_own U (IsTypedForm 31 t) x.block (call_typed (naming_at U s) name arguments)
-          (call_is_typed is_later is_based (based (numbers s)) (meaning (numbers s)) t (known s home t knows) name arguments (no_token _ first l))
+          (call_is_typed is_based (based (numbers s)) (areas (numbers s)) (meaning (numbers s)) t (known s home t knows) name arguments (no_token _ first l))
       body_is_typed s x number first at (tree.Goto label) l home within sits t knows =
           typed_own U (IsTypedForm 31 t) x.block (goto_typed (naming_at U s) s label)
-          (goto_is_typed is_later is_based (based (numbers s)) (meaning (numbers s)) t (known s home t knows) s
+          (goto_is_typed is_based (based (numbers s)) (areas (numbers s)) (meaning (numbers s)) t (known s home t knows) s
           (λ n outward e. label_known U s.blocks t.blocks n outward knows.blocks e) label)
       body_is_typed s x number first at (tree.Return value) l home within sits t knows =
           typed_own U (IsTypedForm 31 t) x.block (return_typed (naming_at U s) s at value)
-          (return_is_typed is_later is_based (based (numbers s)) (meaning (numbers s)) t (known s home t knows) s knows.begins knows.value at value
+          (return_is_typed is_based (based (numbers s)) (areas (numbers s)) (meaning (numbers s)) t (known s home t knows) (named s home t knows) s knows.begins knows.value at value
           (no_token _ first l))
       body_is_typed s x number first at (tree.Put skip list) l home within sits t knows =
           typed_made U (AreItems 31 t) (IsTypedForm 31 t) (typed.Put skip) x.block [] (of_own (items (naming_at U s) list))
           (λ xs h. h)
           (typed_own U (AreItems 31 t) x.block (items (naming_at U s) list)
-          (items_typed is_later is_based (based (numbers s)) (meaning (numbers s)) t (known s home t knows) list (no_token _ first l)))
+          (items_typed is_based (based (numbers s)) (areas (numbers s)) (meaning (numbers s)) t (known s home t knows) list (no_token _ first l)))
       body_is_typed s x number first at other l home within sits t knows = absurd (some_none l)
 
       alternative_is_typed : (s : Surroundings) (x : Next) (a : Alternative) → later_alternative L a ≡ None

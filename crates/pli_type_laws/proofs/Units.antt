@@ -12,12 +12,13 @@ use Rattle.pli_resolve.specs.declared.block_numbers.ResolvedBlockKind.{ResolvedB
 use Rattle.pli_resolve.specs.declared.block_numbers.ResolvedBlockKind.TheVariants as kinds
 use Rattle.pli_type.specs.Checked.{in_unit, first_inside, external_of, unit_of, typed_as, checked, unless_unbuilt}
 use Rattle.pli_type.specs.Names.{NamedUnit, NamedAs, Compiled}
+use Rattle.pli_type.specs.declared.beginning.Beginning.{Beginning}
 use Rattle.pli_type.specs.StatementTyping as source
-use Rattle.pli_type.specs.StatementTyping.{Enclosing, enclosing, WithProcedures, statements_typed}
-use Rattle.pli_type.specs.Unbuilt.{first_unbuilt, later_heading, later_statements}
+use Rattle.pli_type.specs.StatementTyping.{enclosing, WithProcedures, statements_typed}
+use Rattle.pli_type.specs.Unbuilt.{first_unbuilt, later_statements}
 use Rattle.pli_type_laws.proofs.BlocksKnown.{Within, within_self, Sits, sits_all, AreHome, StandsDirectly, AreDirect, direct_among, direct_at}
 use Rattle.pli_type_laws.proofs.Contexts.{Knows, own_procedure}
-use Rattle.pli_type_laws.proofs.Statements.{no_either, has_end, list_is_typed, labels_kept}
+use Rattle.pli_type_laws.proofs.Statements.{has_end, list_is_typed, labels_kept}
 use Rattle.pli_type_laws.proofs.TypedParts.{OnTyped, typed_map, Has, has_back, Covers, covers_more, covered, found_among, IsOurs}
 use Rattle.pli_type_laws.proofs.TypedParts.{AreOurs, ours_found, Typed, with_list}
 use Rattle.pli_type_laws.specs.TypedUnits.{TypedUnitsAreTyped, unit_with}
@@ -35,13 +36,14 @@ given_same r e f = cc
 error_given : {A B : Type 0} {x : A} {y : B} (r : Result A B) → r ≡ Err y → r ≡ Ok x → ⊥
 error_given r f e = absurd (cc)
 
-module _ (program : ExternalProcedure) (is_later is_based : ℕ → Bool) (based : List ℕ → ℕ → List Template) (meaning : List ℕ → ℕ → NamedAs) (parameters : ℕ → List Description)
-    (returned : ℕ → Option Description) (automatic : ℕ → List Template) (globals : List Global) where
+module _ (program : ExternalProcedure) (is_based : ℕ → Bool) (based : List ℕ → ℕ → List Template) (areas : List ℕ → ℕ → Option Beginning)
+    (meaning : List ℕ → ℕ → NamedAs) (parameters : ℕ → List Description) (returned : ℕ → Option Description) (automatic : ℕ → List Template)
+    (globals : List Global) where
   abbrev V : NamedUnit
-  V = unit_with program is_later is_based based meaning parameters returned automatic globals
+  V = unit_with program is_based based areas meaning parameters returned automatic globals
 
   abbrev L : Compiled
-  L = record { greatest = 31; is_later = is_later; is_based = is_based }
+  L = record { greatest = 31; is_based = is_based }
 
   abbrev All : List SourceBlock
   All = unit_blocks program
@@ -98,7 +100,7 @@ module _ (program : ExternalProcedure) (is_later is_based : ℕ → Bool) (based
         → OnTyped (Typed V (λ list. AreTypedStatements 31 (Context list) list) 1 Inner) Result_of
     list_typed l =
         with_list V Result_of Context (λ t. Knows V t (in_unit (returned 0) program.statements)) 1 Inner
-        (list_is_typed program is_later is_based based meaning parameters returned automatic globals facts direct
+        (list_is_typed program is_based based areas meaning parameters returned automatic globals facts direct
         (in_unit (returned 0) program.statements) first_inside program.statements l home tt all_sit.1)
         (typed_map _ _ Result_of (λ y f. entered y.part f) (labels_kept V (in_unit (returned 0) program.statements) first_inside program.statements))
 
@@ -187,9 +189,7 @@ module _ (program : ExternalProcedure) (is_later is_based : ℕ → Bool) (based
 
     of_built : (t : TypedUnit) (o : Option ℕ) → first_unbuilt L program ≡ o → unless_unbuilt o (typed_as V Result_of) ≡ Ok t
         → IsTypedUnit 31 t
-    of_built t None none e =
-        of_result t Result_of
-        (list_typed ((no_either (later_heading program.heading) (later_statements L program.statements) none).1)) e
+    of_built t None none e = of_result t Result_of (list_typed none) e
     of_built t (Some at) some e = absurd (error_given _ refl e)
 
     pub unit_is_typed_so : (t : TypedUnit) → checked V ≡ Ok t → IsTypedUnit 31 t
@@ -197,5 +197,5 @@ module _ (program : ExternalProcedure) (is_later is_based : ℕ → Bool) (based
     unit_is_typed_so t e = of_built t (first_unbuilt L program) refl e
 
 pub unit_is_typed : TypedUnitsAreTyped
-unit_is_typed program is_later is_based based meaning parameters returned automatic globals facts nests t e =
-    unit_is_typed_so program is_later is_based based meaning parameters returned automatic globals facts nests t e
+unit_is_typed program is_based based areas meaning parameters returned automatic globals facts nests t e =
+    unit_is_typed_so program is_based based areas meaning parameters returned automatic globals facts nests t e

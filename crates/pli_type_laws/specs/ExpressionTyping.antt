@@ -1,11 +1,14 @@
 -- What expressions that the type checker gives hold (own): values of their types.
-use Rattle.std.specs.Prelude.{◌≡◌, ℕ, ◌≤◌, ◌*◌, Some}
+use Rattle.std.specs.Prelude.{◌≡◌, ℕ, ◌≤◌, ◌*◌, Option, Some}
 use Rattle.pli_map.specs.Description.{Description}
 use Rattle.pli_type.specs.ExpressionTypes.{TypedValue, columns, binary_digits, converted, printed}
+use Rattle.pli_type.specs.declared.beginning.Beginning.{Beginning}
 use Rattle.pli_type.specs.declared.expression_type.ExpressionType.{ExpressionType}
 use Rattle.pli_type.specs.declared.expression_type.ExpressionType.TheVariants as types
+use Rattle.pli_type_name_laws.specs.NameFacts.{IsAreaNamed}
 use Rattle.pli_type_tree.specs.TypedTree.{TypedExpression}
-use Rattle.pli_type_tree.specs.ValueTypes.{StringKind, Numbers, Strings, Pointers, OfCharacters, OfBits}
+use Rattle.pli_type_tree.specs.ValueTypes.{StringKind, Numbers, Strings, Pointers, Offsets, OfCharacters}
+use Rattle.pli_type_tree.specs.ValueTypes.{OfBits}
 use Rattle.pli_type_tree.specs.ValueTypes.{HaveColumns, longest}
 use Rattle.pli_type_tree.specs.WellTyped.{TypingContext, IsTyped, IsValueFor}
 
@@ -22,7 +25,9 @@ IsNumber s e precision = (p : ℕ) × IsTyped 31 s e (Numbers p) × AreNear p pr
 abbrev pub IsShort : TypingContext → StringKind → TypedExpression → Type 0
 IsShort s kind e = (least : ℕ) × (most : ℕ) × IsTyped 31 s e (Strings kind least most) × (most ≤ longest)
 
--- an expression gives values of its type; a constant has room in the columns of its digits; NULL is a pointer
+-- an expression gives values of its type; a constant has room in the columns of its digits; NULL is a
+-- pointer; the area is there that the type of an offset names; an area gives no values, so nothing is said of
+-- its expression
 abbrev pub HasType : TypingContext → TypedExpression → ExpressionType → Type 0
 HasType s e (types.FixedDecimal digits) =
     (p : ℕ) × IsTyped 31 s e (Numbers p) × AreNear p (binary_digits 31 digits)
@@ -32,13 +37,16 @@ HasType s e types.Characters = IsShort s OfCharacters e
 HasType s e types.Bits = IsShort s OfBits e
 HasType s e types.Pointer = IsTyped 31 s e Pointers
 HasType s e types.Null = IsTyped 31 s e Pointers
-HasType s e offset_or_area = ⊥
+HasType s e (types.Offset area) = IsTyped 31 s e Offsets × IsAreaNamed 31 s area
+HasType s e types.Area = Unit {0}
 
--- A value of its type that is converted to the type of a variable can be assigned to it.
+-- A value of its type that is converted to the type of a variable can be assigned to it, where the area is
+-- there that the variable's declaration names.
 abbrev pub ConvertedIsHeld : Type 0
 ConvertedIsHeld =
-    (s : TypingContext) (d : Description) (v : TypedValue) (e : TypedExpression)
-    → HasType s v.expression v.kind → converted 31 d v ≡ Some e → IsValueFor 31 s d e
+    (s : TypingContext) (area : Option Beginning) (d : Description) (v : TypedValue) (e : TypedExpression)
+    → IsAreaNamed 31 s area → HasType s v.expression v.kind → converted 31 area d v ≡ Some e
+    → IsValueFor 31 s d e
 
 -- A value of its type that is printed becomes a string.
 abbrev pub PrintedIsString : Type 0

@@ -12,6 +12,7 @@ use Rattle.pli_resolve.specs.ResolvedUnits.{resolved_unit_of}
 use Rattle.pli_type.specs.Checked.{checked}
 use Rattle.pli_type.specs.NamedUnits.{checked_unit}
 use Rattle.pli_type.specs.Names.{NamedAs, NamedUnit}
+use Rattle.pli_type.specs.declared.beginning.Beginning.{Beginning}
 use Rattle.pli_type_name_laws.specs.NameFacts.{KnowsBased, NameFacts}
 use Rattle.pli_type_name_laws.specs.Nesting.{ListNests}
 use Rattle.pli_type_name_laws.specs.Numbering.{AreNumbered}
@@ -27,14 +28,21 @@ TypedUnitsAreNumbered =
     → IsWellNumbered t
 
 -- a unit by its parts, where numbers have at most 31 binary digits
-abbrev pub unit_with : ExternalProcedure → (is_later is_based : ℕ → Bool)
-    → (based : (blocks : List ℕ) → (block : ℕ) → List Template) → (meaning : (blocks : List ℕ) → ℕ → NamedAs)
+abbrev pub unit_with : ExternalProcedure → (is_based : ℕ → Bool)
+    → (based : (blocks : List ℕ) → (block : ℕ) → List Template)
+    → (areas : (blocks : List ℕ) → (block : ℕ) → Option Beginning)
+    → (meaning : (blocks : List ℕ) → ℕ → NamedAs)
     → (parameters : (block : ℕ) → List Description) → (returned : (block : ℕ) → Option Description)
     → (automatic : (block : ℕ) → List Template) → (globals : List Global) → NamedUnit
-unit_with tree is_later is_based based meaning parameters returned automatic globals = record {
+unit_with tree is_based based areas meaning parameters returned automatic globals = record {
   tree = tree;
-  compiled = record { greatest = 31; is_later = is_later; is_based = is_based };
-  naming = λ blocks. record { greatest = 31; based = based blocks; meaning = meaning blocks };
+  compiled = record { greatest = 31; is_based = is_based };
+  naming = λ blocks. record {
+    greatest = 31;
+    based = based blocks;
+    returned_area = areas blocks;
+    meaning = meaning blocks;
+  };
   parameters = parameters;
   returned = returned;
   automatic = automatic;
@@ -45,13 +53,14 @@ unit_with tree is_later is_based based meaning parameters returned automatic glo
 -- they hold, and whose procedures stand directly in blocks, gives a typed unit that is well typed.
 abbrev pub TypedUnitsAreTyped : Type 0
 TypedUnitsAreTyped =
-    (tree : ExternalProcedure) (is_later is_based : ℕ → Bool)
-    (based : (blocks : List ℕ) → (block : ℕ) → List Template) (meaning : (blocks : List ℕ) → ℕ → NamedAs)
+    (tree : ExternalProcedure) (is_based : ℕ → Bool)
+    (based : (blocks : List ℕ) → (block : ℕ) → List Template)
+    (areas : (blocks : List ℕ) → (block : ℕ) → Option Beginning) (meaning : (blocks : List ℕ) → ℕ → NamedAs)
     (parameters : (block : ℕ) → List Description) (returned : (block : ℕ) → Option Description)
     (automatic : (block : ℕ) → List Template) (globals : List Global)
-    → NameFacts (unit_with tree is_later is_based based meaning parameters returned automatic globals)
+    → NameFacts (unit_with tree is_based based areas meaning parameters returned automatic globals)
     → Deeper (λ m. ListNests true m tree.statements) nesting_limit → (t : TypedUnit)
-    → checked (unit_with tree is_later is_based based meaning parameters returned automatic globals) ≡ Ok t
+    → checked (unit_with tree is_based based areas meaning parameters returned automatic globals) ≡ Ok t
     → IsTypedUnit 31 t
 
 -- the procedure of a unit with which a program may begin takes nothing and gives nothing

@@ -2,15 +2,16 @@
 ghost use Rattle.pli_type_laws.specs.ExpressionTyping.{ConvertedIsHeld, PrintedIsString};
 ghost use Rattle.pli_type_laws.specs.TypedUnits.{CheckedIsTyped, TypedUnitsAreNumbered, TypedUnitsAreTyped};
 
-/// A law: what the type checker gives for a unit whose statements are numbered in the order of the text, and nest within
-/// the limit, and in which it is known where BASED variables are named, is numbered well: each statement and each block
-/// has a number of its own, no loop nests too deep, and the temporaries of iterations in one another, and of the items of
-/// ALLOCATE in them, are apart.
+/// A law: what the type checker gives for a unit whose statements are numbered in the order of the text, and nest
+/// within the limit, and in which it is known where BASED variables are named, is numbered well: each statement and
+/// each block has a number of its own, no loop nests too deep, and the temporaries of iterations in one another, and of
+/// the items of ALLOCATE in them, are apart.
 pub fn typed_units_are_numbered()
     ensures { TypedUnitsAreNumbered }
 {}
 
-/// A law: a value of its type that is converted to the type of a variable can be assigned to it.
+/// A law: a value of its type that is converted to the type of a variable can be assigned to it, where the area is
+/// there that the variable's declaration names.
 pub fn converted_is_held()
     ensures { ConvertedIsHeld }
 {}

@@ -2,7 +2,7 @@
 use Rattle.std.specs.Prelude.{◌≡◌, ℕ, suc, nat_le, Bool, true, false, List, [], ◌∷◌, ◌++◌, map, if◌then◌else◌, refl}
 use Rattle.std.specs.List.{flat_map, AllByRecursion}
 use Rattle.std.specs.List.Sorted.{IsPermutation}
-use Rattle.std.proofs.Common.{sym, ◌∙◌, ap, subst, append-nil}
+use Rattle.std.proofs.Common.{sym, ◌∙◌, ap, subst}
 use Rattle.std.proofs.lemmas.Bool.{and_parts, leb-true}
 use Rattle.std.proofs.lemmas.List.{map-append}
 use Rattle.std.proofs.lemmas.List.Elements.{All-from_recursion, recursion_from_All}
@@ -21,7 +21,7 @@ use Rattle.pli_map.proofs.FirstHeld.{firsts_held}
 use Rattle.pli_resolve.specs.Symbols.{Symbol, SymbolKind, Variable, Member, Label, Procedure, Entry, BuiltIn}
 use Rattle.pli_resolve.specs.declared.symbol.StorageClass.{StorageClass}
 use Rattle.pli_type.specs.InitialScalars.{InitialItem, initial_scalars, template_of}
-use Rattle.pli_type.specs.NamedUnits.{is_plain, is_stored, is_global, kind_of_class, member_items, template_at, templates_from}
+use Rattle.pli_type.specs.NamedUnits.{may_stand, is_stored, is_global, kind_of_class, member_items, template_at, templates_from}
 use Rattle.pli_type.specs.NamedUnits.{global_of, global_with, globals_from, globals_of, all_globals}
 use Rattle.pli_type.specs.NamedUnits.{PlacedGlobal, placed, block_globals}
 use Rattle.pli_type.specs.TextOrder.{in_order}
@@ -30,7 +30,7 @@ use Rattle.pli_program.specs.declared.kind.VariableKind.{VariableKind}
 use Rattle.pli_type_tree.specs.Globals.{templates_in}
 use Rattle.pli_type_tree.specs.Templates.{InitialScalar, Template, with_initial, variable_of}
 use Rattle.pli_type_tree.specs.TypedTree.{Global, OwnVariable, ExternalVariable, EntryPoint}
-use Rattle.pli_type_tree.specs.WellTyped.{AreHeld, AreMade}
+use Rattle.pli_type_tree.specs.WellTyped.{AreHeld, IsMade, AreMade}
 use Rattle.pli_value.specs.Value.{Value}
 
 not_true : false ≡ true → ⊥
@@ -75,26 +75,52 @@ template_held d items =
 
 -- ---- all variables of a class
 
-module _ (n : ℕ) (is_such : StorageClass → Description → Bool) (stored : (class : StorageClass) (d : Description) → is_such class d ≡ true → is_stored n d ≡ true) (all : List Symbol) where
-  one_made : (class : StorageClass) (d : Description) (items : List InitialItem) (rest : List Template) (b : Bool) → is_such class d ≡ b
-      → AreMade (map variable_of rest) → AreMade (map variable_of ((if b then template_of d items ∷ [] else []) ++ rest))
-  one_made class d items rest true e h =
-      let parts = and_parts (is_plain n d) (nat_le (size_of d) 1000000) (stored class d e) in
-      ((leb-true (size_of d) 1000000 parts.1, template_held d items), h)
-  one_made class d items rest false e h = h
+-- what holds of each template that one of the class has
+module _ (Holds : Template → Type 0) (is_such : StorageClass → Description → Bool)
+    (one : (class : StorageClass) (d : Description) (items : List InitialItem) → is_such class d ≡ true → Holds (template_of d items))
+    (all : List Symbol) where
+  class_holds : (class : StorageClass) (d : Description) (items : List InitialItem) (b : Bool) → is_such class d ≡ b
+      → AllByRecursion Holds (if b then template_of d items ∷ [] else [])
+  class_holds class d items true e = (one class d items e, tt)
+  class_holds class d items false e = tt
 
-  symbol_made : (number : ℕ) (kind : SymbolKind) (rest : List Template) → AreMade (map variable_of rest)
-      → AreMade (map variable_of (template_at is_such all number kind ++ rest))
-  symbol_made number (Variable d class scope initial area) rest h = one_made class d (record { path = []; values = initial } ∷ member_items number all) rest (is_such class d) refl h
-  symbol_made number (Member root path initial area) rest h = h
-  symbol_made number (Label statement) rest h = h
-  symbol_made number (Procedure block returned area) rest h = h
-  symbol_made number (Entry parameters returned) rest h = h
-  symbol_made number BuiltIn rest h = h
+  symbol_holds : (number : ℕ) (kind : SymbolKind) → AllByRecursion Holds (template_at is_such all number kind)
+  symbol_holds number (Variable d class scope initial area) =
+      class_holds class d (record { path = []; values = initial } ∷ member_items number all) (is_such class d) refl
+  symbol_holds number (Member root path initial area) = tt
+  symbol_holds number (Label statement) = tt
+  symbol_holds number (Procedure block returned area) = tt
+  symbol_holds number (Entry parameters returned area) = tt
+  symbol_holds number BuiltIn = tt
+
+  pub all_hold : (number : ℕ) (ss : List Symbol) → AllByRecursion Holds (templates_from is_such all number ss)
+  all_hold number [] = tt
+  all_hold number (s ∷ ss) =
+      all_behind Holds (template_at is_such all number s.kind) (templates_from is_such all (suc number) ss)
+      (symbol_holds number s.kind) (all_hold (suc number) ss)
+
+-- a variable is made well of it
+abbrev pub IsMadeFrom : Template → Type 0
+IsMadeFrom t = IsMade (variable_of t)
+
+as_made : (ts : List Template) → AllByRecursion IsMadeFrom ts → AreMade (map variable_of ts)
+as_made [] h = tt
+as_made (t ∷ ts) h = (h.0, as_made ts h.1)
+
+pub template_made : (n : ℕ) (d : Description) (items : List InitialItem) → is_stored n d ≡ true → IsMadeFrom (template_of d items)
+template_made n d items stored =
+    let parts = and_parts (may_stand n d) (nat_le (size_of d) 1000000) stored in
+    (leb-true (size_of d) 1000000 parts.1, template_held d items)
+
+module _ (n : ℕ) (is_such : StorageClass → Description → Bool) (stored : (class : StorageClass) (d : Description) → is_such class d ≡ true → is_stored n d ≡ true) (all : List Symbol) where
+  class_made : (class : StorageClass) (d : Description) (items : List InitialItem) → is_such class d ≡ true → IsMadeFrom (template_of d items)
+  class_made class d items e = template_made n d items (stored class d e)
+
+  symbol_made : (number : ℕ) (kind : SymbolKind) → AreMade (map variable_of (template_at is_such all number kind))
+  symbol_made number kind = as_made (template_at is_such all number kind) (symbol_holds IsMadeFrom is_such class_made all number kind)
 
   pub all_made : (number : ℕ) (ss : List Symbol) → AreMade (map variable_of (templates_from is_such all number ss))
-  all_made number [] = tt
-  all_made number (s ∷ ss) = symbol_made number s.kind (templates_from is_such all (suc number) ss) (all_made (suc number) ss)
+  all_made number ss = as_made (templates_from is_such all number ss) (all_hold IsMadeFrom is_such class_made all number ss)
 
 -- ---- globals
 
@@ -143,12 +169,11 @@ module _ (n : ℕ) (stored : (class : StorageClass) (d : Description) → is_glo
   global_made all number name (Variable d class scope initial area) rest h =
       let ts : List Template = template_at (is_global n) all number (Variable d class scope initial area) in
       scoped_made scope (kind_of_class class) name ts rest
-      (subst (λ us. AreMade (map variable_of us)) (append-nil ts)
-      (symbol_made n (is_global n) stored all number (Variable d class scope initial area) [] tt)) h
+      (symbol_made n (is_global n) stored all number (Variable d class scope initial area)) h
   global_made all number name (Member root path initial area) rest h = h
   global_made all number name (Label statement) rest h = h
   global_made all number name (Procedure block returned area) rest h = h
-  global_made all number name (Entry parameters returned) rest h = h
+  global_made all number name (Entry parameters returned area) rest h = h
   global_made all number name BuiltIn rest h = h
 
   globals_made : (all : List Symbol) (number : ℕ) (ss : List Symbol) → GlobalsMade (alone (globals_from n all number ss))

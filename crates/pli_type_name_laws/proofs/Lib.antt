@@ -1,6 +1,8 @@
+pub mod AreasNamed
 pub mod BasedNames
 pub mod BlocksOfUnits
 pub mod InitialHeld
+pub mod LocatorsNamed
 pub mod NameFactsHold
 pub mod NamesMean
 pub mod NestingHolds
@@ -8,6 +10,5 @@ pub mod NumberingHolds
 pub mod PartsLead
 pub mod PartsOfNames
 pub mod PlainDescriptions
-pub mod PointersNamed
 pub mod RootsInContext
 pub mod RootsStand

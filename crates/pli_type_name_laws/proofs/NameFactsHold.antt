@@ -1,28 +1,35 @@
 -- The facts about the names of a unit.
 use Rattle.std.specs.Prelude.{◌≡◌, ℕ, true, false, Option, Some, None, List, [], slice_get, refl}
+use Rattle.std.specs.List.{AllByRecursion}
 use Rattle.std.proofs.Common.{sym, ◌∙◌, ap, subst}
-use Rattle.std.proofs.lemmas.Bool.{and_parts}
+use Rattle.std.proofs.lemmas.Bool.{and_parts, false≢true}
 use Rattle.std.proofs.lemmas.Option.{same_Some, none-some}
 use Rattle.pli_map.specs.Description.{Description}
 use Rattle.pli_resolve.specs.ResolvedUnits.{ResolvedUnit, ResolvedBlock, all_symbols, meaning_at}
 use Rattle.pli_resolve.specs.declared.block_numbers.ResolvedBlockKind.{ResolvedBlockKind}
 use Rattle.pli_resolve.specs.declared.block_numbers.ResolvedBlockKind.TheVariants as kinds
-use Rattle.pli_type.specs.NamedUnits.{is_plain, is_stored, is_automatic, is_based, block_symbols, parameter_numbers, parameters_of}
+use Rattle.pli_resolve.specs.declared.symbol.StorageClass.{StorageClass}
+use Rattle.pli_resolve.specs.declared.symbol.StorageClass.TheVariants as classes
+use Rattle.pli_type.specs.NamedUnits.{is_plain, is_valued, may_stand, is_automatic, is_based, block_symbols, parameter_numbers, parameters_of}
 use Rattle.pli_type.specs.NamedUnits.{is_reached, is_procedure, stands_around, gives_stored}
-use Rattle.pli_type.specs.NamedUnits.{named_procedure, named_unit}
+use Rattle.pli_type.specs.NamedUnits.{named_procedure, named_unit, returned_area_of, templates_of}
+use Rattle.pli_type.specs.InitialScalars.{InitialItem, template_of}
 use Rattle.pli_type.specs.Names.{NamedUnit, NamedStorage, Begins, IsBased, NamedVariable, NamedProcedure}
+use Rattle.pli_type.specs.declared.beginning.Beginning.{Beginning}
 use Rattle.pli_type_tree.specs.Globals.{signature_of}
 use Rattle.pli_type_tree.specs.TypedTree.{Callee, OfBlock, OfEntry}
 use Rattle.pli_type_tree.specs.WellTyped.{TypingContext}
-use Rattle.pli_type_name_laws.specs.NameFacts.{HaveSlots, IsPointed, IsStoredIn, VariableFacts, BlockCalled, IsCalled, ProcedureFacts, NameFacts}
+use Rattle.pli_type_name_laws.specs.NameFacts.{HaveSlots, IsAreaNamed, IsImplied, IsStoredIn, VariableFacts, BlockCalled, IsCalled, ProcedureFacts, IsBasedTemplate, NameFacts}
 use Rattle.pli_type_name_laws.specs.SourceBlocks.{SourceBlock, unit_blocks, innermost}
 use Rattle.pli_type_name_laws.specs.UnitBlocks.{in_unit, in_tree, BlocksAreOfTree}
-use Rattle.pli_type_name_laws.proofs.InitialHeld.{all_made, globals_behind}
-use Rattle.pli_type_name_laws.proofs.NamesMean.{StandsIn, IsStored, IsThere, IsNamed, variable_begins, procedure_named_so, is_a_procedure, around, same_place}
+use Rattle.pli_type_name_laws.proofs.AreasNamed.{area_there}
+use Rattle.pli_type_name_laws.proofs.InitialHeld.{all_hold, template_made, all_made, globals_behind}
+use Rattle.pli_type_name_laws.proofs.LocatorsNamed.{locator_there}
+use Rattle.pli_type_name_laws.proofs.NamesMean.{StandsIn, IsStored, IsNamedArea, IsThere, IsNamed, variable_begins, procedure_named_so, is_a_procedure, around, same_place}
 use Rattle.pli_type_name_laws.proofs.PartsOfNames.{part_stands, subscripts_lead, whole_is}
-use Rattle.pli_type_name_laws.proofs.PointersNamed.{pointer_there}
-use Rattle.pli_type_name_laws.proofs.RootsInContext.{stored_plain, in_context}
-use Rattle.pli_type_name_laws.proofs.RootsStand.{automatic_stored, global_stored, based_stored, entry_stands}
+use Rattle.pli_type_name_laws.proofs.PlainDescriptions.{plain_no_area, stored_stands, valued_plain, valued_stored}
+use Rattle.pli_type_name_laws.proofs.RootsInContext.{in_context}
+use Rattle.pli_type_name_laws.proofs.RootsStand.{automatic_stored, global_stored, entry_stands}
 
 module _ (r : ResolvedUnit) where
   abbrev U : NamedUnit
@@ -32,13 +39,18 @@ module _ (r : ResolvedUnit) where
       → s.globals ≡ U.globals → HaveSlots U blocks s.blocks → StandsIn 31 r blocks storage d → IsStoredIn n s storage d
   stored_in blocks n s (Begins root is_parameter) d globals slots h = in_context r blocks n s is_parameter root d globals slots h
   stored_in blocks n s (IsBased block number implied) d globals slots h =
-      subst (IsPointed n s) (sym h.3) (pointer_there r blocks n s globals slots h.0)
+      subst (IsImplied n s) (sym h.3) (locator_there r blocks n s globals slots h.0)
+
+  named_there : (blocks : List ℕ) (n : ℕ) (s : TypingContext) → s.globals ≡ U.globals → HaveSlots U blocks s.blocks
+      → (area : Option Beginning) → IsNamedArea 31 r blocks area → IsAreaNamed n s area
+  named_there blocks n s globals slots area (named, is) = subst (IsAreaNamed n s) (sym is) (area_there r blocks n s globals slots named)
 
   variable_facts : (blocks : List ℕ) (v : NamedVariable) → IsStored 31 r blocks v → VariableFacts U blocks v
   variable_facts blocks v b =
-      let plain : is_plain 31 v.whole ≡ true = stored_plain 31 v.whole b.1 in
+      let plain : may_stand 31 v.whole ≡ true = stored_stands 31 v.whole b.1 in
       record {
         begins = λ n s globals slots. stored_in blocks n s v.storage v.whole globals slots b.0;
+        area = λ n s globals slots. named_there blocks n s globals slots v.area b.2;
         plain = plain;
         leads = λ p q xs e f. subscripts_lead 31 v.whole p q xs (part_stands 31 v.whole v p refl plain e) f;
         whole = λ p q none e f. whole_is 31 v p q plain none e f;
@@ -48,10 +60,21 @@ module _ (r : ResolvedUnit) where
 
   plain_returned : (o : Option Description) (d : Description) → gives_stored 31 o ≡ true → o ≡ Some d → is_plain 31 d ≡ true
   plain_returned None d h e = absurd (none-some d e)
-  plain_returned (Some x) d h e = stored_plain 31 d (ap (is_stored 31) (sym (same_Some x d e)) ∙ h)
+  plain_returned (Some x) d h e = valued_plain 31 d (ap (is_valued 31) (sym (same_Some x d e)) ∙ h)
+
+  -- ---- BASED variables
+
+  based_template : (class : StorageClass) (d : Description) (items : List InitialItem) → is_based 31 class d ≡ true
+      → IsBasedTemplate (template_of d items)
+  based_template (classes.Based locator) d items e =
+      (template_made 31 d items (valued_stored 31 d e), plain_no_area 31 d (valued_plain 31 d e))
+  based_template class d items e = absurd (false≢true e)
+
+  based_templates : (block : ℕ) → AllByRecursion IsBasedTemplate (templates_of (is_based 31) (block_symbols r block))
+  based_templates block = all_hold IsBasedTemplate (is_based 31) based_template (block_symbols r block) 0 (block_symbols r block)
 
   module _ (law : BlocksAreOfTree r) where
-    block_called : (blocks : List ℕ) (p : NamedProcedure) (block : ℕ) → named_procedure r block ≡ p
+    block_called : (blocks : List ℕ) (p : NamedProcedure) (block : ℕ) → named_procedure 31 r blocks block ≡ p
         → is_reached blocks (slice_get r.blocks block) ≡ true → BlockCalled U blocks p block
     block_called blocks p block is reached = by (slice_get r.blocks block) refl
       where
@@ -88,6 +111,7 @@ module _ (r : ResolvedUnit) where
     procedure_facts blocks p h = record {
       called = called blocks p p.callee h.there;
       plain = λ d e. plain_returned p.returned d h.stored e;
+      area = λ n s globals slots. named_there blocks n s globals slots p.area h.area;
     }
 
     -- ---- blocks
@@ -122,5 +146,6 @@ module _ (r : ResolvedUnit) where
           all_made 31 (is_automatic 31) (automatic_stored 31) (block_symbols r block) 0
           (block_symbols r block);
       globals = globals_behind 31 (global_stored 31) (all_symbols r);
-      based = λ blocks block. all_made 31 (is_based 31) (based_stored 31) (block_symbols r block) 0 (block_symbols r block);
+      based = λ blocks block. based_templates block;
+      returned_areas = λ blocks block n s globals slots. area_there r blocks n s globals slots (returned_area_of r block);
     }

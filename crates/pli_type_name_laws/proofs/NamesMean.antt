@@ -14,14 +14,16 @@ use Rattle.pli_resolve.specs.declared.symbol.NameMeaning.TheVariants as meanings
 use Rattle.pli_resolve.specs.declared.symbol.StorageClass.{StorageClass}
 use Rattle.pli_resolve.specs.declared.symbol.StorageClass.TheVariants as classes
 use Rattle.pli_resolve.specs.declared.symbol.SymbolKey.{SymbolKey}
-use Rattle.pli_type.specs.NamedUnits.{is_stored, is_based, is_passed_class, such_before, block_symbols, outward_to, root_of, pointer_named, storage_of, variable_from, variable_at, is_procedure}
-use Rattle.pli_type.specs.NamedUnits.{global_number, stands_around, is_reached, gives_stored, returned_of, named_procedure}
+use Rattle.pli_type.specs.NamedUnits.{is_stored, is_valued, is_based, is_passed_class, such_before, block_symbols, outward_to, root_of, area_named, locator_named, storage_of, variable_from, variable_at, is_procedure}
+use Rattle.pli_type.specs.NamedUnits.{global_number, stands_around, is_reached, gives_stored, returned_of, returned_area_of, named_procedure}
 use Rattle.pli_type.specs.NamedUnits.{symbol_meant, declared_as, named_as}
 use Rattle.pli_type.specs.Names.{NamedStorage, Begins, IsBased, NamedVariable, NamedProcedure, AVariable, AProcedure, ALabel, Untyped}
+use Rattle.pli_type.specs.declared.beginning.Beginning.{Beginning}
 use Rattle.pli_type_tree.specs.TypedTree.{Callee, OfBlock, OfEntry, Root}
 use Rattle.pli_type_name_laws.specs.NameFacts.{StandsAround}
 use Rattle.pli_type_name_laws.specs.SourceBlocks.{SourceBlock}
 use Rattle.pli_type_name_laws.specs.UnitBlocks.{in_unit, in_tree}
+use Rattle.pli_type_name_laws.proofs.PlainDescriptions.{valued_stored}
 use Rattle.pli_type_name_laws.proofs.RootsStand.{IsOf, IsEntry, Standing, root_begins}
 
 not_true : false ≡ true → ⊥
@@ -42,11 +44,11 @@ module _ (n : ℕ) (r : ResolvedUnit) (blocks : List ℕ) where
 
   -- ---- variables
 
-  -- storage stands: where a variable begins, or, of a symbol that is BASED, wherever the POINTER leads that BASED names
+  -- storage stands: where a variable begins, or, of a symbol that is BASED, wherever the locator leads that BASED names
   abbrev pub StandsIn : NamedStorage → Description → Type 0
   StandsIn (Begins root is_parameter) d = Standing n r blocks is_parameter root d
   StandsIn (IsBased block number implied) d =
-      (locator : Option SymbolKey) × (key : SymbolKey) × (s : Symbol) × (implied ≡ pointer_named n r blocks locator)
+      (locator : Option SymbolKey) × (key : SymbolKey) × (s : Symbol) × (implied ≡ locator_named n r blocks locator)
       × (slice_get (block_symbols r key.block) key.number ≡ Some s) × IsOf (classes.Based locator) d s.kind
 
   abbrev pub HasStorage : NamedStorage → Description → Type 0
@@ -59,22 +61,36 @@ module _ (n : ℕ) (r : ResolvedUnit) (blocks : List ℕ) where
     begun class of (Some root) is e =
         subst (λ t. HasStorage t d) (same_Some _ storage e) (root_begins n r blocks key d root s there class of is)
 
-    based : (locator : Option SymbolKey) → IsOf (classes.Based locator) d s.kind → (b : Bool) → is_stored n d ≡ b
-        → (if b then Some (IsBased key.block (such_before (is_based n) (block_symbols r key.block) key.number) (pointer_named n r blocks locator)) else None) ≡ Some storage
+    based : (locator : Option SymbolKey) → IsOf (classes.Based locator) d s.kind → (b : Bool) → is_valued n d ≡ b
+        → (if b then Some (IsBased key.block (such_before (is_based n) (block_symbols r key.block) key.number) (locator_named n r blocks locator)) else None) ≡ Some storage
         → HasStorage storage d
-    based locator of true stored e = subst (λ t. HasStorage t d) (same_Some _ storage e) ((locator, key, s, refl, there, of), stored)
-    based locator of false stored e = absurd (none-some storage e)
+    based locator of true valued e =
+        subst (λ t. HasStorage t d) (same_Some _ storage e) ((locator, key, s, refl, there, of), valued_stored n d valued)
+    based locator of false valued e = absurd (none-some storage e)
 
     storage_stands : (class : StorageClass) → IsOf class d s.kind → storage_of n r blocks key class d ≡ Some storage → HasStorage storage d
     storage_stands classes.Automatic of e = begun classes.Automatic of (root_of n r blocks key classes.Automatic d) refl e
     storage_stands (classes.Parameter slot) of e = begun (classes.Parameter slot) of (root_of n r blocks key (classes.Parameter slot) d) refl e
     storage_stands classes.Static of e = begun classes.Static of (root_of n r blocks key classes.Static d) refl e
     storage_stands classes.Controlled of e = begun classes.Controlled of (root_of n r blocks key classes.Controlled d) refl e
-    storage_stands (classes.Based locator) of e = based locator of (is_stored n d) refl e
+    storage_stands (classes.Based locator) of e = based locator of (is_valued n d) refl e
+
+  -- an area is the one that a declaration names
+  abbrev pub IsNamedArea : Option Beginning → Type 0
+  IsNamedArea area = (named : Option SymbolKey) × (area ≡ area_named n r blocks named)
+
+  -- the procedure of an entry
+  abbrev entry_procedure : SymbolKey → List Description → Option Description → (area : Option SymbolKey) → NamedProcedure
+  entry_procedure key parameters returned area = record {
+    callee = OfEntry (global_number n r key);
+    parameters = parameters;
+    returned = returned;
+    area = area_named n r blocks area;
+  }
 
   module _ (v : NamedVariable) where
     abbrev pub IsStored : Type 0
-    IsStored = HasStorage v.storage v.whole
+    IsStored = StandsIn v.storage v.whole × (is_stored n v.whole ≡ true) × IsNamedArea v.area
 
     untyped : Untyped ≡ AVariable v → ⊥
     untyped e = absurd (cc)
@@ -85,30 +101,33 @@ module _ (n : ℕ) (r : ResolvedUnit) (blocks : List ℕ) where
     no_label : (statement : ℕ) → ALabel statement ≡ AVariable v → ⊥
     no_label statement e = absurd (cc)
 
-    from_storage : (key : SymbolKey) (class : StorageClass) (d : Description) (path : List ℕ) (s : Symbol)
+    from_storage : (key : SymbolKey) (class : StorageClass) (d : Description) (path : List ℕ) (named : Option SymbolKey) (s : Symbol)
         → slice_get (block_symbols r key.block) key.number ≡ Some s → IsOf class d s.kind → (o : Option NamedStorage)
-        → storage_of n r blocks key class d ≡ o → variable_from o d path ≡ AVariable v → IsStored
-    from_storage key class d path s there of None is e = absurd (untyped e)
-    from_storage key class d path s there of (Some storage) is e =
-        subst (λ (w : NamedVariable). HasStorage w.storage w.whole)
-        (same_variable (record { storage = storage; whole = d; path = path }) v e)
-        (storage_stands key d storage s there class of is)
+        → storage_of n r blocks key class d ≡ o → variable_from o d path (area_named n r blocks named) ≡ AVariable v → IsStored
+    from_storage key class d path named s there of None is e = absurd (untyped e)
+    from_storage key class d path named s there of (Some storage) is e =
+        let stands = storage_stands key d storage s there class of is in
+        subst (λ (w : NamedVariable). StandsIn w.storage w.whole × (is_stored n w.whole ≡ true) × IsNamedArea w.area)
+        (same_variable (record { storage = storage; whole = d; path = path; area = area_named n r blocks named }) v e)
+        (stands.0, stands.1, (named, refl))
 
-    of_variable : (key : SymbolKey) (path : List ℕ) (s : Symbol) (kind : SymbolKind)
+    of_variable : (key : SymbolKey) (path : List ℕ) (named : Option SymbolKey) (s : Symbol) (kind : SymbolKind)
         → slice_get (block_symbols r key.block) key.number ≡ Some s → s.kind ≡ kind
-        → variable_at n r blocks key path (Some (record { identifier = s.identifier; kind = kind })) ≡ AVariable v → IsStored
-    of_variable key path s (Variable d class scope initial area) there is e =
-        from_storage key class d path s there (subst (IsOf class d) (sym is) (refl, refl)) _ refl e
-    of_variable key path s (Member root p initial area) there is e = absurd (untyped e)
-    of_variable key path s (Label statement) there is e = absurd (untyped e)
-    of_variable key path s (Procedure block returned area) there is e = absurd (untyped e)
-    of_variable key path s (Entry parameters returned) there is e = absurd (untyped e)
-    of_variable key path s BuiltIn there is e = absurd (untyped e)
+        → variable_at n r blocks key path (area_named n r blocks named) (Some (record { identifier = s.identifier; kind = kind })) ≡ AVariable v
+        → IsStored
+    of_variable key path named s (Variable d class scope initial area) there is e =
+        from_storage key class d path named s there (subst (IsOf class d) (sym is) (refl, refl)) _ refl e
+    of_variable key path named s (Member root p initial area) there is e = absurd (untyped e)
+    of_variable key path named s (Label statement) there is e = absurd (untyped e)
+    of_variable key path named s (Procedure block returned area) there is e = absurd (untyped e)
+    of_variable key path named s (Entry parameters returned area) there is e = absurd (untyped e)
+    of_variable key path named s BuiltIn there is e = absurd (untyped e)
 
-    of_member : (key : SymbolKey) (path : List ℕ) (o : Option Symbol) → slice_get (block_symbols r key.block) key.number ≡ o
-        → variable_at n r blocks key path o ≡ AVariable v → IsStored
-    of_member key path None there e = absurd (untyped e)
-    of_member key path (Some s) there e = of_variable key path s s.kind there refl e
+    of_member : (key : SymbolKey) (path : List ℕ) (named : Option SymbolKey) (o : Option Symbol)
+        → slice_get (block_symbols r key.block) key.number ≡ o
+        → variable_at n r blocks key path (area_named n r blocks named) o ≡ AVariable v → IsStored
+    of_member key path named None there e = absurd (untyped e)
+    of_member key path named (Some s) there e = of_variable key path named s s.kind there refl e
 
     named_or_not : (b : Bool) (p : NamedProcedure) → (if b then AProcedure p else Untyped) ≡ AVariable v → ⊥
     named_or_not true p e = no_variable p e
@@ -117,14 +136,13 @@ module _ (n : ℕ) (r : ResolvedUnit) (blocks : List ℕ) where
     of_symbol : (key : SymbolKey) (s : Symbol) (kind : SymbolKind) → slice_get (block_symbols r key.block) key.number ≡ Some s
         → s.kind ≡ kind → symbol_meant n r blocks key kind ≡ AVariable v → IsStored
     of_symbol key s (Variable d class scope initial area) there is e =
-        from_storage key class d [] s there (subst (IsOf class d) (sym is) (refl, refl)) _ refl e
+        from_storage key class d [] area s there (subst (IsOf class d) (sym is) (refl, refl)) _ refl e
     of_symbol key s (Member root path initial area) there is e =
-        of_member (record { block = key.block; number = root }) path _ refl e
+        of_member (record { block = key.block; number = root }) path area _ refl e
     of_symbol key s (Label statement) there is e = absurd (no_label statement e)
-    of_symbol key s (Procedure block returned area) there is e = absurd (named_or_not _ (named_procedure r block) e)
-    of_symbol key s (Entry parameters returned) there is e =
-        absurd (named_or_not (gives_stored n returned)
-        (record { callee = OfEntry (global_number n r key); parameters = parameters; returned = returned }) e)
+    of_symbol key s (Procedure block returned area) there is e = absurd (named_or_not _ (named_procedure n r blocks block) e)
+    of_symbol key s (Entry parameters returned area) there is e =
+        absurd (named_or_not (gives_stored n returned) (entry_procedure key parameters returned area) e)
     of_symbol key s BuiltIn there is e = absurd (untyped e)
 
     of_declared : (key : SymbolKey) (o : Option Symbol) → symbol_at r key ≡ o → declared_as n r blocks key ≡ AVariable v → IsStored
@@ -150,53 +168,56 @@ module _ (n : ℕ) (r : ResolvedUnit) (blocks : List ℕ) where
     -- it is the procedure of a block that is reached, or that of an entry
     abbrev pub IsThere : Callee → Type 0
     IsThere (OfBlock block) =
-        (named_procedure r block ≡ p) × (is_reached blocks (slice_get r.blocks block) ≡ true)
+        (named_procedure n r blocks block ≡ p) × (is_reached blocks (slice_get r.blocks block) ≡ true)
     IsThere (OfEntry number) = IsOfEntry number
 
     -- and gives what could be stored
     pub record IsNamed : Type 0 where
       pub there : IsThere p.callee
       pub stored : gives_stored n p.returned ≡ true
+      pub area : IsNamedArea p.area
 
     nothing : Untyped ≡ AProcedure p → ⊥
     nothing e = absurd (cc)
 
-    from_variable : (o : Option NamedStorage) (d : Description) (path : List ℕ) → variable_from o d path ≡ AProcedure p → ⊥
-    from_variable None d path e = nothing e
-    from_variable (Some storage) d path e = absurd (cc)
+    from_variable : (o : Option NamedStorage) (d : Description) (path : List ℕ) (area : Option Beginning)
+        → variable_from o d path area ≡ AProcedure p → ⊥
+    from_variable None d path area e = nothing e
+    from_variable (Some storage) d path area e = absurd (cc)
 
-    member_means : (key : SymbolKey) (path : List ℕ) (o : Option Symbol) → variable_at n r blocks key path o ≡ AProcedure p → ⊥
-    member_means key path None e = nothing e
-    member_means key path (Some s) e = by s.kind refl e
+    member_means : (key : SymbolKey) (path : List ℕ) (area : Option Beginning) (o : Option Symbol)
+        → variable_at n r blocks key path area o ≡ AProcedure p → ⊥
+    member_means key path area None e = nothing e
+    member_means key path area (Some s) e = by s.kind refl e
       where
         by : (kind : SymbolKind) → s.kind ≡ kind
-            → variable_at n r blocks key path (Some (record { identifier = s.identifier; kind = kind })) ≡ AProcedure p → ⊥
-        by (Variable d class scope initial area) is e = from_variable (storage_of n r blocks key class d) d path e
+            → variable_at n r blocks key path area (Some (record { identifier = s.identifier; kind = kind })) ≡ AProcedure p → ⊥
+        by (Variable d class scope initial named) is e = from_variable (storage_of n r blocks key class d) d path area e
         by (Member root p initial area) is e = nothing e
         by (Label statement) is e = nothing e
         by (Procedure block returned area) is e = nothing e
-        by (Entry parameters returned) is e = nothing e
+        by (Entry parameters returned area) is e = nothing e
         by BuiltIn is e = nothing e
 
     of_block : (block : ℕ) (b : Bool) → (is_reached blocks (slice_get r.blocks block) && gives_stored n (returned_of r block)) ≡ b
-        → (if b then AProcedure (named_procedure r block) else Untyped) ≡ AProcedure p → IsNamed
+        → (if b then AProcedure (named_procedure n r blocks block) else Untyped) ≡ AProcedure p → IsNamed
     of_block block true h e =
-        let same : named_procedure r block ≡ p = same_procedure (named_procedure r block) p e in
+        let same : named_procedure n r blocks block ≡ p = same_procedure (named_procedure n r blocks block) p e in
         let parts : (is_reached blocks (slice_get r.blocks block) ≡ true) × (gives_stored n (returned_of r block) ≡ true) =
         and_parts _ _ h in
         record {
           there = subst IsThere (ap (λ (q : NamedProcedure). q.callee) same) (same, parts.0);
           stored = ap (λ (q : NamedProcedure). gives_stored n q.returned) (sym same) ∙ parts.1;
+          area = (returned_area_of r block, ap (λ (q : NamedProcedure). q.area) (sym same));
         }
     of_block block false h e = absurd (nothing e)
 
     of_entry : (key : SymbolKey) (s : Symbol) → slice_get (block_symbols r key.block) key.number ≡ Some s
-        → (parameters : List Description) (returned : Option Description) → s.kind ≡ Entry parameters returned
+        → (parameters : List Description) (returned : Option Description) (area : Option SymbolKey) → s.kind ≡ Entry parameters returned area
         → (b : Bool) → gives_stored n returned ≡ b
-        → (if b then AProcedure (record { callee = OfEntry (global_number n r key); parameters = parameters; returned = returned })
-        else Untyped) ≡ AProcedure p → IsNamed
-    of_entry key s there parameters returned is true h e =
-        let q : NamedProcedure = record { callee = OfEntry (global_number n r key); parameters = parameters; returned = returned } in
+        → (if b then AProcedure (entry_procedure key parameters returned area) else Untyped) ≡ AProcedure p → IsNamed
+    of_entry key s there parameters returned area is true h e =
+        let q : NamedProcedure = entry_procedure key parameters returned area in
         let same : q ≡ p = same_procedure q p e in
         record {
           there =
@@ -211,18 +232,20 @@ module _ (n : ℕ) (r : ResolvedUnit) (blocks : List ℕ) where
                 is = refl;
               });
           stored = ap (λ (x : NamedProcedure). gives_stored n x.returned) (sym same) ∙ h;
+          area = (area, ap (λ (x : NamedProcedure). x.area) (sym same));
         }
-    of_entry key s there parameters returned is false h e = absurd (nothing e)
+    of_entry key s there parameters returned area is false h e = absurd (nothing e)
 
     symbol_named : (key : SymbolKey) (s : Symbol) → slice_get (block_symbols r key.block) key.number ≡ Some s → (kind : SymbolKind)
         → s.kind ≡ kind → symbol_meant n r blocks key kind ≡ AProcedure p → IsNamed
-    symbol_named key s there (Variable d class scope initial area) is e = absurd (from_variable (storage_of n r blocks key class d) d [] e)
+    symbol_named key s there (Variable d class scope initial area) is e =
+        absurd (from_variable (storage_of n r blocks key class d) d [] (area_named n r blocks area) e)
     symbol_named key s there (Member root path initial area) is e =
-        absurd (member_means (record { block = key.block; number = root }) path (slice_get (block_symbols r key.block) root) e)
+        absurd (member_means (record { block = key.block; number = root }) path (area_named n r blocks area) (slice_get (block_symbols r key.block) root) e)
     symbol_named key s there (Label statement) is e = absurd (cc)
     symbol_named key s there (Procedure block returned area) is e = of_block block _ refl e
-    symbol_named key s there (Entry parameters returned) is e =
-        of_entry key s there parameters returned is (gives_stored n returned) refl e
+    symbol_named key s there (Entry parameters returned area) is e =
+        of_entry key s there parameters returned area is (gives_stored n returned) refl e
     symbol_named key s there BuiltIn is e = absurd (nothing e)
 
     declared_named : (key : SymbolKey) (o : Option Symbol) → symbol_at r key ≡ o → declared_as n r blocks key ≡ AProcedure p → IsNamed

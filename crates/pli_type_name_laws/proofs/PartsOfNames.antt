@@ -7,27 +7,31 @@ use Rattle.std.proofs.lemmas.Option.{same_Some, none-some}
 use Rattle.pli_map.specs.Description.{Description, Array, Structure, Members}
 use Rattle.pli_map.specs.Parts.{PlacedPart, member_behind}
 use Rattle.pli_map.proofs.ScalarLawsHold.{whole_found}
-use Rattle.pli_type.specs.NamedUnits.{is_plain}
+use Rattle.pli_type.specs.NamedUnits.{may_stand}
 use Rattle.pli_type.specs.Names.{NamedVariable}
 use Rattle.pli_type.specs.References.{StridedPart, strides_of, element_of, member_of, part_on, part_of, with_subscripts, subscripts_at}
 use Rattle.pli_type_tree.specs.TypedTree.{Stride, TypedExpression}
 use Rattle.pli_type_tree.specs.WellTyped.{LeadTo}
 use Rattle.pli_type_name_laws.proofs.PartsLead.{Leads, leads_at, leads_member, leads_element}
 use Rattle.pli_type_name_laws.proofs.PlainDescriptions.{plain_takes, plain_element, plain_elements, plain_dimension, plain_members, plain_member}
+use Rattle.pli_type_name_laws.proofs.PlainDescriptions.{plain_stands}
 
 abbrev strided : (offset : ℕ) → Description → List Stride → StridedPart
 strided o d ss = record { offset = o; description = d; strides = ss }
 
--- a part of a variable is plain, and stands where its offset and its strides say
+-- a part of a variable is plain, or the whole of an area, and stands where its offset and its strides say
 pub record Stands (n : ℕ) (w : Description) (p : StridedPart) : Type 0 where
-  pub plain : is_plain n p.description ≡ true
+  pub plain : may_stand n p.description ≡ true
   pub leads : Leads w p.offset p.strides p.description
 
 module _ (n : ℕ) (w : Description) where
   element_stands : (o : ℕ) (d : Description) (ss : List Stride) → Stands n w (strided o d ss) → Stands n w (element_of (strided o d ss))
   element_stands o (Array bs e) ss h =
       let plain = plain_element n bs e h.plain in
-      record { plain = plain; leads = leads_element w o ss bs e (plain_takes n e plain) (plain_elements n bs e h.plain) h.leads }
+      record {
+        plain = plain_stands n e plain;
+        leads = leads_element w o ss bs e (plain_takes n e plain) (plain_elements n bs e h.plain) h.leads;
+      }
   element_stands o d ss h = h
 
   of_member : (o : ℕ) (ss : List Stride) (ds : Members) (i : ℕ) (q : StridedPart) (m : Option PlacedPart)
@@ -36,8 +40,10 @@ module _ (n : ℕ) (w : Description) where
   of_member o ss ds i q None h is e = absurd (none-some q e)
   of_member o ss ds i q (Some m) h is e =
       let plain = plain_member n 0 ds i m (plain_members n ds h.plain) is in
-      let stands : Stands n w (strided (o + m.offset) m.description ss) =
-      record { plain = plain; leads = leads_member w o ss ds i m (plain_takes n m.description plain) is h.leads } in
+      let stands : Stands n w (strided (o + m.offset) m.description ss) = record {
+        plain = plain_stands n m.description plain;
+        leads = leads_member w o ss ds i m (plain_takes n m.description plain) is h.leads;
+      } in
       subst (Stands n w) (same_Some _ q e) stands
 
   member_stands : (o : ℕ) (d : Description) (ss : List Stride) (i : ℕ) (q : StridedPart) → Stands n w (strided o d ss)
@@ -71,26 +77,26 @@ module _ (n : ℕ) (w : Description) where
   subscripted k p q false false h is zeros_are e = absurd (none-some q e)
 
   pub subscripts_lead : (p q : StridedPart) (xs : List TypedExpression) → Stands n w p → with_subscripts (length xs) p ≡ Some q
-      → LeadTo w q.offset (subscripts_at q.strides xs) q.description × (is_plain n q.description ≡ true)
+      → LeadTo w q.offset (subscripts_at q.strides xs) q.description × (may_stand n q.description ≡ true)
   subscripts_lead p q xs h e =
       let s = subscripted (length xs) p q _ _ h refl refl e in
       (leads_at w q.offset q.strides q.description xs s.1 s.0.leads, s.0.plain)
 
-  pub start : is_plain n w ≡ true → Stands n w (strided 0 w [])
+  pub start : may_stand n w ≡ true → Stands n w (strided 0 w [])
   start plain = record { plain = plain; leads = (0, whole_found w) }
 
-  pub part_stands : (v : NamedVariable) (p : StridedPart) → v.whole ≡ w → is_plain n w ≡ true → part_of v ≡ Some p → Stands n w p
+  pub part_stands : (v : NamedVariable) (p : StridedPart) → v.whole ≡ w → may_stand n w ≡ true → part_of v ≡ Some p → Stands n w p
   part_stands v p is plain e =
       path_stands (strided 0 w []) v.path p (start plain) (ap (λ d. part_on (strided 0 d []) v.path) (sym is) ∙ e)
 
 -- without members and subscripts it is the whole variable
-whole_element : (n : ℕ) (d : Description) → is_plain n d ≡ true → length (element_of (strided 0 d [])).strides ≡ 0
+whole_element : (n : ℕ) (d : Description) → may_stand n d ≡ true → length (element_of (strided 0 d [])).strides ≡ 0
     → (element_of (strided 0 d [])).description ≡ d
 whole_element n (Array [] e) plain h = absurd (plain_dimension n e plain)
 whole_element n (Array (b ∷ bs) e) plain h = absurd (omega (arith, h))
 whole_element n d plain h = refl
 
-whole_cases : (n : ℕ) (d : Description) (q : StridedPart) (a b : Bool) → is_plain n d ≡ true
+whole_cases : (n : ℕ) (d : Description) (q : StridedPart) (a b : Bool) → may_stand n d ≡ true
     → nat_eq 0 (length (element_of (strided 0 d [])).strides) ≡ a
     → (if a then Some (element_of (strided 0 d [])) else if b then Some (strided 0 d []) else None) ≡ Some q → q.description ≡ d
 whole_cases n d q true b plain is e =
@@ -98,7 +104,7 @@ whole_cases n d q true b plain is e =
 whole_cases n d q false true plain is e = sym (ap (λ (r : StridedPart). r.description) (same_Some _ q e))
 whole_cases n d q false false plain is e = absurd (none-some q e)
 
-pub whole_is : (n : ℕ) (v : NamedVariable) (p q : StridedPart) → is_plain n v.whole ≡ true → v.path ≡ [] → part_of v ≡ Some p
+pub whole_is : (n : ℕ) (v : NamedVariable) (p q : StridedPart) → may_stand n v.whole ≡ true → v.path ≡ [] → part_of v ≡ Some p
     → with_subscripts 0 p ≡ Some q → q.description ≡ v.whole
 whole_is n v p q plain none e f =
     let is : strided 0 v.whole [] ≡ p = same_Some _ p (sym (ap (part_on (strided 0 v.whole [])) none) ∙ e) in

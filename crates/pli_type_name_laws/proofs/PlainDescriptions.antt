@@ -1,16 +1,17 @@
--- What plain descriptions have: each takes bytes, and its members and elements are plain.
+-- What plain descriptions have: each takes bytes, and its members and elements are plain. A variable may be an area too.
 use Rattle.std.specs.Prelude.{◌≡◌, ℕ, zero, suc, ◌+◌, ◌<◌, nat_lt, nat_le, Bool, true, false, ◌&&◌, Some, List, [], ◌∷◌, refl}
 use Rattle.std.proofs.Common.{sym, ◌∙◌, ap, arith}
 use Rattle.std.specs.Int.{next_multiple_of}
-use Rattle.std.proofs.lemmas.Bool.{and_parts, ltb-true}
+use Rattle.std.proofs.lemmas.Bool.{and_parts, and_from, or_right, ltb-true}
 use Rattle.std.proofs.lemmas.Option.{same_Some, none-some}
 use Rattle.pli_map.specs.Description.{Description, FixedBinary, Character, Varying, Bit, Pointer, Offset, Area, Array, Structure, Members, NoMembers, MemberThen}
 use Rattle.pli_map.specs.Parts.{PlacedPart, member_behind}
 use Rattle.pli_map.specs.ScalarPaths.{is_filled, are_filled}
+use Rattle.pli_map.specs.Scalars.{is_area}
 use Rattle.pli_map.specs.Sizes.{count_of, alignment_of, size_of}
 use Rattle.pli_map.specs.declared.description.Bounds.{Bounds}
 use Rattle.pli_map.proofs.ScalarLawsHold.{takes_bytes}
-use Rattle.pli_type.specs.NamedUnits.{is_plain, all_plain}
+use Rattle.pli_type.specs.NamedUnits.{is_plain, all_plain, is_valued, may_stand, is_stored}
 
 not_true : false ≡ true → ⊥
 not_true e = absurd (cc)
@@ -32,7 +33,7 @@ mutual
   plain_filled n (Varying k) h = (and_parts (nat_lt 0 k) (nat_le k 32767) h).0
   plain_filled n (Bit k) h = (and_parts (nat_lt 0 k) (nat_le k 32767) h).0
   plain_filled n Pointer h = refl
-  plain_filled n Offset h = absurd (not_true h)
+  plain_filled n Offset h = refl
   plain_filled n (Area k) h = absurd (not_true h)
   plain_filled n (Array [] e) h = absurd (not_true h)
   plain_filled n (Array (b ∷ bs) e) h = both _ _ (plain_count n b bs e h) (plain_filled n e (plain_inner n b bs e h))
@@ -76,3 +77,26 @@ plain_member n at (MemberThen d ds) zero m h e =
     sym (ap (λ (p : PlacedPart). is_plain n p.description) is) ∙ (and_parts (is_plain n d) (all_plain n ds) h).0
 plain_member n at (MemberThen d ds) (suc i) m h e =
     plain_member n (next_multiple_of at (alignment_of d) + size_of d) ds i m (and_parts (is_plain n d) (all_plain n ds) h).1 e
+
+-- ---- variables
+
+-- a plain description is none of an area
+pub plain_no_area : (n : ℕ) (d : Description) → is_plain n d ≡ true → is_area d ≡ false
+plain_no_area n (Area k) h = absurd (not_true h)
+plain_no_area n d h = refl
+
+-- a variable may be of it
+pub plain_stands : (n : ℕ) (d : Description) → is_plain n d ≡ true → may_stand n d ≡ true
+plain_stands n d h = or_right (is_area d) (is_plain n d) h
+
+-- what is stored may stand; a value is plain, and is stored
+pub stored_stands : (n : ℕ) (d : Description) → is_stored n d ≡ true → may_stand n d ≡ true
+stored_stands n d h = (and_parts (may_stand n d) (nat_le (size_of d) 1000000) h).0
+
+pub valued_plain : (n : ℕ) (d : Description) → is_valued n d ≡ true → is_plain n d ≡ true
+valued_plain n d h = (and_parts (is_plain n d) (nat_le (size_of d) 1000000) h).0
+
+pub valued_stored : (n : ℕ) (d : Description) → is_valued n d ≡ true → is_stored n d ≡ true
+valued_stored n d h =
+    let both = and_parts (is_plain n d) (nat_le (size_of d) 1000000) h in
+    and_from (may_stand n d) (nat_le (size_of d) 1000000) (plain_stands n d both.0) both.1

@@ -1,14 +1,13 @@
 -- Where a variable begins is known wherever the blocks around have the slots that its unit gives them.
-use Rattle.std.specs.Prelude.{◌≡◌, ℕ, suc, ◌≤◌, nat_eq, nat_le, Bool, true, false, Option, Some, None, option_map}
+use Rattle.std.specs.Prelude.{◌≡◌, ℕ, suc, ◌≤◌, nat_eq, Bool, true, false, Option, Some, None, option_map}
 use Rattle.std.specs.Prelude.{List, [], ◌∷◌, length, slice_get, if◌then◌else◌, refl}
 use Rattle.std.proofs.Common.{sym, ◌∙◌, ap, subst}
-use Rattle.std.proofs.lemmas.Bool.{and_parts, eqb-true}
+use Rattle.std.proofs.lemmas.Bool.{eqb-true}
 use Rattle.std.proofs.lemmas.Option.{same_Some, none-some}
 use Rattle.pli_map.specs.Description.{Description}
-use Rattle.pli_map.specs.Sizes.{size_of}
 use Rattle.pli_program.specs.declared.kind.VariableKind.TheVariants.{Static, Controlled}
 use Rattle.pli_resolve.specs.ResolvedUnits.{ResolvedUnit}
-use Rattle.pli_type.specs.NamedUnits.{is_plain, is_stored, outward_to, named_unit}
+use Rattle.pli_type.specs.NamedUnits.{outward_to, named_unit}
 use Rattle.pli_type.specs.Names.{NamedUnit}
 use Rattle.pli_type_tree.specs.Globals.{described_as}
 use Rattle.pli_type_tree.specs.TypedTree.{Root, InSlot, OfProgram, NewestOf, Located}
@@ -16,9 +15,6 @@ use Rattle.pli_type_tree.specs.WellTyped.{BlockAround, TypingContext, slot_of, p
 use Rattle.pli_type_name_laws.specs.NameFacts.{HaveSlots}
 use Rattle.pli_type_name_laws.specs.SourceBlocks.{slots_in}
 use Rattle.pli_type_name_laws.proofs.RootsStand.{Standing}
-
-pub stored_plain : (n : ℕ) (d : Description) → is_stored n d ≡ true → is_plain n d ≡ true
-stored_plain n d h = (and_parts (is_plain n d) (nat_le (size_of d) 1000000) h).0
 
 -- a block around has the parameters and the slots of its number
 abbrev IsAround : NamedUnit → List BlockAround → (block outward : ℕ) → Type 0

@@ -23,6 +23,7 @@ use Rattle.pli_type.specs.NamedUnits.{block_symbols, global_number, global_of, g
 use Rattle.pli_type.specs.NamedUnits.{PlacedGlobal, placed, global_at, global_tokens, all_tokens, block_globals}
 use Rattle.pli_type.specs.TextOrder.{in_order, text_places}
 use Rattle.pli_type.proofs.TextNumbers.{stands_in_text}
+use Rattle.pli_type_name_laws.proofs.PlainDescriptions.{valued_stored}
 use Rattle.pli_type_tree.specs.Templates.{Template}
 use Rattle.pli_program.specs.declared.kind.VariableKind.{VariableKind}
 use Rattle.pli_program.specs.declared.kind.VariableKind.TheVariants.{Static, Controlled}
@@ -59,7 +60,7 @@ module _ (is_such : StorageClass → Description → Bool) (all : List Symbol) w
   symbol_passed number (Member root path initial area) rest j = none_passed (descriptions rest) j
   symbol_passed number (Label statement) rest j = none_passed (descriptions rest) j
   symbol_passed number (Procedure block returned area) rest j = none_passed (descriptions rest) j
-  symbol_passed number (Entry parameters returned) rest j = none_passed (descriptions rest) j
+  symbol_passed number (Entry parameters returned area) rest j = none_passed (descriptions rest) j
   symbol_passed number BuiltIn rest j = none_passed (descriptions rest) j
 
   -- a symbol is such a variable of this description
@@ -73,7 +74,7 @@ module _ (is_such : StorageClass → Description → Bool) (all : List Symbol) w
   here number d (Member root path initial area) rest h = absurd h
   here number d (Label statement) rest h = absurd h
   here number d (Procedure block returned area) rest h = absurd h
-  here number d (Entry parameters returned) rest h = absurd h
+  here number d (Entry parameters returned area) rest h = absurd h
   here number d BuiltIn rest h = absurd h
 
   found : (ss : List Symbol) (number k : ℕ) (s : Symbol) (d : Description) → slice_get ss k ≡ Some s → IsSuch d s.kind
@@ -121,7 +122,7 @@ global_counted : (n : ℕ) (all : List Symbol) (number : ℕ) (name : Name) (kin
 global_counted n all number name (Variable d class scope initial area) =
     if_counted (global_of scope (kind_of_class class) name) (is_global n class d)
     (template_of d (record { path = []; values = initial } ∷ member_items number all))
-global_counted n all number name (Entry parameters returned) = length_one (EntryPoint name (record { parameters = parameters; result = returned })) []
+global_counted n all number name (Entry parameters returned area) = length_one (EntryPoint name (record { parameters = parameters; result = returned })) []
 global_counted n all number name (Member root path initial area) = refl
 global_counted n all number name (Label statement) = refl
 global_counted n all number name (Procedure block returned area) = refl
@@ -234,7 +235,7 @@ such is_such class d (Variable description c scope initial area) h e = (h.0, ap 
 such is_such class d (Member root path initial area) h e = absurd h
 such is_such class d (Label statement) h e = absurd h
 such is_such class d (Procedure block returned area) h e = absurd h
-such is_such class d (Entry parameters returned) h e = absurd h
+such is_such class d (Entry parameters returned area) h e = absurd h
 such is_such class d BuiltIn h e = absurd h
 
 -- a STATIC or CONTROLLED variable is a global of its kind and description
@@ -256,7 +257,7 @@ one_global_of n all number name class d (Variable description c scope initial ar
 one_global_of n all number name class d (Member root path initial area) h e = absurd h
 one_global_of n all number name class d (Label statement) h e = absurd h
 one_global_of n all number name class d (Procedure block returned area) h e = absurd h
-one_global_of n all number name class d (Entry parameters returned) h e = absurd h
+one_global_of n all number name class d (Entry parameters returned area) h e = absurd h
 one_global_of n all number name class d BuiltIn h e = absurd h
 
 described : (class : StorageClass) (d : Description) (s : Symbol) (kind : SymbolKind) → s.kind ≡ kind → IsOf class d kind
@@ -265,7 +266,7 @@ described class d s (Variable description c scope initial area) e h = rw e h.0
 described class d s (Member root path initial area) e h = absurd h
 described class d s (Label statement) e h = absurd h
 described class d s (Procedure block returned area) e h = absurd h
-described class d s (Entry parameters returned) e h = absurd h
+described class d s (Entry parameters returned area) e h = absurd h
 described class d s BuiltIn e h = absurd h
 
 parameter_there : (numbers : List ℕ) (slot number : ℕ) (o : Option ℕ) → slice_get numbers slot ≡ o
@@ -289,7 +290,7 @@ global_stored n classes.Controlled d h = h
 global_stored n class d h = absurd (not_true h)
 
 pub based_stored : (n : ℕ) (class : StorageClass) (d : Description) → is_based n class d ≡ true → is_stored n d ≡ true
-based_stored n (classes.Based locator) d h = h
+based_stored n (classes.Based locator) d h = valued_stored n d h
 based_stored n class d h = absurd (not_true h)
 
 module _ (n : ℕ) (r : ResolvedUnit) (blocks : List ℕ) where
@@ -380,13 +381,13 @@ module _ (n : ℕ) (r : ResolvedUnit) (blocks : List ℕ) where
 
 -- the entry that a symbol is stands where it is counted
 abbrev pub IsEntry : List Description → Option Description → SymbolKind → Type 0
-IsEntry parameters returned (Entry ps o) = (ps ≡ parameters) × (o ≡ returned)
+IsEntry parameters returned (Entry ps o area) = (ps ≡ parameters) × (o ≡ returned)
 IsEntry parameters returned kind = ⊥
 
 entry_global : (n : ℕ) (all : List Symbol) (number : ℕ) (name : Name) (parameters : List Description) (returned : Option Description)
     (kind : SymbolKind) → IsEntry parameters returned kind
     → global_with n all number name kind ≡ EntryPoint name (record { parameters = parameters; result = returned }) ∷ []
-entry_global n all number name parameters returned (Entry ps o) h =
+entry_global n all number name parameters returned (Entry ps o area) h =
     ap (λ ds. EntryPoint name (record { parameters = ds; result = o }) ∷ []) h.0
     ∙ ap (λ d. EntryPoint name (record { parameters = parameters; result = d }) ∷ []) h.1
 entry_global n all number name parameters returned (Variable d class scope initial area) h = absurd h

@@ -2,17 +2,22 @@
 -- and which procedures are called.
 use Rattle.std.specs.Prelude.{◌≡◌, ℕ, false, IsTrue, Option, Some, None, List, [], ◌∷◌, length, map}
 use Rattle.std.specs.Prelude.{slice_get}
-use Rattle.pli_map.specs.Description.{Description, Pointer}
+use Rattle.std.specs.List.{AllByRecursion}
+use Rattle.pli_map.specs.Description.{Description, Pointer, Offset}
+use Rattle.pli_map.specs.Scalars.{is_area}
 use Rattle.pli_resolve.specs.declared.block_numbers.ResolvedBlockKind.TheVariants as kinds
-use Rattle.pli_type.specs.NamedUnits.{is_plain, outward_to, names_based}
-use Rattle.pli_type.specs.Names.{NamedUnit, NamedStorage, Begins, IsBased, NamedVariable, AVariable}
+use Rattle.pli_type.specs.Beginnings.{whole_at}
+use Rattle.pli_type.specs.NamedUnits.{is_plain, may_stand, outward_to, names_based}
+use Rattle.pli_type.specs.Names.{NamedUnit, LocatorVariable, OfPointer, OfOffset, NamedStorage, Begins}
+use Rattle.pli_type.specs.Names.{IsBased, NamedVariable, AVariable}
 use Rattle.pli_type.specs.Names.{NamedProcedure, AProcedure}
 use Rattle.pli_type.specs.References.{StridedPart, part_of, with_subscripts, subscripts_at}
-use Rattle.pli_type_tree.specs.Templates.{variable_of}
+use Rattle.pli_type.specs.declared.beginning.Beginning.{Beginning}
+use Rattle.pli_type_tree.specs.Templates.{Template, variable_of}
 use Rattle.pli_type_tree.specs.Globals.{signature_of, templates_in}
-use Rattle.pli_type_tree.specs.TypedTree.{Callee, OfBlock, OfEntry, TypedExpression, TypedReference}
-use Rattle.pli_type_tree.specs.WellTyped.{AreMade, BlockAround, LeadTo, TypingContext, BeginsWhole}
-use Rattle.pli_type_tree.specs.WellTyped.{IsRooted, IsPlaced}
+use Rattle.pli_type_tree.specs.TypedTree.{Callee, OfBlock, OfEntry, TypedExpression}
+use Rattle.pli_type_tree.specs.WellTyped.{IsMade, AreMade, BlockAround, LeadTo, TypingContext, BeginsWhole}
+use Rattle.pli_type_tree.specs.WellTyped.{IsRooted, IsPlaced, IsAreaReference}
 use Rattle.pli_type_name_laws.specs.SourceBlocks.{SourceBlock, unit_blocks, innermost, slots_in}
 
 -- blocks of these numbers, with the parameters and the slots that a unit gives them
@@ -23,31 +28,45 @@ HaveSlots u (n ∷ ns) (b ∷ bs) =
     × HaveSlots u ns bs
 HaveSlots u ns bs = ⊥
 
--- the POINTER that BASED names is there, if it names one
-abbrev pub IsPointed : (greatest : ℕ) → TypingContext → Option TypedReference → Type 0
-IsPointed n s None = Unit {0}
-IsPointed n s (Some reference) = IsPlaced n s reference Pointer
+-- the area that a declaration names is there, if it names one
+abbrev pub IsAreaNamed : (greatest : ℕ) → TypingContext → Option Beginning → Type 0
+IsAreaNamed n s None = Unit {0}
+IsAreaNamed n s (Some area) = IsAreaReference n s (whole_at area)
+
+-- a variable that leads to BASED ones is there: a POINTER; or an OFFSET, and the area that it names
+abbrev pub IsLocatorThere : (greatest : ℕ) → TypingContext → LocatorVariable → Type 0
+IsLocatorThere n s (OfPointer reference) = IsPlaced n s reference Pointer
+IsLocatorThere n s (OfOffset reference area) =
+    IsPlaced n s reference Offset × IsAreaReference n s (whole_at area)
+
+-- the locator that BASED names is, if it names one
+abbrev pub IsImplied : (greatest : ℕ) → TypingContext → Option LocatorVariable → Type 0
+IsImplied n s None = Unit {0}
+IsImplied n s (Some locator) = IsLocatorThere n s locator
 
 -- storage of a variable of this description is there: it begins where that stands, as a whole generation
--- unless the variable is a parameter; or it is wherever a pointer leads
+-- unless the variable is a parameter; or it is wherever a locator leads
 abbrev pub IsStoredIn : (greatest : ℕ) → TypingContext → NamedStorage → Description → Type 0
 IsStoredIn n s (Begins root is_parameter) whole =
     IsRooted n s root whole × (is_parameter ≡ false → BeginsWhole s root)
-IsStoredIn n s (IsBased block number implied) whole = IsPointed n s implied
+IsStoredIn n s (IsBased block number implied) whole = IsImplied n s implied
 
 -- a variable that a name means is there, wherever these blocks are around, and each reference to a part of it
--- leads to that part
+-- leads to that part; and the area is there that its OFFSET names
 pub record VariableFacts (u : NamedUnit) (blocks : List ℕ) (v : NamedVariable) : Type 0 where
   pub begins :
       (greatest : ℕ) (s : TypingContext) → s.globals ≡ u.globals → HaveSlots u blocks s.blocks
       → IsStoredIn greatest s v.storage v.whole
-  pub plain : IsTrue (is_plain 31 v.whole)
+  pub area :
+      (greatest : ℕ) (s : TypingContext) → s.globals ≡ u.globals → HaveSlots u blocks s.blocks
+      → IsAreaNamed greatest s v.area
+  pub plain : IsTrue (may_stand 31 v.whole)
   -- with as many subscripts as it has levels, or with none where no level above it has subscripts
   pub leads :
       (p q : StridedPart) (xs : List TypedExpression) → part_of v ≡ Some p
       → with_subscripts (length xs) p ≡ Some q
       → LeadTo v.whole q.offset (subscripts_at q.strides xs) q.description
-      × IsTrue (is_plain 31 q.description)
+      × IsTrue (may_stand 31 q.description)
   -- without members and subscripts it is the whole variable
   pub whole :
       (p q : StridedPart) → v.path ≡ [] → part_of v ≡ Some p → with_subscripts 0 p ≡ Some q
@@ -74,10 +93,18 @@ IsCalled u blocks p (OfEntry number) =
     signature_of (slice_get u.globals number)
     ≡ Some (record { parameters = p.parameters; result = p.returned })
 
--- a procedure that a name means is there; what it gives could be held by a variable
+-- a procedure that a name means is there; what it gives could be held by a variable, and the area is there
+-- that its RETURNS names
 pub record ProcedureFacts (u : NamedUnit) (blocks : List ℕ) (p : NamedProcedure) : Type 0 where
   pub called : IsCalled u blocks p p.callee
   pub plain : (d : Description) → p.returned ≡ Some d → IsTrue (is_plain 31 d)
+  pub area :
+      (greatest : ℕ) (s : TypingContext) → s.globals ≡ u.globals → HaveSlots u blocks s.blocks
+      → IsAreaNamed greatest s p.area
+
+-- a BASED variable is made well from this, and it is no area
+abbrev pub IsBasedTemplate : Template → Type 0
+IsBasedTemplate t = IsMade (variable_of t) × (is_area t.description ≡ false)
 
 -- what names mean is there, in all blocks; variables take no more bytes than they may, and begin with values
 -- of their scalars; and BEGIN blocks have no parameters
@@ -94,7 +121,11 @@ pub record NameFacts (u : NamedUnit) : Type 0 where
       → u.parameters number ≡ []
   pub automatic : (block : ℕ) → AreMade (map variable_of (u.automatic block))
   pub globals : AreMade (map variable_of (templates_in u.globals))
-  pub based : (blocks : List ℕ) (block : ℕ) → AreMade (map variable_of ((u.naming blocks).based block))
+  pub based : (blocks : List ℕ) (block : ℕ) → AllByRecursion IsBasedTemplate ((u.naming blocks).based block)
+  -- the area that RETURNS of a function names is there
+  pub returned_areas :
+      (blocks : List ℕ) (block greatest : ℕ) (s : TypingContext) → s.globals ≡ u.globals
+      → HaveSlots u blocks s.blocks → IsAreaNamed greatest s ((u.naming blocks).returned_area block)
 
 -- it is known where names of BASED variables stand, whatever blocks are around: ALLOCATE has a temporary for
 -- each of them

@@ -13,10 +13,11 @@ ghost use Rattle.pli_type_name_laws.specs.Numbering.{AreNumbered};
 ghost use Rattle.pli_type_name_laws.specs.UnitBlocks.{BlocksAreOfTree};
 
 /// A law: where the blocks of a unit are those of its tree, a name that means a variable means one of the blocks around
-/// or of the program, which begins where its root says and has the type that is said, as a whole generation unless it is
-/// a parameter; or a BASED one, and then the POINTER that BASED names is there; each of its parts is where its
-/// offset and its subscripts say, wherever these are within their bounds; a name that means a procedure means one of
-/// the tree, directly in a block around; and each variable begins with values that its scalars hold.
+/// or of the program, which begins where its root says and has the type that is said, as a whole generation unless it
+/// is a parameter; or a BASED one, and then the locator that BASED names is there; each of its parts is where its
+/// offset and its subscripts say, wherever these are within their bounds, and the area is there that its OFFSET names;
+/// a name that means a procedure means one of the tree, directly in a block around, and the area is there that its
+/// RETURNS names; and each variable begins with values that its scalars hold.
 pub fn names_mean_variables()
     ensures { (r : ResolvedUnit) → BlocksAreOfTree r → NameFacts (named_unit 31 r) }
 {}

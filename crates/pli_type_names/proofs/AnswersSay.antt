@@ -7,8 +7,9 @@ use Rattle.pli_resolve.specs.ResolvedUnits.{ResolvedUnit, ResolvedBlock, meaning
 use Rattle.pli_resolve.specs.declared.built_in.BuiltInFunction.{BuiltInFunction}
 use Rattle.pli_resolve.specs.declared.symbol.NameMeaning.TheVariants as meanings
 use Rattle.pli_resolve.specs.declared.symbol.SymbolKey.{SymbolKey}
-use Rattle.pli_type.specs.NamedUnits.{block_symbols, declared_as, description_in, is_procedure, named_as, of_block, parameters_of, returned_by, returned_of}
-use Rattle.pli_type_names.specs.BlockEntries.{BlockEntry, entry_at, parameters_in, returned_in}
+use Rattle.pli_type.specs.NamedUnits.{area_named, area_returned_by, block_symbols, declared_as, description_in, is_procedure, named_as, of_block}
+use Rattle.pli_type.specs.NamedUnits.{parameters_of, returned_area_of, returned_by, returned_of}
+use Rattle.pli_type_names.specs.BlockEntries.{BlockEntry, area_of, entry_at, parameters_in, returned_in}
 use Rattle.pli_type_names.specs.SymbolMeaning.{IsMeantAs}
 use Rattle.pli_type_names.specs.Seen.{seen}
 use Rattle.pli_type_names.specs.UnitNaming.{Names, naming_in}
@@ -55,6 +56,12 @@ returned_there r block None e =
     ap (λ x. option_and_then (λ key. returned_by (symbol_at r key)) (of_block (λ b. if is_procedure b.kind then b.name else None) None x)) (sym e)
 returned_there r block (Some b) e = refl
 
+area_there : (r : ResolvedUnit) (block : ℕ) (o : Option ResolvedBlock) → slice_get r.blocks block ≡ o
+    → area_of (option_map (entry_at r block) o) ≡ returned_area_of r block
+area_there r block None e =
+    ap (λ x. option_and_then (λ key. area_returned_by (symbol_at r key)) (of_block (λ b. if is_procedure b.kind then b.name else None) None x)) (sym e)
+area_there r block (Some b) e = refl
+
 -- by what is found for the block
 pub parameters_found : (r : ResolvedUnit) (block : ℕ) (o : Option BlockEntry) → o ≡ option_map (entry_at r block) (slice_get r.blocks block)
     → parameters_in o ≡ parameters_of r block
@@ -63,3 +70,15 @@ parameters_found r block o e = ap parameters_in e ∙ parameters_there r block (
 pub returned_found : (r : ResolvedUnit) (block : ℕ) (o : Option BlockEntry) → o ≡ option_map (entry_at r block) (slice_get r.blocks block)
     → returned_in o ≡ returned_of r block
 returned_found r block o e = ap returned_in e ∙ returned_there r block (slice_get r.blocks block) refl
+
+pub area_found : (r : ResolvedUnit) (block : ℕ) (o : Option BlockEntry) → o ≡ option_map (entry_at r block) (slice_get r.blocks block)
+    → area_of o ≡ returned_area_of r block
+area_found r block o e = ap area_of e ∙ area_there r block (slice_get r.blocks block) refl
+
+-- ---- the areas that RETURNS name
+
+pub returned_area_is : (n : Names) (block : ℕ)
+    → area_named 31 (resolved_unit_of (unit_view n.unit)) n.blocks (returned_area_of (resolved_unit_of (unit_view n.unit)) block)
+    ≡ (naming_in n).returned_area block
+unfolding naming_in
+returned_area_is n block = refl

@@ -5,7 +5,7 @@ use Rattle.std.proofs.lemmas.Option.{same_Some, none-some}
 use Rattle.pli_map.specs.Description as tree
 use Rattle.pli_map.specs.Description.{Description, Members, Structure}
 use Rattle.pli_map.specs.Parts.{PlacedPart, Member, member_behind, part_at}
-use Rattle.pli_type.specs.NamedUnits.{is_plain}
+use Rattle.pli_type.specs.NamedUnits.{may_stand}
 use Rattle.pli_type_names.proofs.PlainLemmas.{PlainMember, plain_step}
 use Rattle.pli_type.specs.References.{StridedPart, element_of, member_of, part_on}
 use Rattle.pli_type_tree.specs.TypedTree.{Stride}
@@ -83,6 +83,6 @@ same_level variables k l same is = record {
 }
 
 -- a member of a plain structure is plain, and lies within it
-pub member_fits : (d : Description) (ms : Members) (i : ℕ) (p : PlacedPart) → is_plain 31 d ≡ true → d ≡ Structure ms
+pub member_fits : (d : Description) (ms : Members) (i : ℕ) (p : PlacedPart) → may_stand 31 d ≡ true → d ≡ Structure ms
     → Some p ≡ member_behind 0 ms i → PlainMember d p
 member_fits d ms i p plain e is = plain_step d i p plain (ap (λ x. part_at x (Member i)) e ∙ sym is)

@@ -1,8 +1,9 @@
 -- How many static links outward a block is.
-use Rattle.std.proofs.Common.{◌≡◌, ℕ, suc, ◌+◌, ◌-◌, ◌<◌, ◌≤◌, Option, Some, None, List, length, drop, reverse, option_map, get_or, refl, ap, sym, ◌∙◌, arith, eq-eqb, nat_eq}
+use Rattle.std.proofs.Common.{◌≡◌, ℕ, suc, ◌+◌, ◌-◌, ◌<◌, ◌≤◌, Option, Some, None, List, length, drop, reverse, option_map, get_or, slice_get, refl, ap, sym, ◌∙◌, arith, eq-eqb, nat_eq}
 use Rattle.std.specs.Prelude.{if◌then◌else◌}
 use Rattle.std.proofs.lemmas.Bool.{ne_eqb}
 use Rattle.std.proofs.lemmas.List.{at_drop_more, at_drop_all, get_or-reverse, length-reverse}
+use Rattle.std.proofs.lemmas.Option.{slice_get-get_or, slice_get_past}
 use Rattle.pli_type.specs.NamedUnits.{outward_to}
 
 -- so many links further
@@ -44,3 +45,14 @@ pub found_nowhere : (xs : List ℕ) (block i : ℕ) → length xs ≤ i → None
 found_nowhere xs block i h =
     let beyond : length (reverse xs) ≤ i = omega (arith, h, length-reverse xs) in
     ap (further i) (sym (at_drop_all (λ ys. outward_to ys block) (reverse xs) i beyond))
+
+-- the block so many links outward, if one is there
+pub block_there : (xs : List ℕ) (i : ℕ) → i < length xs → Some (get_or xs (length xs - 1 - i) 0) ≡ slice_get (reverse xs) i
+block_there xs i h =
+    let within : i < length (reverse xs) = omega (arith, h, length-reverse xs) in
+    ap Some (sym (get_or-reverse xs i 0 h)) ∙ sym (slice_get-get_or (reverse xs) i 0 within)
+
+pub no_block_there : (xs : List ℕ) (i : ℕ) → length xs ≤ i → None ≡ slice_get (reverse xs) i
+no_block_there xs i h =
+    let beyond : length (reverse xs) ≤ i = omega (arith, h, length-reverse xs) in
+    sym (slice_get_past (reverse xs) i beyond)

@@ -1,7 +1,7 @@
 -- Plain descriptions.
-use Rattle.std.proofs.Common.{◌≡◌, ℕ, zero, suc, ◌+◌, ◌*◌, ◌<◌, ◌≤◌, true, false, ◌&&◌, nat_lt}
+use Rattle.std.proofs.Common.{◌≡◌, ℕ, zero, suc, ◌+◌, ◌*◌, ◌<◌, ◌≤◌, true, false, ◌&&◌, nat_le, nat_lt}
 use Rattle.std.proofs.Common.{List, [], ◌∷◌, length, Some, refl, ap, sym, ◌∙◌, arith}
-use Rattle.std.proofs.lemmas.Bool.{ltb-true, lt-ltb, and_parts}
+use Rattle.std.proofs.lemmas.Bool.{ltb-true, lt-ltb, and_from, and_parts, or_right}
 use Rattle.std.proofs.lemmas.Option.{same_Some, none-some}
 use Rattle.std.proofs.Math.Nat.{le-mul_of_pos_right}
 use Rattle.pli_map.specs.declared.description.Bounds.{Bounds}
@@ -11,7 +11,8 @@ use Rattle.pli_map.specs.Parts.{PlacedPart, Member, member_behind, part_at}
 use Rattle.pli_map.specs.Sizes.{count_of, size_of, alignment_of, stride_of}
 use Rattle.pli_map.specs.views.DescriptionView.{members_view}
 use Rattle.pli_map.proofs.Places.{fits_stride, member_inside}
-use Rattle.pli_type.specs.NamedUnits.{are_bounds, is_plain, all_plain}
+use Rattle.pli_map.specs.Scalars.{is_area}
+use Rattle.pli_type.specs.NamedUnits.{are_bounds, is_plain, all_plain, is_stored, is_valued, may_stand}
 use Rattle.std.specs.Int.{next_multiple_of}
 
 -- a dimension with subscripts leaves the test of the others
@@ -43,6 +44,17 @@ array_plain (b ∷ bs) e h = refl
 pub array_empty : (bs : List Bounds) (e : tree.Description) → length bs ≡ 0 → is_plain 31 (tree.Array bs e) ≡ false
 array_empty [] e h = refl
 array_empty (b ∷ bs) e h = absurd (omega arith)
+
+-- ---- what a variable may be
+
+-- a plain description may be that of a variable
+pub plain_stands : (d : tree.Description) → is_plain 31 d ≡ true → may_stand 31 d ≡ true
+plain_stands d h = or_right (is_area d) (is_plain 31 d) h
+
+pub valued_stored : (d : tree.Description) → is_valued 31 d ≡ true → is_stored 31 d ≡ true
+valued_stored d h =
+    let both = and_parts (is_plain 31 d) (nat_le (size_of d) 1000000) h in
+    and_from (may_stand 31 d) (nat_le (size_of d) 1000000) (plain_stands d both.0) both.1
 
 -- ---- what is in a plain description is plain
 
@@ -76,7 +88,7 @@ pub record PlainMember (d : tree.Description) (p : PlacedPart) : Type 0 where
   pub plain : is_plain 31 p.description ≡ true
   pub within : p.offset + size_of p.description ≤ size_of d
 
-pub plain_step : (d : tree.Description) (i : ℕ) (p : PlacedPart) → is_plain 31 d ≡ true
+pub plain_step : (d : tree.Description) (i : ℕ) (p : PlacedPart) → may_stand 31 d ≡ true
     → part_at d (Member i) ≡ Some p → PlainMember d p
 plain_step (tree.Structure ds) i p h e = record {
   plain = plain_member 0 ds i p (plain_members ds h) e;

@@ -9,9 +9,9 @@ use Rattle.pli_resolve.specs.declared.symbol.Symbol.{Symbol}
 use Rattle.pli_resolve.specs.declared.symbol.StorageClass.{StorageClass}
 use Rattle.pli_resolve.specs.declared.symbol.StorageClass.TheVariants as classes
 use Rattle.pli_resolve.specs.views.SymbolView.{symbol_view, symbol_kind_view}
-use Rattle.pli_type.specs.NamedUnits.{is_parameter, is_stored, is_automatic, is_based, is_global, one_such, such_before, one_global, globals_before}
+use Rattle.pli_type.specs.NamedUnits.{is_parameter, is_stored, is_valued, is_automatic, is_based, is_global, one_such, such_before, one_global, globals_before}
 use Rattle.pli_type_names.specs.BlockFacts.{BlockFacts}
-use Rattle.pli_type_names.specs.OwnVariables.{begun, global_at, own_at, own_behind, slots_of, globals_of, based_of}
+use Rattle.pli_type_names.specs.OwnVariables.{begun, global_at, is_kept, own_at, own_behind, slots_of, globals_of, based_of}
 use Rattle.pli_type_names.specs.declared.place.Location.{Location}
 use Rattle.pli_type_names.specs.declared.place.Location.TheVariants.{InBlock, Passed, BeforeProgram, NewestOf, Based}
 
@@ -45,12 +45,12 @@ own_is f number slots globals based (Variable d classes.Controlled scope initial
     in_order (is_stored 31 d) (NewestOf globals) d
     ∙ ap (λ n. begun (if is_stored 31 d then Some (NewestOf n) else None) d) g
 own_is f number slots globals based (Variable d (classes.Based locator) scope initial area) e g h =
-    in_order (is_stored 31 d) (Based based locator) d
-    ∙ ap (λ n. begun (if is_stored 31 d then Some (Based n locator) else None) d) h
+    in_order (is_valued 31 d) (Based based locator) d
+    ∙ ap (λ n. begun (if is_valued 31 d then Some (Based n locator) else None) d) h
 own_is f number slots globals based (Member root path initial area) e g h = refl
 own_is f number slots globals based (Label statement) e g h = refl
 own_is f number slots globals based (Procedure block returned area) e g h = refl
-own_is f number slots globals based (Entry parameters returned) e g h = refl
+own_is f number slots globals based (Entry parameters returned area) e g h = refl
 own_is f number slots globals based BuiltIn e g h = refl
 
 -- ---- counting
@@ -62,55 +62,55 @@ one_if_few : (b : Bool) → one_if b ≤ 1
 one_if_few true = omega arith
 one_if_few false = omega arith
 
--- a variable that is stored
-pub slots_stored : (d : Description) (class : StorageClass) → is_stored 31 d ≡ true
+-- a variable that is kept
+pub slots_kept : (d : Description) (class : StorageClass) → is_kept class d ≡ true
     → one_if (is_automatic 31 class d) ≡ slots_of class
-slots_stored d classes.Automatic e = ap one_if e
-slots_stored d classes.Static e = refl
-slots_stored d (classes.Parameter slot) e = refl
-slots_stored d classes.Controlled e = refl
-slots_stored d (classes.Based locator) e = refl
+slots_kept d classes.Automatic e = ap one_if e
+slots_kept d classes.Static e = refl
+slots_kept d (classes.Parameter slot) e = refl
+slots_kept d classes.Controlled e = refl
+slots_kept d (classes.Based locator) e = refl
 
-pub globals_stored : (d : Description) (class : StorageClass) → is_stored 31 d ≡ true
+pub globals_kept : (d : Description) (class : StorageClass) → is_kept class d ≡ true
     → one_if (is_global 31 class d) ≡ globals_of class
-globals_stored d classes.Automatic e = refl
-globals_stored d classes.Static e = ap one_if e
-globals_stored d (classes.Parameter slot) e = refl
-globals_stored d classes.Controlled e = ap one_if e
-globals_stored d (classes.Based locator) e = refl
+globals_kept d classes.Automatic e = refl
+globals_kept d classes.Static e = ap one_if e
+globals_kept d (classes.Parameter slot) e = refl
+globals_kept d classes.Controlled e = ap one_if e
+globals_kept d (classes.Based locator) e = refl
 
-pub based_stored : (d : Description) (class : StorageClass) → is_stored 31 d ≡ true
+pub based_kept : (d : Description) (class : StorageClass) → is_kept class d ≡ true
     → one_if (is_based 31 class d) ≡ based_of class
-based_stored d classes.Automatic e = refl
-based_stored d classes.Static e = refl
-based_stored d (classes.Parameter slot) e = refl
-based_stored d classes.Controlled e = refl
-based_stored d (classes.Based locator) e = ap one_if e
+based_kept d classes.Automatic e = refl
+based_kept d classes.Static e = refl
+based_kept d (classes.Parameter slot) e = refl
+based_kept d classes.Controlled e = refl
+based_kept d (classes.Based locator) e = ap one_if e
 
 -- one that is not
-pub based_unstored : (d : Description) (class : StorageClass) → is_stored 31 d ≡ false
-    → one_if (is_based 31 class d) ≡ 0
-based_unstored d classes.Automatic e = refl
-based_unstored d classes.Static e = refl
-based_unstored d (classes.Parameter slot) e = refl
-based_unstored d classes.Controlled e = refl
-based_unstored d (classes.Based locator) e = ap one_if e
-
-pub slots_unstored : (d : Description) (class : StorageClass) → is_stored 31 d ≡ false
+pub slots_unkept : (d : Description) (class : StorageClass) → is_kept class d ≡ false
     → one_if (is_automatic 31 class d) ≡ 0
-slots_unstored d classes.Automatic e = ap one_if e
-slots_unstored d classes.Static e = refl
-slots_unstored d (classes.Parameter slot) e = refl
-slots_unstored d classes.Controlled e = refl
-slots_unstored d (classes.Based locator) e = refl
+slots_unkept d classes.Automatic e = ap one_if e
+slots_unkept d classes.Static e = refl
+slots_unkept d (classes.Parameter slot) e = refl
+slots_unkept d classes.Controlled e = refl
+slots_unkept d (classes.Based locator) e = refl
 
-pub globals_unstored : (d : Description) (class : StorageClass) → is_stored 31 d ≡ false
+pub globals_unkept : (d : Description) (class : StorageClass) → is_kept class d ≡ false
     → one_if (is_global 31 class d) ≡ 0
-globals_unstored d classes.Automatic e = refl
-globals_unstored d classes.Static e = ap one_if e
-globals_unstored d (classes.Parameter slot) e = refl
-globals_unstored d classes.Controlled e = ap one_if e
-globals_unstored d (classes.Based locator) e = refl
+globals_unkept d classes.Automatic e = refl
+globals_unkept d classes.Static e = ap one_if e
+globals_unkept d (classes.Parameter slot) e = refl
+globals_unkept d classes.Controlled e = ap one_if e
+globals_unkept d (classes.Based locator) e = refl
+
+pub based_unkept : (d : Description) (class : StorageClass) → is_kept class d ≡ false
+    → one_if (is_based 31 class d) ≡ 0
+based_unkept d classes.Automatic e = refl
+based_unkept d classes.Static e = refl
+based_unkept d (classes.Parameter slot) e = refl
+based_unkept d classes.Controlled e = refl
+based_unkept d (classes.Based locator) e = ap one_if e
 
 -- ---- one symbol further on
 
@@ -140,7 +140,7 @@ one_at_most f (Variable d class scope initial area) = one_if_few (f class d)
 one_at_most f (Member root path initial area) = omega arith
 one_at_most f (Label statement) = omega arith
 one_at_most f (Procedure block returned area) = omega arith
-one_at_most f (Entry parameters returned) = omega arith
+one_at_most f (Entry parameters returned area) = omega arith
 one_at_most f BuiltIn = omega arith
 
 -- as many as there are symbols, at most
@@ -174,7 +174,7 @@ one_global_at_most (Variable d class scope initial area) = one_if_few (is_global
 one_global_at_most (Member root path initial area) = omega arith
 one_global_at_most (Label statement) = omega arith
 one_global_at_most (Procedure block returned area) = omega arith
-one_global_at_most (Entry parameters returned) = omega arith
+one_global_at_most (Entry parameters returned area) = omega arith
 one_global_at_most BuiltIn = omega arith
 
 pub globals_within : (ss : List plain.Symbol) (n : ℕ) → globals_before 31 ss n ≤ n

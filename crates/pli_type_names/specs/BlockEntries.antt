@@ -1,20 +1,21 @@
 -- What is found once for each block of a unit, for the procedures among them.
-use Rattle.std.specs.Prelude.{ℕ, Bool, ◌&&◌, Option, None, Some, List, [], slice_get, if◌then◌else◌}
+use Rattle.std.specs.Prelude.{ℕ, Bool, ◌&&◌, Option, None, Some, List, []}
 use Rattle.pli_map.specs.Description as described
 use Rattle.pli_map.specs.Description.{Description}
 use Rattle.pli_resolve.specs.ResolvedUnits.{ResolvedUnit, ResolvedBlock}
 use Rattle.pli_resolve.specs.Symbols.{SymbolKind, Variable, Procedure}
 use Rattle.pli_resolve.specs.declared.symbol.SymbolKey.{SymbolKey}
-use Rattle.pli_type.specs.NamedUnits.{gives_stored, is_procedure, of_block}
-use Rattle.pli_type.specs.NamedUnits.{parameters_of, returned_of}
+use Rattle.pli_type.specs.NamedUnits.{gives_stored, is_procedure, parameters_of, returned_of}
+use Rattle.pli_type.specs.NamedUnits.{returned_area_of}
 
 -- whether it is a procedure whose value, if it gives one, a variable could hold; the block round it; what its
--- parameters are, and what it gives
+-- parameters are, and what it gives; and the area that OFFSET in its RETURNS names
 pub record BlockEntry : Type 0 where
   pub is_named : Bool
   pub outer : Option ℕ
   pub parameters : List Description
   pub returned : Option Description
+  pub area : Option SymbolKey
 
 -- what is found for a block
 abbrev pub entry_at : ResolvedUnit → (number : ℕ) → ResolvedBlock → BlockEntry
@@ -23,12 +24,8 @@ entry_at r number b = record {
   outer = b.outer;
   parameters = parameters_of r number;
   returned = returned_of r number;
+  area = returned_area_of r number;
 }
-
--- the symbol of a procedure's name
-abbrev pub name_of : ResolvedUnit → (block : ℕ) → Option SymbolKey
-name_of r block =
-    of_block (λ b. if is_procedure b.kind then b.name else None) None (slice_get r.blocks block)
 
 -- what a variable of its own is
 abbrev pub description_of : SymbolKind → Description
@@ -40,6 +37,11 @@ abbrev pub returned_with : SymbolKind → Option Description
 returned_with (Procedure block returned area) = returned
 returned_with other = None
 
+-- the area that OFFSET in its RETURNS names
+abbrev pub area_with : SymbolKind → Option SymbolKey
+area_with (Procedure block returned area) = area
+area_with other = None
+
 -- the parameters of an entry that may not be there
 abbrev pub parameters_in : Option BlockEntry → List Description
 parameters_in None = []
@@ -49,3 +51,8 @@ parameters_in (Some e) = e.parameters
 abbrev pub returned_in : Option BlockEntry → Option Description
 returned_in None = None
 returned_in (Some e) = e.returned
+
+-- the area that OFFSET in its RETURNS names
+abbrev pub area_of : Option BlockEntry → Option SymbolKey
+area_of None = None
+area_of (Some e) = e.area

@@ -1,10 +1,10 @@
 pub mod BlockEntries
 pub mod BlockFacts
 pub mod SymbolMeaning
+pub mod LocatorReferences
 pub mod Numbered
 pub mod OnWays
 pub mod OwnVariables
-pub mod PointerReferences
 pub mod Seen
 pub mod UnitNaming
 pub mod views

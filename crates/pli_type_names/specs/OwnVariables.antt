@@ -1,11 +1,11 @@
 -- The variables of their own among the symbols of a block: where each has its storage.
-use Rattle.std.specs.Prelude.{ℕ, ◌+◌, ◌&&◌, Option, Some, None, List, get_or, length, if◌then◌else◌}
+use Rattle.std.specs.Prelude.{ℕ, ◌+◌, Bool, ◌&&◌, Option, Some, None, List, get_or, length, if◌then◌else◌}
 use Rattle.pli_map.specs.Description.{Description}
 use Rattle.pli_resolve.specs.Symbols.{SymbolKind, Variable}
 use Rattle.pli_resolve.specs.declared.symbol.StorageClass.{StorageClass}
 use Rattle.pli_resolve.specs.declared.symbol.StorageClass.TheVariants as classes
 use Rattle.pli_type.specs.NamedUnits.{globals_before, is_automatic, is_based, is_parameter, is_stored}
-use Rattle.pli_type.specs.NamedUnits.{such_before}
+use Rattle.pli_type.specs.NamedUnits.{is_valued, such_before}
 use Rattle.pli_type_names.specs.BlockFacts.{BlockFacts}
 use Rattle.pli_type_names.specs.Numbered.{each_from}
 use Rattle.pli_type_names.specs.declared.place.Location.{Location}
@@ -39,7 +39,7 @@ place_at f number classes.Static d =
 place_at f number classes.Controlled d =
     if is_stored 31 d then Some (NewestOf (global_at f number)) else None
 place_at f number (classes.Based locator) d =
-    if is_stored 31 d then Some (Based (such_before (is_based 31) f.symbols number) locator) else None
+    if is_valued 31 d then Some (Based (such_before (is_based 31) f.symbols number) locator) else None
 
 -- the variable that is the symbol of this number, if it is one that is compiled; a member is none of its own
 abbrev pub own_at : BlockFacts → (number : ℕ) → SymbolKind → Option OwnVariable
@@ -64,11 +64,16 @@ place_behind parameters slots global based number classes.Static = Some (BeforeP
 place_behind parameters slots global based number classes.Controlled = Some (NewestOf global)
 place_behind parameters slots global based number (classes.Based locator) = Some (Based based locator)
 
+-- a variable of this class is compiled: a BASED one is no area
+abbrev pub is_kept : StorageClass → Description → Bool
+is_kept (classes.Based locator) d = is_valued 31 d
+is_kept class d = is_stored 31 d
+
 -- the variable that a symbol is, there
 abbrev pub own_behind : (parameters : List ℕ) → (slots global based number : ℕ) → SymbolKind
     → Option OwnVariable
 own_behind parameters slots global based number (Variable description class scope initial area) =
-    if is_stored 31 description
+    if is_kept class description
     then begun (place_behind parameters slots global based number class) description else None
 own_behind parameters slots global based number other = None
 

@@ -16,19 +16,22 @@ abbrev pub is_way : (path : List ℕ) → Bool
 is_way [] = false
 is_way (i ∷ path) = true
 
--- a variable: its storage, what it is as a whole, whether it is a member, and which part it is
+-- a variable: its storage, what it is as a whole, whether it is a member, which part it is, and the area that
+-- its OFFSET names
 abbrev pub IsVariable : NamedVariable → plain.NamedVariable → Type 0
 IsVariable v w =
     (storage_view v.storage ≡ w.storage)
     × (description_view v.whole.now ≡ w.whole)
     × (v.is_member ≡ is_way w.path)
     × (option_map part_view v.part.now ≡ part_of w)
+    × (v.area ≡ w.area)
 
--- a procedure: what a call of it calls, its parameters, and what it gives
+-- a procedure: what a call of it calls, its parameters, what it gives, and the area that its RETURNS names
 pub record IsProcedure (p : NamedProcedure) (q : plain.NamedProcedure) : Type 0 where
   pub callee : callee_view p.callee ≡ q.callee
   pub parameters : map (λ d. description_view d.now) p.parameters.now ≡ q.parameters
   pub returned : option_map (λ d. description_view d.now) p.returned ≡ q.returned
+  pub area : p.area ≡ q.area
 
 -- a name means this
 abbrev pub IsMeantAs : NamedAs → plain.NamedAs → Type 0

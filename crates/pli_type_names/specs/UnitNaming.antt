@@ -40,9 +40,9 @@ unit_compiled u = (named_unit 31 (resolved_unit_of (unit_view u))).compiled
 abbrev pub compiled_in : Names → Compiled
 compiled_in n = unit_compiled n.unit
 
--- what the parameters of a block are, and what it gives
-unfoldable pub procedure_in : Procedure → (block : ℕ) → NamedProcedure
-procedure_in u block = named_procedure (resolved_unit_of (unit_view u)) block
+-- a block as a procedure: what its parameters are, what it gives, and the area that its RETURNS names
+unfoldable pub procedure_in : Names → (block : ℕ) → NamedProcedure
+procedure_in n block = named_procedure 31 (resolved_unit_of (unit_view n.unit)) n.blocks block
 
 -- the symbols of a block
 unfoldable pub symbols_in : Procedure → (block : ℕ) → List Symbol

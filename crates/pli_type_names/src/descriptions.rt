@@ -1,10 +1,10 @@
-//! Which descriptions variables have that are compiled.
+//! Which descriptions variables have.
 ghost use Rattle.std.specs.Prelude.{◌≡◌, nat_lt};
 ghost use Rattle.pli_map.specs.Sizes.{count_of};
 ghost use Rattle.pli_map.specs.views.DescriptionView.{description_view, members_view};
 ghost use Rattle.pli_type.specs.NamedUnits as spec;
 
-use pli_map::{Bounds, Description, size};
+use pli_map::{Bounds, Description, is_area, size};
 
 /// How many binary digits numbers have at most (own).
 pub const GREATEST: u8 = 31;
@@ -49,7 +49,7 @@ fn are_bounds(bounds: &[Bounds]) -> bool
     true
 }
 
-/// Whether a description is of numbers, strings and pointers alone, within the limits: numbers of 31 binary digits at
+/// Whether a description is of numbers, strings and locators alone, within the limits: numbers of 31 binary digits at
 /// most, strings of 1 to 32,767 elements, arrays with elements, and structures with members (own).
 #[cycle(is_plain)]
 #[tactic(auto, using(crate::proofs::PlainLemmas::structure_plain, crate::proofs::PlainLemmas::structure_empty, crate::proofs::PlainLemmas::array_plain, crate::proofs::PlainLemmas::array_empty))]
@@ -61,8 +61,8 @@ pub fn is_plain(description: &Description) -> bool
         Description::Character(length) => is_length(*length),
         Description::Varying(length) => is_length(*length),
         Description::Bit(length) => is_length(*length),
-        Description::Pointer => true,
-        Description::Offset | Description::Area(_) => false,
+        Description::Pointer | Description::Offset => true,
+        Description::Area(_) => false,
         Description::Array { bounds, element } => {
             !bounds.is_empty() && has_elements(bounds) && are_bounds(bounds) && is_plain(element)
         }
@@ -82,10 +82,18 @@ fn are_plain(members: &[Description]) -> bool
     true
 }
 
-/// Whether a variable of this description is compiled: one of numbers, strings and pointers alone, of 1,000,000 bytes at
-/// most (own).
+/// Whether a description is of numbers, strings and locators alone, and of 1,000,000 bytes at most, as what a function
+/// gives is and what a BASED variable is (own).
+pub fn is_valued(description: &Description) -> bool
+    ensures { result ≡ spec.is_valued 31 (description_view description.now) }
+{
+    is_plain(description) && size(description).is_some()
+}
+
+/// Whether a variable of its own may be of this description: an area, or one of numbers, strings and locators alone, of
+/// 1,000,000 bytes at most (own).
 pub fn is_stored(description: &Description) -> bool
     ensures { result ≡ spec.is_stored 31 (description_view description.now) }
 {
-    is_plain(description) && size(description).is_some()
+    (is_area(description) || is_plain(description)) && size(description).is_some()
 }

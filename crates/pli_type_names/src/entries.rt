@@ -6,13 +6,13 @@ ghost use Rattle.pli_map.specs.views.DescriptionView.{description_view};
 ghost use Rattle.pli_resolve.specs.ResolvedUnits.{resolved_unit_of};
 ghost use Rattle.pli_resolve.specs.views.UnitView.{resolved_block_view};
 ghost use Rattle.pli_type.specs.NamedUnits as units;
-ghost use Rattle.pli_type_names.specs.BlockEntries.{entry_at, parameters_in, returned_in};
+ghost use Rattle.pli_type_names.specs.BlockEntries.{area_of, entry_at, parameters_in, returned_in};
 ghost use Rattle.pli_type_names.specs.views.EntryView.{AreEntries, entry_view};
 
-use crate::descriptions::is_stored;
-use crate::parameters::{parameters_of, returned_of};
+use crate::descriptions::is_valued;
+use crate::parameters::{parameters_of, returned_area_of, returned_of};
 use pli_map::Description;
-use pli_resolve::{ResolvedBlock, ResolvedBlockKind, ResolvedUnit};
+use pli_resolve::{ResolvedBlock, ResolvedBlockKind, ResolvedUnit, SymbolKey};
 use std::alloc::{AllocError, Global};
 
 /// What is found once for a block.
@@ -26,6 +26,8 @@ pub(crate) struct BlockEntry<'a> {
     pub parameters: Vec<&'a Description>,
     /// What it gives, if it is that of a function.
     pub returned: Option<&'a Description>,
+    /// The area that OFFSET in its RETURNS names.
+    pub area: Option<SymbolKey>,
 }
 
 /// Whether a variable could hold what a procedure gives, if it gives anything.
@@ -34,7 +36,7 @@ pub(crate) fn gives_stored(returned: Option<&Description>) -> bool
 {
     match returned {
         None => true,
-        Some(returned) => is_stored(returned),
+        Some(returned) => is_valued(returned),
     }
 }
 
@@ -58,6 +60,7 @@ fn block_entry<'r>(
         outer: block.outer,
         parameters,
         returned,
+        area: returned_area_of(resolved, number),
     })
 }
 
@@ -101,4 +104,14 @@ pub(crate) fn returned_at<'a>(entries: &[BlockEntry<'a>], block: usize) -> Optio
         return None;
     };
     entry.returned
+}
+
+/// The area that OFFSET in the RETURNS of the block of this number names, if there is one.
+pub(crate) fn area_at(entries: &[BlockEntry<'_>], block: usize) -> Option<SymbolKey>
+    ensures { result ≡ area_of (slice_get (map entry_view entries.now) block) }
+{
+    let Some(entry) = entries.get(block) else {
+        return None;
+    };
+    entry.area
 }

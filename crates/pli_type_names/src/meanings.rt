@@ -22,7 +22,7 @@ use crate::part::StridedPart;
 use crate::place::Location;
 use crate::unit_symbols::symbols;
 use pli_map::Description;
-use pli_resolve::{ResolvedUnit, Symbol, SymbolKind};
+use pli_resolve::{ResolvedUnit, Symbol, SymbolKey, SymbolKind};
 use std::alloc::{AllocError, Global};
 
 /// What a symbol means, wherever its name is used.
@@ -36,30 +36,34 @@ pub(crate) enum SymbolMeaning<'a> {
         is_member: bool,
         /// Which part of the variable it is; none where the way leads nowhere.
         part: Option<StridedPart<'a>>,
+        /// The area that OFFSET in its declaration names.
+        area: Option<SymbolKey>,
     },
     /// The procedure that is the block of this number.
     Procedure(usize),
-    /// The external procedure of the entry that has this number among the globals, with its parameters, and what it
-    /// gives if it is a function.
+    /// The external procedure of the entry that has this number among the globals, with its parameters, what it gives if
+    /// it is a function, and the area that OFFSET in its RETURNS names.
     Entry {
         number: usize,
         parameters: Vec<&'a Description>,
         returned: Option<&'a Description>,
+        area: Option<SymbolKey>,
     },
     /// The label of the statement of this number.
     Label(u32),
     Untyped,
 }
 
-/// What an entry means that has this number among the globals.
+/// What an entry means that has this number among the globals, and whose RETURNS names this area.
 fn entry_meaning<'a>(
     alloc: Global,
     number: usize,
     described: &'a [Description],
     returned: Option<&'a Description>,
+    area: Option<SymbolKey>,
 ) -> Result<SymbolMeaning<'a>, AllocError>
     ensures { IfOk result (λ meant. meant_view meant ≡ entry_kept number (map description_view described.now)
-        (option_map (λ d. description_view d.now) returned.entry)) }
+        (option_map (λ d. description_view d.now) returned.entry) area) }
 {
     if !gives_stored(returned) {
         return Ok(SymbolMeaning::Untyped);
@@ -72,19 +76,21 @@ fn entry_meaning<'a>(
         number,
         parameters,
         returned,
+        area,
     })
 }
 
-/// The part of a variable of its own on this way.
+/// The part of a variable of its own on this way, whose OFFSET names this area.
 fn meant_on_way<'a>(
     alloc: Global,
     variables: &[Option<OwnVariable<'a>>],
     root: usize,
     path: &'a [usize],
+    area: Option<SymbolKey>,
     levels: &mut Vec<StructureLevel<'a>>,
 ) -> Result<SymbolMeaning<'a>, AllocError>
     requires { All (IsLevel (map (option_map own_view) variables.now)) levels.old.items }
-    ensures meaning { IfOk result (λ meant. meant_view meant ≡ on_way (get_or (map (option_map own_view) variables.now) root None) path.now) }
+    ensures meaning { IfOk result (λ meant. meant_view meant ≡ on_way (get_or (map (option_map own_view) variables.now) root None) path.now area) }
     ensures levels { IfOk result (λ _. All (IsLevel (map (option_map own_view) variables.now)) levels.new.items) }
 {
     let Some(variable) = variable_at(variables, root) else {
@@ -96,6 +102,7 @@ fn meant_on_way<'a>(
         whole: variable.description,
         is_member: !path.is_empty(),
         part,
+        area,
     })
 }
 
@@ -113,14 +120,22 @@ fn symbol_meaning<'a>(
     ensures levels { IfOk result (λ _. All (IsLevel (map (option_map own_view) variables.now)) levels.new.items) }
 {
     match kind {
-        SymbolKind::Variable { .. } => meant_on_way(alloc, variables, number, &[], levels),
-        SymbolKind::Member { root, path, .. } => meant_on_way(alloc, variables, root, path, levels),
+        SymbolKind::Variable { area, .. } => {
+            meant_on_way(alloc, variables, number, &[], area, levels)
+        }
+        SymbolKind::Member {
+            root,
+            path,
+            area,
+            ..
+        } => meant_on_way(alloc, variables, root, path, area, levels),
         SymbolKind::Procedure { block, .. } => Ok(SymbolMeaning::Procedure(block)),
         SymbolKind::Label { statement } => Ok(SymbolMeaning::Label(statement)),
         SymbolKind::Entry {
             parameters,
             returned,
-        } => entry_meaning(alloc, global, parameters, returned),
+            area,
+        } => entry_meaning(alloc, global, parameters, returned, area),
         SymbolKind::BuiltIn => Ok(SymbolMeaning::Untyped),
     }
 }

@@ -1,5 +1,5 @@
 //! What names mean where types are asked for.
-ghost use Rattle.std.specs.Prelude.{◌≡◌, [], IfOk, OnErr, OnOk};
+ghost use Rattle.std.specs.Prelude.{◌≡◌, [], slice_get, IfOk, OnErr, OnOk};
 ghost use Rattle.pli_type.specs.NamedUnits.{declared_as, names_based};
 ghost use Rattle.pli_type.specs.Names as plain;
 ghost use Rattle.pli_base.specs.views.StatementView.{unit_view};
@@ -11,16 +11,17 @@ ghost use Rattle.pli_type_names.specs.Seen.{seen};
 ghost use Rattle.pli_type_names.specs.UnitNaming.{compiled_in, inside, naming_in, outside, procedure_in};
 ghost use Rattle.pli_type_names.specs.views.MeaningView.{answer_view};
 
+use crate::around::block_outward;
 use crate::descriptions::GREATEST;
-use crate::entries::{BlockEntry, block_entries, parameters_at, returned_at};
+use crate::entries::{BlockEntry, area_at, block_entries, parameters_at, returned_at};
 use crate::meanings::{SymbolMeaning, unit_meanings};
 use crate::part::StridedPart;
-use crate::seen::symbol_seen;
+use crate::seen::{area_under, symbol_seen};
 use crate::storage::NamedStorage;
 use pli_base::statement::Procedure;
 use pli_map::Description;
 use pli_resolve::{BuiltInFunction, NameMeaning, ResolvedUnit, SymbolKey};
-use pli_type::is_later_function;
+use pli_type::Beginning;
 use pli_type_tree::Callee;
 use std::alloc::{AllocError, Global};
 use std::marker::Model;
@@ -36,6 +37,8 @@ pub struct NamedVariable<'n, 'a> {
     pub is_member: bool,
     /// Which part of the variable it is; none where the way leads nowhere.
     pub part: &'n Option<StridedPart<'a>>,
+    /// The area that OFFSET in its declaration names, seen from where the name is used.
+    pub area: Option<Beginning>,
 }
 
 /// A procedure.
@@ -47,6 +50,8 @@ pub struct NamedProcedure<'n, 'a> {
     pub parameters: &'n [&'a Description],
     /// What it gives, if it is a function.
     pub returned: Option<&'a Description>,
+    /// The area that OFFSET in its RETURNS names, seen from where the name is used.
+    pub area: Option<Beginning>,
 }
 
 /// What a name means where it is used.
@@ -93,8 +98,8 @@ impl<'a> Model for Naming<'a> {
         × (length n.no_parameters.items ≡ 0) };
 }
 
-/// What the names of a resolved unit mean, outside of all its blocks. What is undescribed, a pointer, stands for a parameter
-/// that is no variable, of which a unit without faults has none. Takes time for the unit's symbols.
+/// What the names of a resolved unit mean, outside of all its blocks. What is undescribed, a pointer, stands for a
+/// parameter that is no variable, of which a unit without faults has none. Takes time for the unit's symbols.
 pub fn name_unit<'a>(
     alloc: Global,
     resolved: &'a ResolvedUnit<'a>,
@@ -158,27 +163,32 @@ impl<'a> Naming<'a> {
         let _block = self.around.pop();
     }
 
-    /// The block of this number as a procedure: what its parameters are, and what it gives; nothing of what is no
-    /// procedure.
+    /// The number of the block so many static links outward, if one stands there.
+    pub fn enclosing(&self, links: usize) -> Option<usize>
+        ensures { result ≡ slice_get self.now.blocks links }
+    {
+        block_outward(&self.around, links)
+    }
+
+    /// The block of this number as a procedure: what its parameters are, and what it gives, seen from here; nothing of
+    /// what is no procedure.
     pub fn procedure(&self, block: usize) -> NamedProcedure<'_, 'a>
-        ensures { IsProcedure result (procedure_in self.now.unit block) }
+        ensures { IsProcedure result (procedure_in self.now block) }
     {
         NamedProcedure {
             callee: Callee::OfBlock { block },
             parameters: parameters_at(&self.entries, &self.no_parameters, block),
             returned: returned_at(&self.entries, block),
+            area: self.returned_area(block),
         }
     }
 
-    /// Whether the name at a token means a built-in function that is not compiled yet. Tokens are counted from 0.
-    #[tactic(auto, unfolding(crate::specs::UnitNaming::unit_compiled))]
-    pub fn is_later(&self, at: u32) -> bool
-        ensures { result ≡ (compiled_in self.now).is_later at }
+    /// The area that OFFSET names in the RETURNS of the function that is the block of this number, seen from here; none
+    /// where it names none.
+    pub fn returned_area(&self, block: usize) -> Option<Beginning>
+        ensures { result ≡ (naming_in self.now).returned_area block }
     {
-        match self.resolved.meaning_at(at) {
-            Some(NameMeaning::BuiltIn(function)) => is_later_function(function),
-            Some(NameMeaning::Symbol(_)) | None => false,
-        }
+        area_under(&self.around, &self.meanings, area_at(&self.entries, block))
     }
 
     /// Whether the name at a token means a BASED variable, and no member of one. Tokens are counted from 0.

@@ -1,5 +1,6 @@
 //! The variables of their own among the symbols of a block, and where each begins.
-ghost use Rattle.std.specs.Prelude.{◌≡◌, ◌≤◌, ◌<◌, ◌+◌, ◌++◌, IfOk, get_or, length, map, option_map};
+ghost use Rattle.std.specs.Prelude.{◌≡◌, ◌≤◌, ◌<◌, ◌+◌, ◌++◌, IfOk, get_or, length, map, option_map, true};
+ghost use Rattle.pli_map.specs.views.DescriptionView.{description_view};
 ghost use Rattle.pli_resolve.specs.views.SymbolView.{symbol_view, symbol_kind_view};
 ghost use Rattle.pli_type.specs.NamedUnits as units;
 ghost use Rattle.pli_type.specs.NamedUnits.{globals_before, is_automatic, is_based, one_global, one_such};
@@ -8,10 +9,11 @@ ghost use Rattle.pli_type_names.specs.OwnVariables as spec;
 ghost use Rattle.pli_type_names.specs.OwnVariables.{based_of, globals_of, own_behind, place_behind, slots_of};
 ghost use Rattle.pli_type_names.specs.views.VariableView.{own_view};
 
-use crate::descriptions::is_stored;
+use crate::descriptions::{is_stored, is_valued};
 use crate::order::under;
 use crate::own_variable::OwnVariable;
 use crate::place::Location;
+use pli_map::Description;
 use pli_resolve::{StorageClass, Symbol, SymbolKind};
 use std::alloc::{AllocError, Global};
 
@@ -94,7 +96,20 @@ fn place(
     }
 }
 
+/// Whether a variable of a class is compiled: a BASED one is no area.
+#[tactic(auto, using(crate::proofs::PlainLemmas::valued_stored))]
+fn is_kept(class: StorageClass, description: &Description) -> bool
+    ensures kept { result ≡ spec.is_kept class (description_view description.now) }
+    ensures stored { result ≡ true → units.is_stored 31 (description_view description.now) ≡ true }
+{
+    match class {
+        StorageClass::Based(_) => is_valued(description),
+        _ => is_stored(description),
+    }
+}
+
 /// The variable that the symbol of this number is, if it is one that is compiled.
+#[tactic(auto, using(crate::proofs::VariableStarts::slots_kept, crate::proofs::VariableStarts::globals_kept, crate::proofs::VariableStarts::based_kept, crate::proofs::VariableStarts::slots_unkept, crate::proofs::VariableStarts::globals_unkept, crate::proofs::VariableStarts::based_unkept))]
 fn own_variable<'a>(
     kind: SymbolKind<'a>,
     number: usize,
@@ -117,7 +132,7 @@ fn own_variable<'a>(
             class,
             ..
         } => {
-            if !is_stored(description) {
+            if !is_kept(class, description) {
                 return None;
             }
             let begins = place(class, number, parameters, places, free)?;

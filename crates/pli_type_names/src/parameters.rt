@@ -8,7 +8,7 @@ ghost use Rattle.pli_resolve.specs.ResolvedUnits.{resolved_unit_of, symbol_at};
 ghost use Rattle.pli_resolve.specs.views.SymbolView.{symbol_kind_view};
 ghost use Rattle.pli_type.specs.NamedUnits as units;
 ghost use Rattle.pli_type_names.specs.BlockEntries as spec;
-ghost use Rattle.pli_type.specs.NamedUnits.{description_in, parameters_of, returned_of};
+ghost use Rattle.pli_type.specs.NamedUnits.{description_in, parameters_of, returned_area_of, returned_of};
 
 use pli_map::Description;
 use pli_resolve::{ResolvedBlockKind, ResolvedUnit, SymbolKey, SymbolKind};
@@ -92,7 +92,7 @@ fn returned_by<'r>(kind: SymbolKind<'r>) -> Option<&'r Description>
 
 /// The symbol of a procedure's name, if a block is one.
 fn name_of(resolved: &ResolvedUnit<'_>, number: usize) -> Option<SymbolKey>
-    ensures { result ≡ spec.name_of (resolved_unit_of (unit_view resolved.now)) number }
+    ensures { result ≡ units.name_of (resolved_unit_of (unit_view resolved.now)) number }
 {
     let block = resolved.block(number)?;
     if !is_procedure(block.kind) {
@@ -114,4 +114,25 @@ pub(crate) fn returned_of<'r>(
         return None;
     };
     returned_by(symbol.kind)
+}
+
+/// The area that OFFSET in the RETURNS of a procedure names; none of anything else.
+fn area_returned_by(kind: SymbolKind<'_>) -> Option<SymbolKey>
+    ensures { result ≡ spec.area_with (symbol_kind_view kind.entry) }
+{
+    let SymbolKind::Procedure { area, .. } = kind else {
+        return None;
+    };
+    area
+}
+
+/// The area that OFFSET names in the RETURNS of a block, if it is that of a function.
+pub(crate) fn returned_area_of(resolved: &ResolvedUnit<'_>, number: usize) -> Option<SymbolKey>
+    ensures { result ≡ returned_area_of (resolved_unit_of (unit_view resolved.now)) number }
+{
+    let key = name_of(resolved, number)?;
+    let Some(symbol) = resolved.symbol(key) else {
+        return None;
+    };
+    area_returned_by(symbol.kind)
 }

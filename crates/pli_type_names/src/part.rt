@@ -5,7 +5,7 @@ ghost use Rattle.pli_map.specs.Parts.{part_at};
 ghost use Rattle.pli_map.specs.Sizes.{count_of, size_of, stride_of};
 ghost use Rattle.pli_map.specs.views.DescriptionView.{description_view};
 ghost use Rattle.pli_map.specs.views.PartView.{part_view as placed_view};
-ghost use Rattle.pli_type.specs.NamedUnits.{is_plain, is_stored};
+ghost use Rattle.pli_type.specs.NamedUnits.{is_stored, may_stand};
 ghost use Rattle.pli_type.specs.References.{strides_of};
 ghost use Rattle.pli_type_tree.specs.views.TypedView.{stride_view};
 
@@ -13,7 +13,7 @@ use pli_map::{Bounds, Description, PathStep, PlacedPart, place, size};
 use pli_type_tree::Stride;
 use std::alloc::{AllocError, Global};
 
-/// A part of a variable, of numbers and strings, within the 1,000,000 bytes of the whole.
+/// A part of a variable, or an area as a whole, within the 1,000,000 bytes of the whole.
 #[derive(Drop)]
 pub struct StridedPart<'a> {
     /// How many bytes behind the variable's beginning it stands where all subscripts are the lowest.
@@ -21,7 +21,7 @@ pub struct StridedPart<'a> {
     pub description: &'a Description,
     /// The dimensions above it, of all its levels in turn.
     pub strides: Vec<Stride>,
-    ghost plain: { is_plain 31 (description_view description.now) ≡ true },
+    ghost plain: { may_stand 31 (description_view description.now) ≡ true },
     ghost within: { offset + size_of (description_view description.now) ≤ 1000000 },
 }
 
@@ -120,7 +120,7 @@ impl<'a> StridedPart<'a> {
 
     /// A member of it that stands there, where it is a structure.
     pub(crate) fn into_placed(self, member: PlacedPart<'a>) -> StridedPart<'a>
-        requires plain { is_plain 31 (description_view member.description.now) ≡ true }
+        requires plain { may_stand 31 (description_view member.description.now) ≡ true }
         requires within { member.offset + size_of (description_view member.description.now) ≤ size_of (description_view self.description.now) }
         ensures { part_view result ≡ record {
           offset = self.entry.offset + member.entry.offset;

@@ -1,11 +1,13 @@
 //! What symbols mean from where their names are used.
 ghost use Rattle.std.specs.Prelude.{◌≡◌, [], get_or, map, option_map, reverse, slice_get};
+ghost use Rattle.pli_map.specs.views.DescriptionView.{description_view};
+ghost use Rattle.pli_type.specs.Beginnings.{root_at};
 ghost use Rattle.pli_type.specs.Names.{Begins};
-ghost use Rattle.pli_type_names.specs.Seen.{KeptNothing, kept_seen, offset_if, pointer_from, pointer_kept, pointer_under, procedure_seen, storage_from};
+ghost use Rattle.pli_type_names.specs.Seen.{KeptNothing, area_from, area_kept, area_under, if_locator, kept_seen, locator_from, locator_kept, locator_under, offset_if, procedure_seen, storage_from};
 ghost use Rattle.pli_type_names.specs.views.EntryView.{entry_view};
 ghost use Rattle.pli_type_names.specs.views.MeaningView.{answer_view, meant_view, row_view};
 ghost use Rattle.pli_type_names.specs.views.NameView.{part_view};
-ghost use Rattle.pli_type_names.specs.views.StorageView.{beginning_view, pointer_view, storage_view};
+ghost use Rattle.pli_type_names.specs.views.StorageView.{locator_view, storage_view};
 
 use crate::around::{root_from, stands_around};
 use crate::entries::BlockEntry;
@@ -13,18 +15,20 @@ use crate::meanings::SymbolMeaning;
 use crate::naming::{NamedAs, NamedProcedure, NamedVariable};
 use crate::part::StridedPart;
 use crate::place::Location;
-use crate::storage::{Beginning, NamedPointer, NamedStorage};
+use crate::storage::{NamedLocator, NamedStorage};
 use pli_map::Description;
 use pli_resolve::SymbolKey;
+use pli_type::Beginning;
 use pli_type_tree::Callee;
 
 /// The procedure that is the block of this number, where it may be called.
 fn procedure_seen<'n, 'a>(
     around: &[usize],
     entries: &'n [BlockEntry<'a>],
+    meanings: &[Vec<SymbolMeaning<'_>>],
     block: usize,
 ) -> NamedAs<'n, 'a>
-    ensures { answer_view result ≡ procedure_seen (reverse around.now) (slice_get (map entry_view entries.now) block) block }
+    ensures { answer_view result ≡ procedure_seen (map row_view meanings.now) (reverse around.now) (slice_get (map entry_view entries.now) block) block }
 {
     let Some(entry) = entries.get(block) else {
         return NamedAs::Untyped;
@@ -36,6 +40,7 @@ fn procedure_seen<'n, 'a>(
         callee: Callee::OfBlock { block },
         parameters: &entry.parameters,
         returned: entry.returned,
+        area: area_under(around, meanings, entry.area),
     })
 }
 
@@ -46,14 +51,90 @@ fn offset_if(is_member: bool, offset: u32) -> Option<u32>
     if is_member { Some(offset) } else { None }
 }
 
-/// A POINTER without dimensions that is this part of a variable.
-fn pointer_from(
+/// Where an area begins, if what begins there is one: it is no member of a variable.
+#[tactic(auto, using(crate::proofs::StorageIs::begun_again))]
+fn area_from(begins: Option<Beginning>, is_member: bool, whole: &Description) -> Option<Beginning>
+    ensures { result ≡ area_from is_member (description_view whole.now) (option_map root_at begins) }
+{
+    if is_member {
+        return None;
+    }
+    match whole {
+        Description::Area(_) => begins,
+        _ => None,
+    }
+}
+
+/// A symbol of a block, where it is an area.
+fn area_kept(around: &[usize], block: usize, meant: &SymbolMeaning<'_>) -> Option<Beginning>
+    ensures { result ≡ area_kept (reverse around.now) block (meant_view meant.now) }
+{
+    match meant {
+        SymbolMeaning::Variable {
+            begins,
+            whole,
+            is_member,
+            ..
+        } => area_from(root_from(around, block, *begins), *is_member, whole),
+        _ => None,
+    }
+}
+
+/// The area that is the symbol under a key, seen from here.
+pub(crate) fn area_under(
+    around: &[usize],
+    meanings: &[Vec<SymbolMeaning<'_>>],
+    area: Option<SymbolKey>,
+) -> Option<Beginning>
+    ensures { result ≡ area_under (map row_view meanings.now) (reverse around.now) area }
+{
+    let key = area?;
+    let Some(row) = meanings.get(key.block) else {
+        return None;
+    };
+    let Some(meant) = row.get(key.number) else {
+        return None;
+    };
+    area_kept(around, key.block, meant)
+}
+
+/// A POINTER, or an OFFSET that names an area, which begins there.
+fn if_locator(
+    description: &Description,
+    begins: Beginning,
+    offset: Option<u32>,
+    area: Option<Beginning>,
+) -> Option<NamedLocator>
+    ensures { option_map locator_view result
+        ≡ if_locator (description_view description.now) (root_at begins) offset area }
+{
+    match description {
+        Description::Pointer => Some(NamedLocator {
+            begins,
+            offset,
+            area: None,
+        }),
+        Description::Offset => {
+            let area = area?;
+            Some(NamedLocator {
+                begins,
+                offset,
+                area: Some(area),
+            })
+        }
+        _ => None,
+    }
+}
+
+/// A locator without dimensions that is this part of a variable, whose OFFSET names this area.
+fn locator_from(
     begins: Option<Beginning>,
     is_member: bool,
     part: &Option<StridedPart<'_>>,
-) -> Option<NamedPointer>
-    ensures { option_map pointer_view result
-        ≡ pointer_from (option_map beginning_view begins) is_member (option_map part_view part.now) }
+    area: Option<Beginning>,
+) -> Option<NamedLocator>
+    ensures { option_map locator_view result
+        ≡ locator_from (option_map root_at begins) is_member (option_map part_view part.now) area }
 {
     let begins = begins?;
     let Some(part) = part else {
@@ -62,37 +143,46 @@ fn pointer_from(
     if !part.strides.is_empty() {
         return None;
     }
-    match part.description {
-        Description::Pointer => Some(NamedPointer {
-            begins,
-            offset: offset_if(is_member, part.offset),
-        }),
-        _ => None,
-    }
+    if_locator(
+        part.description,
+        begins,
+        offset_if(is_member, part.offset),
+        area,
+    )
 }
 
-/// A symbol of a block, where it is a POINTER.
-fn pointer_kept(around: &[usize], block: usize, meant: &SymbolMeaning<'_>) -> Option<NamedPointer>
-    ensures { option_map pointer_view result ≡ pointer_kept (reverse around.now) block (meant_view meant.now) }
+/// A symbol of a block, where it is a locator.
+fn locator_kept(
+    around: &[usize],
+    meanings: &[Vec<SymbolMeaning<'_>>],
+    block: usize,
+    meant: &SymbolMeaning<'_>,
+) -> Option<NamedLocator>
+    ensures { option_map locator_view result
+        ≡ locator_kept (map row_view meanings.now) (reverse around.now) block (meant_view meant.now) }
 {
     match meant {
         SymbolMeaning::Variable {
             begins,
             is_member,
             part,
+            area,
             ..
-        } => pointer_from(root_from(around, block, *begins), *is_member, part),
+        } => {
+            let area = area_under(around, meanings, *area);
+            locator_from(root_from(around, block, *begins), *is_member, part, area)
+        }
         _ => None,
     }
 }
 
-/// The symbol under a key, where it is a POINTER.
-fn pointer_under(
+/// The symbol under a key, where it is a locator.
+fn locator_under(
     around: &[usize],
     meanings: &[Vec<SymbolMeaning<'_>>],
     locator: Option<SymbolKey>,
-) -> Option<NamedPointer>
-    ensures { option_map pointer_view result ≡ pointer_under (map row_view meanings.now) (reverse around.now) locator }
+) -> Option<NamedLocator>
+    ensures { option_map locator_view result ≡ locator_under (map row_view meanings.now) (reverse around.now) locator }
 {
     let key = locator?;
     let Some(row) = meanings.get(key.block) else {
@@ -101,13 +191,13 @@ fn pointer_under(
     let Some(meant) = row.get(key.number) else {
         return None;
     };
-    pointer_kept(around, key.block, meant)
+    locator_kept(around, meanings, key.block, meant)
 }
 
 /// Storage that begins there, if it begins somewhere.
 fn begun_storage(begins: Option<Beginning>, is_parameter: bool) -> Option<NamedStorage>
     ensures { option_map storage_view result
-        ≡ option_map (λ root. Begins root is_parameter) (option_map beginning_view begins) }
+        ≡ option_map (λ root. Begins root is_parameter) (option_map root_at begins) }
 {
     let begins = begins?;
     Some(NamedStorage::Begins {
@@ -129,7 +219,7 @@ fn storage_from(
         Location::Based { number, locator } => Some(NamedStorage::Based {
             block,
             number,
-            implied: pointer_under(around, meanings, locator),
+            implied: locator_under(around, meanings, locator),
         }),
         Location::Passed { .. } => begun_storage(root_from(around, block, begins), true),
         Location::InBlock { .. } | Location::BeforeProgram { .. } | Location::NewestOf { .. } => {
@@ -154,6 +244,7 @@ fn meant_seen<'n, 'a>(
             whole,
             is_member,
             part,
+            area,
         } => {
             let Some(storage) = storage_from(around, meanings, block, *begins) else {
                 return NamedAs::Untyped;
@@ -163,17 +254,22 @@ fn meant_seen<'n, 'a>(
                 whole: *whole,
                 is_member: *is_member,
                 part,
+                area: area_under(around, meanings, *area),
             })
         }
-        SymbolMeaning::Procedure(procedure) => procedure_seen(around, entries, *procedure),
+        SymbolMeaning::Procedure(procedure) => {
+            procedure_seen(around, entries, meanings, *procedure)
+        }
         SymbolMeaning::Entry {
             number,
             parameters,
             returned,
+            area,
         } => NamedAs::Procedure(NamedProcedure {
             callee: Callee::OfEntry { number: *number },
             parameters,
             returned: *returned,
+            area: area_under(around, meanings, *area),
         }),
         SymbolMeaning::Label(statement) => NamedAs::Label(*statement),
         SymbolMeaning::Untyped => NamedAs::Untyped,

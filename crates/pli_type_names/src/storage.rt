@@ -1,67 +1,62 @@
 //! Where the storage of variables is, seen from where their names are used.
 ghost use Rattle.std.specs.Prelude.{◌≡◌, []};
+ghost use Rattle.pli_map.specs.views.DescriptionView.{description_view};
+ghost use Rattle.pli_type.specs.Beginnings.{root_at};
 ghost use Rattle.pli_type.specs.NamedUnits.{is_based_whole};
 ghost use Rattle.pli_type.specs.References.{is_passed};
-ghost use Rattle.pli_type_names.specs.views.StorageView.{beginning_view, pointer_view, storage_view};
-ghost use Rattle.pli_type_tree.specs.views.TypedView.{reference_view, root_view};
+ghost use Rattle.pli_type_names.specs.LocatorReferences.{described_by, locator_reference};
+ghost use Rattle.pli_type_names.specs.views.StorageView.{storage_view};
+ghost use Rattle.pli_type_tree.specs.views.TypedView.{reference_view};
 
 use pli_map::Description;
-use pli_type_tree::{Root, TypedReference};
+use pli_type::Beginning;
+use pli_type_tree::TypedReference;
 use std::alloc::Global;
 
-/// Where a variable begins that is no BASED one.
+/// A locator variable of its own, or a locator that is a member without dimensions: a POINTER, or an OFFSET whose
+/// declaration names an area.
 #[derive(Clone, Copy)]
-pub enum Beginning {
-    /// In a slot of the activation so many static links outward.
-    InSlot { outward: usize, slot: usize },
-    /// Before the program begins, by the number of its global.
-    OfProgram { number: usize },
-    /// At the newest generation of a CONTROLLED variable, by the number of its global.
-    NewestOf { number: usize },
-}
-
-/// A POINTER variable of its own, or a POINTER that is a member without dimensions.
-#[derive(Clone, Copy)]
-pub struct NamedPointer {
+pub struct NamedLocator {
     /// Where the variable begins.
     pub begins: Beginning,
     /// How many bytes behind that the member stands; none of a variable of its own.
     pub offset: Option<u32>,
+    /// The area that an OFFSET names, seen from where the locator is used; none of a POINTER.
+    pub area: Option<Beginning>,
 }
 
 /// Where the storage of a variable is.
 #[derive(Clone, Copy)]
 pub enum NamedStorage {
+    /// It begins there, seen from where the name is used: that of a variable that is not BASED. Whether it is a
+    /// parameter's is told too.
     Begins {
         begins: Beginning,
         is_parameter: bool,
     },
     /// Wherever a locator leads: that of the BASED variable of this number among those of a block, counted from 0, with
-    /// the POINTER that BASED names, if it names one.
+    /// the locator that BASED names, if it names one.
     Based {
         block: usize,
         number: usize,
-        implied: Option<NamedPointer>,
+        implied: Option<NamedLocator>,
     },
 }
 
-impl Beginning {
-    /// The root of references that begin there.
-    pub fn root(self) -> Root
-        ensures { root_view result ≡ beginning_view self }
-    {
-        match self {
-            Beginning::InSlot { outward, slot } => Root::InSlot { outward, slot },
-            Beginning::OfProgram { number } => Root::OfProgram { number },
-            Beginning::NewestOf { number } => Root::NewestOf { number },
-        }
+/// What a locator is that names an area, or none.
+fn described_by(area: Option<Beginning>) -> Description
+    ensures { description_view result ≡ described_by area }
+{
+    match area {
+        None => Description::Pointer,
+        Some(_) => Description::Offset,
     }
 }
 
-impl NamedPointer {
+impl NamedLocator {
     /// The reference to it.
     pub fn reference(self, alloc: Global) -> TypedReference
-        ensures { reference_view result ≡ pointer_view self }
+        ensures { reference_view result ≡ locator_reference (root_at self.begins) self.offset (described_by self.area) }
     {
         let root = self.begins.root();
         match self.offset {
@@ -69,7 +64,7 @@ impl NamedPointer {
             Some(offset) => TypedReference::Part {
                 root,
                 offset,
-                description: Description::Pointer,
+                description: described_by(self.area),
                 subscripts: Vec::new(alloc),
             },
         }

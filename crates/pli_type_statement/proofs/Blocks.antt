@@ -318,12 +318,12 @@ procedure_answer view (Ok form) old mid new number at end heading ss value head 
 procedure_answer view (Err e) old mid new number at end heading ss value head list gives w ended = tt
 
 -- what a procedure gives, and what its parameters are
-pub returned_is : (w : TypingWalk) (block : ℕ) (p : program.NamedProcedure) → IsProcedure p (procedure_in w.naming.unit block)
+pub returned_is : (w : TypingWalk) (block : ℕ) (p : program.NamedProcedure) → IsProcedure p (procedure_in w.naming block)
     → option_map (λ d. description_view d.now) p.returned ≡ (unit_at w).returned block
 unfolding procedure_in unit_named
 returned_is w block p is = is.returned
 
-pub parameters_are : (w : TypingWalk) (block : ℕ) (p : program.NamedProcedure) → IsProcedure p (procedure_in w.naming.unit block)
+pub parameters_are : (w : TypingWalk) (block : ℕ) (p : program.NamedProcedure) → IsProcedure p (procedure_in w.naming block)
     → length p.parameters.now ≡ length ((unit_at w).parameters block)
 unfolding procedure_in unit_named
 parameters_are w block p is = sym (length-map p.parameters.now (λ d. description_view d.now)) ∙ ap length is.parameters

@@ -1,21 +1,20 @@
 -- Calls by CALL, and control variables without subscripts.
-use Rattle.std.proofs.Common.{◌≡◌, arith, ◌∷◌, [], ℕ, List, length, Option, Some, None, option_map, Result, Ok, Vec, Global, refl, ap, sym, ◌∙◌, subst}
+use Rattle.std.proofs.Common.{◌≡◌, arith, ◌∷◌, [], ℕ, List, length, map, slice_get, Option, Some, None, option_and_then, option_map, Result, Ok, Vec, Global, refl, ap, sym, ◌∙◌, subst}
 use Rattle.std.specs.Bool.{◌==◌}
 use Rattle.std.specs.Vec.{vec_len}
 use Rattle.std.proofs.lemmas.Bool.{eq-eqb, ne_eqb}
+use Rattle.std.proofs.lemmas.Option.{slice_get-map}
 use Rattle.pli_base.specs.Results.{◌>>=◌}
 use Rattle.pli_map.specs.views.DescriptionView.{description_view}
 use Rattle.pli_base.specs.Statements.{Range}
-use Rattle.pli_base.specs.Syntax.{Arguments, Expression, Referred}
+use Rattle.pli_base.specs.Syntax.{Arguments, Expression}
 use Rattle.pli_base.specs.declared.syntax.Expression as program_tree
 use Rattle.pli_base.specs.declared.syntax.Reference as syntax
-use Rattle.pli_base.specs.declared.syntax.Reference.{out-Reference}
-use Rattle.pli_base.specs.laws.SyntaxLaws.{reference_out}
 use Rattle.pli_base.specs.views.SyntaxView as syntax_view
 use Rattle.pli_base.specs.views.SyntaxView.{reference_view as reference_in}
 use Rattle.pli_type.specs.ExpressionTypes.{TypedValue}
 use Rattle.pli_type.specs.References.{AsLocator, Referent}
-use Rattle.pli_type.specs.Typing.{first_token, referred, value_of}
+use Rattle.pli_type.specs.Typing.{first_token, own_token, referred, value_of}
 use Rattle.pli_type_statement.specs.Iterations.{iteration_with}
 use Rattle.pli_base.specs.declared.syntax.Identifier.{Identifier}
 use Rattle.pli_base.specs.declared.token.Fault.{Fault}
@@ -24,7 +23,8 @@ use Rattle.pli_map.specs.declared.description.Description as described
 use Rattle.pli_type.specs.FunctionCalls.{Argument, Denoted}
 use Rattle.pli_type.specs.Names.{Naming, NamedAs, NamedProcedure, AVariable, AFunction, AProcedure, ALabel, Untyped}
 use Rattle.pli_type.specs.ProcedureCalls.{arguments_passed}
-use Rattle.pli_type.specs.StatementTyping.{Surroundings, jump, arguments_typed, call_of, call_typed, controls, has_locator, iteration, limits, no_function, return_typed, returned_value, without_subscripts}
+use Rattle.pli_type.specs.declared.beginning.Beginning.{Beginning}
+use Rattle.pli_type.specs.StatementTyping.{Enclosing, Surroundings, area_here, jump, arguments_typed, call_of, call_typed, controls, has_locator, iteration, limits, no_function, return_typed, returned_value, without_subscripts}
 use Rattle.pli_type_expression.proofs.BindLemmas.{bind_ok, fails_as, fails_on}
 use Rattle.pli_base.specs.answers.FailureAnswers.{Fails, Gives}
 use Rattle.pli_base.specs.declared.failure.Failure.{Failure}
@@ -94,37 +94,32 @@ bare root offset d xs = bare_list (root_view root) offset (description_view d) x
 
 -- a control variable that may not control
 
-token_of : (r : syntax.Reference) → first_token (Referred (reference_in r)) ≡ (out-Reference r).first.name.at
-token_of r = ap (λ r. first_token (Referred r)) (reference_out r)
-
 pub iteration_fails : (n : Naming) (temporary : ℕ) (v : syntax.Reference) (equals : ℕ) (first : Expression) (range : Option Range)
     (tested : Option Expression) (a : TypedValue) (k : typed.TypedRange) (d : Denoted) (e : Failure Fault)
     → value_of n first ≡ Ok a → limits n range ≡ Ok k → referred n AsLocator (reference_in v) ≡ Ok d
-    → Fails e (controls (out-Reference v).first.name.at (has_locator (reference_in v)) k d)
+    → Fails e (controls (own_token (reference_in v)) (has_locator (reference_in v)) k d)
     → Fails e (iteration n temporary (reference_in v) equals first range tested)
 iteration_fails n temporary v equals first range tested a k d errors.OutOfMemory x y z h = tt
 iteration_fails n temporary v equals first range tested a k d (errors.Fault f) x y z h =
-    let at = first_token (Referred (reference_in v)) in
+    let at = own_token (reference_in v) in
     let l = has_locator (reference_in v) in
     ap (λ r. r >>= λ a. limits n range >>= λ k. referred n AsLocator (reference_in v) >>= λ d. controls at l k d >>= λ r. iteration_with n temporary equals a k r range tested) x
     ∙ ap (λ r. r >>= λ k. referred n AsLocator (reference_in v) >>= λ d. controls at l k d >>= λ r. iteration_with n temporary equals a k r range tested) y
     ∙ ap (λ r. r >>= λ d. controls at l k d >>= λ r. iteration_with n temporary equals a k r range tested) z
-    ∙ ap (λ at. controls at l k d >>= λ r. iteration_with n temporary equals a k r range tested) (token_of v)
     ∙ ap (λ r. r >>= λ r. iteration_with n temporary equals a k r range tested) h
 
 -- one that may
 pub iteration_goes_on : (n : Naming) (temporary : ℕ) (v : syntax.Reference) (equals : ℕ) (first : Expression) (range : Option Range)
     (tested : Option Expression) (a : TypedValue) (k : typed.TypedRange) (d : Denoted) (r : Referent)
     → value_of n first ≡ Ok a → limits n range ≡ Ok k → referred n AsLocator (reference_in v) ≡ Ok d
-    → controls (out-Reference v).first.name.at (has_locator (reference_in v)) k d ≡ Ok r
+    → controls (own_token (reference_in v)) (has_locator (reference_in v)) k d ≡ Ok r
     → iteration n temporary (reference_in v) equals first range tested ≡ iteration_with n temporary equals a k r range tested
 iteration_goes_on n temporary v equals first range tested a k d r x y z h =
-    let at = first_token (Referred (reference_in v)) in
+    let at = own_token (reference_in v) in
     let l = has_locator (reference_in v) in
     ap (λ r. r >>= λ a. limits n range >>= λ k. referred n AsLocator (reference_in v) >>= λ d. controls at l k d >>= λ r. iteration_with n temporary equals a k r range tested) x
     ∙ ap (λ r. r >>= λ k. referred n AsLocator (reference_in v) >>= λ d. controls at l k d >>= λ r. iteration_with n temporary equals a k r range tested) y
     ∙ ap (λ r. r >>= λ d. controls at l k d >>= λ r. iteration_with n temporary equals a k r range tested) z
-    ∙ ap (λ at. controls at l k d >>= λ r. iteration_with n temporary equals a k r range tested) (token_of v)
     ∙ ap (λ r. r >>= λ r. iteration_with n temporary equals a k r range tested) h
 
 -- labels
@@ -153,10 +148,23 @@ no_jump s a Untyped h never = refl
 
 -- RETURN with a value
 
+numbered : (n : Naming) (o : Option Enclosing)
+    → option_and_then n.returned_area (option_map (λ (b : Enclosing). b.number) o) ≡ option_and_then (λ (b : Enclosing). n.returned_area b.number) o
+numbered n None = refl
+numbered n (Some b) = refl
+
+-- the area that RETURNS names, by the numbers of the blocks round the place
+pub area_by_numbers : (n : Naming) (s : Surroundings) (blocks : List ℕ) → blocks ≡ map (λ (b : Enclosing). b.number) s.blocks
+    → option_and_then n.returned_area (slice_get blocks s.begins) ≡ area_here n s
+area_by_numbers n s blocks same =
+    ap (λ bs. option_and_then n.returned_area (slice_get bs s.begins)) same
+    ∙ ap (option_and_then n.returned_area) (slice_get-map (λ (b : Enclosing). b.number) s.blocks s.begins)
+    ∙ numbered n (slice_get s.blocks s.begins)
+
 return_of : (names : Names) (s : Surroundings) (at : ℕ) (e : program_tree.Expression) (value : Option program_tree.Expression)
     → value ≡ Some e → return_typed (naming_in names) s at (option_map syntax_view.expression_view value)
     ≡ (value_of (naming_in names) (syntax_view.expression_view e)
-    >>= λ v. returned_value (naming_in names).greatest at (first_token (syntax_view.expression_view e)) s.begins s.value v)
+    >>= λ v. returned_value (naming_in names).greatest (area_here (naming_in names) s) at (first_token (syntax_view.expression_view e)) s.begins s.value v)
 return_of names s at e value is = ap (λ o. return_typed (naming_in names) s at (option_map syntax_view.expression_view o)) is
 
 pub return_fails : (names : Names) (s : Surroundings) (at : ℕ) (e : program_tree.Expression)
@@ -167,13 +175,14 @@ return_fails names s at e value error is h =
     fails_as error _ _ (return_of names s at e value is) (fails_on error _ _ h)
 
 pub return_goes_on : {X : Type 0} (view : X → Form) (result : Result X (Failure Fault)) (names : Names) (s : Surroundings) (at : ℕ)
-    (e : program_tree.Expression) (value : Option program_tree.Expression) (v : TypedValue) (greatest first : ℕ)
+    (e : program_tree.Expression) (value : Option program_tree.Expression) (v : TypedValue) (greatest first : ℕ) (area : Option Beginning)
     → value ≡ Some e → value_of (naming_in names) (syntax_view.expression_view e) ≡ Ok v → greatest ≡ 31
-    → first ≡ first_token (syntax_view.expression_view e)
-    → Gives view result (returned_value greatest at first s.begins s.value v)
+    → first ≡ first_token (syntax_view.expression_view e) → area ≡ area_here (naming_in names) s
+    → Gives view result (returned_value greatest area at first s.begins s.value v)
     → Gives view result (return_typed (naming_in names) s at (option_map syntax_view.expression_view value))
-return_goes_on view result names s at e value v greatest first is typed small token h =
+return_goes_on view result names s at e value v greatest first area is typed small token here h =
     subst (Gives view result)
-    (ap (λ g. returned_value g at first s.begins s.value v) (small ∙ sym (greatest_is names))
-    ∙ ap (λ f. returned_value (naming_in names).greatest at f s.begins s.value v) token
+    (ap (λ g. returned_value g area at first s.begins s.value v) (small ∙ sym (greatest_is names))
+    ∙ ap (λ f. returned_value (naming_in names).greatest area at f s.begins s.value v) token
+    ∙ ap (λ a. returned_value (naming_in names).greatest a at (first_token (syntax_view.expression_view e)) s.begins s.value v) here
     ∙ sym (return_of names s at e value is ∙ bind_ok _ v _ typed)) h

@@ -2,12 +2,12 @@
 use Rattle.std.proofs.Common.{◌≡◌, ℕ, Bool, true, false, ◌||◌, List, Option, Some, None, refl}
 use Rattle.std.specs.List.{list_any}
 use Rattle.pli_base.specs.Statements as tree
-use Rattle.pli_base.specs.Statements.{Allocation, Control, Heading, Range, Statement, Numbered, Alternative, Statements, Before}
+use Rattle.pli_base.specs.Statements.{Allocation, Control, Range, Statement, Numbered, Alternative, Statements, Before}
 use Rattle.pli_base.specs.Syntax.{Arguments, Expression, Reference}
 use Rattle.pli_base.specs.declared.syntax.Identifier.{Identifier}
 use Rattle.pli_type.specs.Names.{Compiled}
 use Rattle.pli_type.specs.Unbuilt.{or_else, token_if, later_expression, later_reference, later_statement, later_body}
-use Rattle.pli_type.specs.Unbuilt.{later_allocation, later_alternative, later_statements, later_arguments, later_control, later_option, later_part, later_range, first_of}
+use Rattle.pli_type.specs.Unbuilt.{later_allocation, later_alternative, later_statements, later_arguments, later_control, later_part, later_range, first_of}
 
 neither : (x y : Option ℕ) → or_else x y ≡ None → (x ≡ None) × (y ≡ None)
 neither None y h = (refl, h)
@@ -55,11 +55,6 @@ call_built n at name list h = no_token (later_arguments n list) at h
 pub return_built : (n : Compiled) (at : ℕ) (value : Option Expression)
     → later_body n at (tree.Return value) ≡ None → later_part (later_expression n) value ≡ false
 return_built n at value h = no_token (later_part (later_expression n) value) at h
-
-pub procedure_built : (n : Compiled) (at : ℕ) (heading : Heading) (ss : Statements) (end : ℕ)
-    → later_body n at (tree.Procedure heading ss end) ≡ None → later_statements n ss ≡ None
-procedure_built n at heading ss end h =
-    (neither (token_if (list_any later_option heading.options) heading.name.at) (later_statements n ss) h).1
 
 pub do_built : (n : Compiled) (at : ℕ) (control : Option Control) (ss : Statements) (end : ℕ)
     → later_body n at (tree.Do control ss end) ≡ None

@@ -1,5 +1,5 @@
 -- The typed unit, by its parts.
-use Rattle.std.proofs.Common.{◌≡◌, ◌∷◌, [], ℕ, List, Option, Some, None, Result, Ok, Err, refl, ap, sym, ◌∙◌}
+use Rattle.std.proofs.Common.{◌≡◌, ◌∷◌, [], ℕ, List, Some, None, Result, Ok, Err, refl, ap, sym, ◌∙◌}
 use Rattle.std.specs.Global.{Vec}
 use Rattle.pli_base.specs.declared.code.Code.TheVariants.{NotYetBuilt}
 use Rattle.pli_base.specs.declared.statement.Procedure.{Procedure, out-Procedure}
@@ -12,8 +12,8 @@ use Rattle.pli_type.specs.Checked.{checked, in_unit, first_inside, outer_signatu
 use Rattle.pli_type.specs.NamedUnits.{checked_unit}
 use Rattle.pli_type.specs.StatementTyping.{WithProcedures, statements_typed}
 use Rattle.pli_type.specs.Temporaries.{temporaries_among}
-use Rattle.pli_type.specs.Unbuilt.{first_unbuilt, later_heading, later_statements, or_else}
-use Rattle.pli_type_names.specs.UnitNaming.{procedure_in, unit_compiled}
+use Rattle.pli_type.specs.Unbuilt.{first_unbuilt, later_statements}
+use Rattle.pli_type_names.specs.UnitNaming.{Names, procedure_in, unit_compiled}
 use Rattle.pli_type_tree.specs.Templates.{Template}
 use Rattle.pli_type_tree.specs.TypedTree.{Signature, Global, TypedProcedure, TypedStatements, TypedUnit}
 use Rattle.pli_type_tree.specs.declared.unit.TypedUnit as program
@@ -23,16 +23,10 @@ use Rattle.pli_base.specs.declared.failure.Failure.TheVariants as errors
 use Rattle.pli_type_statement.specs.Parts.{unit_named, given, told, Adds}
 use Rattle.pli_type_statement.specs.Walking.{unit_with}
 
-behind_heading : (x y : Option ℕ) → or_else x y ≡ None → y ≡ None
-behind_heading None y h = h
-behind_heading (Some at) y h = cc
-
 -- where nothing comes later in a unit, nothing does in its statements
 pub unit_built : (u : Procedure) → first_unbuilt (unit_compiled u) (unit_view u) ≡ None
     → later_statements (unit_compiled u) (statements_view (out-Procedure u).statements.items) ≡ None
-unit_built u h =
-    ap (later_statements (unit_compiled u)) (sym (unit_statements u))
-    ∙ behind_heading (later_heading (unit_view u).heading) _ h
+unit_built u h = ap (later_statements (unit_compiled u)) (sym (unit_statements u)) ∙ h
 
 abbrev pub typed_list : Procedure → tree.Statements → Result (WithProcedures TypedStatements) (List Fault)
 typed_list u ss = statements_typed (unit_named u) (in_unit ((unit_named u).returned 0) ss) first_inside ss
@@ -104,14 +98,14 @@ typed u signature globals automatic temporaries list procedures h is adds s g a 
     decided u h ∙ whole u _ signature globals automatic temporaries list procedures is adds s g a (t ∙ ap (temporaries_among (unit_named u).compiled.is_based) (sym (unit_statements u)))
 
 -- what the external procedure takes and gives is what its block does
-pub signature_found : (u : Procedure) → outer_signature (unit_named u)
-    ≡ record { parameters = (procedure_in u 0).parameters; result = (procedure_in u 0).returned }
+pub signature_found : (n : Names) → outer_signature (unit_named n.unit)
+    ≡ record { parameters = (procedure_in n 0).parameters; result = (procedure_in n 0).returned }
 unfolding unit_named procedure_in
-signature_found u = refl
+signature_found n = refl
 
-pub returned_found : (u : Procedure) → (procedure_in u 0).returned ≡ (unit_named u).returned 0
+pub returned_found : (n : Names) → (procedure_in n 0).returned ≡ (unit_named n.unit).returned 0
 unfolding unit_named procedure_in
-returned_found u = refl
+returned_found n = refl
 
 -- an answer to an equal question
 pub moved_answer : (x : Result program.TypedUnit (Failure (Vec Fault))) (r s : Result TypedUnit (List Fault)) → r ≡ s → Checks x r → Checks x s

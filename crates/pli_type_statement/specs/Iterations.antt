@@ -1,5 +1,6 @@
--- The second part of what is typed of a group with a control variable; and arrows in front of its name.
-use Rattle.std.specs.Prelude.{ℕ, Bool, true, false, Option, List, Result, Ok}
+-- The second part of what is typed of a group with a control variable; which variables may be one; and arrows
+-- in front of its name.
+use Rattle.std.specs.Prelude.{ℕ, Bool, true, false, not, ◌&&◌, Option, Result, Ok}
 use Rattle.pli_base.specs.Results.{◌>>=◌}
 use Rattle.pli_base.specs.Statements.{Range}
 use Rattle.pli_base.specs.Syntax.{Expression}
@@ -7,20 +8,27 @@ use Rattle.pli_base.specs.declared.code.Code.TheVariants.{CannotAssign}
 use Rattle.pli_base.specs.declared.syntax.Joining.{Joining}
 use Rattle.pli_base.specs.declared.syntax.Joining.TheVariants.{Member, Located}
 use Rattle.pli_base.specs.declared.token.Fault.{Fault}
-use Rattle.pli_type.specs.ExpressionTypes.{TypedValue, conversions}
+use Rattle.pli_map.specs.Scalars.{is_area}
+use Rattle.pli_type.specs.ExpressionTypes.{TypedValue, conversion, unconverted}
 use Rattle.pli_type.specs.Names.{Naming}
 use Rattle.pli_type.specs.References.{Referent}
-use Rattle.pli_type.specs.StatementTyping.{possible_condition, with_repeat}
+use Rattle.pli_type.specs.StatementTyping.{possible_condition, with_repeat, without_subscripts}
 use Rattle.pli_type.specs.Typing.{or_fault}
-use Rattle.pli_type_tree.specs.TypedTree.{Iteration, TypedExpression, TypedOperation, TypedRange}
+use Rattle.pli_type_tree.specs.TypedTree.{Conversion, Iteration, TypedExpression, TypedRange}
+
+-- a variable may control a group, whatever limits that: it has no subscripts and no locator before it, and is
+-- no area
+abbrev pub may_control : (is_located : Bool) → Referent → Bool
+may_control is_located r =
+    without_subscripts r.reference && not is_located && not (is_area r.description)
 
 -- a group of its parts
-abbrev pub iteration_of : (variable : Referent) → (operations : List TypedOperation) → TypedValue
-    → (turns : TypedRange) → (condition : Option TypedExpression) → (temporary : ℕ) → Iteration
-iteration_of r operations v turns x temporary = record {
+abbrev pub iteration_of : (variable : Referent) → Conversion → TypedValue → (turns : TypedRange)
+    → (condition : Option TypedExpression) → (temporary : ℕ) → Iteration
+iteration_of r convert v turns x temporary = record {
   control = r.reference;
-  conversion = operations;
-  start = v.expression;
+  conversion = convert;
+  start = unconverted r.description v;
   range = turns;
   condition = x;
   temporary = temporary;
@@ -30,10 +38,10 @@ iteration_of r operations v turns x temporary = record {
 abbrev pub iteration_with : Naming → (temporary equals : ℕ) → TypedValue → (kept : TypedRange)
     → (variable : Referent) → Option Range → (condition : Option Expression) → Result Iteration Fault
 iteration_with n temporary equals v kept r range tested = do
-  operations ← or_fault CannotAssign equals (conversions n.greatest r.description v.kind)
+  convert ← or_fault CannotAssign equals (conversion n.greatest r.area r.description v.kind)
   x ← possible_condition n tested
-  turns ← with_repeat n r.description kept range
-  Ok (iteration_of r operations v turns x temporary)
+  turns ← with_repeat n r kept range
+  Ok (iteration_of r convert v turns x temporary)
 
 -- an arrow
 abbrev pub is_arrow : Joining → Bool

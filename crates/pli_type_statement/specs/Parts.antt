@@ -10,9 +10,8 @@ use Rattle.pli_resolve.specs.ResolvedUnits.{resolved_unit_of}
 use Rattle.pli_type.specs.Names.{NamedUnit}
 use Rattle.pli_type.specs.NamedUnits.{named_unit}
 use Rattle.pli_type.specs.StatementTyping.{WithProcedures}
-use Rattle.pli_resolve.specs.TreeBlocks.{blocks_of, blocks_among, blocks_behind}
-use Rattle.pli_type.specs.Temporaries.{Next, temporaries_of}
-use Rattle.pli_type.specs.Temporaries.{temporaries_among, temporaries_behind}
+use Rattle.pli_resolve.specs.TreeBlocks.{blocks_of, blocks_among}
+use Rattle.pli_type.specs.Temporaries.{Next, temporaries_of, temporaries_among}
 use Rattle.pli_base.specs.declared.failure.Failure.{Failure}
 use Rattle.pli_base.specs.declared.failure.Failure.TheVariants as errors
 use Rattle.pli_type_tree.specs.TypedTree as typed
@@ -75,11 +74,6 @@ behind_body is_based x b =
 abbrev pub behind_list : (is_based : (at : ℕ) → Bool) → Next → source.Statements → Next
 behind_list is_based x ss =
     record { block = x.block + blocks_among ss; temporary = x.temporary + temporaries_among is_based ss }
-
--- behind an ELSE
-abbrev pub behind_other : (is_based : (at : ℕ) → Bool) → Next → source.Alternative → Next
-behind_other is_based x a =
-    record { block = x.block + blocks_behind a; temporary = x.temporary + temporaries_behind is_based a }
 
 -- a unit as types see it
 unfoldable pub unit_named : Procedure → NamedUnit

@@ -1,19 +1,21 @@
 //! Assignments.
-ghost use Rattle.std.specs.Prelude.{◌≡◌, false};
+ghost use Rattle.std.specs.Prelude.{◌≡◌, false, option_map};
 ghost use Rattle.pli_base.specs.views.SyntaxView as syntax;
+ghost use Rattle.pli_type.specs.Beginnings.{whole_at};
 ghost use Rattle.pli_type.specs.StatementTyping as spec;
 ghost use Rattle.pli_type.specs.Unbuilt.{later_expression, later_reference};
 ghost use Rattle.pli_base.specs.answers.FailureAnswers.{Gives};
 ghost use Rattle.pli_type_expression.specs.views.TypingView.{denoted_view, meant_view, referent_view};
 ghost use Rattle.pli_type_names.specs.UnitNaming.{compiled_in, naming_in};
+ghost use Rattle.pli_type_tree.specs.TypedTree as tree;
 ghost use Rattle.pli_type_tree.specs.views.TypedView.{form_view};
 
 use pli_base::syntax::{Expression, Reference};
 use pli_base::{Code, fault};
-use pli_map::is_aggregate;
-use pli_type::converted;
+use pli_map::{is_aggregate, is_area};
+use pli_type::{Beginning, area_meant, converted};
 use pli_type_expression::{
-    Denoted, ExpressionMeaning, Referent, Role, TypeError, meant, referred, value_of,
+    Denoted, ExpressionMeaning, Referent, Role, TypeError, denoted, meant, referred, value_of,
 };
 use pli_type_names::Naming;
 use pli_type_tree::Form;
@@ -55,11 +57,17 @@ fn scalar_assigned(
 ) -> Result<Form, TypeError>
     requires { later_expression (compiled_in naming.now) (syntax.expression_view value.now) ≡ false }
     ensures { Gives form_view result
-        (spec.scalar_assigned (naming_in naming.now) equals (referent_view target.entry.value).reference
-        (referent_view target.entry.value).description (syntax.expression_view value.now)) }
+        (spec.scalar_assigned (naming_in naming.now) equals (referent_view target.entry.value)
+        (syntax.expression_view value.now)) }
 {
     let value = value_of(alloc, naming, value)?;
-    match converted(alloc, naming.greatest(), target.description, value)? {
+    match converted(
+        alloc,
+        naming.greatest(),
+        target.area,
+        target.description,
+        value,
+    )? {
         Some(value) => {
             let target = Box::into_inner(target);
             Ok(Form::Assign {
@@ -71,7 +79,80 @@ fn scalar_assigned(
     }
 }
 
-/// What is assigned to what a target denotes; what a function gives is T1 at the statement.
+/// The blocks of an area assigned to another, if there is one.
+fn area_copied(target: Beginning, source: Option<Beginning>) -> Option<Form>
+    ensures { option_map form_view result
+        ≡ option_map (λ area. tree.AssignArea (whole_at target) (whole_at area)) source }
+{
+    match source {
+        Some(source) => Some(Form::AssignArea {
+            target: target.whole(),
+            source: source.whole(),
+        }),
+        None => None,
+    }
+}
+
+/// What is put into an area: another one, or EMPTY, but nothing in parentheses.
+fn area_put(target: Option<Beginning>, source: &Denoted<'_>) -> Option<Form>
+    ensures { option_map form_view result ≡ spec.area_put target (denoted_view source.now) }
+{
+    let Some(target) = target else {
+        return None;
+    };
+    match source {
+        Denoted::Empty => Some(Form::EmptyArea(target.whole())),
+        Denoted::Variable(_) | Denoted::Result(_) => area_copied(target, source.area()),
+    }
+}
+
+/// What is assigned to an area: T2 where it is an aggregate, T5 at `=` where it is neither an area nor EMPTY (own).
+fn area_assigned(
+    alloc: Global,
+    naming: &Naming<'_>,
+    equals: u32,
+    target: Option<Beginning>,
+    value: &Expression,
+) -> Result<Form, TypeError>
+    requires { later_expression (compiled_in naming.now) (syntax.expression_view value.now) ≡ false }
+    ensures { Gives form_view result
+        (spec.area_assigned (naming_in naming.now) equals target (syntax.expression_view value.now)) }
+{
+    let source = denoted(alloc, naming, Role::Value, value)?;
+    let form = area_put(target, &source);
+    drop(source);
+    match form {
+        Some(form) => Ok(form),
+        None => Err(fault(Code::CannotAssign, equals)),
+    }
+}
+
+/// What is assigned to a variable, by what that is: an aggregate, an area, or a scalar.
+fn variable_assigned<'a>(
+    alloc: Global,
+    naming: &Naming<'a>,
+    equals: u32,
+    target: Box<Referent<'a>>,
+    value: &Expression,
+) -> Result<Form, TypeError>
+    requires { later_expression (compiled_in naming.now) (syntax.expression_view value.now) ≡ false }
+    ensures { Gives form_view result
+        (spec.variable_assigned (naming_in naming.now) equals (referent_view target.entry.value)
+        (syntax.expression_view value.now)) }
+{
+    if is_aggregate(target.description) {
+        let source = meant(alloc, naming, Role::Argument, value)?;
+        aggregate_assigned(equals, target, source)
+    } else if is_area(target.description) {
+        let area = area_meant(&target.reference, target.description);
+        drop(target);
+        area_assigned(alloc, naming, equals, area, value)
+    } else {
+        scalar_assigned(alloc, naming, equals, target, value)
+    }
+}
+
+/// What is assigned to what a target denotes; what a function gives, EMPTY too, is T1 at the statement.
 fn assigned<'a>(
     alloc: Global,
     naming: &Naming<'a>,
@@ -89,12 +170,7 @@ fn assigned<'a>(
         return Err(fault(Code::NotAVariable, at));
     };
     let target = Box::new(alloc, target)?;
-    if is_aggregate(target.description) {
-        let source = meant(alloc, naming, Role::Argument, value)?;
-        aggregate_assigned(equals, target, source)
-    } else {
-        scalar_assigned(alloc, naming, equals, target, value)
-    }
+    variable_assigned(alloc, naming, equals, target, value)
 }
 
 /// An assignment, or its first fault: the target's, the expression's, and then that at `=` (own). The statement begins

@@ -1,5 +1,5 @@
 //! Groups with a control variable.
-ghost use Rattle.std.specs.Prelude.{◌≡◌, false, map, option_map};
+ghost use Rattle.std.specs.Prelude.{◌≡◌, false, option_map};
 ghost use Rattle.std.specs.List.{list_any};
 ghost use Rattle.pli_base.specs.views.StatementView.{range_view};
 ghost use Rattle.pli_base.specs.views.SyntaxView as syntax;
@@ -10,18 +10,20 @@ ghost use Rattle.pli_type.specs.views.ValueView.{value_view};
 ghost use Rattle.pli_base.specs.answers.FailureAnswers.{Gives};
 ghost use Rattle.pli_type_expression.specs.views.TypingView.{denoted_view, referent_view};
 ghost use Rattle.pli_type_names.specs.UnitNaming.{compiled_in, naming_in};
-ghost use Rattle.pli_type_statement.specs.Iterations.{is_arrow, iteration_of, iteration_with};
+ghost use Rattle.pli_type_statement.specs.Iterations.{is_arrow, iteration_of, iteration_with, may_control};
 ghost use Rattle.pli_type_tree.specs.views.TypedView as typed;
 
 use crate::items::condition;
 use pli_base::statement::Range;
 use pli_base::syntax::{Expression, JoinedPart, Joining, Reference};
 use pli_base::{Code, fault};
-use pli_map::Description;
-use pli_type::{TypedValue, conversions, converted};
-use pli_type_expression::{Denoted, Referent, Role, TypeError, first_token, referred, value_of};
+use pli_map::{Description, is_area};
+use pli_type::{TypedValue, conversion, converted, unconverted};
+use pli_type_expression::{
+    Denoted, Referent, Role, TypeError, first_token, own_token, referred, value_of,
+};
 use pli_type_names::Naming;
-use pli_type_tree::{Iteration, TypedExpression, TypedOperation, TypedRange, TypedReference};
+use pli_type_tree::{Conversion, Iteration, TypedExpression, TypedRange, TypedReference};
 use std::alloc::Global;
 
 /// TO or BY, which takes a number: T4 at its first token where it has none (X3.74).
@@ -133,8 +135,17 @@ fn has_locator(reference: &Reference) -> bool
     located
 }
 
-/// The control variable at the token `at`: a variable without subscripts and without a locator before it, and a number
-/// where TO or BY stands; T12 there where it is not (X3.74; that subscripts and locators are refused, own).
+/// Whether a variable may control a group, whatever limits that: it has no subscripts and no locator before it, and is
+/// no area.
+fn may_control(is_located: bool, variable: &Referent<'_>) -> bool
+    ensures { result ≡ may_control is_located (referent_view variable.now) }
+{
+    is_without_subscripts(&variable.reference) && !is_located && !is_area(variable.description)
+}
+
+/// The control variable at the token `at`: a variable without subscripts and without a locator before it, no area, and
+/// a number where TO or BY stands; T12 there where it is not (X3.74; that subscripts, locators and areas are refused,
+/// own).
 fn controls<'a>(
     alloc: Global,
     at: u32,
@@ -148,7 +159,7 @@ fn controls<'a>(
         drop(variable);
         return Err(fault(Code::NotAVariable, at));
     };
-    if is_located || !is_without_subscripts(&referent.reference) {
+    if !may_control(is_located, &referent) {
         drop(referent);
         return Err(fault(Code::BadControlVariable, at));
     }
@@ -179,15 +190,21 @@ fn possible_condition(
 fn next_value(
     alloc: Global,
     naming: &Naming<'_>,
-    description: &Description,
+    control: &Referent<'_>,
     expression: &Expression,
 ) -> Result<Box<TypedRange>, TypeError>
     requires { later_expression (compiled_in naming.now) (syntax.expression_view expression.now) ≡ false }
     ensures { Gives (λ range. typed.range_view range.value) result
-        (spec.next_value (naming_in naming.now) (description_view description.now) (syntax.expression_view expression.now)) }
+        (spec.next_value (naming_in naming.now) (referent_view control.now) (syntax.expression_view expression.now)) }
 {
     let value = value_of(alloc, naming, expression)?;
-    match converted(alloc, naming.greatest(), description, value)? {
+    match converted(
+        alloc,
+        naming.greatest(),
+        control.area,
+        control.description,
+        value,
+    )? {
         Some(next) => Ok(Box::new(alloc, TypedRange::Repeated(next))?),
         None => Err(fault(Code::CannotAssign, first_token(expression))),
     }
@@ -197,17 +214,17 @@ fn next_value(
 fn with_repeat(
     alloc: Global,
     naming: &Naming<'_>,
-    description: &Description,
+    control: &Referent<'_>,
     kept: Box<TypedRange>,
     range: &Option<Range>,
 ) -> Result<Box<TypedRange>, TypeError>
     requires { later_part (later_range (compiled_in naming.now)) (option_map range_view range.now) ≡ false }
     ensures { Gives (λ range. typed.range_view range.value) result
-        (spec.with_repeat (naming_in naming.now) (description_view description.now) (typed.range_view kept.value)
+        (spec.with_repeat (naming_in naming.now) (referent_view control.now) (typed.range_view kept.value)
         (option_map range_view range.now)) }
 {
     match range {
-        Some(Range::Repeat(next)) => next_value(alloc, naming, description, next),
+        Some(Range::Repeat(next)) => next_value(alloc, naming, control, next),
         _ => Ok(kept),
     }
 }
@@ -237,22 +254,22 @@ fn unboxed(condition: Option<Box<TypedExpression>>) -> Option<TypedExpression>
 /// A group with a control variable of its parts.
 fn of_parts(
     variable: Box<Referent<'_>>,
-    conversion: Vec<TypedOperation>,
+    conversion: Box<Conversion>,
     start: Box<TypedValue>,
     range: Box<TypedRange>,
     condition: Option<Box<TypedExpression>>,
     temporary: usize,
 ) -> Iteration
     ensures { typed.iteration_view result
-        ≡ iteration_of (referent_view variable.entry.value) (map typed.operation_view conversion.items) (value_view start.value)
+        ≡ iteration_of (referent_view variable.entry.value) (typed.conversion_view conversion.value) (value_view start.value)
         (typed.range_view range.value) (option_map (λ x. typed.expression_view x.value) condition) temporary }
 {
     let variable = Box::into_inner(variable);
-    let start = Box::into_inner(start);
+    let start = unconverted(variable.description, Box::into_inner(start));
     Iteration {
         control: variable.reference,
-        conversion,
-        start: start.expression,
+        conversion: Box::into_inner(conversion),
+        start,
         range: Box::into_inner(range),
         condition: unboxed(condition),
         temporary,
@@ -278,17 +295,24 @@ fn iterated(
         (typed.range_view kept.value) (referent_view variable.entry.value) (option_map range_view text.entry.range.now)
         (option_map syntax.expression_view text.entry.condition.now)) }
 {
-    let Some(conversion) = conversions(alloc, naming.greatest(), variable.description, start.kind)?
-    else {
+    let converts = conversion(
+        alloc,
+        naming.greatest(),
+        variable.area,
+        variable.description,
+        start.kind,
+    )?;
+    let Some(conversion) = converts else {
         return Err(fault(Code::CannotAssign, text.equals));
     };
+    let conversion = Box::new(alloc, conversion)?;
     let condition = possible_condition(alloc, naming, text.condition)?;
-    let range = with_repeat(alloc, naming, variable.description, kept, text.range)?;
+    let range = with_repeat(alloc, naming, &variable, kept, text.range)?;
     Ok(of_parts(variable, conversion, start, range, condition, temporary))
 }
 
 /// What `DO v = a ..` says, whose temporaries begin with this one, or its first fault: those of a, of TO and BY, of v,
-/// then T12 at v, T5 at `=`, those of WHILE, and those of REPEAT (own).
+/// then T12 at v's first name behind its last arrow, T5 at `=`, those of WHILE, and those of REPEAT (own).
 pub(crate) fn iteration(
     alloc: Global,
     naming: &Naming<'_>,
@@ -311,12 +335,7 @@ pub(crate) fn iteration(
     let kept = Box::new(alloc, range)?;
     let variable = referred(alloc, naming, Role::Locator, text.variable)?;
     let is_located = has_locator(text.variable);
-    let variable = controls(
-        alloc,
-        text.variable.first.name.at,
-        is_located,
-        &kept,
-        variable,
-    )?;
+    let at = own_token(text.variable);
+    let variable = controls(alloc, at, is_located, &kept, variable)?;
     iterated(alloc, naming, temporary, text, start, kept, variable)
 }

@@ -1,5 +1,5 @@
 //! GOTO and RETURN.
-ghost use Rattle.std.specs.Prelude.{◌≡◌, false, option_map};
+ghost use Rattle.std.specs.Prelude.{◌≡◌, false, map, option_map};
 ghost use Rattle.pli_base.specs.views.SyntaxView as syntax;
 ghost use Rattle.pli_type.specs.StatementTyping as spec;
 ghost use Rattle.pli_type.specs.Unbuilt.{later_expression, later_part};
@@ -14,7 +14,7 @@ use crate::labels::outward_to;
 use crate::surroundings::Surroundings;
 use pli_base::syntax::{Expression, Identifier};
 use pli_base::{Code, fault};
-use pli_type::{TypedValue, converted};
+use pli_type::{Beginning, TypedValue, converted};
 use pli_type_expression::{TypeError, first_token, value_of};
 use pli_type_names::{NamedAs, Naming};
 use pli_type_tree::Form;
@@ -42,24 +42,36 @@ pub(crate) fn jump(
     }
 }
 
-/// A value that a procedure returns: T9 at RETURN where it is no function, T5 at the value's first token where it does
-/// not suit (X3.74).
+/// The area that OFFSET names in the RETURNS of the procedure here, if it names one.
+fn area_here(naming: &Naming<'_>, around: &Surroundings<'_>) -> Option<Beginning>
+    requires { naming.now.blocks ≡ map (λ b. b.number) (surroundings_of (around_view around.now)).blocks }
+    ensures { result ≡ spec.area_here (naming_in naming.now) (surroundings_of (around_view around.now)) }
+{
+    match naming.enclosing(around.begins) {
+        Some(block) => naming.returned_area(block),
+        None => None,
+    }
+}
+
+/// A value that a procedure returns, in whose RETURNS OFFSET names this area: T9 at RETURN where it is no function, T5
+/// at the value's first token where it does not suit (X3.74).
 fn returned_value(
     alloc: Global,
     greatest: u8,
+    area: Option<Beginning>,
     around: &Surroundings<'_>,
     at: u32,
     first: u32,
     value: TypedValue,
 ) -> Result<Form, TypeError>
     ensures { Gives form_view result
-        (spec.returned_value greatest at first around.now.begins (around_view around.now).value (value_view value)) }
+        (spec.returned_value greatest area at first around.now.begins (around_view around.now).value (value_view value)) }
 {
     let Some(description) = around.value else {
         drop(value);
         return Err(fault(Code::WrongReturn, at));
     };
-    match converted(alloc, greatest, description, value)? {
+    match converted(alloc, greatest, area, description, value)? {
         Some(value) => Ok(Form::ReturnValue {
             outward: around.begins,
             value,
@@ -77,7 +89,8 @@ pub(crate) fn returned(
     at: u32,
     value: &Option<Expression>,
 ) -> Result<Form, TypeError>
-    requires { later_part (later_expression (compiled_in naming.now)) (option_map syntax.expression_view value.now) ≡ false }
+    requires blocks { naming.now.blocks ≡ map (λ b. b.number) (surroundings_of (around_view around.now)).blocks }
+    requires built { later_part (later_expression (compiled_in naming.now)) (option_map syntax.expression_view value.now) ≡ false }
     ensures { Gives form_view result
         (spec.return_typed (naming_in naming.now) (surroundings_of (around_view around.now)) at
         (option_map syntax.expression_view value.now)) }
@@ -95,7 +108,8 @@ pub(crate) fn returned(
         Some(expression) => {
             let value = value_of(alloc, naming, expression)?;
             let first = first_token(expression);
-            returned_value(alloc, naming.greatest(), around, at, first, value)
+            let area = area_here(naming, around);
+            returned_value(alloc, naming.greatest(), area, around, at, first, value)
         }
     }
 }

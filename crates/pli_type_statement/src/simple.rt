@@ -42,8 +42,8 @@ fn put(
     Ok(Form::Put { skip, items })
 }
 
-/// A statement without statements in it, which begins at the token `at`, and the first of whose temporaries is this one.
-/// What is not compiled yet is Z1 there.
+/// A statement without statements in it, which begins at the token `at`, and the first of whose temporaries is this
+/// one. What is not compiled yet is Z1 there.
 #[tactic(auto, using(crate::proofs::NothingLater::assignment_built, crate::proofs::NothingLater::call_built, crate::proofs::NothingLater::return_built, crate::proofs::NothingLater::put_built, crate::proofs::NothingLater::allocate_built, crate::proofs::NothingLater::free_built))]
 pub(crate) fn simple(
     alloc: Global,
@@ -54,6 +54,7 @@ pub(crate) fn simple(
     at: u32,
     body: &Body,
 ) -> Result<Form, TypeError>
+    requires blocks { naming.now.blocks ≡ map (λ b. b.number) (surroundings_of (around_view around.now)).blocks }
     requires based { (block : ℕ) → based_at templates.now block ≡ (naming_in naming.now).based block }
     requires built { (first : ℕ) × (later_body (compiled_in naming.now) first (source.body_view body.now) ≡ None) }
     ensures { Gives form_view result

@@ -22,7 +22,7 @@ made_at wanted all number at (Variable description class scope initial area) =
 made_at wanted all number at (Member root path initial area) = refl
 made_at wanted all number at (Label statement) = refl
 made_at wanted all number at (Procedure block returned area) = refl
-made_at wanted all number at (Entry parameters returned) = refl
+made_at wanted all number at (Entry parameters returned area) = refl
 made_at wanted all number at BuiltIn = refl
 
 -- one symbol more, and its members
@@ -54,7 +54,7 @@ made_has_item wanted marks at members (Variable description class scope initial 
 made_has_item wanted marks at members (Member root path initial area) m e h = cc
 made_has_item wanted marks at members (Label statement) m e h = cc
 made_has_item wanted marks at members (Procedure block returned area) m e h = cc
-made_has_item wanted marks at members (Entry parameters returned) m e h = cc
+made_has_item wanted marks at members (Entry parameters returned area) m e h = cc
 made_has_item wanted marks at members BuiltIn m e h = cc
 
 globals_made_at : (all : List Symbol) (number at : ℕ) (name : Name) (k : SymbolKind)
@@ -64,7 +64,7 @@ globals_made_at all number at name (Variable description class scope initial are
 globals_made_at all number at name (Member root path initial area) = refl
 globals_made_at all number at name (Label statement) = refl
 globals_made_at all number at name (Procedure block returned area) = refl
-globals_made_at all number at name (Entry parameters returned) = refl
+globals_made_at all number at name (Entry parameters returned area) = refl
 globals_made_at all number at name BuiltIn = refl
 
 pub one_global : (all : List Symbol) (number : ℕ) (s : Symbol) (left : List Symbol) (members : List InitialItem)

@@ -35,7 +35,7 @@ no_member root i (Variable description class scope initial area) left e = refl
 no_member root i (Member owner path initial area) left e = absurd (none-some _ (sym e))
 no_member root i (Label statement) left e = refl
 no_member root i (Procedure block returned area) left e = refl
-no_member root i (Entry parameters returned) left e = refl
+no_member root i (Entry parameters returned area) left e = refl
 no_member root i BuiltIn left e = refl
 
 -- the items of a root, by whether this member is one of them
@@ -49,7 +49,7 @@ a_member root i (Member owner path initial area) left o e =
     ap (λ x. with_item (nat_eq x.root root) x.item (member_items root left)) (same_Some _ o e)
 a_member root i (Label statement) left o e = absurd (none-some o e)
 a_member root i (Procedure block returned area) left o e = absurd (none-some o e)
-a_member root i (Entry parameters returned) left o e = absurd (none-some o e)
+a_member root i (Entry parameters returned area) left o e = absurd (none-some o e)
 a_member root i BuiltIn left o e = absurd (none-some o e)
 
 pass_other : (rows : List (List InitialItem)) (s : Symbol) (left all : List Symbol) → member_in s.kind ≡ None

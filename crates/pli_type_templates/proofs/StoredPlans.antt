@@ -1,5 +1,5 @@
 -- The scalars to which the plan of a variable leads.
-use Rattle.std.proofs.Common.{◌≡◌, ℕ, zero, suc, ◌+◌, ◌*◌, ◌-◌, ◌<◌, ◌≤◌, nat_lt, nat_le, true, Option, Some, None, List, [], ◌∷◌, length, get_or, drop, sym, ap, subst, ◌∙◌, refl, arith}
+use Rattle.std.proofs.Common.{◌≡◌, ℕ, zero, suc, ◌+◌, ◌*◌, ◌-◌, ◌<◌, ◌≤◌, nat_lt, nat_le, true, false, ◌||◌, Option, Some, None, List, [], ◌∷◌, length, get_or, drop, sym, ap, subst, ◌∙◌, refl, arith}
 use Rattle.std.specs.Global.{Global}
 use Rattle.std.specs.Prelude.{IfSome, Vec}
 use Rattle.std.specs.Int.{next_multiple_of}
@@ -16,9 +16,10 @@ use Rattle.pli_map.proofs.Members.{later, next_member}
 use Rattle.pli_map.proofs.Places.{fits_stride}
 use Rattle.pli_map.proofs.ScalarPlaces.{nodes, nodes_among}
 use Rattle.pli_bytes.proofs.DescriptionTrees.{structure_view}
-use Rattle.pli_type.specs.NamedUnits.{all_plain, is_length, is_plain, is_stored}
+use Rattle.pli_map.specs.Scalars.{is_area}
+use Rattle.pli_type.specs.NamedUnits.{all_plain, is_length, is_plain, is_stored, is_valued, may_stand}
 use Rattle.pli_type_names.proofs.PlainLemmas.{plain_array}
-use Rattle.pli_type_templates.specs.Plans.{IsStoredLeaf, IsStoredPlan, Leaf, Plan, is_compiled_scalar, leaf_in, leaf_in_member, levels_in, levels_in_member, plan_from, plans_from}
+use Rattle.pli_type_templates.specs.Plans.{IsStoredLeaf, IsStoredPlan, Leaf, NoPlans, OfStructure, Plan, is_compiled_scalar, leaf_in, leaf_in_member, levels_in, levels_in_member, plan_from, plans_from}
 use Rattle.pli_type_templates.specs.declared.plan.ArrayLevel.{ArrayLevel}
 
 -- a string has at most 32,767 elements
@@ -41,7 +42,7 @@ mutual
   plain_positive (Varying n) h = omega arith
   plain_positive (Bit n) h = let some = ltb-true 0 n (and_parts (nat_lt 0 n) (nat_le n 32767) h).0 in omega arith
   plain_positive Pointer h = omega arith
-  plain_positive Offset h = cc
+  plain_positive Offset h = omega arith
   plain_positive (Area n) h = cc
   plain_positive (Array bounds element) h =
       let a = plain_array bounds element h in
@@ -153,7 +154,7 @@ mutual
   stored_on (Varying n) from path h = record { first = omega arith; over = omega arith; nested = tt; scalar = h }
   stored_on (Bit n) from path h = record { first = omega arith; over = omega arith; nested = tt; scalar = h }
   stored_on Pointer from path h = record { first = omega arith; over = omega arith; nested = tt; scalar = h }
-  stored_on Offset from path h = cc
+  stored_on Offset from path h = record { first = omega arith; over = omega arith; nested = tt; scalar = h }
   stored_on (Area n) from path h = cc
   stored_on (Array bs e) from path h =
       let a = plain_array bs e h in
@@ -174,21 +175,50 @@ mutual
       let plain = and_parts (is_plain 31 d) (all_plain 31 ds) h in
       stored_in ds i path from (next_multiple_of ended (alignment_of d) + size_of d) plain.1
 
-pub record IsPlainWithin (d : Description) : Type 0 where
-  pub plain : is_plain 31 d ≡ true
-  pub room : size_of d ≤ 1000000
-
-pub stored_within : (d : Description) → is_stored 31 d ≡ true → IsPlainWithin d
-stored_within d h =
-    let both = and_parts (is_plain 31 d) (nat_le (size_of d) 1000000) h in
-    record { plain = both.0; room = leb-true (size_of d) 1000000 both.1 }
-
 pub stored_leaf : (p : Plan) (path : List ℕ) (leaf : Leaf) → IsStoredPlan p → leaf_in p path ≡ Some leaf
     → IsStoredLeaf 0 1000000 (levels_in p path) leaf
 stored_leaf p path leaf s e = subst (λ o. IfSome o (IsStoredLeaf 0 1000000 (levels_in p path))) e (s path)
 
--- the plan of a variable
+-- ---- the plan of a variable
+
+-- of one of values
+valued_plan : (d : Description) → is_valued 31 d ≡ true → IsStoredPlan (plan_from 0 d)
+valued_plan d h path =
+    let both = and_parts (is_plain 31 d) (nat_le (size_of d) 1000000) h in
+    let room = leb-true (size_of d) 1000000 both.1 in
+    within (leaf_in (plan_from 0 d) path) (levels_in (plan_from 0 d) path) 0 1000000 0 (size_of d) (omega arith) (omega (arith, room)) (stored_on d 0 path both.0)
+
+-- of any
 pub stored_plan : (d : Description) → is_stored 31 d ≡ true → IsStoredPlan (plan_from 0 d)
-stored_plan d h path =
-    let s = stored_within d h in
-    within (leaf_in (plan_from 0 d) path) (levels_in (plan_from 0 d) path) 0 1000000 0 (size_of d) (omega arith) (omega (arith, s.room)) (stored_on d 0 path s.plain)
+stored_plan (FixedBinary p) h path = valued_plan (FixedBinary p) h path
+stored_plan (Character n) h path = valued_plan (Character n) h path
+stored_plan (Varying n) h path = valued_plan (Varying n) h path
+stored_plan (Bit n) h path = valued_plan (Bit n) h path
+stored_plan Pointer h path = valued_plan Pointer h path
+stored_plan Offset h path = valued_plan Offset h path
+stored_plan (Area n) h [] = tt
+stored_plan (Area n) h (i ∷ path) = tt
+stored_plan (Array bounds element) h path = valued_plan (Array bounds element) h path
+stored_plan (Structure members) h path = valued_plan (Structure members) h path
+
+-- an area has no scalars
+pub area_plan : (d : Description) → is_area d ≡ true → OfStructure NoPlans ≡ plan_from 0 d
+area_plan (FixedBinary p) h = cc
+area_plan (Character n) h = cc
+area_plan (Varying n) h = cc
+area_plan (Bit n) h = cc
+area_plan Pointer h = cc
+area_plan Offset h = cc
+area_plan (Area n) h = refl
+area_plan (Array bounds element) h = cc
+area_plan (Structure members) h = cc
+
+-- what is no area is plain
+pub stored_plain : (d : Description) → is_stored 31 d ≡ true → is_area d ≡ false → is_plain 31 d ≡ true
+stored_plain d h other =
+    ap (λ b. b || is_plain 31 d) (sym other) ∙ (and_parts (may_stand 31 d) (nat_le (size_of d) 1000000) h).0
+
+pub stored_room : (d : Description) → is_stored 31 d ≡ true → 0 + size_of d ≤ 1000000
+stored_room d h =
+    let room = leb-true (size_of d) 1000000 ((and_parts (may_stand 31 d) (nat_le (size_of d) 1000000) h).1) in
+    omega (arith, room)

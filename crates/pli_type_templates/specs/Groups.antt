@@ -77,7 +77,7 @@ abbrev pub global_as : (at : ℕ) → Name → (members : List InitialItem) → 
 global_as at name members (Variable description class scope initial area) =
     map (global_of scope (kind_of_class class) name)
     (templates_with (made_as lifetimes.Program at members (Variable description class scope initial area)))
-global_as at name members (Entry parameters returned) =
+global_as at name members (Entry parameters returned area) =
     EntryPoint name (record { parameters = parameters; result = returned }) ∷ []
 global_as at name members kind = []
 

@@ -50,7 +50,7 @@ pub record HasEntry (marks : List PlacedMark) (at : ℕ) (parameters : List Desc
 -- what is declared at this token is what its item says
 abbrev pub IsOfItem : List PlacedMark → (at : ℕ) → SymbolKind → Type 0
 IsOfItem marks at (Variable description class scope initial area) = HasValues marks at initial
-IsOfItem marks at (Entry parameters returned) = HasEntry marks at parameters returned
+IsOfItem marks at (Entry parameters returned area) = HasEntry marks at parameters returned
 IsOfItem marks at kind = Unit {0}
 
 -- so is each of these symbols

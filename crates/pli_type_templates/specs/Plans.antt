@@ -4,8 +4,8 @@ use Rattle.std.specs.Prelude.{◌≡◌, ◌≤◌, ℕ, zero, suc, ◌+◌, ◌
 use Rattle.std.specs.Prelude.{IfSome, List, [], ◌∷◌, map}
 use Rattle.std.specs.Int.{next_multiple_of}
 use Rattle.std.specs.List.{flat_map}
-use Rattle.pli_map.specs.Description.{Description, FixedBinary, Character, Varying, Bit, Pointer, Area}
-use Rattle.pli_map.specs.Description.{Array, Structure, Members, NoMembers, MemberThen}
+use Rattle.pli_map.specs.Description.{Description, FixedBinary, Character, Varying, Bit, Pointer, Offset}
+use Rattle.pli_map.specs.Description.{Area, Array, Structure, Members, NoMembers, MemberThen}
 use Rattle.pli_map.specs.Parts.{PlacedPart}
 use Rattle.pli_map.specs.Sizes.{alignment_of, count_of, size_of, stride_of}
 use Rattle.pli_type.specs.InitialScalars.{counted_from}
@@ -94,13 +94,14 @@ scalars_planned p path = placed (leaf_in p path) (levels_in p path) 0
 
 -- plans of variables
 
--- a scalar that is compiled: a number or a string within the language's limits, or a pointer
+-- a scalar that is compiled: a number or a string within the language's limits, or a locator
 abbrev pub is_compiled_scalar : Description → Bool
 is_compiled_scalar (FixedBinary precision) = nat_le precision 31
 is_compiled_scalar (Character n) = is_length n
 is_compiled_scalar (Varying n) = is_length n
 is_compiled_scalar (Bit n) = is_length n
 is_compiled_scalar Pointer = true
+is_compiled_scalar Offset = true
 is_compiled_scalar other = false
 
 -- over how many bytes the elements of an array stand

@@ -61,6 +61,7 @@ fn global_in<'a>(symbol: &Symbol<'a>, members: &'a [ValuedItem<'a>]) -> Option<U
         SymbolKind::Entry {
             parameters,
             returned,
+            ..
         } => Some(UnitGlobal::EntryPoint {
             name: symbol.identifier.name,
             parameters,

@@ -15,22 +15,25 @@ use crate::item_numbers::ItemNumbers;
 use crate::items::{ValuedItem, put_item};
 use crate::lifetime::Lifetime;
 use crate::made_variable::MadeVariable;
-use crate::plan::plan_from;
+use crate::plan::variable_plan;
 use pli_map::Description;
 use pli_resolve::{StorageClass, Symbol, SymbolKind};
-use pli_type_names::is_stored;
+use pli_type_names::{is_stored, is_valued};
 use pli_type_tree::{Template, VariableGroup};
 use std::alloc::{AllocError, Global};
 
-/// Whether a variable has the wanted lifetime, and is compiled.
+/// Whether a variable has the wanted lifetime, and is compiled: a BASED one is no area.
+#[tactic(auto, using(pli_type_names::proofs::PlainLemmas::valued_stored))]
 fn is_such(wanted: Lifetime, class: StorageClass, description: &Description) -> bool
     ensures value { result ≡ is_such wanted class (description_view description.now) }
     ensures stored { result ≡ true → is_stored 31 (description_view description.now) ≡ true }
 {
     match (wanted, class) {
         (Lifetime::Activation, StorageClass::Automatic)
-        | (Lifetime::Program, StorageClass::Static | StorageClass::Controlled)
-        | (Lifetime::Allocation, StorageClass::Based(_)) => is_stored(description),
+        | (Lifetime::Program, StorageClass::Static | StorageClass::Controlled) => {
+            is_stored(description)
+        }
+        (Lifetime::Allocation, StorageClass::Based(_)) => is_valued(description),
         _ => false,
     }
 }
@@ -71,18 +74,18 @@ pub(crate) fn variable_template(
 ) -> Result<Template, AllocError>
     ensures { IfOk result (λ template. template_view template ≡ made_template made.now) }
 {
-    let planned = plan_from(alloc, made.description, 0)?;
+    let plan = variable_plan(alloc, made.description)?;
     let mut scalars = Vec::new(alloc);
     let own = ValuedItem {
         path: &[],
         values: made.values,
     };
-    put_item(alloc, &planned.plan, own, &mut scalars)?;
+    put_item(alloc, &plan, own, &mut scalars)?;
     let members = made.members;
     for member in members {
-        put_item(alloc, &planned.plan, *member, &mut scalars)?;
+        put_item(alloc, &plan, *member, &mut scalars)?;
     }
-    drop(planned);
+    drop(plan);
     let description = made.description.copy(alloc)?;
     Ok(Template {
         description,

@@ -4,12 +4,12 @@ ghost use Rattle.std.specs.Int.{next_multiple_of};
 ghost use Rattle.std.specs.Prelude.{◌≡◌, ◌<◌, ◌≤◌, ◌+◌, ◌*◌, ◌++◌, IfOk, option_map, slice_get, true};
 ghost use Rattle.pli_map.specs.Sizes.{alignment_of, count_of, end_behind, size_of, stride_of};
 ghost use Rattle.pli_map.specs.views.DescriptionView.{description_view, members_view};
-ghost use Rattle.pli_type.specs.NamedUnits.{all_plain, is_plain};
+ghost use Rattle.pli_type.specs.NamedUnits.{all_plain, is_plain, is_stored};
 ghost use Rattle.pli_type_templates.specs.Plans as planned;
 ghost use Rattle.pli_type_templates.specs.Plans.{plan_from, plans_from, leaf_in, levels_in};
 ghost use Rattle.pli_type_templates.specs.views.PlanView.{leaf_view, plan_view};
 
-use pli_map::{Bounds, Description, alignment, far_size};
+use pli_map::{Bounds, Description, alignment, far_size, is_area};
 use std::alloc::{AllocError, Global};
 
 /// An array above a scalar: how many elements it has, and how many bytes each of them leads on.
@@ -80,9 +80,9 @@ fn count_of(bounds: &[Bounds]) -> u32
     count
 }
 
-/// The plan of a description that begins on this byte, of a variable of 1,000,000 bytes at most.
+/// The plan of a description that begins on this byte, of a variable of values and of 1,000,000 bytes at most.
 #[cycle(plan_from)]
-pub(crate) fn plan_from<'a>(
+fn plan_from<'a>(
     alloc: Global,
     description: &'a Description,
     first: u32,
@@ -159,6 +159,22 @@ fn members_from<'a>(
         plan: Plan::Structure(plans),
         end,
     })
+}
+
+/// The plan of a variable, which may be an area.
+#[tactic(auto, using(crate::proofs::StoredPlans::area_plan, crate::proofs::StoredPlans::stored_plain, crate::proofs::StoredPlans::stored_room))]
+pub(crate) fn variable_plan<'a>(
+    alloc: Global,
+    description: &'a Description,
+) -> Result<Plan<'a>, AllocError>
+    requires { is_stored 31 (description_view description.now) ≡ true }
+    ensures { IfOk result (λ made. plan_view made ≡ plan_from 0 (description_view description.now)) }
+{
+    if is_area(description) {
+        return Ok(no_scalars(alloc));
+    }
+    let planned = plan_from(alloc, description, 0)?;
+    Ok(planned.plan)
 }
 
 /// The plan of a member, if there is one of this number.

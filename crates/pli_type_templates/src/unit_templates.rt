@@ -53,8 +53,8 @@ impl UnitTemplates {
         mem::replace(&mut self.automatic[block], nothing)
     }
 
-    /// A copy of what the BASED variable of this number among those of a block is made from, if there is one. Takes time
-    /// for the groups of the block's BASED variables, and for the copy.
+    /// A copy of what the BASED variable of this number among those of a block is made from, if there is one. Takes
+    /// time for the groups of the block's BASED variables, and for the copy.
     pub fn based_copy(
         &self,
         alloc: Global,
@@ -88,7 +88,7 @@ fn template_in(groups: &[VariableGroup], number: usize) -> Option<&Template>
     None
 }
 
-/// What is made from the same.
+/// A copy of a template, with its initial values.
 fn template_copy(alloc: Global, template: &Template) -> Result<Template, AllocError>
     ensures { IfOk result (λ made. template_view made ≡ template_view template.now) }
 {
@@ -155,10 +155,10 @@ fn sorted_groups<'a>(
     groups(alloc, items, &globals)
 }
 
-/// What the AUTOMATIC and BASED variables of each block of a unit are made from, and its globals (X3.74; the limits own):
-/// variables of numbers, strings and pointers alone, of at most 1,000,000 bytes each. Initial values stand in the order
-/// of the text, fitted to their scalars. Those of an item of DECLARE are made once for its names that stand in a row.
-/// Takes time for the text, for the values that are kept, and for sorting the globals.
+/// What the AUTOMATIC and BASED variables of each block of a unit are made from, and its globals (X3.74; the limits
+/// own): variables of numbers, strings and locators alone and areas, of at most 1,000,000 bytes each. Initial values
+/// stand in the order of the text, fitted to their scalars. Those of an item of DECLARE are made once for its names
+/// that stand in a row. Takes time for the text, for the values that are kept, and for sorting the globals.
 pub fn templates(alloc: Global, resolved: &ResolvedUnit<'_>) -> Result<UnitTemplates, AllocError>
     ensures automatic { IfOk result (λ made. (block : ℕ) → automatic_at made block
         ≡ (named_unit 31 (resolved_unit_of (unit_view resolved.now))).automatic block) }

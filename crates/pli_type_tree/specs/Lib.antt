@@ -1,4 +1,5 @@
 pub mod Allocations
+pub mod Conversions
 pub mod Globals
 pub mod Iterations
 pub mod Templates

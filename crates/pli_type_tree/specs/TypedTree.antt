@@ -29,7 +29,8 @@ pub record Stride : Type 0 where
 
 mutual
   -- a constant, what a variable holds, an operation on its operands, a call of a function, how many
-  -- generations a CONTROLLED variable has, by the number of its global, or a pointer to a variable
+  -- generations a CONTROLLED variable has, by the number of its global, a pointer to a variable, an offset as
+  -- a pointer into an area, or a pointer as an offset of one: the locator is evaluated, and then the area
   pub data TypedExpression : Type 0 where
     Literal : (value : Value) → TypedExpression
     Held : (variable : TypedReference) → TypedExpression
@@ -37,6 +38,8 @@ mutual
     Called : (callee : Callee) (arguments : TypedArguments) → TypedExpression
     Generations : (number : ℕ) → TypedExpression
     Address : (variable : TypedReference) → TypedExpression
+    AsPointer : (area : TypedReference) (offset : TypedExpression) → TypedExpression
+    AsOffset : (area : TypedReference) (pointer : TypedExpression) → TypedExpression
 
   -- where a reference begins: at a parameter or an AUTOMATIC variable; at a variable that is made before the
   -- program begins, by the number of its global; at the newest generation of a CONTROLLED variable, by the
@@ -69,6 +72,13 @@ mutual
     ByPlace : (variable : TypedReference) (more : TypedArguments) → TypedArguments
     ByDummy : (description : Description) (value : TypedExpression) (more : TypedArguments) → TypedArguments
 
+-- what converts a value to a variable that gets it: operations in turn, none where it is held as it is; or an
+-- area, into which an offset becomes a pointer, or of which a pointer becomes an offset
+pub data Conversion : Type 0 where
+  ByOperations : (operations : List TypedOperation) → Conversion
+  AsPointerIn : (area : TypedReference) → Conversion
+  AsOffsetIn : (area : TypedReference) → Conversion
+
 -- what limits or continues an iteration: TO and BY in the order of the text, which are not converted; or
 -- REPEAT, which stands converted to the control variable
 pub data TypedRange : Type 0 where
@@ -77,12 +87,12 @@ pub data TypedRange : Type 0 where
   ByTo : (by : TypedExpression) (to : Option TypedExpression) → TypedRange
   Repeated : (next : TypedExpression) → TypedRange
 
--- `DO v = a ..`: the control variable, and the operations that convert a value to it in turn; a, which is not
--- converted; TO, BY or REPEAT; WHILE; and the first of the temporaries that keep a and then TO and BY in the
--- order of the text, or TO and 1
+-- `DO v = a ..`: the control variable, and what converts a value to it; a, which is not converted; TO, BY or
+-- REPEAT; WHILE; and the first of the temporaries that keep a and then TO and BY in the order of the text, or
+-- TO and 1
 pub record Iteration : Type 0 where
   pub control : TypedReference
-  pub conversion : List TypedOperation
+  pub conversion : Conversion
   pub start : TypedExpression
   pub range : TypedRange
   pub condition : Option TypedExpression
@@ -95,15 +105,18 @@ pub record BlockHead : Type 0 where
   pub variables : List Template
   pub temporaries : ℕ
 
--- what an item of ALLOCATE makes: a generation of a CONTROLLED variable, by the number of its global; or one
--- of a BASED variable, to which the target points from then on: the pointer is kept in this temporary while
--- the target is found
+-- what an item of ALLOCATE makes: a generation of a CONTROLLED variable, by the number of its global; one of
+-- a BASED variable, to which the target points from then on; or a block of an area for a BASED variable, of
+-- which the target gets the pointer, converted to it. The pointer is kept in this temporary while the target
+-- is found
 pub data AllocatedItem : Type 0 where
   AllocatesControlled : (number : ℕ) → AllocatedItem
   AllocatesBased : (template : Template) (temporary : ℕ) (target : TypedReference) → AllocatedItem
+  AllocatesInArea : (area : TypedReference) (template : Template) (temporary : ℕ) (target : TypedReference)
+      (conversion : Conversion) → AllocatedItem
 
 -- what an item of FREE ends: the newest generation of a CONTROLLED variable, by the number of its global; or
--- the generation of a BASED variable of this whole description to which a pointer leads
+-- the generation or the block of a BASED variable of this whole description to which a pointer leads
 pub data FreedItem : Type 0 where
   FreesControlled : (number : ℕ) → FreedItem
   FreesBased : (locator : TypedExpression) (description : Description) → FreedItem
@@ -119,6 +132,8 @@ mutual
     Null : Form
     Assign : (target : TypedReference) (value : TypedExpression) → Form
     AssignAggregate : (target source : TypedReference) → Form
+    AssignArea : (target source : TypedReference) → Form
+    EmptyArea : (target : TypedReference) → Form
     Put : (skip : Bool) (items : List TypedExpression) → Form
     Allocate : (items : List AllocatedItem) → Form
     Free : (items : List FreedItem) → Form

@@ -2,7 +2,7 @@
 use Rattle.std.specs.Prelude.{◌≡◌, ℕ, suc, ◌≤◌, ◌<◌, ◌^◌, ◌+◌, min, max, Bool, IsTrue, ℤ, unsigned_abs}
 use Rattle.std.specs.Prelude.{Option, Some, None, List, []}
 use Rattle.std.specs.Prelude.{◌∷◌, ◌⊎◌, length}
-use Rattle.pli_map.specs.Description.{Description, FixedBinary, Character, Varying, Bit, Pointer}
+use Rattle.pli_map.specs.Description.{Description, FixedBinary, Character, Varying, Bit, Pointer, Offset}
 use Rattle.pli_map.specs.Values.{holds}
 use Rattle.pli_operation.specs.declared.operation.Operation.{Operation}
 use Rattle.pli_operation.specs.declared.operation.Operation.TheVariants.{Negate, Absolute, Sign, Not}
@@ -21,24 +21,31 @@ use Rattle.pli_value.specs.declared.locator.Locator.{Locator}
 pub data StringKind : Type 0 where
   OfCharacters OfBits : StringKind
 
--- numbers of at most so many binary digits; strings of at least and at most so many elements; pointers
+-- numbers of at most so many binary digits; strings of at least and at most so many elements; pointers;
+-- offsets
 pub data ValueType : Type 0 where
   Numbers : (digits : ℕ) → ValueType
   Strings : (kind : StringKind) (least most : ℕ) → ValueType
   Pointers : ValueType
+  Offsets : ValueType
 
--- what a variable of a description holds; nothing yet for other descriptions
+-- what a variable of a description holds; an aggregate or an area holds no value
 abbrev pub type_held : Description → Option ValueType
 type_held (FixedBinary precision) = Some (Numbers precision)
 type_held (Character n) = Some (Strings OfCharacters n n)
 type_held (Varying n) = Some (Strings OfCharacters 0 n)
 type_held (Bit n) = Some (Strings OfBits n n)
 type_held Pointer = Some Pointers
+type_held Offset = Some Offsets
 type_held d = None
 
 -- a locator is a pointer that a POINTER may hold, null or not
 abbrev pub IsPointer : Locator → Type 0
 IsPointer l = IsTrue (holds Pointer (Located l))
+
+-- a locator is an offset that an OFFSET may hold, null or not
+abbrev pub IsOffset : Locator → Type 0
+IsOffset l = IsTrue (holds Offset (Located l))
 
 -- a value is of a type
 abbrev pub IsOf : ValueType → Value → Type 0
@@ -46,6 +53,7 @@ IsOf (Numbers p) v = (x : ℤ) × (v ≡ Number x) × (unsigned_abs x < 2 ^ p)
 IsOf (Strings OfCharacters a b) v = (s : List ℕ) × (v ≡ Characters s) × (a ≤ length s) × (length s ≤ b)
 IsOf (Strings OfBits a b) v = (s : List Bool) × (v ≡ Bits s) × (a ≤ length s) × (length s ≤ b)
 IsOf Pointers v = (l : Locator) × (v ≡ Located l) × IsPointer l
+IsOf Offsets v = (l : Locator) × (v ≡ Located l) × IsOffset l
 
 -- values are of types, one for one
 abbrev pub AreOf : List ValueType → List Value → Type 0
@@ -59,6 +67,7 @@ IsWithin (Numbers p) (Numbers q) = p ≤ q
 IsWithin (Strings OfCharacters a b) (Strings OfCharacters c d) = (c ≤ a) × (b ≤ d)
 IsWithin (Strings OfBits a b) (Strings OfBits c d) = (c ≤ a) × (b ≤ d)
 IsWithin Pointers Pointers = Unit {0}
+IsWithin Offsets Offsets = Unit {0}
 IsWithin t u = ⊥
 
 -- a variable of the description may hold each value of the type
@@ -112,6 +121,10 @@ OnStrings ts Of =
     (k : StringKind) × (a : ℕ) × (b : ℕ) × (c : ℕ) × (d : ℕ)
     × (ts ≡ Strings k a b ∷ Strings k c d ∷ []) × Of k b d
 
+-- they are two locators of one kind
+abbrev pub OnLocators : List ValueType → Type 0
+OnLocators ts = (ts ≡ Pointers ∷ Pointers ∷ []) ⊎ (ts ≡ Offsets ∷ Offsets ∷ [])
+
 -- a relation says whether values are equal
 abbrev pub IsEquality : Relation → Type 0
 IsEquality Equal = Unit {0}
@@ -138,7 +151,7 @@ Computes n Least ts t = OnNumbers ts (λ p q. t ≡ Numbers (max p q))
 Computes n (Divide precision) ts t = OnNumbers ts (λ p q. t ≡ Numbers precision)
 Computes n (Compare relation) ts t =
     (OnNumbers ts (λ p q. Unit {0}) ⊎ OnStrings ts (λ k b d. Unit {0})
-    ⊎ (IsEquality relation × (ts ≡ Pointers ∷ Pointers ∷ []))) × (t ≡ Strings OfBits 1 1)
+    ⊎ (IsEquality relation × OnLocators ts)) × (t ≡ Strings OfBits 1 1)
 Computes n Concatenate ts t = OnStrings ts (λ k b d. t ≡ Strings k 0 longest)
 Computes n And ts t = OnStrings ts (λ k b d. (k ≡ OfBits) × (t ≡ Strings OfBits 0 (max b d)))
 Computes n Or ts t = OnStrings ts (λ k b d. (k ≡ OfBits) × (t ≡ Strings OfBits 0 (max b d)))

@@ -1,8 +1,8 @@
 -- Well-typed trees: what a type checker promises, so that a run never asks for what is not there. A typing
 -- context says what is known at a place of the text: the blocks around it, the innermost first, each with the
 -- descriptions of its slots and the labels that a GOTO may lead to.
-use Rattle.std.specs.Prelude.{◌≡◌, ℕ, suc, ◌+◌, ◌*◌, nat_eq, false, ℤ, ◌-ℤ◌, int_le, unsigned_abs, IsTrue}
-use Rattle.std.specs.Prelude.{◌≤◌, Option, Some, None}
+use Rattle.std.specs.Prelude.{◌≡◌, ℕ, suc, ◌+◌, ◌*◌, nat_eq, true, false, ℤ, ◌-ℤ◌, int_le, unsigned_abs}
+use Rattle.std.specs.Prelude.{◌≤◌, IsTrue, Option, Some, None}
 use Rattle.std.specs.Prelude.{List, [], ◌∷◌, ◌++◌, length, map, slice_get, if◌then◌else◌}
 use Rattle.std.specs.List.{list_any}
 use Rattle.pli_map.specs.Description.{Description, Pointer}
@@ -16,19 +16,23 @@ use Rattle.pli_type_tree.specs.Globals.{kind_of, described_as, signature_of}
 use Rattle.pli_type_tree.specs.Templates.{variable_of}
 use Rattle.pli_type_tree.specs.TypedTree.{Root, InSlot, OfProgram, NewestOf, Located, TypedOperation}
 use Rattle.pli_type_tree.specs.TypedTree.{TypedExpression, Literal, Held, Calculated, Generations, Address}
+use Rattle.pli_type_tree.specs.TypedTree.{AsPointer, AsOffset, Conversion, ByOperations, AsPointerIn}
+use Rattle.pli_type_tree.specs.TypedTree.{AsOffsetIn}
 use Rattle.pli_type_tree.specs.TypedTree.{Callee, OfBlock, OfEntry, Global}
 use Rattle.pli_type_tree.specs.TypedTree.{Called, TypedReference, Whole, Part, Operands, NoOperand}
 use Rattle.pli_type_tree.specs.TypedTree.{OperandThen}
 use Rattle.pli_type_tree.specs.TypedTree.{Subscripts, NoSubscript, SubscriptThen, TypedArguments, NoArgument}
 use Rattle.pli_type_tree.specs.TypedTree.{ByPlace, ByDummy, BlockHead, TypedStatement, Statement, Form}
 use Rattle.pli_type_tree.specs.TypedTree.{Null, Assign, Allocate, Free, AllocatedItem, AllocatesControlled}
-use Rattle.pli_type_tree.specs.TypedTree.{AllocatesBased, FreedItem, FreesControlled, FreesBased}
-use Rattle.pli_type_tree.specs.TypedTree.{AssignAggregate, Put, If, Begin, Group, While, Iterate, TypedRange}
+use Rattle.pli_type_tree.specs.TypedTree.{AllocatesBased, AllocatesInArea, FreedItem, FreesControlled}
+use Rattle.pli_type_tree.specs.TypedTree.{FreesBased, AssignAggregate, AssignArea, EmptyArea, Put, If, Begin}
+use Rattle.pli_type_tree.specs.TypedTree.{Group, While, Iterate, TypedRange}
 use Rattle.pli_type_tree.specs.TypedTree.{Once, ToBy, ByTo, Repeated, Iteration, Call, Goto, Return}
 use Rattle.pli_type_tree.specs.TypedTree.{ReturnValue, Stop, OtherWise, NoElse, Else, TypedStatements}
 use Rattle.pli_type_tree.specs.TypedTree.{NoStatement}
 use Rattle.pli_type_tree.specs.TypedTree.{StatementThen}
 use Rattle.pli_type_tree.specs.ValueTypes.{StringKind, OfBits, ValueType, Numbers, Strings, Pointers}
+use Rattle.pli_type_tree.specs.ValueTypes.{Offsets}
 use Rattle.pli_type_tree.specs.ValueTypes.{type_held}
 use Rattle.pli_type_tree.specs.ValueTypes.{count_precision}
 use Rattle.pli_type_tree.specs.ValueTypes.{IsOf, IsHeldBy}
@@ -96,6 +100,11 @@ abbrev pub BeginsWhole : TypingContext → Root → Type 0
 BeginsWhole s (InSlot outward slot) = parameters_in (slice_get s.blocks outward) ≤ slot
 BeginsWhole s root = Unit {0}
 
+-- a reference does not begin at what a locator leads to
+abbrev pub IsUnlocated : Root → Type 0
+IsUnlocated (Located locator whole) = ⊥
+IsUnlocated root = Unit {0}
+
 -- a global is a CONTROLLED variable
 abbrev pub IsControlled : TypingContext → (number : ℕ) → Type 0
 IsControlled s number = kind_of (slice_get s.globals number) ≡ Some Controlled
@@ -155,11 +164,19 @@ abbrev mutual
       × ArePassed n s arguments parameters × (type_held d ≡ Some t)
   IsTyped n s (Generations number) t = IsControlled s number × (t ≡ Numbers count_precision)
   IsTyped n s (Address r) t = IsAddressed n s r × (t ≡ Pointers)
+  IsTyped n s (AsPointer area e) t = IsTyped n s e Offsets × IsAreaReference n s area × (t ≡ Pointers)
+  IsTyped n s (AsOffset area e) t = IsTyped n s e Pointers × IsAreaReference n s area × (t ≡ Offsets)
 
   -- a pointer leads to a whole variable that is no parameter
   pub IsAddressed : (greatest : ℕ) → TypingContext → TypedReference → Type 0
   IsAddressed n s (Whole root) = BeginsWhole s root × ((d : Description) × IsRooted n s root d)
   IsAddressed n s (Part root offset part subscripts) = ⊥
+
+  -- a reference leads to an area: it is a whole variable, and none that a locator leads to
+  pub IsAreaReference : (greatest : ℕ) → TypingContext → TypedReference → Type 0
+  IsAreaReference n s (Whole root) =
+      IsUnlocated root × ((d : Description) × IsRooted n s root d × (is_area d ≡ true))
+  IsAreaReference n s (Part root offset part subscripts) = ⊥
 
   -- what the variable is at which a reference begins; a locator gives pointers
   pub IsRooted : (greatest : ℕ) → TypingContext → Root → Description → Type 0
@@ -188,12 +205,13 @@ abbrev mutual
   AreSubscripts n s (SubscriptThen stride e more) =
       ((p : ℕ) × IsTyped n s e (Numbers p)) × AreSubscripts n s more
 
-  -- arguments fit parameters: a place of the parameter's description, or a value that a dummy of it holds
+  -- arguments fit parameters: a place of the parameter's description, for an area that of an area, or a value
+  -- that a dummy of it holds
   pub ArePassed : (greatest : ℕ) → TypingContext → TypedArguments → List Description → Type 0
   ArePassed n s NoArgument parameters = parameters ≡ []
   ArePassed n s (ByPlace r more) parameters =
       (d : Description) × (others : List Description) × (parameters ≡ d ∷ others) × IsPlaced n s r d
-      × ArePassed n s more others
+      × (is_area d ≡ true → IsAreaReference n s r) × ArePassed n s more others
   ArePassed n s (ByDummy d e more) parameters =
       (others : List Description) × (parameters ≡ d ∷ others)
       × ((t : ValueType) × IsTyped n s e t × IsHeldBy d t) × ArePassed n s more others
@@ -211,10 +229,30 @@ abbrev pub AreItems : (greatest : ℕ) → TypingContext → List TypedExpressio
 AreItems n s [] = Unit {0}
 AreItems n s (e ∷ es) = ((kind : StringKind) × IsString n s kind e) × AreItems n s es
 
--- an item of ALLOCATE is of a CONTROLLED variable; or of a BASED one that is made well, and sets a POINTER
+-- conversions
+
+-- one operation after another takes values of a type to values that a variable of the description holds
+abbrev pub Convert : (greatest : ℕ) → List TypedOperation → ValueType → Description → Type 0
+Convert n [] t d = IsHeldBy d t
+Convert n (operation ∷ more) t d =
+    (u : ValueType) × Operates n operation (t ∷ []) u × Convert n more u d
+
+-- a conversion takes values of a type to values that a variable of the description holds
+abbrev pub IsConversion : (greatest : ℕ) → TypingContext → Conversion → ValueType → Description → Type 0
+IsConversion n s (ByOperations operations) t d = Convert n operations t d
+IsConversion n s (AsPointerIn area) t d = IsAreaReference n s area × (t ≡ Offsets) × IsHeldBy d Pointers
+IsConversion n s (AsOffsetIn area) t d = IsAreaReference n s area × (t ≡ Pointers) × IsHeldBy d Offsets
+
+-- what ALLOCATE makes and FREE ends
+
+-- an item of ALLOCATE is of a CONTROLLED variable; of a BASED one that is made well, and sets a POINTER; or
+-- of one in an area, which is none itself, and sets what the pointer to it is converted to
 abbrev pub IsAllocated : (greatest : ℕ) → TypingContext → AllocatedItem → Type 0
 IsAllocated n s (AllocatesControlled number) = IsControlled s number
 IsAllocated n s (AllocatesBased t temporary target) = IsMade (variable_of t) × IsPlaced n s target Pointer
+IsAllocated n s (AllocatesInArea area t temporary target conversion) =
+    IsAreaReference n s area × (IsMade (variable_of t) × (is_area t.description ≡ false))
+    × ((d : Description) × IsPlaced n s target d × IsConversion n s conversion Pointers d)
 
 -- each item is
 abbrev pub AreAllocated : (greatest : ℕ) → TypingContext → List AllocatedItem → Type 0
@@ -233,12 +271,6 @@ AreFreed n s (item ∷ items) = IsFreed n s item × AreFreed n s items
 
 -- groups with a control variable
 
--- one operation after another takes values of a type to values that a variable of the description holds
-abbrev pub Convert : (greatest : ℕ) → List TypedOperation → ValueType → Description → Type 0
-Convert n [] t d = IsHeldBy d t
-Convert n (operation ∷ more) t d =
-    (u : ValueType) × Operates n operation (t ∷ []) u × Convert n more u d
-
 -- an expression gives numbers
 abbrev pub IsNumber : (greatest : ℕ) → TypingContext → TypedExpression → Type 0
 IsNumber n s e = (p : ℕ) × IsTyped n s e (Numbers p)
@@ -249,17 +281,17 @@ IsPossibleNumber n s None = Unit {0}
 IsPossibleNumber n s (Some e) = IsNumber n s e
 
 -- a variable of the description counts: it is a number, and each number is converted to it
-abbrev pub Counts : (greatest : ℕ) → List TypedOperation → Description → Type 0
-Counts n conversion d =
-    ((q : ℕ) × (type_held d ≡ Some (Numbers q))) × ((p : ℕ) → Convert n conversion (Numbers p) d)
+abbrev pub Counts : (greatest : ℕ) → TypingContext → Conversion → Description → Type 0
+Counts n s conversion d =
+    ((q : ℕ) × (type_held d ≡ Some (Numbers q))) × ((p : ℕ) → IsConversion n s conversion (Numbers p) d)
 
 -- with TO or BY the control variable counts, and these are numbers; REPEAT gives values that it holds
-abbrev pub IsRange : (greatest : ℕ) → TypingContext → List TypedOperation → Description → TypedRange → Type 0
+abbrev pub IsRange : (greatest : ℕ) → TypingContext → Conversion → Description → TypedRange → Type 0
 IsRange n s conversion d Once = Unit {0}
 IsRange n s conversion d (ToBy to by) =
-    Counts n conversion d × IsNumber n s to × IsPossibleNumber n s by
+    Counts n s conversion d × IsNumber n s to × IsPossibleNumber n s by
 IsRange n s conversion d (ByTo by to) =
-    Counts n conversion d × IsNumber n s by × IsPossibleNumber n s to
+    Counts n s conversion d × IsNumber n s by × IsPossibleNumber n s to
 IsRange n s conversion d (Repeated next) = IsValueFor n s d next
 
 -- a condition that may be left out gives bits
@@ -271,7 +303,7 @@ IsPossibleCondition n s (Some e) = IsString n s OfBits e
 abbrev pub IsIteration : (greatest : ℕ) → TypingContext → Iteration → Type 0
 IsIteration n s i =
     (d : Description) × IsPlaced n s i.control d
-    × ((t : ValueType) × IsTyped n s i.start t × Convert n i.conversion t d)
+    × ((t : ValueType) × IsTyped n s i.start t × IsConversion n s i.conversion t d)
     × IsRange n s i.conversion d i.range × IsPossibleCondition n s i.condition
 
 -- statements
@@ -320,6 +352,8 @@ abbrev mutual
   IsTypedForm n s (Assign target e) = (d : Description) × IsPlaced n s target d × IsValueFor n s d e
   IsTypedForm n s (AssignAggregate target source) =
       (d : Description) × IsPlaced n s target d × IsPlaced n s source d × (is_area d ≡ false)
+  IsTypedForm n s (AssignArea target source) = IsAreaReference n s target × IsAreaReference n s source
+  IsTypedForm n s (EmptyArea target) = IsAreaReference n s target
   IsTypedForm n s (Put skip items) = AreItems n s items
   IsTypedForm n s (Allocate items) = AreAllocated n s items
   IsTypedForm n s (Free items) = AreFreed n s items

@@ -117,4 +117,14 @@ pub enum TypedExpression {
     },
     /// A pointer to a variable (ADDR).
     Address(TypedReference),
+    /// An offset as a pointer into an area, which is evaluated behind it (POINTER).
+    AsPointer {
+        area: TypedReference,
+        offset: Box<TypedExpression>,
+    },
+    /// A pointer as an offset of an area, which is evaluated behind it (OFFSET).
+    AsOffset {
+        area: TypedReference,
+        pointer: Box<TypedExpression>,
+    },
 }

@@ -1,5 +1,6 @@
 //! Groups with a control variable (X3.74).
-use crate::expression::{TypedExpression, TypedOperation, TypedReference};
+use crate::conversion::Conversion;
+use crate::expression::{TypedExpression, TypedReference};
 
 /// What limits or continues an iteration. Limits and steps are numbers.
 #[derive(Drop)]
@@ -25,9 +26,8 @@ pub enum TypedRange {
 pub struct Iteration {
     /// The control variable, a scalar.
     pub control: TypedReference,
-    /// The operations that convert a's value to the control variable, one after the other; with TO or BY they convert
-    /// each further number too.
-    pub conversion: Vec<TypedOperation>,
+    /// What converts a's value to the control variable; with TO or BY it converts each further number too.
+    pub conversion: Conversion,
     /// a, which is not converted.
     pub start: TypedExpression,
     pub range: TypedRange,

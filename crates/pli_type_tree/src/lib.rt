@@ -1,12 +1,14 @@
 //! Typed trees: a unit with what each name means, and with the type of each part worked out.
 #![tactic(auto)]
 
+mod conversion;
 mod expression;
 mod iteration;
 mod statement;
 mod template;
 mod unit;
 
+pub use conversion::Conversion;
 pub use expression::{
     Callee, Root, Stride, TypedArgument, TypedExpression, TypedOperation, TypedReference,
     TypedSubscript,

@@ -1,5 +1,6 @@
 //! Typed statements. Statements of a unit are numbered from 1 in the order in which they begin, its blocks from 0 in
 //! the order of the text (own).
+use crate::conversion::Conversion;
 use crate::expression::{Callee, TypedArgument, TypedExpression, TypedReference};
 use crate::iteration::Iteration;
 use crate::template::{Template, VariableGroup};
@@ -32,6 +33,15 @@ pub enum AllocatedItem {
         temporary: usize,
         target: TypedReference,
     },
+    /// A block of an area for a BASED variable, which is made from this template. The pointer to it is kept in this
+    /// temporary while its target is found, and is then converted to the target.
+    InArea {
+        area: TypedReference,
+        template: Template,
+        temporary: usize,
+        target: TypedReference,
+        conversion: Conversion,
+    },
 }
 
 /// What an item of FREE ends.
@@ -42,7 +52,7 @@ pub enum FreedItem {
     Controlled {
         number: usize,
     },
-    /// The generation of a BASED variable of this whole description to which a pointer leads.
+    /// The generation or the block of a BASED variable of this whole description to which a pointer leads.
     Based {
         locator: TypedExpression,
         description: Description,
@@ -72,6 +82,13 @@ pub enum Form {
         target: TypedReference,
         source: TypedReference,
     },
+    /// The blocks of an area assigned to another.
+    AssignArea {
+        target: TypedReference,
+        source: TypedReference,
+    },
+    /// All blocks of an area end (EMPTY).
+    EmptyArea(TypedReference),
     /// Items are characters or bits.
     Put {
         skip: bool,

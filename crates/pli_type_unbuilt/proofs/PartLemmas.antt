@@ -1,5 +1,5 @@
 -- References, lists and units, by their parts.
-use Rattle.std.proofs.Common.{◌≡◌, ℕ, Bool, true, false, ◌||◌, List, [], ◌∷◌, Option, Some, map, option_map, Vec, Global, refl, ap, ◌∙◌}
+use Rattle.std.proofs.Common.{◌≡◌, ℕ, Bool, false, ◌||◌, List, [], ◌∷◌, Option, map, option_map, Vec, Global, refl, ap, ◌∙◌}
 use Rattle.std.specs.List.{list_any}
 use Rattle.pli_base.specs.declared.syntax.Expression.{Expression}
 use Rattle.pli_base.specs.declared.syntax.Reference.{Reference, out-Reference}
@@ -8,21 +8,19 @@ use Rattle.pli_base.specs.declared.statement.Control.{Control}
 use Rattle.pli_base.specs.declared.statement.Procedure.{Procedure, out-Procedure}
 use Rattle.pli_base.specs.declared.statement.Statement.{Statement}
 use Rattle.pli_base.specs.declared.statement.ProcedureOption.{ProcedureOption}
-use Rattle.pli_base.specs.laws.StatementLaws.{begin_made, do_made, heading_made, procedure_body, unit_out, unit_statements}
+use Rattle.pli_base.specs.laws.StatementLaws.{begin_made, do_made, procedure_body, unit_out, unit_statements}
 use Rattle.pli_base.specs.laws.SyntaxLaws.{reference_out}
 use Rattle.pli_base.specs.views.StatementView.{body_view, control_view, option_view, statements_view, unit_view}
 use Rattle.pli_base.specs.views.SyntaxView.{arguments_view, expression_view, expressions_view, joined_view, reference_view}
 use Rattle.pli_type.specs.Names.{Compiled}
 use Rattle.pli_type.specs.Unbuilt.{later_expression, later_reference, later_arguments, later_joined}
 use Rattle.pli_type.specs.Unbuilt.{later_list, is_main_option, is_main, first_unbuilt, later_statements}
-use Rattle.pli_type.specs.Unbuilt.{later_heading, later_body, later_option, later_control, later_part, or_else, token_if}
-use Rattle.pli_base.specs.Statements.{Heading}
+use Rattle.pli_type.specs.Unbuilt.{later_body, later_control, later_part, or_else, token_if}
 
 -- a reference, by its parts
 pub reference_later : (n : Compiled) (r : Reference)
     → later_reference n (reference_view r)
-    ≡ (n.is_later (out-Reference r).first.name.at
-    || later_arguments n (arguments_view (out-Reference r).first.arguments)
+    ≡ (later_arguments n (arguments_view (out-Reference r).first.arguments)
     || later_joined n (joined_view (out-Reference r).joined.items))
 reference_later n r = ap (later_reference n) (reference_out r)
 
@@ -42,41 +40,16 @@ pub main_unit : (u : Procedure)
     → is_main (unit_view u) ≡ list_any (λ o. is_main_option (option_view o)) (out-Procedure u).options.items
 main_unit u = ap is_main (unit_out u) ∙ any_main (out-Procedure u).options.items
 
--- a heading decides, or what stands behind it
-heading_later : (h : Heading) (rest : Option ℕ) → list_any later_option h.options ≡ true
-    → or_else (later_heading h) rest ≡ Some h.name.at
-heading_later h rest e = ap (λ b. or_else (token_if b h.name.at) rest) e
-
-heading_built : (h : Heading) (rest : Option ℕ) → list_any later_option h.options ≡ false
-    → or_else (later_heading h) rest ≡ rest
-heading_built h rest e = ap (λ b. or_else (token_if b h.name.at) rest) e
-
 -- a unit, by its parts
-pub later_unit : (n : Compiled) (u : Procedure)
-    → list_any later_option (map option_view (out-Procedure u).options.items) ≡ true
-    → first_unbuilt n (unit_view u) ≡ Some (out-Procedure u).name.at
-later_unit n u h =
-    let p = out-Procedure u in
-    ap (λ v. or_else (later_heading v.heading) (later_statements n (unit_view u).statements)) (unit_out u)
-    ∙ heading_later (heading_made p.name p.number p.parameters p.options) _ h
-
 pub unit_later : (n : Compiled) (u : Procedure)
-    → list_any later_option (map option_view (out-Procedure u).options.items) ≡ false
     → first_unbuilt n (unit_view u) ≡ later_statements n (statements_view (out-Procedure u).statements.items)
-unit_later n u h =
-    let p = out-Procedure u in
-    ap (λ v. or_else (later_heading v.heading) (later_statements n (unit_view u).statements)) (unit_out u)
-    ∙ heading_built (heading_made p.name p.number p.parameters p.options) _ h
-    ∙ ap (later_statements n) (unit_statements u)
+unit_later n u = ap (later_statements n) (unit_statements u)
 
 -- a procedure, a block and a group among statements, by their parts
 pub later_procedure : (n : Compiled) (at : ℕ) (p : Procedure)
     → later_body n at (body_view (bodies.Procedure p))
-    ≡ or_else (token_if (list_any later_option (map option_view (out-Procedure p).options.items)) (out-Procedure p).name.at)
-    (later_statements n (statements_view (out-Procedure p).statements.items))
-later_procedure n at p =
-    ap (later_body n at) (procedure_body p)
-    ∙ ap (λ v. or_else (token_if (list_any later_option v.heading.options) v.heading.name.at) (later_statements n v.statements)) (unit_out p)
+    ≡ later_statements n (statements_view (out-Procedure p).statements.items)
+later_procedure n at p = ap (later_body n at) (procedure_body p) ∙ ap (later_statements n) (unit_statements p)
 
 pub later_begin : (n : Compiled) (at : ℕ) (statements : Vec Statement Global) (end : ℕ)
     → later_body n at (body_view (bodies.Begin statements end)) ≡ later_statements n (statements_view statements.items)

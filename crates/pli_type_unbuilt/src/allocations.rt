@@ -1,4 +1,4 @@
-//! What ALLOCATE and FREE have that is not compiled yet.
+//! Constants beyond the limits in ALLOCATE and FREE.
 ghost use Rattle.std.specs.Prelude.{◌≡◌, map, option_map};
 ghost use Rattle.std.specs.List.{list_any};
 ghost use Rattle.pli_base.specs.views.StatementView.{allocation_view};
@@ -11,7 +11,7 @@ use pli_base::statement::Allocation;
 use pli_base::syntax::Reference;
 use pli_type_names::Naming;
 
-/// Whether the reference in IN or in SET, if one stands, has a part that is not compiled yet.
+/// Whether the reference in IN or in SET, if one stands, has a constant beyond the limits.
 fn later_place(naming: &Naming<'_>, reference: &Option<Reference>) -> bool
     ensures { result ≡ spec.later_part (spec.later_reference (compiled_in naming.now)) (option_map reference_view reference.now) }
 {
@@ -21,14 +21,14 @@ fn later_place(naming: &Naming<'_>, reference: &Option<Reference>) -> bool
     }
 }
 
-/// Whether an item of ALLOCATE has a part that is not compiled yet.
+/// Whether an item of ALLOCATE has.
 fn later_item(naming: &Naming<'_>, item: &Allocation) -> bool
     ensures { result ≡ spec.later_allocation (compiled_in naming.now) (allocation_view item.now) }
 {
     later_place(naming, &item.area) || later_place(naming, &item.target)
 }
 
-/// Whether one of the items of ALLOCATE has a part that is not compiled yet.
+/// Whether one of the items of ALLOCATE has.
 fn any_item(naming: &Naming<'_>, items: &[Allocation]) -> bool
     ensures { result ≡ list_any (λ item. spec.later_allocation (compiled_in naming.now) (allocation_view item)) items.now }
 {
@@ -44,7 +44,7 @@ pub(crate) fn later_allocated(naming: &Naming<'_>, items: &[Allocation]) -> bool
     later
 }
 
-/// Whether one of the references in FREE has a part that is not compiled yet.
+/// Whether one of the references in FREE has.
 fn any_reference(naming: &Naming<'_>, references: &[Reference]) -> bool
     ensures { result ≡ list_any (λ r. spec.later_reference (compiled_in naming.now) (reference_view r)) references.now }
 {

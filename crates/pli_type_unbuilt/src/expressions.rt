@@ -1,4 +1,4 @@
-//! Expressions and references that are not compiled yet.
+//! Expressions and references with constants beyond the language's limits, which no text has.
 ghost use Rattle.std.specs.Prelude.{◌≡◌, not, option_map};
 ghost use Rattle.pli_base.specs.views.SyntaxView.{arguments_view, expression_view, expressions_view, joined_view, reference_view};
 ghost use Rattle.pli_type.specs.Unbuilt as spec;
@@ -16,7 +16,7 @@ fn later_constant(naming: &Naming<'_>, value: &ConstantValue) -> bool
     !is_of_language(naming.greatest(), value)
 }
 
-/// Whether an expression has a part that is not compiled yet.
+/// Whether an expression has a constant beyond the limits.
 #[cycle(later)]
 pub(crate) fn later_expression(naming: &Naming<'_>, expression: &Expression) -> bool
     ensures { result ≡ spec.later_expression (compiled_in naming.now) (expression_view expression.now) }
@@ -32,15 +32,13 @@ pub(crate) fn later_expression(naming: &Naming<'_>, expression: &Expression) -> 
     }
 }
 
-/// Whether a reference has a part that is not compiled yet, or means a function that is not.
+/// Whether a reference has one, in its arguments.
 #[cycle(later)]
 #[tactic(auto, using(crate::proofs::PartLemmas::reference_later))]
 pub(crate) fn later_reference(naming: &Naming<'_>, reference: &Reference) -> bool
     ensures { result ≡ spec.later_reference (compiled_in naming.now) (reference_view reference.now) }
 {
-    naming.is_later(reference.first.name.at)
-        || later_arguments(naming, &reference.first)
-        || later_joined(naming, reference.joined.as_slice())
+    later_arguments(naming, &reference.first) || later_joined(naming, reference.joined.as_slice())
 }
 
 /// The same of what is joined to a reference's first part.
@@ -49,7 +47,7 @@ fn later_joined(naming: &Naming<'_>, joined: &[JoinedPart]) -> bool
     ensures { result ≡ spec.later_joined (compiled_in naming.now) (joined_view joined.now) }
 {
     for part in joined {
-        if naming.is_later(part.part.name.at) || later_arguments(naming, &part.part) {
+        if later_arguments(naming, &part.part) {
             return true;
         }
     }
@@ -67,7 +65,7 @@ fn later_arguments(naming: &Naming<'_>, part: &Part) -> bool
     }
 }
 
-/// Whether one of the expressions of a list has a part that is not compiled yet.
+/// Whether one of the expressions of a list has.
 #[cycle(later)]
 pub(crate) fn later_list(naming: &Naming<'_>, list: &[Expression]) -> bool
     ensures { result ≡ spec.later_list (compiled_in naming.now) (expressions_view list.now) }
@@ -80,7 +78,7 @@ pub(crate) fn later_list(naming: &Naming<'_>, list: &[Expression]) -> bool
     false
 }
 
-/// Whether there is an expression that has a part that is not compiled yet.
+/// Whether there is an expression that has.
 pub(crate) fn later_optional(naming: &Naming<'_>, expression: &Option<Expression>) -> bool
     ensures { result ≡ spec.later_part (spec.later_expression (compiled_in naming.now)) (option_map expression_view expression.now) }
 {

@@ -1,4 +1,4 @@
-//! What controls groups, and what procedures have in their headings, that is not compiled yet.
+//! Constants beyond the limits in what controls groups, and in the arguments of CALL.
 ghost use Rattle.std.specs.Prelude.{◌≡◌, option_map};
 ghost use Rattle.pli_base.specs.views.StatementView.{control_view, range_view};
 ghost use Rattle.pli_base.specs.views.SyntaxView.{arguments_view, reference_view};
@@ -10,7 +10,7 @@ use pli_base::statement::{Control, Range};
 use pli_base::syntax::Expression;
 use pli_type_names::Naming;
 
-/// Whether what limits or continues a group has a part that is not compiled yet.
+/// Whether what limits or continues a group has a constant beyond the limits.
 fn later_range(naming: &Naming<'_>, range: &Range) -> bool
     ensures { result ≡ spec.later_range (compiled_in naming.now) (range_view range.now) }
 {
@@ -31,7 +31,7 @@ fn later_limits(naming: &Naming<'_>, range: &Option<Range>) -> bool
     }
 }
 
-/// Whether the specification of a group has a part that is not compiled yet.
+/// Whether the specification of a group has.
 fn later_specification(naming: &Naming<'_>, control: &Control) -> bool
     ensures { result ≡ spec.later_control (compiled_in naming.now) (control_view control.now) }
 {
@@ -61,7 +61,7 @@ pub(crate) fn later_control(naming: &Naming<'_>, control: &Option<Control>) -> b
     }
 }
 
-/// Whether one of the arguments of CALL has a part that is not compiled yet.
+/// Whether one of the arguments of CALL has.
 pub(crate) fn later_called(naming: &Naming<'_>, arguments: &Option<Vec<Expression>>) -> bool
     ensures { result ≡ spec.later_arguments (compiled_in naming.now) (arguments_view arguments.now) }
 {

@@ -11,7 +11,6 @@ use crate::expressions::{later_expression, later_list, later_optional, later_ref
 use crate::groups::{later_called, later_control};
 use pli_base::statement::{Body, Procedure, ProcedureOption, Statement};
 use pli_base::syntax::{Expression, Identifier};
-use pli_type::{later_items, later_returns};
 use pli_type_names::Naming;
 
 /// Whether an option is OPTIONS(MAIN).
@@ -36,14 +35,14 @@ pub fn is_main(unit: &Procedure) -> bool
     any_main(unit.options.as_slice())
 }
 
-/// The token, if something comes later.
+/// The token, if such a constant is there.
 fn token_if(later: bool, at: u32) -> Option<u32>
     ensures { result ≡ spec.token_if later at }
 {
     if later { Some(at) } else { None }
 }
 
-/// Whether one of the items of PUT has a part that is not compiled yet.
+/// Whether one of the items of PUT has a constant beyond the limits.
 #[tactic(auto, using(crate::proofs::PartLemmas::items_later))]
 fn later_printed(naming: &Naming<'_>, items: &[Expression]) -> bool
     ensures { result ≡ list_any (spec.later_expression (compiled_in naming.now)) (map expression_view items.now) }
@@ -62,7 +61,7 @@ fn first_token(label: &Option<Identifier>, at: u32) -> u32
 }
 
 /// The token of the first form in a statement that is not compiled yet: the statement's first, which is its label where
-/// it has one; the label of a PROCEDURE is its name.
+/// it has one (own).
 #[cycle(later_statement)]
 fn later_statement(naming: &Naming<'_>, statement: &Statement) -> Option<u32>
     ensures { result ≡ spec.later_statement (compiled_in naming.now) (statement_view statement.now) }
@@ -78,18 +77,12 @@ fn later_body(naming: &Naming<'_>, at: u32, body: &Body) -> Option<u32>
     ensures { result ≡ spec.later_body (compiled_in naming.now) at (body_view body.now) }
 {
     match body {
-        Body::Null | Body::Stop | Body::Goto(_) => None,
+        Body::Null | Body::Stop | Body::Goto(_) | Body::Declare(_) => None,
         Body::Assign { target, value, .. } => token_if(
             later_reference(naming, target) || later_expression(naming, value),
             at,
         ),
-        Body::Declare(items) => token_if(later_items(items.as_slice()), at),
-        Body::Procedure(procedure) => {
-            if later_returns(procedure.options.as_slice()) {
-                return Some(procedure.name.at);
-            }
-            later_statements(naming, procedure.statements.as_slice())
-        }
+        Body::Procedure(procedure) => later_statements(naming, procedure.statements.as_slice()),
         Body::Begin { statements, .. } => later_statements(naming, statements.as_slice()),
         Body::Do {
             control,
@@ -141,13 +134,10 @@ fn later_statements(naming: &Naming<'_>, statements: &[Statement]) -> Option<u32
 
 /// The token of the first form of a unit that is not compiled yet, counted from 0, at which Z1 stands; none where all
 /// of it is compiled. It calls itself as deep as statements and parentheses nest and operators stand in a row (own).
-#[tactic(auto, using(crate::proofs::PartLemmas::later_unit, crate::proofs::PartLemmas::unit_later))]
+#[tactic(auto, using(crate::proofs::PartLemmas::unit_later))]
 pub fn first_unbuilt(naming: &Naming<'_>) -> Option<u32>
     ensures { result ≡ spec.first_unbuilt (compiled_in naming.now) (unit_view naming.now.unit) }
 {
     let unit = naming.unit();
-    if later_returns(unit.options.as_slice()) {
-        return Some(unit.name.at);
-    }
     later_statements(naming, unit.statements.as_slice())
 }

@@ -1,8 +1,10 @@
 pub mod Activations
+pub mod Areas
 pub mod Ends
 pub mod Locating
 pub mod Stacks
 pub mod Storage
+pub mod Targets
 pub mod World
 pub mod examples
 pub mod laws

@@ -1,32 +1,21 @@
--- Storage by locators (X3.53): what a locator leads to, BASED variables outside areas, and ADDR.
-use Rattle.std.specs.Prelude.{ℕ, nat_eq, Bool, true, false, ◌&&◌, Option, Some, None, List}
-use Rattle.std.specs.Prelude.{option_map, if◌then◌else◌}
+-- Storage by locators (X3.53): what a locator leads to, BASED variables outside areas and in them, ADDR, and
+-- pointers as offsets and back.
+use Rattle.std.specs.Prelude.{ℕ, nat_eq, Bool, true, false, ◌&&◌, Option, Some, None, List, [], ◌∷◌}
+use Rattle.std.specs.Prelude.{if◌then◌else◌}
 use Rattle.pli_run.specs.declared.ending.RunError.TheVariants.{NullLocator, DeadLocator, DescriptionMismatch}
 use Rattle.pli_map.specs.Description.{Description}
 use Rattle.pli_map.specs.Same.{same}
+use Rattle.pli_map.specs.Scalars.{is_area}
 use Rattle.pli_map.specs.Variables.{Variable}
 use Rattle.pli_value.specs.Value.{Value, Located}
 use Rattle.pli_value.specs.declared.locator.Locator.{Locator}
 use Rattle.pli_value.specs.declared.locator.Locator.TheVariants.{Null, Pointer, Offset}
-use Rattle.pli_world.specs.Storage.{Generation, Made, Based, Place, whole, generation_in}
-use Rattle.pli_world.specs.World.{World, Answer, Yields, Raises, Wrong, further, made_of, generation_ended}
+use Rattle.pli_world.specs.Areas.{without_block, allocated_in, offset_in, pointer_in}
+use Rattle.pli_world.specs.Storage.{Generation, Made, Based, Place, Contents, without, with_blocks}
+use Rattle.pli_world.specs.Targets.{Target, target_at}
+use Rattle.pli_world.specs.World.{World, Answer, Yields, Raises, Wrong, further, made_of, used}
 
 -- ---- what a pointer leads to
-
--- something that lives: the place of the whole of it, and how it was made
-pub record Target : Type 0 where
-  pub place : Place
-  pub made : Made
-
--- a generation as such
-abbrev pub as_target : Generation → Target
-as_target g = record { place = whole g.number g.description; made = g.made }
-
--- what lives at a position of a generation: at 0 the generation. Any other position is that of a block of an
--- area, and no area has blocks yet
-abbrev pub target_at : (generation position : ℕ) → List Generation → Option Target
-target_at generation position gs =
-    if nat_eq position 0 then option_map as_target (generation_in gs generation) else None
 
 -- what lives; where nothing does, the locator is dead
 abbrev pub unless_ended : Option Target → World → Answer Target
@@ -59,6 +48,17 @@ pointer_to p = Pointer p.generation p.position
 unfoldable pub based_allocated : Variable → World → Answer Locator
 based_allocated v w = further (made_of v.description Based v.initial w) (λ p w. Yields (pointer_to p) w)
 
+-- without what a place is the whole of: a generation, with all that lies in it, or a block of one
+abbrev pub without_whole : Place → List Generation → List Generation
+without_whole p gs =
+    if nat_eq p.position 0
+    then without (p.generation ∷ []) gs
+    else with_blocks gs p.generation (λ bs. without_block bs p.position)
+
+-- what a place is the whole of ends
+abbrev pub ended : Place → World → World
+ended p w = record w { storage = without_whole p w.storage }
+
 -- something was made by ALLOCATE of a BASED variable
 abbrev pub is_allocated : Made → Bool
 is_allocated Based = true
@@ -68,21 +68,18 @@ is_allocated other = false
 unfoldable pub based_freed : Description → Locator → World → Answer Unit
 based_freed d l w =
     further (located d l w)
-    (λ t w. if is_allocated t.made
-    then Yields tt (generation_ended t.place.generation w)
-    else Raises DescriptionMismatch w)
+    (λ t w. if is_allocated t.made then Yields tt (ended t.place w) else Raises DescriptionMismatch w)
 
 -- ---- ADDR
 
--- a place is the whole of what lives there
-abbrev pub is_whole_of : Target → Place → Bool
-is_whole_of t p = nat_eq p.offset 0 && same t.place.description p.description
+-- a place is the whole of what it leads into
+abbrev pub is_whole_of : Contents → Place → Bool
+is_whole_of c p = nat_eq p.offset 0 && same c.description p.description
 
 -- ADDR of a place: the pointer to what it is the whole of; it is wrong to ask for one to a part
 unfoldable pub addressed : Place → World → Answer Locator
 addressed p w =
-    further (unless_ended (target_at p.generation p.position w.storage) w)
-    (λ t w. if is_whole_of t p then Yields (pointer_to p) w else Wrong)
+    further (used p w) (λ c w. if is_whole_of c p then Yields (pointer_to p) w else Wrong)
 
 -- ---- by values
 
@@ -103,6 +100,21 @@ freed_by d v w = further (locator_of v w) (based_freed d)
 unfoldable pub pointer_made : Variable → World → Answer Value
 pointer_made v w = further (based_allocated v w) (λ l w. Yields (Located l) w)
 
+-- ALLOCATE of one in an area; it is wrong for a variable that is an area itself
+unfoldable pub block_made : Place → Variable → World → Answer Value
+block_made p v w =
+    if is_area v.description then Wrong else further (allocated_in p v w) (λ l w. Yields (Located l) w)
+
 -- ADDR
 unfoldable pub address_of : Place → World → Answer Value
 address_of p w = further (addressed p w) (λ l w. Yields (Located l) w)
+
+-- a pointer as an offset of an area
+unfoldable pub offset_made : Place → Value → World → Answer Value
+offset_made p v w =
+    further (locator_of v w) (λ l w. further (offset_in p l w) (λ o w. Yields (Located o) w))
+
+-- an offset as a pointer into an area
+unfoldable pub pointer_within : Place → Value → World → Answer Value
+pointer_within p v w =
+    further (locator_of v w) (λ l w. further (pointer_in p l w) (λ q w. Yields (Located q) w))

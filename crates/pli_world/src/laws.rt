@@ -7,7 +7,8 @@ ghost use Rattle.pli_world.specs.laws.Operations.{ClearingKeeps, StatementKeeps,
 ghost use Rattle.pli_world.specs.laws.Operations.{PartsHeldKeep, PartsStoredKeep, CopyingKeeps, SubscriptKeeps};
 ghost use Rattle.pli_world.specs.laws.Operations.{CalculatingKeeps, StaticKeeps, StaticsKeep, LineKeeps, LeadingKeeps};
 ghost use Rattle.pli_world.specs.laws.Operations.{StackingKeeps, UnstackingKeeps, CountingKeeps, BasedKeeps};
-ghost use Rattle.pli_world.specs.laws.Operations.{AllocatingKeeps, FreeingKeeps, AddressKeeps};
+ghost use Rattle.pli_world.specs.laws.Operations.{AllocatingKeeps, FreeingKeeps, AddressKeeps, BlockKeeps};
+ghost use Rattle.pli_world.specs.laws.Operations.{OffsetKeeps, PointerKeeps, AssigningKeeps, EmptyingKeeps};
 ghost use Rattle.pli_world.specs.examples.StorageExamples.{OuterVariable, DummyNumber, DummyEnds, TooLong};
 ghost use Rattle.pli_world.specs.examples.StorageExamples.{DummyDead, PartStored, PartHeld, ElementCopied};
 ghost use Rattle.pli_world.specs.examples.StorageExamples.{AggregateHeld, NoElement, NoPart, StaticStays};
@@ -38,6 +39,11 @@ pub fn operations_keep()
     ensures allocating { AllocatingKeeps }
     ensures freeing { FreeingKeeps }
     ensures address { AddressKeeps }
+    ensures block { BlockKeeps }
+    ensures offset { OffsetKeeps }
+    ensures pointer { PointerKeeps }
+    ensures assigning { AssigningKeeps }
+    ensures emptying { EmptyingKeeps }
     ensures dummy { DummyKeeps }
     ensures entering { EnteringAdds }
     ensures leaving { LeavingTakes }

@@ -9,7 +9,8 @@ use Rattle.pli_type_tree.specs.Templates.{Template}
 use Rattle.pli_type_tree.specs.TypedTree.{InSlot, Fit, TypedExpression, Literal, Calculated}
 use Rattle.pli_type_tree.specs.TypedTree.{TypedReference, Whole}
 use Rattle.pli_type_tree.specs.TypedTree.{NoOperand, OperandThen, NoArgument, ByPlace, ByDummy, OfBlock}
-use Rattle.pli_type_tree.specs.TypedTree.{TypedStatement, Statement, Iterate, Call, ToBy, NoStatement}
+use Rattle.pli_type_tree.specs.TypedTree.{ByOperations, TypedStatement, Statement, Iterate, Call, ToBy}
+use Rattle.pli_type_tree.specs.TypedTree.{NoStatement}
 use Rattle.pli_type_tree.specs.TypedTree.{StatementThen, TypedProcedure, OwnVariable, EntryPoint, TypedUnit}
 use Rattle.pli_value.specs.Value.{Number, Characters}
 use Rattle.pli_deck_laws.specs.WellFormed.{IsWellFormed}
@@ -40,7 +41,7 @@ counting =
     (Iterate
     (record {
       control = counter;
-      conversion = Fit small ∷ [];
+      conversion = ByOperations (Fit small ∷ []);
       start = number 1;
       range = ToBy (number 3) None;
       condition = None;

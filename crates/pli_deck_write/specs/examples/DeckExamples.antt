@@ -1,8 +1,8 @@
 -- Worked examples: decks, each with its bytes.
 use Rattle.std.specs.Prelude.{◌≡◌, ℕ, true, false, List, [], ◌∷◌, None, Ok, Err, take, ◌++◌}
-use Rattle.pli_map.specs.Description.{Bit, Pointer}
+use Rattle.pli_map.specs.Description.{Bit, Pointer, Offset, Area}
 use Rattle.pli_value.specs.Value.{Located}
-use Rattle.pli_value.specs.declared.locator.Locator.TheVariants.{Null}
+use Rattle.pli_value.specs.declared.locator.Locator.TheVariants as locators
 use Rattle.pli_code.specs.declared.fault.DeckFault.TheVariants.{BadMagic, Truncated, Trailing}
 use Rattle.pli_program.specs.Program.{Procedure}
 use Rattle.pli_code.specs.CodeTables.{CodedTemplate, CodedBlock, CodedSignature, Code, Deck}
@@ -139,7 +139,7 @@ pointing_code = record {
   signature = without_parameters;
   descriptions = Pointer ∷ Bit 1 ∷ [];
   templates = record { description = 0; initial = [] } ∷ record { description = 1; initial = [] } ∷ [];
-  values = Located Null ∷ [];
+  values = Located locators.Null ∷ [];
   globals = OwnVariable Static 0 ∷ OwnVariable Static 1 ∷ [];
   blocks = record (outermost 0) { temporaries = 1 } ∷ [];
   instructions =
@@ -164,19 +164,55 @@ pointing_bytes =
     0 ∷ 19 ∷ 15 ∷ 0 ∷ 1 ∷ 14 ∷ 0 ∷ 1 ∷ 19 ∷ 23 ∷ 0 ∷ 1 ∷ 20 ∷ 1 ∷ 0 ∷ 0 ∷ 0 ∷ 6 ∷ 14 ∷ 0 ∷ 0 ∷ 18 ∷ 0 ∷ 0 ∷
     20 ∷ 1 ∷ 0 ∷ 0 ∷ 0 ∷ 7 ∷ 14 ∷ 0 ∷ 0 ∷ 19 ∷ 53 ∷ 0 ∷ 1 ∷ 9 ∷ 0 ∷ []
 
+-- M: PROC OPTIONS(MAIN); DCL A AREA(16) STATIC, O OFFSET(A) STATIC, B BIT BASED(O); ALLOCATE B IN(A);
+-- FREE B; O = NULL; A = A; A = EMPTY; END;
+abbrev pub holding_code : Code
+holding_code = record {
+  signature = without_parameters;
+  descriptions = Area 16 ∷ Offset ∷ Bit 1 ∷ [];
+  templates =
+      record { description = 0; initial = [] } ∷ record { description = 1; initial = [] }
+      ∷ record { description = 2; initial = [] } ∷ [];
+  values = Located (locators.Offset 0) ∷ [];
+  globals = OwnVariable Static 0 ∷ OwnVariable Static 1 ∷ [];
+  blocks = record (outermost 0) { temporaries = 1 } ∷ [];
+  instructions =
+      op.Step 3 ∷ op.Global 0 ∷ op.AllocateInArea 2 1 ∷ op.SetTemporary 0 ∷ op.Global 1 ∷ op.TakeTemporary 0
+      ∷ op.Global 0 ∷ op.ToOffset ∷ op.Store
+      ∷ op.Step 4 ∷ op.Global 1 ∷ op.Load ∷ op.Global 0 ∷ op.ToPointer ∷ op.FreeBased 2
+      ∷ op.Step 5 ∷ op.Global 1 ∷ op.Constant 0 ∷ op.Store
+      ∷ op.Step 6 ∷ op.Global 0 ∷ op.Global 0 ∷ op.AssignArea
+      ∷ op.Step 7 ∷ op.Global 0 ∷ op.EmptyArea ∷ op.Return 0 ∷ [];
+}
+
+-- its deck
+abbrev pub holding : Deck
+holding = record { name = 77 ∷ []; is_main = true; code = holding_code }
+
+-- its bytes
+abbrev pub holding_bytes : List ℕ
+holding_bytes =
+    80 ∷ 76 ∷ 73 ∷ 68 ∷ 1 ∷ 1 ∷ 77 ∷ 1 ∷ 0 ∷ 255 ∷ 255 ∷ 0 ∷ 3 ∷ 7 ∷ 0 ∷ 0 ∷ 0 ∷ 16 ∷ 6 ∷ 4 ∷ 0 ∷ 1 ∷ 0 ∷
+    3 ∷ 0 ∷ 0 ∷ 0 ∷ 0 ∷ 0 ∷ 0 ∷ 0 ∷ 1 ∷ 0 ∷ 0 ∷ 0 ∷ 0 ∷ 0 ∷ 2 ∷ 0 ∷ 0 ∷ 0 ∷ 0 ∷ 0 ∷ 1 ∷ 5 ∷ 0 ∷ 2 ∷ 0 ∷
+    0 ∷ 0 ∷ 0 ∷ 0 ∷ 1 ∷ 0 ∷ 1 ∷ 0 ∷ 255 ∷ 255 ∷ 0 ∷ 0 ∷ 0 ∷ 0 ∷ 1 ∷ 0 ∷ 0 ∷ 0 ∷ 0 ∷ 0 ∷ 1 ∷ 0 ∷ 27 ∷ 1 ∷
+    0 ∷ 0 ∷ 0 ∷ 3 ∷ 14 ∷ 0 ∷ 0 ∷ 52 ∷ 0 ∷ 2 ∷ 0 ∷ 1 ∷ 61 ∷ 0 ∷ 0 ∷ 14 ∷ 0 ∷ 1 ∷ 62 ∷ 0 ∷ 0 ∷ 14 ∷ 0 ∷ 0 ∷
+    47 ∷ 20 ∷ 1 ∷ 0 ∷ 0 ∷ 0 ∷ 4 ∷ 14 ∷ 0 ∷ 1 ∷ 19 ∷ 14 ∷ 0 ∷ 0 ∷ 46 ∷ 53 ∷ 0 ∷ 2 ∷ 1 ∷ 0 ∷ 0 ∷ 0 ∷ 5 ∷
+    14 ∷ 0 ∷ 1 ∷ 18 ∷ 0 ∷ 0 ∷ 20 ∷ 1 ∷ 0 ∷ 0 ∷ 0 ∷ 6 ∷ 14 ∷ 0 ∷ 0 ∷ 14 ∷ 0 ∷ 0 ∷ 54 ∷ 1 ∷ 0 ∷ 0 ∷ 0 ∷ 7 ∷
+    14 ∷ 0 ∷ 0 ∷ 55 ∷ 9 ∷ 0 ∷ []
+
 -- how they are written
 abbrev pub WrittenSo : Type 0
 WrittenSo =
     (deck_bytes smallest ≡ smallest_bytes) × (deck_bytes calling ≡ calling_bytes)
     × (deck_bytes called ≡ called_bytes) × (deck_bytes stacking ≡ stacking_bytes)
-    × (deck_bytes pointing ≡ pointing_bytes)
+    × (deck_bytes pointing ≡ pointing_bytes) × (deck_bytes holding ≡ holding_bytes)
 
 -- how they are read, and what is wrong where a byte is missing or one stands behind
 abbrev pub ReadSo : Type 0
 ReadSo =
     (deck_read smallest_bytes ≡ Ok smallest) × (deck_read calling_bytes ≡ Ok calling)
     × (deck_read called_bytes ≡ Ok called) × (deck_read stacking_bytes ≡ Ok stacking)
-    × (deck_read pointing_bytes ≡ Ok pointing)
+    × (deck_read pointing_bytes ≡ Ok pointing) × (deck_read holding_bytes ≡ Ok holding)
     × (deck_read [] ≡ Err BadMagic)
     × (deck_read (take 3 smallest_bytes) ≡ Err BadMagic)
     × (deck_read (take 4 smallest_bytes) ≡ Err Truncated)

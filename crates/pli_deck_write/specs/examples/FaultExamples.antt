@@ -37,9 +37,9 @@ begins_as offset v =
 abbrev pub pair_of_numbers : Description
 pair_of_numbers = Array (record { low = pos 1; high = pos 2 } ∷ []) (FixedBinary 15)
 
--- a jump to an instruction and to none; an unknown value, a variable to be counted that is unknown, and an
--- unknown description and template of a BASED variable; one that is too large; initial values at elements,
--- beside them, and beyond a precision
+-- a jump to an instruction and to none; an unknown value, a variable to be counted that is unknown, an
+-- unknown description and template of a BASED variable, and one of an area, which leads to no instruction
+-- either; one that is too large; initial values at elements, beside them, and beyond a precision
 abbrev pub DeckFaultsAre : Type 0
 DeckFaultsAre =
     (fault_of smallest ≡ None) × (fault_of (with_code (op.Jump 0 ∷ [])) ≡ None)
@@ -48,6 +48,8 @@ DeckFaultsAre =
     × (fault_of (with_code (op.CountGenerations 0 ∷ [])) ≡ Some BadNumber)
     × (fault_of (with_code (op.Based 0 ∷ [])) ≡ Some BadNumber)
     × (fault_of (with_code (op.AllocateBased 0 ∷ [])) ≡ Some BadNumber)
+    × (fault_of (with_code (op.AllocateInArea 0 0 ∷ [])) ≡ Some BadNumber)
+    × (fault_of (with_code (op.AllocateInArea 0 1 ∷ [])) ≡ Some BadJump)
     × (fault_of (with_variable (Array (widest ∷ []) (Character 32767)) plain) ≡ Some OverLimit)
     × (fault_of (with_variable pair_of_numbers (begins_as 2 (Number (pos 32767)))) ≡ None)
     × (fault_of (with_variable pair_of_numbers (begins_as 1 (Number (pos 5)))) ≡ Some OverLimit)

@@ -1,6 +1,6 @@
 -- What the parts of the generator answer.
-use Rattle.std.specs.Prelude.{ℕ, suc, ◌≡◌, ◌+◌, ◌≤◌, nat_eq, nat_lt, Bool, true, ◌&&◌, min, None, List, [], ◌∷◌}
-use Rattle.std.specs.Prelude.{length, slice_set, if◌then◌else◌}
+use Rattle.std.specs.Prelude.{ℕ, suc, ◌≡◌, ◌+◌, ◌≤◌, nat_eq, nat_lt, Bool, true, ◌&&◌, min, None}
+use Rattle.std.specs.Prelude.{List, [], ◌∷◌, length, slice_set, if◌then◌else◌}
 use Rattle.std.specs.List.{list_any, AllByRecursion}
 use Rattle.pli_map.specs.Same.{same}
 use Rattle.pli_map.specs.Sizes.{size_of}
@@ -28,10 +28,11 @@ gotos_landed place code [] = code
 gotos_landed place code (j ∷ js) =
     gotos_landed place (slice_set code j.place (codes.Goto j.outward (min (place j.label) 65535))) js
 
--- the target of a jump is within a limit; nothing is no instruction of code
+-- the place to which an instruction leads is within a limit; nothing is no instruction of code
 abbrev pub Fits : (limit : ℕ) → Instruction → Type 0
 Fits n (op.Jump target) = target ≤ n
 Fits n (op.JumpUnless target) = target ≤ n
+Fits n (op.AllocateInArea t after) = after ≤ n
 Fits n op.Nothing = ⊥
 Fits n i = Unit {0}
 

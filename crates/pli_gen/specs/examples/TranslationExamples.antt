@@ -1,7 +1,7 @@
 -- Worked examples of the translation.
 use Rattle.std.specs.Prelude.{replicate, ◌≡◌, ℕ, pos, true, false, Some, None, [], ◌∷◌, codes}
 use Rattle.pli_run.specs.declared.ending.RunError.TheVariants.{NoReturnedValue}
-use Rattle.pli_map.specs.Description.{FixedBinary, Character, Bit, Pointer}
+use Rattle.pli_map.specs.Description.{FixedBinary, Character, Bit, Pointer, Offset, Area}
 use Rattle.pli_operation.specs.declared.operation.Operation.TheVariants as calculate
 use Rattle.pli_value.specs.Value.{Number, Characters}
 use Rattle.pli_program.specs.Program.{Instruction, Step, Line, Jump, JumpUnless, Local, Field, Subscript}
@@ -18,6 +18,8 @@ use Rattle.pli_type_tree.specs.TypedTree.{Stop, Allocate, Free, NoElse, Else, No
 use Rattle.pli_type_tree.specs.Templates.{Template}
 use Rattle.pli_type_tree.specs.TypedTree.{NewestOf, Generations, AllocatesControlled, FreesControlled}
 use Rattle.pli_type_tree.specs.TypedTree.{Located, Address, AllocatesBased, FreesBased}
+use Rattle.pli_type_tree.specs.TypedTree.{AsPointer, AsOffset, ByOperations, AsOffsetIn, AllocatesInArea}
+use Rattle.pli_type_tree.specs.TypedTree.{AssignArea, EmptyArea}
 use Rattle.pli_type_tree.specs.TypedTree.{OfBlock, OfEntry, TypedArguments, OwnVariable, ExternalVariable}
 use Rattle.pli_type_tree.specs.TypedTree.{EntryPoint, TypedUnit, TypedProcedure}
 use Rattle.pli_type_tree.specs.TypedTree as tree
@@ -101,7 +103,7 @@ Counted =
     (Iterate
     (record {
       control = first;
-      conversion = tree.Fit (FixedBinary 15) ∷ [];
+      conversion = ByOperations (tree.Fit (FixedBinary 15) ∷ []);
       start = number 1;
       range = ToBy (number 3) None;
       condition = None;
@@ -457,3 +459,64 @@ PointersFollowed =
     ∷ coded.Store ∷ coded.Step 4 ∷ coded.Local 0 2 ∷ coded.Local 0 1 ∷ coded.Load ∷ coded.Based 1 ∷ coded.Load
     ∷ coded.Store ∷ coded.Step 5 ∷ coded.Local 0 0 ∷ coded.Local 0 2 ∷ coded.AddressOf ∷ coded.Store
     ∷ coded.Step 6 ∷ coded.Local 0 1 ∷ coded.Load ∷ coded.FreeBased 1 ∷ coded.Return 0 ∷ [])
+
+-- the variable in the fourth slot
+abbrev fourth : TypedReference
+fourth = Whole (InSlot 0 3)
+
+-- M: PROC OPTIONS(MAIN); DCL (A, B) AREA(64), O OFFSET(A), P POINTER, V FIXED BIN(15) BASED(P) INIT(7);
+-- ALLOCATE V IN(A) SET(O), V IN(B); P = O; O = P; B = A; A = EMPTY; END M;
+abbrev holding : TypedProcedure
+holding = record {
+  head = record {
+    number = 0;
+    statement = 1;
+    variables =
+        record { description = Area 64; initial = [] } ∷ record { description = Area 64; initial = [] }
+        ∷ record { description = Offset; initial = [] } ∷ record { description = Pointer; initial = [] } ∷ [];
+    temporaries = 2;
+  };
+  parent = None;
+  parameters = 0;
+  function_end = None;
+  statements =
+      StatementThen
+      (Statement 3
+      (Allocate
+      (AllocatesInArea first from_seven 0 third (AsOffsetIn first)
+      ∷ AllocatesInArea second from_seven 1 fourth (ByOperations []) ∷ [])))
+      (StatementThen (Statement 4 (Assign fourth (AsPointer first (Held third))))
+      (StatementThen (Statement 5 (Assign third (AsOffset first (Held fourth))))
+      (StatementThen (Statement 6 (AssignArea second first))
+      (StatementThen (Statement 7 (EmptyArea first)) NoStatement))));
+}
+
+-- its unit
+abbrev holding_unit : TypedUnit
+holding_unit = record {
+  name = codes "M";
+  procedure = codes "M";
+  is_main = true;
+  signature = record { parameters = []; result = None };
+  globals = [];
+  procedures = holding ∷ [];
+}
+
+-- a block of an area leads to where its item begins; what it is made from comes behind the variables of
+-- blocks; a locator becomes one of the other kind by the place of an area
+abbrev pub AreasUsed : Type 0
+AreasUsed =
+    ((code_of holding_unit).descriptions ≡ Area 64 ∷ Offset ∷ Pointer ∷ FixedBinary 15 ∷ [])
+    × ((code_of holding_unit).templates
+    ≡ record { description = 0; initial = [] } ∷ record { description = 1; initial = [] }
+    ∷ record { description = 2; initial = [] }
+    ∷ record { description = 3; initial = record { offset = 0; value = Number (pos 7) } ∷ [] } ∷ [])
+    × ((code_of holding_unit).instructions
+    ≡ coded.Step 3 ∷ coded.Local 0 0 ∷ coded.AllocateInArea 3 1 ∷ coded.SetTemporary 0 ∷ coded.Local 0 2
+    ∷ coded.TakeTemporary 0 ∷ coded.Local 0 0 ∷ coded.ToOffset ∷ coded.Store
+    ∷ coded.Local 0 1 ∷ coded.AllocateInArea 3 9 ∷ coded.SetTemporary 1 ∷ coded.Local 0 3
+    ∷ coded.TakeTemporary 1 ∷ coded.Store
+    ∷ coded.Step 4 ∷ coded.Local 0 3 ∷ coded.Local 0 2 ∷ coded.Load ∷ coded.Local 0 0 ∷ coded.ToPointer
+    ∷ coded.Store ∷ coded.Step 5 ∷ coded.Local 0 2 ∷ coded.Local 0 3 ∷ coded.Load ∷ coded.Local 0 0
+    ∷ coded.ToOffset ∷ coded.Store ∷ coded.Step 6 ∷ coded.Local 0 1 ∷ coded.Local 0 0 ∷ coded.AssignArea
+    ∷ coded.Step 7 ∷ coded.Local 0 0 ∷ coded.EmptyArea ∷ coded.Return 0 ∷ [])

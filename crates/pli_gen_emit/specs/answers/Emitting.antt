@@ -58,12 +58,13 @@ narrowed (coded.AllocateControlled global) = coded.AllocateControlled (min globa
 narrowed (coded.FreeControlled global) = coded.FreeControlled (min global 65535)
 narrowed (coded.CountGenerations global) = coded.CountGenerations (min global 65535)
 narrowed (coded.AllocateBased template) = coded.AllocateBased (min template 65535)
+narrowed (coded.AllocateInArea template target) = coded.AllocateInArea (min template 65535) (min target 65535)
 narrowed (coded.FreeBased description) = coded.FreeBased (min description 65535)
 narrowed (coded.SetTemporary number) = coded.SetTemporary (min number 65535)
 narrowed (coded.TakeTemporary number) = coded.TakeTemporary (min number 65535)
 narrowed other = other
 
--- an instruction as it is emitted: by the tables before it, where what they lack comes next; a GOTO leads to 0
+-- an instruction as it is emitted: by the tables before it, where what they lack comes next; a GOTO goes to 0
 abbrev pub emitted : NumberedTables → op.Instruction → Instruction
 emitted t i = narrowed (instruction_code t (retargeted (λ label. 0) i))
 
@@ -141,6 +142,10 @@ shared coded.Store = Some op.Store
 shared coded.Copy = Some op.Copy
 shared (coded.Operate operation) = Some (op.Operate operation)
 shared coded.AddressOf = Some op.AddressOf
+shared coded.ToPointer = Some op.ToPointer
+shared coded.ToOffset = Some op.ToOffset
+shared coded.AssignArea = Some op.AssignArea
+shared coded.EmptyArea = Some op.EmptyArea
 shared coded.Put = Some op.Put
 shared coded.Skip = Some op.Skip
 shared other = None

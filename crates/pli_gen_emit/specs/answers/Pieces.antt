@@ -2,8 +2,8 @@
 use Rattle.std.specs.Prelude.{ℕ, ◌≡◌, List, [], ◌∷◌, ◌++◌, Option, Some, None, false, length}
 use Rattle.pli_program.specs.Program.{Instruction, Store, Copy}
 use Rattle.pli_program.specs.Program as op
-use Rattle.pli_type_tree.specs.TypedTree.{Form, Assign, AssignAggregate, Put, Begin, Call, Goto, Return}
-use Rattle.pli_type_tree.specs.TypedTree.{ReturnValue, Stop, Allocate, Free, Iteration}
+use Rattle.pli_type_tree.specs.TypedTree.{Form, Assign, AssignAggregate, AssignArea, EmptyArea, Put, Begin}
+use Rattle.pli_type_tree.specs.TypedTree.{Call, Goto, Return, ReturnValue, Stop, Allocate, Free, Iteration}
 use Rattle.pli_gen_emit.specs.TreeTranslation.{BlockTree, behind, block_code, place_code, value_code}
 use Rattle.pli_gen_emit.specs.TreeTranslation.{skip_code, items_code, call_code}
 use Rattle.pli_gen_emit.specs.TreeTranslation.{allocations_code, freeings_code}
@@ -12,20 +12,22 @@ use Rattle.pli_gen_emit.specs.answers.Emitting.{emission, guard_landed}
 use Rattle.pli_gen_emit.specs.declared.emitter.Emitter.{Emitter}
 use Rattle.pli_gen_emit.specs.declared.iteration.Turn.{Turn}
 
--- the code of a form without jumps, which is the same wherever it stands; that of another form apart
-abbrev pub simple_code : Form → List Instruction
-simple_code (Assign target value) = place_code target ++ value_code value ++ Store ∷ []
-simple_code (AssignAggregate target source) = place_code target ++ place_code source ++ Copy ∷ []
-simple_code (Put skip items) = skip_code skip ++ items_code items
-simple_code (Begin head statements) = op.Begin head.number ∷ []
-simple_code (Call callee arguments) = call_code callee arguments
-simple_code (Goto outward label) = op.Goto outward label ∷ []
-simple_code (Return outward) = op.Return outward ∷ []
-simple_code (ReturnValue outward value) = value_code value ++ op.ReturnValue outward ∷ []
-simple_code Stop = op.Stop ∷ []
-simple_code (Allocate items) = allocations_code items
-simple_code (Free items) = freeings_code items
-simple_code form = []
+-- the code of a form in which no other stands, at a place; that of another form apart
+abbrev pub simple_code : Form → (at : ℕ) → List Instruction
+simple_code (Assign target value) p = place_code target ++ value_code value ++ Store ∷ []
+simple_code (AssignAggregate target source) p = place_code target ++ place_code source ++ Copy ∷ []
+simple_code (AssignArea target source) p = place_code target ++ place_code source ++ op.AssignArea ∷ []
+simple_code (EmptyArea target) p = place_code target ++ op.EmptyArea ∷ []
+simple_code (Put skip items) p = skip_code skip ++ items_code items
+simple_code (Begin head statements) p = op.Begin head.number ∷ []
+simple_code (Call callee arguments) p = call_code callee arguments
+simple_code (Goto outward label) p = op.Goto outward label ∷ []
+simple_code (Return outward) p = op.Return outward ∷ []
+simple_code (ReturnValue outward value) p = value_code value ++ op.ReturnValue outward ∷ []
+simple_code Stop p = op.Stop ∷ []
+simple_code (Allocate items) p = allocations_code items p
+simple_code (Free items) p = freeings_code items
+simple_code form p = []
 
 -- where the jump behind a test stands, if there is a test
 abbrev pub jump_place : (test : Option (List Instruction)) → (at : ℕ) → Option ℕ

@@ -46,11 +46,12 @@ EndedIsDead =
     (number position : ℕ) (d : Description) (w : World) → HasEnded number w
     → based d (Pointer number position) w ≡ Raises DeadLocator w
 
--- what FREE has freed is dead, whatever is asked for
+-- a generation that FREE has freed is dead, whatever is asked for
 abbrev pub FreedIsDead : Type 0
 FreedIsDead =
-    (d e : Description) (l : Locator) (w : World)
-    → IfYields (based_freed d l w) (λ _ u. based e l u ≡ Raises DeadLocator u)
+    (d e : Description) (number : ℕ) (w : World)
+    → IfYields (based_freed d (Pointer number 0) w)
+    (λ _ u. based e (Pointer number 0) u ≡ Raises DeadLocator u)
 
 -- what has ended stays so behind ALLOCATE of a BASED variable
 abbrev pub EndedBehindAllocating : Type 0

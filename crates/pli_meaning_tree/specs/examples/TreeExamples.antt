@@ -19,7 +19,7 @@ use Rattle.pli_type_tree.specs.Templates.{Template}
 use Rattle.pli_type_tree.specs.TypedTree.{Fit, Operate, InSlot, OfProgram, OfBlock, OfEntry, TypedExpression}
 use Rattle.pli_type_tree.specs.TypedTree.{Literal, Held, Calculated, Called}
 use Rattle.pli_type_tree.specs.TypedTree.{TypedReference, Whole, Part, NoOperand, OperandThen, NoSubscript}
-use Rattle.pli_type_tree.specs.TypedTree.{SubscriptThen, NoArgument, ByPlace, ByDummy}
+use Rattle.pli_type_tree.specs.TypedTree.{SubscriptThen, NoArgument, ByPlace, ByDummy, ByOperations}
 use Rattle.pli_type_tree.specs.TypedTree.{TypedStatement, Statement, Form, Assign}
 use Rattle.pli_type_tree.specs.TypedTree.{AssignAggregate, Put, If, Begin, Group, While, Iterate, Call, Goto}
 use Rattle.pli_type_tree.specs.TypedTree.{Return, Null, TypedRange, Once, ToBy, ByTo, Repeated, Iteration}
@@ -296,7 +296,7 @@ abbrev pub from_number : (precision start : ℕ) → TypedRange → Iteration
 from_number precision start range =
     record {
       control = slot 0 0;
-      conversion = Fit (FixedBinary precision) ∷ [];
+      conversion = ByOperations (Fit (FixedBinary precision) ∷ []);
       start = number start;
       range = range;
       condition = None;
@@ -354,7 +354,7 @@ abbrev pub RepeatGoesOn : Type 0
 RepeatGoesOn =
     Prints (alone (FixedBinary 15 ∷ []) (Statement 2 (Iterate (record {
       control = slot 0 0;
-      conversion = Fit (FixedBinary 15) ∷ [];
+      conversion = ByOperations (Fit (FixedBinary 15) ∷ []);
       start = number 1;
       range = Repeated (with_two Add (held_in 0 0) (held_in 0 0));
       condition = Some (is_less 5);
@@ -465,10 +465,11 @@ NoneIsLeft =
 abbrev pub node : Description
 node = Structure (MemberThen (FixedBinary 31) (MemberThen Pointer NoMembers))
 
--- V and NEXT by a locator
+-- V by a locator
 abbrev pub number_by : TypedExpression → TypedReference
 number_by e = Part (Located e node) 0 (FixedBinary 31) NoSubscript
 
+-- NEXT by a locator
 abbrev pub next_by : TypedExpression → TypedReference
 next_by e = Part (Located e node) 4 Pointer NoSubscript
 

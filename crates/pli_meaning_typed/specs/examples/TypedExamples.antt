@@ -1,6 +1,6 @@
 -- Worked examples of well-typed programs.
 use Rattle.std.specs.Prelude.{ℕ, nat_eq, true, false, pos, Option, Some, None, [], ◌∷◌, codes, if◌then◌else◌}
-use Rattle.pli_map.specs.Description.{Description, FixedBinary, Pointer}
+use Rattle.pli_map.specs.Description.{Description, FixedBinary, Pointer, Offset, Area}
 use Rattle.pli_operation.specs.declared.operation.Operation.TheVariants.{Add, Compare, ToCharacters}
 use Rattle.pli_operation.specs.declared.operation.Relation.TheVariants.{Less}
 use Rattle.pli_value.specs.Value.{Number}
@@ -9,9 +9,10 @@ use Rattle.pli_type_tree.specs.Templates.{Template}
 use Rattle.pli_type_tree.specs.TypedTree.{Fit, Operate, InSlot, OfProgram, NewestOf, Located}
 use Rattle.pli_type_tree.specs.TypedTree.{OfBlock, OfEntry}
 use Rattle.pli_type_tree.specs.TypedTree.{Signature, Global, OwnVariable, ExternalVariable, EntryPoint}
-use Rattle.pli_type_tree.specs.TypedTree.{TypedUnit, TypedExpression, Generations, Address}
-use Rattle.pli_type_tree.specs.TypedTree.{AllocatesControlled, AllocatesBased, FreesControlled, FreesBased}
-use Rattle.pli_type_tree.specs.TypedTree.{Allocate, Free}
+use Rattle.pli_type_tree.specs.TypedTree.{TypedUnit, TypedExpression, Generations, Address, AsPointer}
+use Rattle.pli_type_tree.specs.TypedTree.{ByOperations, AsOffsetIn, AllocatesControlled, AllocatesBased}
+use Rattle.pli_type_tree.specs.TypedTree.{AllocatesInArea, FreesControlled, FreesBased, Allocate, Free}
+use Rattle.pli_type_tree.specs.TypedTree.{AssignArea, EmptyArea}
 use Rattle.pli_type_tree.specs.TypedTree.{Literal, Held, Calculated, Called, TypedReference, Whole, NoOperand}
 use Rattle.pli_type_tree.specs.TypedTree.{OperandThen, NoArgument, ByPlace, BlockHead, Statement, Assign, Put}
 use Rattle.pli_type_tree.specs.TypedTree.{If, Goto, ReturnValue, NoElse, TypedStatements, Form, Iterate}
@@ -128,7 +129,7 @@ abbrev pub turning : TypedRange → Form
 turning range =
     Iterate (record {
       control = counter;
-      conversion = Fit number ∷ [];
+      conversion = ByOperations (Fit number ∷ []);
       start = Literal (Number (pos 1));
       range = range;
       condition = Some few;
@@ -188,6 +189,39 @@ following =
 abbrev pub PointersAreWellTyped : Type 0
 PointersAreWellTyped =
     AreTypedStatements 31 (context_in (pointing ∷ []) signatures of_caller caller) following
+
+-- A and O, STATIC, in P: PROCEDURE; DECLARE A AREA(64) STATIC, O OFFSET(A) STATIC, X FIXED BINARY(31)
+-- BASED(O);
+abbrev pub declared_area : Global
+declared_area = OwnVariable Static (record { description = Area 64; initial = [] })
+
+abbrev pub declared_offset : Global
+declared_offset = OwnVariable Static (record { description = Offset; initial = [] })
+
+-- A, O and X, where they are used
+abbrev pub area_used : TypedReference
+area_used = Whole (OfProgram 0)
+
+abbrev pub offset_used : TypedReference
+offset_used = Whole (OfProgram 1)
+
+abbrev pub block_used : TypedReference
+block_used = Whole (Located (AsPointer area_used (Held offset_used)) number)
+
+-- ALLOCATE X; X = X; A = A; A = EMPTY();
+abbrev pub placing : TypedStatements
+placing =
+    StatementThen
+    (Statement 2 (Allocate (AllocatesInArea area_used plain 0 offset_used (AsOffsetIn area_used) ∷ [])))
+    (StatementThen (Statement 3 (Assign block_used (Held block_used)))
+    (StatementThen (Statement 4 (AssignArea area_used area_used))
+    (StatementThen (Statement 5 (EmptyArea area_used)) NoStatement)))
+
+-- they are well typed in P
+abbrev pub AreasAreWellTyped : Type 0
+AreasAreWellTyped =
+    AreTypedStatements 31 (context_in (declared_area ∷ declared_offset ∷ []) signatures of_caller caller)
+    placing
 
 -- X, EXTERNAL
 abbrev pub shared : Global

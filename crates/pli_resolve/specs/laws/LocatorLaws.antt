@@ -112,7 +112,7 @@ KindNames r e (Variable description class scope initial area) =
 KindNames r e (Member root path initial area) = Means (IsArea r) (area_names e) area
 KindNames r e (Label statement) = Unit {0}
 KindNames r e (Procedure block returned area) = Means (IsArea r) (area_names e) area
-KindNames r e (symbols.Entry parameters returned) = Unit {0}
+KindNames r e (symbols.Entry parameters returned area) = Means (IsArea r) (area_names e) area
 KindNames r e BuiltIn = Unit {0}
 
 -- what a block declares, or the outermost one

@@ -14,8 +14,8 @@ symbol_kind_view (kinds.Member root path initial area) = plain.Member root path.
 symbol_kind_view (kinds.Label statement) = plain.Label statement
 symbol_kind_view (kinds.Procedure block returned area) =
     plain.Procedure block (option_map (λ d. description_view d.now) returned) area
-symbol_kind_view (kinds.Entry parameters returned) =
-    plain.Entry (map description_view parameters.now) (option_map (λ d. description_view d.now) returned)
+symbol_kind_view (kinds.Entry parameters returned area) =
+    plain.Entry (map description_view parameters.now) (option_map (λ d. description_view d.now) returned) area
 symbol_kind_view kinds.BuiltIn = plain.BuiltIn
 
 -- a declared name

@@ -35,9 +35,9 @@ pub record LeadsNowhere (gs : List Generation) (p : Place) : Type 0 where
   pub found : generation_in gs p.generation ≡ Some generation
   pub nowhere : first_scalar generation.description p.offset p.description ≡ None
 
--- what is answered of a place: where it leads, that it is dead, or that it leads to no part
+-- what is answered of a place: where it leads, that it is dead, or, outside areas, that it leads to no part
 abbrev pub Leads : List Generation → Place → Result GenerationPart StoreFault → Type 0
 Leads gs p (Ok part) = LeadsTo gs p part
 Leads gs p (Err (Raised e)) = (e ≡ DeadLocator) × (generation_in gs p.generation ≡ None)
-Leads gs p (Err NoRule) = LeadsNowhere gs p
+Leads gs p (Err NoRule) = p.position ≡ 0 → LeadsNowhere gs p
 Leads gs p (Err OutOfMemory) = ⊥

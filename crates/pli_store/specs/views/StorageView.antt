@@ -5,24 +5,30 @@ use Rattle.pli_map.specs.Description.{Description}
 use Rattle.pli_map.specs.Sizes.{size_of}
 use Rattle.pli_map.specs.Variables.{byte_limit}
 use Rattle.pli_map.specs.views.DescriptionView.{description_view}
+use Rattle.pli_world.specs.Targets as target
 use Rattle.pli_world.specs.World.{World, Yields, Raises, held, stored, made_of}
 use Rattle.pli_world.specs.Storage as plain
 use Rattle.pli_world.specs.Storage.{live_bytes, generation_limit}
-use Rattle.pli_store.specs.views.GenerationView.{generation_view}
+use Rattle.pli_store.specs.views.GenerationView.{generation_view, made_view}
 use Rattle.pli_value.specs.Value.{Value, Number, Characters}
+use Rattle.pli_store.specs.declared.living.Target.{Target}
 use Rattle.pli_store.specs.declared.place.Place.{Place}
 use Rattle.pli_store.specs.declared.storage.Storage.{Storage}
 
--- a place outside areas
+-- a place
 abbrev pub place_view : Place → plain.Place
 place_view p =
     record {
       generation = p.generation;
-      position = 0;
+      position = p.position;
       whole = description_view p.whole.now;
       offset = p.offset;
       description = description_view p.description.now;
     }
+
+-- what lives at a position of a generation: the place of the whole of it, and how it was made
+abbrev pub target_view : Target → target.Target
+target_view t = record { place = place_view t.place; made = made_view t.made }
 
 -- the generations that live, in the order in which they were made
 abbrev pub storage_view : Storage → List plain.Generation

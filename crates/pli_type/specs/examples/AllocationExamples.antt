@@ -24,7 +24,7 @@ use Rattle.pli_type_tree.specs.TypedTree.{FreesControlled}
 -- a CONTROLLED variable, or a member, by the number of its global
 abbrev pub controlled : (number : ℕ) → Description → (path : List ℕ) → NamedAs
 controlled number d path =
-    AVariable (record { storage = Begins (NewestOf number) false; whole = d; path = path })
+    AVariable (record { storage = Begins (NewestOf number) false; whole = d; path = path; area = None })
 
 -- K
 abbrev pub k : NamedAs

@@ -54,7 +54,7 @@ ControlVariables =
     (group (alone_named (codes "I") 1) (decimal 1 1 3) (to (named (codes "N") 5)))
     ≡ Some (typed.Iterate (record {
       control = Whole (InSlot 0 2);
-      conversion = Fit (FixedBinary 31) ∷ [];
+      conversion = typed.ByOperations (Fit (FixedBinary 31) ∷ []);
       start = a_number 1;
       range = typed.ToBy (held 1) None;
       condition = None;
@@ -63,11 +63,11 @@ ControlVariables =
 
 -- S: PROC(P); DCL P FIXED BIN(31);
 abbrev pub s : NamedAs
-s = AProcedure (record { callee = OfBlock 1; parameters = FixedBinary 31 ∷ []; returned = None })
+s = AProcedure (record { callee = OfBlock 1; parameters = FixedBinary 31 ∷ []; returned = None; area = None })
 
 -- F, which RETURNS(FIXED BIN(31)) and has no parameter
 abbrev pub f : NamedAs
-f = AProcedure (record { callee = OfBlock 2; parameters = []; returned = Some (FixedBinary 31) })
+f = AProcedure (record { callee = OfBlock 2; parameters = []; returned = Some (FixedBinary 31); area = None })
 
 -- CALL S with these arguments, at token 0
 abbrev pub call : List Expression → Statement
@@ -132,7 +132,7 @@ BlocksAreTyped =
       part = StatementThen (typed.Statement 2 (typed.Begin (head 1 2 1)
           (StatementThen (typed.Statement 3 (typed.Iterate (record {
             control = Whole (InSlot 0 2);
-            conversion = Fit (FixedBinary 31) ∷ [];
+            conversion = typed.ByOperations (Fit (FixedBinary 31) ∷ []);
             start = a_number 1;
             range = typed.Once;
             condition = None;

@@ -20,14 +20,13 @@ use Rattle.pli_map.specs.Description.{NoMembers, MemberThen}
 use Rattle.pli_map.specs.declared.description.Bounds.{Bounds}
 use Rattle.pli_type.specs.ExpressionTypes.{width_of}
 use Rattle.pli_type.specs.Checked.{in_unit, first_inside}
-use Rattle.pli_type.specs.FunctionCalls.{Denoted, DenotesVariable, DenotesResult}
+use Rattle.pli_type.specs.FunctionCalls.{Denoted, DenotesVariable}
 use Rattle.pli_type.specs.Names.{NamedAs, AVariable, AFunction, AProcedure, ALabel, Untyped, Naming}
 use Rattle.pli_type.specs.Names.{Begins, Compiled, NamedUnit}
 use Rattle.pli_type.specs.NamedUnits.{names_based}
 use Rattle.pli_type.specs.References.{AsTarget}
 use Rattle.pli_type.specs.StatementTyping.{WithProcedures, statement_typed}
 use Rattle.pli_type.specs.Typing.{value_of, referred}
-use Rattle.pli_type.specs.Unbuilt.{is_later_function}
 use Rattle.pli_type_tree.specs.Templates.{Template}
 use Rattle.pli_type_tree.specs.TypedTree.{InSlot, TypedExpression, Literal, Held, TypedReference, Whole}
 use Rattle.pli_type_tree.specs.TypedTree.{OfBlock, Stride}
@@ -49,7 +48,7 @@ array high d = Array (between 1 high ∷ []) d
 -- a variable of its own, or a member, of the variable in a slot
 abbrev pub variable : (slot : ℕ) → Description → (path : List ℕ) → NamedAs
 variable slot d path =
-    AVariable (record { storage = Begins (InSlot 0 slot) false; whole = d; path = path })
+    AVariable (record { storage = Begins (InSlot 0 slot) false; whole = d; path = path; area = None })
 
 -- a variable of its own, in a slot
 abbrev pub alone : (slot : ℕ) → Description → NamedAs
@@ -131,7 +130,7 @@ label = ALabel 7
 
 -- a procedure without parameters that gives nothing
 abbrev pub procedure : NamedAs
-procedure = AProcedure (record { callee = OfBlock 0; parameters = []; returned = None })
+procedure = AProcedure (record { callee = OfBlock 0; parameters = []; returned = None; area = None })
 
 -- ABS
 abbrev pub abs : NamedAs
@@ -189,21 +188,17 @@ based_in block =
 
 -- what names mean, where numbers have at most 31 binary digits
 abbrev pub naming : List (ℕ × NamedAs) → Naming
-naming meanings = record { greatest = 31; based = based_in; meaning = meaning_in meanings }
-
--- the name at a token means a function that is not compiled yet
-abbrev pub is_later_in : List (ℕ × NamedAs) → (at : ℕ) → Bool
-is_later_in meanings at = later (meaning_in meanings at)
-  where
-    later : NamedAs → Bool
-    later (AFunction function) = is_later_function function
-    later other = false
+naming meanings = record {
+  greatest = 31;
+  based = based_in;
+  returned_area = λ block. None;
+  meaning = meaning_in meanings;
+}
 
 -- what is compiled, where names mean such
 abbrev pub compiled : List (ℕ × NamedAs) → Compiled
 compiled meanings = record {
   greatest = 31;
-  is_later = is_later_in meanings;
   is_based = λ at. names_based (meaning_in meanings at);
 }
 
@@ -324,7 +319,7 @@ form_of meanings statement =
 -- the variable or part of one that is denoted
 abbrev pub part_in : Denoted → Option TypedReference
 part_in (DenotesVariable r) = Some r.reference
-part_in (DenotesResult value) = None
+part_in denoted = None
 
 -- the variable or part of one that a target is
 abbrev pub reference_meant : List (ℕ × NamedAs) → Reference → Option TypedReference

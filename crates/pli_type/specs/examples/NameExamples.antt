@@ -1,11 +1,12 @@
 -- Worked examples of names: a resolved unit as types see it.
 --
 --     M: PROC OPTIONS(MAIN);
---     DCL 1 S STATIC, 2 A BIT, 2 B BIT INIT('1'B), X BIT, Y FIXED BIN(15) INIT(3), E ENTRY(BIT), Z BIT EXT,
---         C BIT CTL INIT('1'B), D BIT CTL EXT, P PTR, F BIT BASED, 1 G BASED(P), 2 H BIT INIT('1'B);
+--     DCL 1 S STATIC, 2 A BIT, 2 B BIT INIT('1'B), X BIT, Y FIXED BIN(15) INIT(3),
+--         E ENTRY(BIT) RETURNS(OFFSET(R)), Z BIT EXT, C BIT CTL INIT('1'B), D BIT CTL EXT, P PTR,
+--         F BIT BASED, 1 G BASED(P), 2 H BIT INIT('1'B), R AREA(64), 1 U, 2 O OFFSET(R), V BIT BASED(O);
 --
--- where B, Y, the built-in function ABS, M, E, Z, C, F and H are used at tokens 50, 52, 54, 56, 58, 60, 62,
--- 64 and 66.
+-- where B, Y, the built-in function ABS, M, E, Z, C, F, H, O and V are used at tokens 50, 52, 54, 56, 58, 60,
+-- 62, 64, 66, 68 and 70.
 use Rattle.std.specs.Prelude.{◌≡◌, ℕ, nat_eq, true, false, pos, Option, Some, None, List, [], ◌∷◌, codes}
 use Rattle.std.specs.Prelude.{if◌then◌else◌}
 use Rattle.pli_base.specs.Name.{Name}
@@ -13,8 +14,8 @@ use Rattle.pli_base.specs.Statements.{Main, Ended}
 use Rattle.pli_base.specs.declared.declaration.InitialValue.{InitialValue}
 use Rattle.pli_base.specs.declared.declaration.InitialValue.TheVariants as initial
 use Rattle.pli_declare_attributes.specs.declared.completed.ScopeAttribute.TheVariants as scopes
-use Rattle.pli_map.specs.Description.{Description, FixedBinary, Bit, Pointer, Structure, NoMembers}
-use Rattle.pli_map.specs.Description.{MemberThen}
+use Rattle.pli_map.specs.Description.{Description, FixedBinary, Bit, Pointer, Offset, Area, Structure}
+use Rattle.pli_map.specs.Description.{NoMembers, MemberThen}
 use Rattle.pli_program.specs.declared.kind.VariableKind.TheVariants.{Static, Controlled}
 use Rattle.pli_resolve.specs.ResolvedUnits.{ResolvedUnit}
 use Rattle.pli_resolve.specs.Symbols.{Symbol, SymbolKind, Variable, Member, Procedure, Entry}
@@ -25,10 +26,12 @@ use Rattle.pli_resolve.specs.declared.symbol.NameMeaning.TheVariants as meanings
 use Rattle.pli_resolve.specs.declared.symbol.StorageClass.{StorageClass}
 use Rattle.pli_resolve.specs.declared.symbol.StorageClass.TheVariants as classes
 use Rattle.pli_type.specs.NamedUnits.{named_as, named_unit}
-use Rattle.pli_type.specs.Names.{Begins, IsBased, NamedAs, AVariable, AFunction, AProcedure}
+use Rattle.pli_type.specs.Names.{OfPointer, OfOffset, Begins, IsBased, NamedAs, AVariable, AFunction}
+use Rattle.pli_type.specs.Names.{AProcedure, NamedStorage}
+use Rattle.pli_type.specs.declared.beginning.Beginning.TheVariants as beginnings
 use Rattle.pli_type.specs.examples.ExampleTrees.{called}
 use Rattle.pli_type_tree.specs.TypedTree.{OwnVariable, ExternalVariable, EntryPoint, OfBlock, OfEntry}
-use Rattle.pli_type_tree.specs.TypedTree.{InSlot, OfProgram, NewestOf, Whole}
+use Rattle.pli_type_tree.specs.TypedTree.{InSlot, OfProgram, NewestOf, Whole, Part, NoSubscript}
 use Rattle.pli_value.specs.Value.{Number, Bits}
 
 -- a declared name
@@ -47,6 +50,10 @@ pair = Structure (MemberThen (Bit 1) (MemberThen (Bit 1) NoMembers))
 abbrev pub single : Description
 single = Structure (MemberThen (Bit 1) NoMembers)
 
+-- a structure of an offset, as U
+abbrev pub holder : Description
+holder = Structure (MemberThen Offset NoMembers)
+
 -- what M declares
 abbrev pub declared : List Symbol
 declared =
@@ -57,14 +64,18 @@ declared =
     ∷ symbol (codes "Y")
     (own (FixedBinary 15) classes.Automatic
     (initial.Integer None (record { negative = false; value = 3 }) ∷ []))
-    ∷ symbol (codes "E") (Entry (Bit 1 ∷ []) None)
+    ∷ symbol (codes "E") (Entry (Bit 1 ∷ []) (Some Offset) (Some (record { block = 0; number = 13 })))
     ∷ symbol (codes "Z") (Variable (Bit 1) classes.Static scopes.External [] None)
     ∷ symbol (codes "C") (own (Bit 1) classes.Controlled (initial.Bits (true ∷ []) ∷ []))
     ∷ symbol (codes "D") (Variable (Bit 1) classes.Controlled scopes.External [] None)
     ∷ symbol (codes "P") (own Pointer classes.Automatic [])
     ∷ symbol (codes "F") (own (Bit 1) (classes.Based None) [])
     ∷ symbol (codes "G") (own single (classes.Based (Some (record { block = 0; number = 9 }))) [])
-    ∷ symbol (codes "H") (Member 11 (0 ∷ []) (initial.Bits (true ∷ []) ∷ []) None) ∷ []
+    ∷ symbol (codes "H") (Member 11 (0 ∷ []) (initial.Bits (true ∷ []) ∷ []) None)
+    ∷ symbol (codes "R") (own (Area 64) classes.Automatic [])
+    ∷ symbol (codes "U") (own holder classes.Automatic [])
+    ∷ symbol (codes "O") (Member 14 (0 ∷ []) [] (Some (record { block = 0; number = 13 })))
+    ∷ symbol (codes "V") (own (Bit 1) (classes.Based (Some (record { block = 0; number = 15 }))) []) ∷ []
 
 -- what the names at tokens are, by their symbols
 abbrev pub used : (at : ℕ) → Option NameMeaning
@@ -78,6 +89,8 @@ used at =
     else if nat_eq at 62 then Some (meanings.Symbol (record { block = 0; number = 7 }))
     else if nat_eq at 64 then Some (meanings.Symbol (record { block = 0; number = 10 }))
     else if nat_eq at 66 then Some (meanings.Symbol (record { block = 0; number = 12 }))
+    else if nat_eq at 68 then Some (meanings.Symbol (record { block = 0; number = 15 }))
+    else if nat_eq at 70 then Some (meanings.Symbol (record { block = 0; number = 16 }))
     else None
 
 -- the unit M, resolved
@@ -105,38 +118,62 @@ resolved = record {
 abbrev pub meant_at : (at : ℕ) → NamedAs
 meant_at at = named_as 31 resolved (0 ∷ []) (used at)
 
+-- a variable of its own, or a member, that is no OFFSET
+abbrev pub variable : NamedStorage → Description → (path : List ℕ) → NamedAs
+variable storage whole path =
+    AVariable (record { storage = storage; whole = whole; path = path; area = None })
+
 -- B is a member of a global, Y stands in the second slot, ABS is a built-in function, M the procedure, E an
--- entry, Z a global, C the newest generation of one; F is the first BASED variable of the block, without a
--- locator, and H a member of the second one, whose locator is in the third slot
+-- entry whose offsets are of the area in the fourth slot, Z a global, C the newest generation of one; F is
+-- the first BASED variable of the block, without a locator, and H a member of the second one, whose locator
+-- is in the third slot; O is a member of what is in the fifth slot, of the area in the fourth, and it is
+-- the locator of V
 abbrev pub NamesOfUnit : Type 0
 NamesOfUnit =
-    (meant_at 50 ≡ AVariable (record { storage = Begins (OfProgram 0) false; whole = pair; path = 1 ∷ [] }))
-    × (meant_at 52
-    ≡ AVariable (record { storage = Begins (InSlot 0 1) false; whole = FixedBinary 15; path = [] }))
+    (meant_at 50 ≡ variable (Begins (OfProgram 0) false) pair (1 ∷ []))
+    × (meant_at 52 ≡ variable (Begins (InSlot 0 1) false) (FixedBinary 15) [])
     × (meant_at 54 ≡ AFunction functions.Abs)
-    × (meant_at 56 ≡ AProcedure (record { callee = OfBlock 0; parameters = []; returned = None }))
-    × (meant_at 58 ≡ AProcedure (record { callee = OfEntry 1; parameters = Bit 1 ∷ []; returned = None }))
-    × (meant_at 60 ≡ AVariable (record { storage = Begins (OfProgram 2) false; whole = Bit 1; path = [] }))
-    × (meant_at 62 ≡ AVariable (record { storage = Begins (NewestOf 3) false; whole = Bit 1; path = [] }))
-    × (meant_at 64 ≡ AVariable (record { storage = IsBased 0 0 None; whole = Bit 1; path = [] }))
-    × (meant_at 66
-    ≡ AVariable (record { storage = IsBased 0 1 (Some (Whole (InSlot 0 2))); whole = single; path = 0 ∷ [] }))
+    × (meant_at 56
+    ≡ AProcedure (record { callee = OfBlock 0; parameters = []; returned = None; area = None }))
+    × (meant_at 58
+    ≡ AProcedure (record {
+      callee = OfEntry 1;
+      parameters = Bit 1 ∷ [];
+      returned = Some Offset;
+      area = Some (beginnings.InSlot 0 3);
+    }))
+    × (meant_at 60 ≡ variable (Begins (OfProgram 2) false) (Bit 1) [])
+    × (meant_at 62 ≡ variable (Begins (NewestOf 3) false) (Bit 1) [])
+    × (meant_at 64 ≡ variable (IsBased 0 0 None) (Bit 1) [])
+    × (meant_at 66 ≡ variable (IsBased 0 1 (Some (OfPointer (Whole (InSlot 0 2))))) single (0 ∷ []))
+    × (meant_at 68
+    ≡ AVariable (record {
+      storage = Begins (InSlot 0 4) false;
+      whole = holder;
+      path = 0 ∷ [];
+      area = Some (beginnings.InSlot 0 3);
+    }))
+    × (meant_at 70
+    ≡ variable (IsBased 0 2
+    (Some (OfOffset (Part (InSlot 0 4) 0 Offset NoSubscript) (beginnings.InSlot 0 3)))) (Bit 1) [])
 
--- AUTOMATIC: X without initial values, Y with 3, and P; BASED: F, and G, whose only byte is H; globals: S,
--- whose second byte is B, E, Z, C, and D
+-- AUTOMATIC: X without initial values, Y with 3, P, R and U; BASED: F, G, whose only byte is H, and V;
+-- globals: S, whose second byte is B, E, Z, C, and D
 abbrev pub VariablesOfUnit : Type 0
 VariablesOfUnit =
     ((named_unit 31 resolved).automatic 0
     ≡ record { description = Bit 1; initial = [] }
     ∷ record { description = FixedBinary 15; initial = record { offset = 0; value = Number (pos 3) } ∷ [] }
-    ∷ record { description = Pointer; initial = [] } ∷ [])
+    ∷ record { description = Pointer; initial = [] } ∷ record { description = Area 64; initial = [] }
+    ∷ record { description = holder; initial = [] } ∷ [])
     × (((named_unit 31 resolved).naming []).based 0
     ≡ record { description = Bit 1; initial = [] }
-    ∷ record { description = single; initial = record { offset = 0; value = Bits (true ∷ []) } ∷ [] } ∷ [])
+    ∷ record { description = single; initial = record { offset = 0; value = Bits (true ∷ []) } ∷ [] }
+    ∷ record { description = Bit 1; initial = [] } ∷ [])
     × ((named_unit 31 resolved).globals
     ≡ OwnVariable Static
     (record { description = pair; initial = record { offset = 1; value = Bits (true ∷ []) } ∷ [] })
-    ∷ EntryPoint (codes "E") (record { parameters = Bit 1 ∷ []; result = None })
+    ∷ EntryPoint (codes "E") (record { parameters = Bit 1 ∷ []; result = Some Offset })
     ∷ ExternalVariable (codes "Z") Static (record { description = Bit 1; initial = [] })
     ∷ OwnVariable Controlled
     (record { description = Bit 1; initial = record { offset = 0; value = Bits (true ∷ []) } ∷ [] })

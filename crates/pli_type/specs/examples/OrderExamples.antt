@@ -67,8 +67,9 @@ GlobalsOfUnit =
     ≡ ExternalVariable (codes "Z") Static (record { description = Bit 1; initial = [] })
     ∷ ExternalVariable (codes "Z") Static (record { description = Character 1; initial = [] }) ∷ [])
     × (shared_in 0
-    ≡ AVariable (record { storage = Begins (OfProgram 1) false; whole = Character 1; path = [] }))
-    × (shared_in 1 ≡ AVariable (record { storage = Begins (OfProgram 0) false; whole = Bit 1; path = [] }))
+    ≡ AVariable (record { storage = Begins (OfProgram 1) false; whole = Character 1; path = []; area = None }))
+    × (shared_in 1
+    ≡ AVariable (record { storage = Begins (OfProgram 0) false; whole = Bit 1; path = []; area = None }))
 
 -- by numbers alone: the tokens 30, 10, 20 and 10
 abbrev pub TokensInOrder : Type 0

@@ -5,11 +5,11 @@
 --
 -- and a parameter Z of BIT.
 use Rattle.std.specs.Prelude.{◌≡◌, ℕ, true, false, Option, Some, None, List, [], ◌∷◌}
-use Rattle.pli_base.specs.Statements.{Statement, Numbered, Allocate, Free, NoElse}
+use Rattle.pli_base.specs.Statements.{Statement, Numbered, Do, Iterate, Ended, Allocate, Free, NoElse}
 use Rattle.pli_base.specs.Syntax.{Expression, Referred, Infix, Reference, Named, Alone, Joined, Absent}
 use Rattle.pli_base.specs.Syntax.{Given, Expressions, Empty, Listed}
 use Rattle.pli_base.specs.declared.code.Code.TheVariants.{NotAVariable, AggregateNotAllowedHere, CannotAssign}
-use Rattle.pli_base.specs.declared.code.Code.TheVariants.{WrongOperandType, CannotPrint}
+use Rattle.pli_base.specs.declared.code.Code.TheVariants.{WrongOperandType, CannotPrint, BadControlVariable}
 use Rattle.pli_base.specs.declared.code.Code.TheVariants.{LocatorMissingOrNotAllowed, CannotAllocateOrFree}
 use Rattle.pli_base.specs.declared.code.Code.TheVariants.{WrongNumberOfArguments, WrongBuiltInArgument}
 use Rattle.pli_base.specs.declared.syntax.InfixOperator.{InfixOperator}
@@ -19,7 +19,7 @@ use Rattle.pli_map.specs.Description as described
 use Rattle.pli_map.specs.Description.{Description, FixedBinary, Bit, Structure, NoMembers, MemberThen}
 use Rattle.pli_resolve.specs.declared.built_in.BuiltInFunction.TheVariants as functions
 use Rattle.pli_type.specs.ExpressionTypes.{with_one}
-use Rattle.pli_type.specs.Names.{Begins, IsBased, NamedAs, AVariable, AFunction}
+use Rattle.pli_type.specs.Names.{OfPointer, Begins, IsBased, NamedAs, AVariable, AFunction}
 use Rattle.pli_type.specs.examples.ExampleTrees.{alone, faults, one, good, form_of, called, alone_named}
 use Rattle.pli_type.specs.examples.ExampleTrees.{named, decimal, assign, put, choice, null, x, n, a, s, label}
 use Rattle.pli_type.specs.examples.ExampleTrees.{a_number, held}
@@ -36,7 +36,12 @@ p = alone 12 described.Pointer
 -- a variable of BASED(P), or a member of one, by its number among those of block 1
 abbrev pub based : (number : ℕ) → Description → (path : List ℕ) → NamedAs
 based number d path =
-    AVariable (record { storage = IsBased 1 number (Some (Whole (InSlot 0 12))); whole = d; path = path })
+    AVariable (record {
+      storage = IsBased 1 number (Some (OfPointer (Whole (InSlot 0 12))));
+      whole = d;
+      path = path;
+      area = None;
+    })
 
 -- K
 abbrev pub k : NamedAs
@@ -44,7 +49,7 @@ k = based 0 (FixedBinary 15) []
 
 -- F
 abbrev pub f : NamedAs
-f = AVariable (record { storage = IsBased 1 1 None; whole = FixedBinary 15; path = [] })
+f = AVariable (record { storage = IsBased 1 1 None; whole = FixedBinary 15; path = []; area = None })
 
 -- what B is
 abbrev pub b_whole : Description
@@ -60,7 +65,7 @@ b_y = based 2 b_whole (0 ∷ [])
 
 -- Z
 abbrev pub z : NamedAs
-z = AVariable (record { storage = Begins (InSlot 0 0) true; whole = Bit 1; path = [] })
+z = AVariable (record { storage = Begins (InSlot 0 0) true; whole = Bit 1; path = []; area = None })
 
 -- NULL
 abbrev pub null_function : NamedAs
@@ -146,6 +151,10 @@ BasedReferences =
     × (faults ((0, null_function) ∷ (2, f) ∷ []) (assign 1 0 (located 0 2) 3 (decimal 1 1 4))
     ≡ one NotAVariable 0)
     × (faults ((3, p) ∷ (5, b) ∷ []) (printed (Referred (located 3 5))) ≡ one AggregateNotAllowedHere 5)
+    -- DO P -> K = 1; END;
+    × (faults ((1, p) ∷ (3, k) ∷ [])
+    (Numbered 1 None 0 (Do (Some (Iterate (located 1 3) 4 (decimal 1 1 5) None None)) Ended 2))
+    ≡ one BadControlVariable 3)
 
 -- ADDR takes a whole variable at level 1 that is no parameter
 abbrev pub Addresses : Type 0
@@ -189,8 +198,10 @@ GenerationsByPointers =
     × (form_of ((1, p) ∷ (3, f) ∷ []) (free (located 1 3))
     ≡ Some (typed.Free (FreesBased (held 12) (FixedBinary 15) ∷ [])))
     × (faults ((1, b) ∷ []) (free (alone_named [] 1)) ≡ good)
-    -- FREE F; FREE P -> X; FREE B.Y;
+    -- FREE F; FREE P -> X; FREE B.Y; FREE P -> B.Y;
     × (faults ((1, f) ∷ []) (free (alone_named [] 1)) ≡ one LocatorMissingOrNotAllowed 1)
     × (faults ((1, p) ∷ (3, x) ∷ []) (free (located 1 3)) ≡ one LocatorMissingOrNotAllowed 3)
     × (faults ((1, b_y) ∷ []) (free (Named (called [] 1) Absent
     (Joined Member (called [] 3) Absent Alone))) ≡ one CannotAllocateOrFree 1)
+    × (faults ((1, p) ∷ (3, b_y) ∷ []) (free (Named (called [] 1) Absent (Joined Located (called [] 3) Absent
+    (Joined Member (called [] 5) Absent Alone)))) ≡ one CannotAllocateOrFree 3)

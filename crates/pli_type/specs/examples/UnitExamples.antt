@@ -1,12 +1,9 @@
 -- Worked examples of whole units: Z1, initial values, and a typed unit.
 use Rattle.std.specs.Prelude.{◌+◌, Bool, map, ◌≡◌, ℕ, true, false, pos, Some, None, Ok, Err, List, [], ◌∷◌}
 use Rattle.std.specs.Prelude.{codes}
-use Rattle.pli_base.specs.Declarations.{Attribute, Simple, Entry, SimpleAttribute, Bit, Pointer, Offset}
-use Rattle.pli_base.specs.Declarations.{Static, Based, Controlled, External, Builtin, Plain}
-use Rattle.pli_base.specs.Statements.{ProcedureOption, Main, Returns, Statement, Numbered, Statements, Ended}
-use Rattle.pli_base.specs.Statements.{Before}
-use Rattle.pli_base.specs.Statements.{Declare, Stop, Begin, Signal, Allocate, Free, If, NoElse}
-use Rattle.pli_base.specs.Statements.{Allocation, ExternalProcedure}
+use Rattle.pli_base.specs.Declarations.{Simple, SimpleAttribute, Bit, Area}
+use Rattle.pli_base.specs.Statements.{Main, Statement, Numbered, Statements, Ended, Before}
+use Rattle.pli_base.specs.Statements.{Declare, Stop, Begin, Signal, Revert, If, NoElse, ExternalProcedure}
 use Rattle.pli_base.specs.declared.statement.Condition.TheVariants.{Area as AreaCondition}
 use Rattle.pli_base.specs.declared.code.Code.TheVariants.{NotYetBuilt, CannotAssign}
 use Rattle.pli_base.specs.declared.declaration.InitialValue.{InitialValue}
@@ -16,100 +13,61 @@ use Rattle.pli_map.specs.Description.{Description, Structure, NoMembers, MemberT
 use Rattle.pli_type.specs.Checked.{checked}
 use Rattle.pli_type.specs.ExpressionTypes.{with_one}
 use Rattle.pli_type.specs.InitialScalars.{InitialItem, template_of, initial_scalars}
-use Rattle.pli_type.specs.Names.{NamedAs, AFunction, NamedUnit}
+use Rattle.pli_type.specs.Names.{NamedAs, NamedUnit}
 use Rattle.pli_type.specs.Unbuilt.{first_unbuilt}
-use Rattle.pli_type.specs.examples.ExampleTrees.{array, naming, compiled, called, alone_named, named, text}
+use Rattle.pli_type.specs.examples.ExampleTrees.{array, naming, compiled, called, alone_named, text}
 use Rattle.pli_type.specs.examples.ExampleTrees.{of_bits, assign, null, x}
 use Rattle.pli_type_tree.specs.Templates.{InitialScalar}
 use Rattle.pli_type_tree.specs.TypedTree as typed
 use Rattle.pli_type_tree.specs.TypedTree.{TypedUnit, InSlot, Fit, Whole, Literal, NoStatement, StatementThen}
 use Rattle.pli_value.specs.Value.{Value, Number, Characters, Bits}
-use Rattle.pli_resolve.specs.declared.built_in.BuiltInFunction.TheVariants as functions
 
 -- statements one after another
 abbrev pub all_of : List Statement → Statements
 all_of [] = Ended
 all_of (s ∷ ss) = Before s (all_of ss)
 
--- `M: PROC ..; .. END M;`, whose statements begin at token 8 or behind it
-abbrev pub unit : List ProcedureOption → List Statement → ExternalProcedure
-unit options statements = record {
-  heading = record { name = called (codes "M") 0; number = 1; parameters = []; options = options };
+-- `M: PROC OPTIONS(MAIN); .. END M;`, whose statements begin at token 8 or behind it
+abbrev pub main : List Statement → ExternalProcedure
+main statements = record {
+  heading = record {
+    name = called (codes "M") 0;
+    number = 1;
+    parameters = [];
+    options = Main ∷ [];
+  };
   statements = all_of statements;
   end = 9;
 }
 
--- the same with OPTIONS(MAIN)
-abbrev pub main : List Statement → ExternalProcedure
-main statements = unit (Main ∷ []) statements
-
 -- `DCL X ..;` at token 8
-abbrev pub declare_as : List Attribute → Statement
-declare_as attributes =
+abbrev pub declare : List SimpleAttribute → Statement
+declare attributes =
     Numbered 2 None 8
     (Declare (record {
       level = None;
       names = called (codes "X") 9 ∷ [];
       dimensions = [];
-      attributes = attributes;
+      attributes = map Simple attributes;
     } ∷ []))
-
--- the same of attributes other than ENTRY and RETURNS
-abbrev pub declare : List SimpleAttribute → Statement
-declare attributes = declare_as (map Simple attributes)
-
--- `ENTRY(..)` of one parameter
-abbrev pub entry_of : SimpleAttribute → Attribute
-entry_of attribute = Entry (Some (record { dimensions = []; attributes = Plain attribute ∷ [] } ∷ []))
-
--- `ALLOCATE X SET(EMPTY)`, whose names stand at tokens 9 and 12
-abbrev pub allocation : Allocation
-allocation =
-    record { name = called (codes "X") 9; area = None; target = Some (alone_named (codes "EMPTY") 12) }
 
 -- no name means anything
 abbrev pub no_names : List (ℕ × NamedAs)
 no_names = []
 
--- DCL X BIT; null statements
--- DCL X OFFSET; Z1 at DCL, but not DCL X POINTER BASED;
--- DCL X BIT STATIC; in a unit that is not MAIN, and EXTERNAL, and CONTROLLED
--- DCL X ENTRY; DCL X ENTRY(BIT); and DCL X ENTRY(OFFSET); with Z1
--- a labelled SIGNAL, at its label; SIGNAL behind THEN, at SIGNAL; none in `BEGIN; STOP; END;`;
--- RETURNS(OFFSET), at the procedure's name
--- EMPTY and not ADDR, where the name means the function, at the statement; FREE X; and FREE EMPTY; and
--- ALLOCATE X SET(EMPTY), where EMPTY means the function
+-- DCL X AREA; null statements
+-- a labelled SIGNAL, at its label; SIGNAL behind THEN, at SIGNAL; REVERT; none in `BEGIN; STOP; END;`
 abbrev pub FirstUnbuilt : Type 0
 FirstUnbuilt =
-    (first_unbuilt (compiled no_names) (main (declare (Bit None ∷ []) ∷ null 3 12 ∷ [])) ≡ None)
-    × (first_unbuilt (compiled no_names) (main (declare (Offset None ∷ []) ∷ null 3 12 ∷ [])) ≡ Some 8)
-    × (first_unbuilt (compiled no_names) (main (declare (Pointer ∷ Based None ∷ []) ∷ [])) ≡ None)
-    × (first_unbuilt (compiled no_names) (unit [] (declare (Bit None ∷ Static ∷ []) ∷ [])) ≡ None)
-    × (first_unbuilt (compiled no_names) (unit [] (declare (Bit None ∷ External ∷ []) ∷ [])) ≡ None)
-    × (first_unbuilt (compiled no_names) (unit [] (declare (Bit None ∷ Controlled ∷ []) ∷ [])) ≡ None)
-    × (first_unbuilt (compiled no_names) (main (declare_as (Entry None ∷ []) ∷ [])) ≡ None)
-    × (first_unbuilt (compiled no_names) (main (declare_as (entry_of (Bit None) ∷ []) ∷ [])) ≡ None)
-    × (first_unbuilt (compiled no_names) (main (declare_as (entry_of (Offset None) ∷ []) ∷ [])) ≡ Some 8)
-    × (first_unbuilt (compiled no_names) (main (declare (Builtin ∷ []) ∷ [])) ≡ None)
+    (first_unbuilt (compiled no_names) (main (declare (Area None ∷ []) ∷ null 3 12 ∷ [])) ≡ None)
     × (first_unbuilt (compiled no_names)
     (main (null 2 8 ∷ Numbered 3 (Some (called (codes "L") 9)) 11 (Signal AreaCondition) ∷ [])) ≡ Some 9)
     × (first_unbuilt (compiled no_names)
     (main (Numbered 2 None 8 (If (of_bits (codes "1") 9) (Numbered 3 None 11 (Signal AreaCondition)) NoElse)
     ∷ [])) ≡ Some 11)
+    × (first_unbuilt (compiled no_names) (main (Numbered 2 None 8 (Revert AreaCondition) ∷ [])) ≡ Some 8)
     × (first_unbuilt (compiled no_names)
     (main (Numbered 2 None 8 (Begin (Before (Numbered 3 None 10 Stop) Ended) 4) ∷ [])) ≡ None)
-    × (first_unbuilt (compiled no_names) (unit (Returns (Plain (Bit None) ∷ []) ∷ []) []) ≡ None)
-    × (first_unbuilt (compiled no_names) (unit (Returns (Plain (Offset None) ∷ []) ∷ []) []) ≡ Some 0)
-    × (first_unbuilt (compiled ((8, x) ∷ (10, AFunction functions.Empty) ∷ []))
-    (main (assign 2 8 (alone_named (codes "X") 8) 9 (named (codes "EMPTY") 10) ∷ [])) ≡ Some 8)
-    × (first_unbuilt (compiled ((8, x) ∷ (10, AFunction functions.Address) ∷ []))
-    (main (assign 2 8 (alone_named (codes "X") 8) 9 (named (codes "ADDR") 10) ∷ [])) ≡ None)
-    × (first_unbuilt (compiled ((9, x) ∷ []))
-    (main (Numbered 2 None 8 (Free (alone_named (codes "X") 9 ∷ [])) ∷ [])) ≡ None)
-    × (first_unbuilt (compiled ((9, AFunction functions.Empty) ∷ []))
-    (main (Numbered 2 None 8 (Free (alone_named (codes "EMPTY") 9 ∷ [])) ∷ [])) ≡ Some 8)
-    × (first_unbuilt (compiled ((9, x) ∷ (12, AFunction functions.Empty) ∷ []))
-    (main (Numbered 2 None 8 (Allocate (allocation ∷ [])) ∷ [])) ≡ Some 8)
 
 -- FIXED BINARY values without a factor
 abbrev pub numbers : List ℕ → List InitialValue

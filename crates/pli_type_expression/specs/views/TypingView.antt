@@ -9,8 +9,10 @@ use Rattle.pli_type.specs.views.ValueView.{value_view}
 use Rattle.pli_type_tree.specs.TypedTree as tree
 use Rattle.pli_type_tree.specs.views.TypedView.{expression_view, reference_view}
 use Rattle.pli_type_expression.specs.declared.argument.Argument.{Argument}
+use Rattle.pli_type_names.specs.LocatorReferences.{locating}
 use Rattle.pli_type_expression.specs.declared.locator.LocatorBefore.{LocatorBefore}
 use Rattle.pli_type_expression.specs.declared.locator.LocatorBefore.TheVariants as locators
+use Rattle.pli_type_expression.specs.declared.locator.LocatorVariable.{LocatorVariable}
 use Rattle.pli_type_expression.specs.declared.meaning.Denoted.{Denoted}
 use Rattle.pli_type_expression.specs.declared.meaning.Denoted.TheVariants as denoted
 use Rattle.pli_type_expression.specs.declared.meaning.ExpressionMeaning.{ExpressionMeaning}
@@ -35,6 +37,7 @@ referent_view r =
       reference = reference_view r.reference;
       description = description_view r.description.now;
       is_parameter = r.is_parameter;
+      area = r.area;
     }
 
 -- one value or a whole aggregate
@@ -46,10 +49,15 @@ meant_view (meant.Aggregate r) = calls.WholeAggregate (referent_view r)
 abbrev pub denoted_view : Denoted → calls.Denoted
 denoted_view (denoted.Variable r) = calls.DenotesVariable (referent_view r)
 denoted_view (denoted.Result v) = calls.DenotesResult (value_view v)
+denoted_view denoted.Empty = calls.DenotesEmpty
 
 -- an argument
 abbrev pub argument_view : Argument → calls.Argument
 argument_view a = record { denoted = denoted_view a.denoted; written = a.written }
+
+-- a POINTER, or an OFFSET with its area
+abbrev pub variable_view : LocatorVariable → names.LocatorVariable
+variable_view l = locating l.area (reference_view l.reference)
 
 -- what stands in front of a name
 abbrev pub locator_view : LocatorBefore → references.LocatorBefore
@@ -68,3 +76,4 @@ abbrev pub segment_view : names.Naming → Segment → typing.Segment
 segment_view n (segments.Named locator at subscripts) =
     of_name (n.meaning at) (locator_view locator) at (map expression_view subscripts.items)
 segment_view n (segments.Function value) = typing.OfFunction (value_view value)
+segment_view n segments.Empty = typing.OfEmpty

@@ -15,6 +15,7 @@ entry_view e = record {
   outer = e.outer;
   parameters = map (λ d. description_view d.now) e.parameters.items;
   returned = option_map (λ d. description_view d.now) e.returned;
+  area = e.area;
 }
 
 -- under each number what is found for the block

@@ -25,13 +25,14 @@ procedure_view p = record {
   callee = callee_view p.callee;
   parameters = map (λ d. description_view d.now) p.parameters.now;
   returned = option_map (λ d. description_view d.now) p.returned;
+  area = p.area;
 }
 
 -- what a name means where it is used
 abbrev pub answer_view : NamedAs → Seen
 answer_view (answers.Variable v) =
     SeenVariable (storage_view v.storage) (description_view v.whole.now) v.is_member
-    (option_map part_view v.part.now)
+    (option_map part_view v.part.now) v.area
 answer_view (answers.Function f) = SeenFunction f
 answer_view (answers.Procedure p) = SeenProcedure (procedure_view p)
 answer_view (answers.Label statement) = SeenLabel statement
@@ -39,12 +40,12 @@ answer_view answers.Untyped = SeenUntyped
 
 -- what a name means wherever it is used
 abbrev pub meant_view : SymbolMeaning → Kept
-meant_view (meanings.Variable begins whole is_member part) =
-    KeptVariable begins (description_view whole.now) is_member (option_map part_view part)
+meant_view (meanings.Variable begins whole is_member part area) =
+    KeptVariable begins (description_view whole.now) is_member (option_map part_view part) area
 meant_view (meanings.Procedure block) = KeptProcedure block
-meant_view (meanings.Entry number parameters returned) =
+meant_view (meanings.Entry number parameters returned area) =
     KeptEntry number (map (λ d. description_view d.now) parameters.items)
-    (option_map (λ d. description_view d.now) returned)
+    (option_map (λ d. description_view d.now) returned) area
 meant_view (meanings.Label statement) = KeptLabel statement
 meant_view meanings.Untyped = KeptNothing
 

@@ -12,8 +12,9 @@ use Rattle.pli_type_tree.specs.views.TypedView.{statement_view, statements_view}
 use Rattle.pli_type_tree.specs.declared.expression.Root.{Root, Located}
 use Rattle.pli_type_tree.specs.declared.expression.Callee.{Callee}
 use Rattle.pli_type_tree.specs.declared.expression.TypedExpression.{TypedExpression, Calculated, Called}
+use Rattle.pli_type_tree.specs.declared.expression.TypedExpression.{AsPointer, AsOffset}
 use Rattle.pli_type_tree.specs.declared.expression.TypedOperation.{TypedOperation}
-use Rattle.pli_type_tree.specs.declared.expression.TypedReference.{Part}
+use Rattle.pli_type_tree.specs.declared.expression.TypedReference.{TypedReference, Part}
 use Rattle.pli_type_tree.specs.declared.expression.TypedSubscript.{TypedSubscript}
 use Rattle.pli_type_tree.specs.declared.expression.TypedArgument.{TypedArgument}
 use Rattle.pli_type_tree.specs.declared.expression.Root.TheBlock as block
@@ -73,6 +74,17 @@ pub located_made : (locator : Box TypedExpression Global) (description : Descrip
     → root_view (Located locator description)
     ≡ plain.Located (expression_view locator.value) (description_view description)
 located_made locator description = refl
+
+-- an offset as a pointer into an area, and a pointer as an offset of one
+pub as_pointer_made : (area : TypedReference) (offset : Box TypedExpression Global)
+    → expression_view (AsPointer area offset)
+    ≡ plain.AsPointer (reference_view area) (expression_view offset.value)
+as_pointer_made area offset = refl
+
+pub as_offset_made : (area : TypedReference) (pointer : Box TypedExpression Global)
+    → expression_view (AsOffset area pointer)
+    ≡ plain.AsOffset (reference_view area) (expression_view pointer.value)
+as_offset_made area pointer = refl
 
 statements_row : (n : _) (k : form_block.Row_of-TypedStatement n) → statement_row k
     ≡ statements_view (form_block.items-the_row-TypedStatement n k)

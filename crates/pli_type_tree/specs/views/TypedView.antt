@@ -5,6 +5,8 @@ use Rattle.pli_value.specs.Value.{value_view}
 use Rattle.pli_type_tree.specs.TypedTree as plain
 use Rattle.pli_type_tree.specs.views.TemplateView.{groups_view, template_view}
 use Rattle.pli_type_tree.specs.views.GlobalView.{signature_view, globals_view}
+use Rattle.pli_type_tree.specs.declared.conversion.Conversion.{Conversion}
+use Rattle.pli_type_tree.specs.declared.conversion.Conversion.TheVariants as conversions
 use Rattle.pli_type_tree.specs.declared.expression.Callee.{Callee}
 use Rattle.pli_type_tree.specs.declared.expression.Callee.TheVariants as callees
 use Rattle.pli_type_tree.specs.declared.expression.Root.{Root, InSlot, OfProgram, NewestOf, Located'}
@@ -12,6 +14,7 @@ use Rattle.pli_type_tree.specs.declared.expression.Stride.{Stride}
 use Rattle.pli_type_tree.specs.declared.expression.TypedExpression.{TypedExpression, Literal, Held}
 use Rattle.pli_type_tree.specs.declared.expression.TypedExpression.{Generations, Address}
 use Rattle.pli_type_tree.specs.declared.expression.TypedExpression.{Calculated', Called'}
+use Rattle.pli_type_tree.specs.declared.expression.TypedExpression.{AsPointer', AsOffset'}
 use Rattle.pli_type_tree.specs.declared.expression.Root.TheBlock.{Row_of-TypedExpression}
 use Rattle.pli_type_tree.specs.declared.expression.Root.TheBlock.{end_of-TypedExpression}
 use Rattle.pli_type_tree.specs.declared.expression.Root.TheBlock.{more_of-TypedExpression}
@@ -35,7 +38,8 @@ use Rattle.pli_type_tree.specs.declared.statement.BlockHead.{BlockHead}
 use Rattle.pli_type_tree.specs.declared.statement.FreedItem.{FreedItem}
 use Rattle.pli_type_tree.specs.declared.statement.FreedItem.TheVariants as freed
 use Rattle.pli_type_tree.specs.declared.statement.TypedStatement.{TypedStatement}
-use Rattle.pli_type_tree.specs.declared.statement.Form.{Form, Null, Assign, AssignAggregate, Put, If', Begin'}
+use Rattle.pli_type_tree.specs.declared.statement.Form.{Form, Null, Assign, AssignAggregate, AssignArea}
+use Rattle.pli_type_tree.specs.declared.statement.Form.{EmptyArea, Put, If', Begin'}
 use Rattle.pli_type_tree.specs.declared.statement.Form.{Group', While', Iterate', Call, Goto, Return}
 use Rattle.pli_type_tree.specs.declared.statement.Form.{ReturnValue, Stop, Allocate, Free}
 use Rattle.pli_type_tree.specs.declared.statement.Form.{Held-Form-If-2, None', Some', Row_of-TypedStatement}
@@ -68,6 +72,10 @@ abbrev mutual
       plain.Called (callee_view callee) (argument_row arguments)
   expression_view (Generations number) = plain.Generations number
   expression_view (Address variable) = plain.Address (reference_view variable)
+  expression_view (AsPointer' area p offset) =
+      plain.AsPointer (reference_view area) (expression_view offset)
+  expression_view (AsOffset' area p pointer) =
+      plain.AsOffset (reference_view area) (expression_view pointer)
 
   -- where a reference begins
   pub root_view : Root → plain.Root
@@ -131,6 +139,13 @@ head_view h =
       temporaries = h.temporaries;
     }
 
+-- what converts a value
+abbrev pub conversion_view : Conversion → plain.Conversion
+conversion_view (conversions.ByOperations list) =
+    plain.ByOperations (map operation_view list.items)
+conversion_view (conversions.AsPointerIn area) = plain.AsPointerIn (reference_view area)
+conversion_view (conversions.AsOffsetIn area) = plain.AsOffsetIn (reference_view area)
+
 -- TO and BY, or REPEAT
 abbrev pub range_view : TypedRange → plain.TypedRange
 range_view ranges.Once = plain.Once
@@ -143,7 +158,7 @@ abbrev pub iteration_view : Iteration → plain.Iteration
 iteration_view i =
     record {
       control = reference_view i.control;
-      conversion = map operation_view i.conversion.items;
+      conversion = conversion_view i.conversion;
       start = expression_view i.start;
       range = range_view i.range;
       condition = option_map expression_view i.condition;
@@ -155,6 +170,9 @@ abbrev pub allocated_view : AllocatedItem → plain.AllocatedItem
 allocated_view (allocated.Controlled number) = plain.AllocatesControlled number
 allocated_view (allocated.Based template temporary target) =
     plain.AllocatesBased (template_view template) temporary (reference_view target)
+allocated_view (allocated.InArea area template temporary target conversion) =
+    plain.AllocatesInArea (reference_view area) (template_view template) temporary (reference_view target)
+    (conversion_view conversion)
 
 -- an item of FREE
 abbrev pub freed_view : FreedItem → plain.FreedItem
@@ -169,6 +187,8 @@ abbrev mutual
   form_view (Assign target value) = plain.Assign (reference_view target) (expression_view value)
   form_view (AssignAggregate target source) =
       plain.AssignAggregate (reference_view target) (reference_view source)
+  form_view (AssignArea target source) = plain.AssignArea (reference_view target) (reference_view source)
+  form_view (EmptyArea target) = plain.EmptyArea (reference_view target)
   form_view (Put skip items) = plain.Put skip (map expression_view items.items)
   form_view (Allocate items) = plain.Allocate (map allocated_view items.items)
   form_view (Free items) = plain.Free (map freed_view items.items)

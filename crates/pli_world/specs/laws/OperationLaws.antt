@@ -8,6 +8,8 @@ use Rattle.pli_map.specs.Description.{Description}
 use Rattle.pli_run.specs.Print.{print}
 use Rattle.pli_run.specs.declared.ending.RunError.TheVariants.{StorageLimit, SubscriptRange}
 use Rattle.pli_run.specs.declared.ending.RunError.TheVariants.{DescriptionMismatch, FixedOverflow}
+use Rattle.pli_run.specs.declared.ending.RunError.TheVariants.{OutsideArea}
+use Rattle.pli_run.specs.declared.ending.RunError.TheVariants as error
 use Rattle.pli_map.specs.Same.{same}
 use Rattle.pli_map.specs.Scalars.{is_area, is_scalar, scalars_of}
 use Rattle.pli_map.specs.Sizes.{size_of}
@@ -21,14 +23,13 @@ use Rattle.pli_world.specs.Storage.{Block, Generation, Automatic, Static as AsSt
 use Rattle.pli_world.specs.Storage.{Dummy}
 use Rattle.pli_world.specs.Storage.{Place, Contents, contents_of, whole, field_of, generation_in, block_at}
 use Rattle.pli_world.specs.Storage.{scalar_at}
-use Rattle.pli_world.specs.Storage.{with_values, with_contents, live_bytes, generation_limit}
-use Rattle.pli_world.specs.Storage.{offset_limit}
+use Rattle.pli_world.specs.Storage.{live_bytes, generation_limit, offset_limit}
 use Rattle.pli_map.specs.Variables.{byte_limit}
 use Rattle.pli_map.specs.Values.{holds, are_held}
 use Rattle.pli_program.specs.declared.kind.VariableKind.{VariableKind}
 use Rattle.pli_program.specs.declared.kind.VariableKind.TheVariants as kinds
 use Rattle.pli_world.specs.World.{Standing, Lies, Stacked, Stack, World, Answer, Yields, Raises, Wrong}
-use Rattle.pli_world.specs.World.{further, known, height, generation_ended}
+use Rattle.pli_world.specs.World.{further, known, height}
 use Rattle.pli_map.specs.Variables.{Variable}
 use Rattle.pli_world.specs.World.{made_of, unless_dead, unless_gone, unless_replaced, living, led_into, used}
 use Rattle.pli_world.specs.World.{parts_held, parts_stored, single, held}
@@ -39,9 +40,13 @@ use Rattle.pli_world.specs.World.{slot_in, slot_place, newest_unit, static_in, n
 use Rattle.pli_world.specs.World.{static_place, made_before}
 use Rattle.pli_world.specs.World.{made_as, made_once, with_shared, with_static, statics_made}
 use Rattle.pli_world.specs.World.{dummy_of, printed, line_ended}
-use Rattle.pli_world.specs.Locating.{Target, target_at, unless_ended, unless_other, located, based}
-use Rattle.pli_world.specs.Locating.{pointer_to, based_allocated, is_allocated, based_freed, is_whole_of}
-use Rattle.pli_world.specs.Locating.{addressed, locator_of, place_by, freed_by, pointer_made, address_of}
+use Rattle.pli_world.specs.Areas.{place_in, end_of_blocks, with_block, is_whole_area, area_found, with_area}
+use Rattle.pli_world.specs.Areas.{put_at, allocated_in, emptied, assigned, is_within, offset_in, pointer_in}
+use Rattle.pli_world.specs.Targets.{Target, target_at}
+use Rattle.pli_world.specs.Locating.{unless_ended, unless_other, located, based, pointer_to, based_allocated}
+use Rattle.pli_world.specs.Locating.{ended, is_allocated, based_freed, is_whole_of, addressed, locator_of}
+use Rattle.pli_world.specs.Locating.{place_by, freed_by, pointer_made, block_made, address_of, offset_made}
+use Rattle.pli_world.specs.Locating.{pointer_within}
 use Rattle.pli_world.specs.Stacks.{stack_of, stacked, without_newest_of, unstacked}
 use Rattle.pli_world.specs.Stacks.{count_limit, counted, stack_standing, stack_named}
 use Rattle.pli_world.specs.Stacks.{generation_stacked, generation_unstacked, generations_counted}
@@ -51,7 +56,8 @@ use Rattle.pli_world.specs.laws.Operations.{LeadingKeeps, SubscriptKeeps, Calcul
 use Rattle.pli_world.specs.laws.Operations.{SlotKeeps}
 use Rattle.pli_world.specs.laws.Operations.{StaticKeeps, StaticsKeep, StackingKeeps, UnstackingKeeps}
 use Rattle.pli_world.specs.laws.Operations.{CountingKeeps, BasedKeeps, AllocatingKeeps, FreeingKeeps}
-use Rattle.pli_world.specs.laws.Operations.{AddressKeeps, DummyKeeps, EnteringAdds}
+use Rattle.pli_world.specs.laws.Operations.{AddressKeeps, BlockKeeps, OffsetKeeps, PointerKeeps}
+use Rattle.pli_world.specs.laws.Operations.{AssigningKeeps, EmptyingKeeps, DummyKeeps, EnteringAdds}
 use Rattle.pli_world.specs.laws.Operations.{LeavingTakes, ClearingKeeps, StatementKeeps, PrintingKeeps}
 use Rattle.pli_world.specs.laws.Operations.{LineKeeps, SteppingCounts}
 
@@ -128,22 +134,6 @@ living_keeps p w = found (generation_in w.storage p.generation)
     found : (o : Option Generation) → AnswerFollows (height w) w (unless_dead o w)
     found None = follows_same w
     found (Some g) = follows_same w
-
--- a place outside areas leads into its generation, where that lives
-pub used_outside : {B : Type 0} (p : Place) (w : World) (go : Contents → World → Answer B) → p.position ≡ 0
-    → further (used p w) go ≡ further (living p w) (λ g w. go (contents_of g) w)
-used_outside p w go outside = by (generation_in w.storage p.generation)
-  where
-    by : (o : Option Generation)
-        → further (further (unless_dead o w) (led_into p)) go
-        ≡ further (unless_dead o w) (λ g w. go (contents_of g) w)
-    by None = refl
-    by (Some g) = rw outside refl
-
--- and what it leads into changes there
-pub contents_outside : (gs : List Generation) (p : Place) (vs : List Value) → p.position ≡ 0
-    → with_contents gs p vs ≡ with_values gs p.generation vs
-contents_outside gs p vs outside = rw outside refl
 
 leading_into_keeps : (p : Place) (g : Generation) (w : World) → AnswerFollows (height w) w (led_into p g w)
 leading_into_keeps p g w = by (nat_eq p.position 0) (block_at g.blocks p.position)
@@ -474,27 +464,106 @@ allocating_keeps v =
     (making_keeps v.description Based v.initial) (λ p u. follows_same u))
     (λ l u. follows_same u)
 
+-- what is done where a test holds, and what else
+either : {A : Type 0} (w : World) (b : Bool) (done other : Answer A) → AnswerFollows (height w) w done
+    → AnswerFollows (height w) w other → AnswerFollows (height w) w (if b then done else other)
+either w true done other f g = f
+either w false done other f g = g
+
 pub freeing_keeps : FreeingKeeps
 unfolding based_freed freed_by
 freeing_keeps d v =
     one_after_another (locator_of v) (based_freed d) (locator_keeps v)
-    (λ l. one_after_another (located d l) _ (located_keeps d l) (λ t. by t (is_allocated t.made)))
-  where
-    by : (t : Target) (b : Bool) (u : World)
-        → AnswerFollows (height u) u
-        (if b then Yields (tt {0}) (generation_ended t.place.generation u)
-        else Raises DescriptionMismatch u)
-    by t true u = record { steps = refl; heights = refl; output = prefix_same u.output }
-    by t false u = follows_same u
+    (λ l. one_after_another (located d l) _ (located_keeps d l)
+    (λ t u. either u (is_allocated t.made) (Yields (tt {0}) (ended t.place u)) (Raises DescriptionMismatch u)
+    (record { steps = refl; heights = refl; output = prefix_same u.output }) (follows_same u)))
 
 pub address_keeps : AddressKeeps
 unfolding addressed address_of
 address_keeps p =
     one_after_another (addressed p) _
-    (one_after_another (λ w. unless_ended (target_at p.generation p.position w.storage) w) _
-    (λ w. unless_ended_keeps (target_at p.generation p.position w.storage) w)
-    (λ t u. guarded (height u) u (is_whole_of t p) (Yields (pointer_to p) u) (follows_same u)))
+    (one_after_another (used p) _ (using_keeps p)
+    (λ c u. guarded (height u) u (is_whole_of c p) (Yields (pointer_to p) u) (follows_same u)))
     (λ l u. follows_same u)
+
+-- areas
+
+area_keeps : (p : Place) (w : World) → AnswerFollows (height w) w (area_found p w)
+unfolding area_found
+area_keeps p =
+    one_after_another (living p) _ (living_keeps p)
+    (λ g u. either u (is_whole_area g p) (Yields g u) _ (follows_same u)
+    (one_after_another (led_into p g) (λ c v. Wrong) (leading_into_keeps p g) (λ c v. tt) u))
+
+-- other blocks of an area
+blocks_change : (p : Place) (change : List Block → List Block) (w : World)
+    → Follows (height w) w (with_area p change w)
+blocks_change p change w = record { steps = refl; heights = refl; output = prefix_same w.output }
+
+putting_keeps : (o : Option ℕ) (p : Place) (v : Variable) (w : World)
+    → AnswerFollows (height w) w (put_at o p v w)
+putting_keeps None p v w = follows_same w
+putting_keeps (Some position) p v w =
+    blocks_change p
+    (λ bs. with_block bs (record { position = position; description = v.description; values = v.initial })) w
+
+allocating_in_keeps : (p : Place) (v : Variable) (w : World)
+    → AnswerFollows (height w) w (allocated_in p v w)
+unfolding allocated_in
+allocating_in_keeps p v w =
+    guarded (height w) w (are_held (scalars_of v.description) v.initial) _
+    (one_after_another (area_found p) _ (area_keeps p)
+    (λ g u. putting_keeps (place_in (size_of g.description) g.blocks (size_of v.description)) p v u) w)
+
+pub block_keeps : BlockKeeps
+unfolding block_made
+block_keeps p v w =
+    either w (is_area v.description) Wrong _ tt
+    (one_after_another (allocated_in p v) _ (allocating_in_keeps p v) (λ l u. follows_same u) w)
+
+pub emptying_keeps : EmptyingKeeps
+unfolding emptied
+emptying_keeps p =
+    one_after_another (area_found p) _ (area_keeps p) (λ g u. blocks_change p (λ bs. []) u)
+
+pub assigning_keeps : AssigningKeeps
+unfolding assigned
+assigning_keeps source target =
+    one_after_another (area_found source) _ (area_keeps source)
+    (λ g. one_after_another (area_found target) _ (area_keeps target)
+    (λ h u. either u (nat_le (end_of_blocks g.blocks) (size_of h.description))
+    (Yields (tt {0}) (with_area target (λ bs. g.blocks) u)) (Raises error.Area u)
+    (blocks_change target (λ bs. g.blocks) u) (follows_same u)))
+
+offset_keeps_area : (p : Place) (l : Locator) (w : World) → AnswerFollows (height w) w (offset_in p l w)
+unfolding offset_in
+offset_keeps_area p Null w = one_after_another (area_found p) _ (area_keeps p) (λ g u. follows_same u) w
+offset_keeps_area p (Pointer generation position) w =
+    one_after_another (area_found p) _ (area_keeps p)
+    (λ g u. either u (is_within p.generation generation position) (Yields (Offset position) u)
+    (Raises OutsideArea u) (follows_same u) (follows_same u)) w
+offset_keeps_area p (Offset position) w = tt
+
+pointer_keeps_area : (p : Place) (l : Locator) (w : World) → AnswerFollows (height w) w (pointer_in p l w)
+unfolding pointer_in
+pointer_keeps_area p Null w = tt
+pointer_keeps_area p (Pointer generation position) w = tt
+pointer_keeps_area p (Offset position) w =
+    one_after_another (area_found p) _ (area_keeps p)
+    (λ g u. either u (nat_eq position 0) (Yields Null u) (Yields (Pointer p.generation position) u)
+    (follows_same u) (follows_same u)) w
+
+pub offset_keeps : OffsetKeeps
+unfolding offset_made
+offset_keeps p v =
+    one_after_another (locator_of v) _ (locator_keeps v)
+    (λ l. one_after_another (offset_in p l) _ (offset_keeps_area p l) (λ o u. follows_same u))
+
+pub pointer_keeps : PointerKeeps
+unfolding pointer_within
+pointer_keeps p v =
+    one_after_another (locator_of v) _ (locator_keeps v)
+    (λ l. one_after_another (pointer_in p l) _ (pointer_keeps_area p l) (λ q u. follows_same u))
 
 -- variables that are made before the program begins
 

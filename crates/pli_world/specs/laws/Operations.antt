@@ -12,7 +12,9 @@ use Rattle.pli_world.specs.World.{parts_held, parts_stored, held, stored, copied
 use Rattle.pli_world.specs.World.{calculation}
 use Rattle.pli_world.specs.World.{entered, left_by, cleared, at_statement, stepped, height_of, slot_place}
 use Rattle.pli_world.specs.World.{static_place, statics_made, dummy_of, printed, line_ended}
-use Rattle.pli_world.specs.Locating.{place_by, freed_by, pointer_made, address_of}
+use Rattle.pli_world.specs.Areas.{emptied, assigned}
+use Rattle.pli_world.specs.Locating.{place_by, freed_by, pointer_made, block_made, address_of, offset_made}
+use Rattle.pli_world.specs.Locating.{pointer_within}
 use Rattle.pli_world.specs.Stacks.{generation_stacked, generation_unstacked, generations_counted}
 use Rattle.pli_map.specs.Variables.{Variable}
 
@@ -124,6 +126,26 @@ FreeingKeeps = (d : Description) (v : Value) → Keeps (freed_by d v)
 -- ADDR is such an operation
 abbrev pub AddressKeeps : Type 0
 AddressKeeps = (p : Place) → Keeps (address_of p)
+
+-- ALLOCATE of a BASED variable in an area is such an operation
+abbrev pub BlockKeeps : Type 0
+BlockKeeps = (p : Place) (v : Variable) → Keeps (block_made p v)
+
+-- a pointer as an offset of an area is such an operation
+abbrev pub OffsetKeeps : Type 0
+OffsetKeeps = (p : Place) (v : Value) → Keeps (offset_made p v)
+
+-- an offset as a pointer into an area is such an operation
+abbrev pub PointerKeeps : Type 0
+PointerKeeps = (p : Place) (v : Value) → Keeps (pointer_within p v)
+
+-- assigning an area is such an operation
+abbrev pub AssigningKeeps : Type 0
+AssigningKeeps = (source target : Place) → Keeps (assigned source target)
+
+-- emptying one is such an operation
+abbrev pub EmptyingKeeps : Type 0
+EmptyingKeeps = (p : Place) → Keeps (emptied p)
 
 -- entering a block adds an activation, also where there is no room for its variables
 abbrev pub EnteringAdds : Type 0

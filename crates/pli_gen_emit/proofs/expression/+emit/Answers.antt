@@ -6,7 +6,7 @@ use Rattle.pli_type_tree.specs.declared.expression.TypedSubscript.{TypedSubscrip
 use Rattle.pli_type_tree.specs.views.TypedView.{root_view, callee_view, operation_view, argument_before, expression_view, reference_view, operands_view, arguments_view, subscripts_view}
 use Rattle.pli_gen_emit.specs.TreeTranslation.{root_code, call_instruction, operation_code, arguments_code, operands_code, subscripts_code, value_code, place_code}
 use Rattle.pli_gen_emit.proofs.EmitLemmas.{emits_both, then_emits, amid_next}
-use Rattle.pli_gen_emit.proofs.TreeCode.{argument_first, operation_code_made, call_code_made, located_code_made, part_code_made}
+use Rattle.pli_gen_emit.proofs.TreeCode.{argument_first, operation_code_made, call_code_made, as_pointer_code_made, as_offset_code_made, located_code_made, part_code_made}
 use Rattle.pli_gen_emit.proofs.expression.+emit.Goals as goal
 
 pub emit_arguments-loop-argument-preserved : goal.emit_arguments-loop-argument-preserved
@@ -47,6 +47,32 @@ emit_value-returns-in-Called t c =
     c.emit_arguments.ensures c.call.ensures
     (ap (λ xs. arguments_code (arguments_view xs) ++ call_instruction (callee_view b.callee) (length xs) ∷ []) c.as_slice-arguments.ensures.value
     ∙ sym (ap (λ e. value_code (expression_view e)) b.is ∙ call_code_made b.callee b.arguments))
+
+pub emit_value-returns-in-AsPointer : goal.emit_value-returns-in-AsPointer
+emit_value-returns-in-AsPointer t c =
+    let b = c.in-AsPointer in
+    let old = c.args.code.now in
+    let valued = c.emit_value.new.code in
+    let placed = c.emit_place-in-AsPointer.new.code in
+    let area = place_code (reference_view b.area) in
+    let last = op.ToPointer ∷ [] in
+    then_emits old placed c.emit-in-AsPointer.new.self _ last _
+    (emits_both old valued placed (value_code (expression_view c.deref.result.now)) area c.emit_value.ensures c.emit_place-in-AsPointer.ensures) c.emit-in-AsPointer.ensures
+    (ap (λ e. value_code (expression_view e) ++ area ++ last) c.deref.ensures
+    ∙ sym (ap (λ e. value_code (expression_view e)) b.is ∙ as_pointer_code_made b.area b.offset))
+
+pub emit_value-returns-in-AsOffset : goal.emit_value-returns-in-AsOffset
+emit_value-returns-in-AsOffset t c =
+    let b = c.in-AsOffset in
+    let old = c.args.code.now in
+    let valued = c.emit_value-in-AsOffset.new.code in
+    let placed = c.emit_place-in-AsOffset.new.code in
+    let area = place_code (reference_view b.area) in
+    let last = op.ToOffset ∷ [] in
+    then_emits old placed c.emit-in-AsOffset.new.self _ last _
+    (emits_both old valued placed (value_code (expression_view c.deref-in-AsOffset.result.now)) area c.emit_value-in-AsOffset.ensures c.emit_place-in-AsOffset.ensures) c.emit-in-AsOffset.ensures
+    (ap (λ e. value_code (expression_view e) ++ area ++ last) c.deref-in-AsOffset.ensures
+    ∙ sym (ap (λ e. value_code (expression_view e)) b.is ∙ as_offset_code_made b.area b.pointer))
 
 pub emit_root-returns-in-Located : goal.emit_root-returns-in-Located
 emit_root-returns-in-Located t c =

@@ -14,4 +14,4 @@ returns-in-Call c =
     c.emit_arguments.ensures c.call.ensures
     (ap (λ xs. arguments_code (arguments_view xs) ++ call_instruction (callee_view b.callee) (length xs) ∷ []) c.as_slice-arguments.ensures.value
     ∙ ap (λ n. arguments_code (arguments_view b.arguments.items) ++ call_instruction (callee_view b.callee) n ∷ []) (sym (arguments_counted b.arguments.items))
-    ∙ sym (ap (λ f. simple_code (form_view f)) b.is))
+    ∙ sym (ap (λ f. simple_code (form_view f) (length c.args.code.now.code.items)) b.is))

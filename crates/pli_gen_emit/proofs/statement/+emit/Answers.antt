@@ -1,4 +1,4 @@
-use Rattle.std.proofs.Common.{◌∷◌, [], suc, length, arith, ap, ◌∙◌, sym, subst}
+use Rattle.std.proofs.Common.{◌∷◌, [], suc, length, arith, refl, ap, ◌∙◌, sym, subst}
 use Rattle.pli_type_tree.specs.TypedTree as plain
 use Rattle.pli_type_tree.specs.views.TypedView.{expression_view, iteration_view, form_view, statement_view, statements_view}
 use Rattle.pli_type_tree.specs.laws.TypedTreeLaws.{boxed_view, if_made, group_made, while_made, iterate_made}
@@ -9,12 +9,14 @@ use Rattle.pli_gen_emit.specs.TreeTranslation.{value_code, start_code, tests_cod
 use Rattle.pli_gen_emit.specs.answers.Pieces.{IsTurn}
 use Rattle.pli_gen_emit.specs.answers.Emitting.{emission, extended}
 use Rattle.pli_gen_emit.proofs.EmitLemmas.{longer, emits_as}
-use Rattle.pli_gen_emit.proofs.EmittedJumps.{lands_as, one_way_emitted, two_ways_emitted, turns_emitted, iterate_emitted, statements_amid}
+use Rattle.pli_gen_emit.proofs.EmittedJumps.{lands_as, one_way_emitted, two_ways_emitted, turns_emitted, iterate_emitted}
+use Rattle.pli_gen_emit.proofs.PlacedLemmas.{placed_amid}
 use Rattle.pli_gen_emit.proofs.statement.+emit.Goals as goal
 
 pub emit_list-loop-statement-preserved : goal.emit_list-loop-statement-preserved
 emit_list-loop-statement-preserved t c =
-    statements_amid c.args.code.now c.loop-statement.code c.emit_statement.new.code c.args.statements.now c.loop-statement.statement-index c.statement-item.result
+    placed_amid (λ ss p. list_code (statements_view ss) p) (λ s p. statement_code (statement_view s) p) (λ s ss p. refl)
+    c.args.code.now c.loop-statement.code c.emit_statement.new.code c.args.statements.now c.loop-statement.statement-index c.statement-item.result
     (list_code (statements_view c.args.statements.now) (length c.args.code.now.code.items)) (omega arith) c.statement-item.is c.emit_statement.ensures c.loop-statement.invariant
 
 pub emit_statement-returns : goal.emit_statement-returns

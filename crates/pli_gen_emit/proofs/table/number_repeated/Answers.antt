@@ -10,5 +10,5 @@ returns c =
     let t = template_view c.args.template.now in
     let ts = replicate n t in
     let some = c.if-count-eq0.false in
-    numbers_like c.args.tables.now c.number_used.new.tables (t.description ∷ []) (map (λ t. t.description) ts) (t ∷ []) ts c.number_used.ensures
+    numbers_like c.args.tables.now c.number_used.new.tables (t.description ∷ []) (map (λ t. t.description) ts) (t ∷ []) ts c.number_used.ensures.numbers
     (λ table. group_described n table t some) (λ table. group_templated n table t some)

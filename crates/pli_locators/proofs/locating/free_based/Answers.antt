@@ -21,8 +21,8 @@ returns-in-Based-clause-answer c = λ w.
     let before = with_storage c.args.storage.now w in
     freed_there (description_view c.args.description.now) c.args.locator before c.in_ok-living.living (c.in_ok-living.ensures w)
     (ap (λ m. is_allocated (made_view m)) c.in-Based.is)
-    ∙ ap (λ gs. Yields tt (record before { storage = gs })) (sym c.end.ensures.storage)
-    ∙ ap (λ n. Yields tt (record before { storage = storage_view c.end.new.self; made = n })) (sym c.end.ensures.made)
+    ∙ ap (λ gs. Yields tt (record before { storage = gs })) (sym c.end_whole.ensures.storage)
+    ∙ ap (λ n. Yields tt (record before { storage = storage_view c.end_whole.new.storage; made = n })) (sym c.end_whole.ensures.made)
 
 pub returns-in_default : goal.returns-in_default
 returns-in_default c = record {

@@ -3,7 +3,7 @@ use Rattle.std.proofs.lemmas.Bool.Decides.{same_from_decides}
 use Rattle.pli_map.specs.Same.{same}
 use Rattle.pli_map.specs.laws.SameLaws.{same_decides}
 use Rattle.pli_map.specs.views.DescriptionView.{description_view}
-use Rattle.pli_locators.specs.views.TargetView.{target_view}
+use Rattle.pli_store.specs.views.StorageView.{target_view}
 use Rattle.pli_locators.proofs.TargetsFound.{unless_other_same, unless_other_differs}
 use Rattle.pli_locators.proofs.locating.of_description.Goals as goal
 

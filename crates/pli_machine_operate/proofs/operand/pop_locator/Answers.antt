@@ -5,8 +5,8 @@ use Rattle.pli_machine_operate.specs.views.OperandView.{stack}
 use Rattle.pli_machine_operate.proofs.StackLemmas.{one_taken}
 use Rattle.pli_machine_operate.proofs.operand.pop_locator.Goals as goal
 
-pub returns : goal.returns
-returns c =
+pub returns-clause-newest : goal.returns-clause-newest
+returns-clause-newest c =
     let operands = c.args.operands.now in
     one_taken operands.items c.truncate.new.self.items c.len.result c.in_ok-newest.newest.now (omega (arith, operands.ok.0))
     (sym (ap option_copied c.in_ok-newest.was) ∙ c.last.ensures.value ∙ ap (λ xs. slice_get xs (length xs - 1)) c.deref.ensures.value)

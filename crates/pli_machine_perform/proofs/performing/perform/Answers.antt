@@ -151,3 +151,23 @@ returns-in-AllocateBased c =
 pub returns-in-FreeBased : goal.returns-in-FreeBased
 returns-in-FreeBased c =
     does_performs (image_of c.args.unit.now.loaded.now) (member_view c.args.unit.now.linked.now) c.args.instruction (coded.FreeBased c.in-FreeBased.description) c.args.machine.now c.free_based.new.machine c.free_based.result c.in-FreeBased.is c.free_based.ensures
+
+pub returns-in-ToPointer : goal.returns-in-ToPointer
+returns-in-ToPointer c =
+    does_performs (image_of c.args.unit.now.loaded.now) (member_view c.args.unit.now.linked.now) c.args.instruction coded.ToPointer c.args.machine.now c.to_pointer.new.machine c.to_pointer.result c.in-ToPointer.is c.to_pointer.ensures
+
+pub returns-in-ToOffset : goal.returns-in-ToOffset
+returns-in-ToOffset c =
+    does_performs (image_of c.args.unit.now.loaded.now) (member_view c.args.unit.now.linked.now) c.args.instruction coded.ToOffset c.args.machine.now c.to_offset.new.machine c.to_offset.result c.in-ToOffset.is c.to_offset.ensures
+
+pub returns-in-AllocateInArea : goal.returns-in-AllocateInArea
+returns-in-AllocateInArea c =
+    does_performs (image_of c.args.unit.now.loaded.now) (member_view c.args.unit.now.linked.now) c.args.instruction (coded.AllocateInArea c.in-AllocateInArea.template c.in-AllocateInArea._after) c.args.machine.now c.allocate_in_area.new.machine c.allocate_in_area.result c.in-AllocateInArea.is (c.allocate_in_area.ensures c.in-AllocateInArea._after)
+
+pub returns-in-AssignArea : goal.returns-in-AssignArea
+returns-in-AssignArea c =
+    does_performs (image_of c.args.unit.now.loaded.now) (member_view c.args.unit.now.linked.now) c.args.instruction coded.AssignArea c.args.machine.now c.assign_area.new.machine c.assign_area.result c.in-AssignArea.is c.assign_area.ensures
+
+pub returns-in-EmptyArea : goal.returns-in-EmptyArea
+returns-in-EmptyArea c =
+    does_performs (image_of c.args.unit.now.loaded.now) (member_view c.args.unit.now.linked.now) c.args.instruction coded.EmptyArea c.args.machine.now c.empty_area.new.machine c.empty_area.result c.in-EmptyArea.is c.empty_area.ensures

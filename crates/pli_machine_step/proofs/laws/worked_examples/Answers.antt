@@ -1,3 +1,4 @@
+use Rattle.pli_machine_step.proofs.AreasRun as areas
 use Rattle.pli_machine_step.proofs.ExamplesRun as run
 use Rattle.pli_machine_step.proofs.laws.worked_examples.Goals as goal
 
@@ -129,3 +130,21 @@ returns-clause-address_is_not_freed c = run.address_is_not_freed
 
 pub returns-clause-numbers_fault : goal.returns-clause-numbers_fault
 returns-clause-numbers_fault c = run.numbers_fault
+
+pub returns-clause-block_prints : goal.returns-clause-block_prints
+returns-clause-block_prints c = areas.block_prints
+
+pub returns-clause-offset_prints : goal.returns-clause-offset_prints
+returns-clause-offset_prints c = areas.offset_prints
+
+pub returns-clause-blocks_end : goal.returns-clause-blocks_end
+returns-clause-blocks_end c = areas.blocks_end
+
+pub returns-clause-area_is_full : goal.returns-clause-area_is_full
+returns-clause-area_is_full c = areas.area_is_full
+
+pub returns-clause-not_in_area : goal.returns-clause-not_in_area
+returns-clause-not_in_area c = areas.not_in_area
+
+pub returns-clause-areas_fault : goal.returns-clause-areas_fault
+returns-clause-areas_fault c = areas.areas_fault

@@ -1,3 +1,4 @@
+use Rattle.pli_meaning_tree.proofs.AreasHold as areas
 use Rattle.pli_meaning_tree.proofs.ExamplesHold as holds
 use Rattle.pli_meaning_tree.proofs.laws.worked_examples.Goals as goal
 
@@ -93,3 +94,24 @@ returns-clause-leads_nowhere c = holds.leads_nowhere
 
 pub returns-clause-is_not_freed : goal.returns-clause-is_not_freed
 returns-clause-is_not_freed c = holds.is_not_freed
+
+pub returns-clause-offset_copied : goal.returns-clause-offset_copied
+returns-clause-offset_copied c = areas.offset_copied
+
+pub returns-clause-dead_header_named : goal.returns-clause-dead_header_named
+returns-clause-dead_header_named c = areas.dead_header_named
+
+pub returns-clause-area_full : goal.returns-clause-area_full
+returns-clause-area_full c = areas.area_full
+
+pub returns-clause-outside_area_named : goal.returns-clause-outside_area_named
+returns-clause-outside_area_named c = areas.outside_area_named
+
+pub returns-clause-block_freed : goal.returns-clause-block_freed
+returns-clause-block_freed c = areas.block_freed
+
+pub returns-clause-list_in_area : goal.returns-clause-list_in_area
+returns-clause-list_in_area c = areas.list_in_area
+
+pub returns-clause-no_area_is_error : goal.returns-clause-no_area_is_error
+returns-clause-no_area_is_error c = areas.no_area_is_error

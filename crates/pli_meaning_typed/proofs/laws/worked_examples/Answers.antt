@@ -15,3 +15,6 @@ returns-clause-pointers c = law.pointers_are
 
 pub returns-clause-units : goal.returns-clause-units
 returns-clause-units c = law.units_are
+
+pub returns-clause-areas : goal.returns-clause-areas
+returns-clause-areas c = law.areas_are

@@ -18,7 +18,8 @@ use Rattle.pli_type_expression.proofs.BindLemmas.{exits, fails_as, fails_on, bin
 use Rattle.pli_type_expression.proofs.WrittenCalls.{gives_as, call_unmeant, call_typed}
 use Rattle.pli_type_expression.proofs.MeaningLemmas.{begun_at_variable, begun_at_function, call_given, begun_beside_function, begun_beside_procedure, procedure_unmeant}
 use Rattle.pli_type_expression.proofs.SizeLemmas.{item_size, part_size, expression_size, reference_size, arguments_size, list_size, parts_size}
-use Rattle.pli_type_expression.proofs.WalkLemmas.{written_ends, written_unbegun, written_unended, parenthesized_typed, parenthesized_unmeant, prefix_typed, prefix_unmeant, prefix_refused, infix_typed, left_unmeant, right_unmeant, infix_refused}
+use Rattle.pli_type_expression.proofs.WalkLemmas.{written_ends, written_unbegun, written_unended, parenthesized_typed, parenthesized_unmeant, infix_valued, infix_typed, left_unmeant, right_unmeant, infix_refused}
+use Rattle.pli_type_expression.specs.Operated.{prefixed, infixed}
 use Rattle.pli_type_expression.specs.Segments.{next_segment, function_typed}
 use Rattle.pli_base.specs.declared.failure.Failure.TheVariants.{OutOfMemory}
 use Rattle.pli_type_expression.specs.declared.argument.Argument.{Argument}
@@ -249,7 +250,7 @@ begun_with-returns-in_err-value-in-Function t c =
     let e = c.in_err-value-in-Function.field-0.0 in
     exits _ c.from_residual-in_err-value-in-Function.result e _ c.from_residual-in_err-value-in-Function.ensures.1
     (fails_as e _ _ (ap (λ k. typing.begun n w k (locator_view c.args.locator) c.args.at (Given list)) c.if-call.true
-    ∙ begun_at_function n w c.in-Function.function c.in-Function.ensures (locator_view c.args.locator) c.args.at list) (fails_on e (function_typed n c.in-Function.function c.args.at list) (λ v. Ok (typing.OfFunction v)) c.in_err-value-in-Function.ensures))
+    ∙ begun_at_function n w c.in-Function.function c.in-Function.ensures (locator_view c.args.locator) c.args.at list) (fails_on e (function_typed n c.in-Function.function c.args.at list) (λ v. Ok (typing.given_by c.in-Function.function v)) c.in_err-value-in-Function.ensures))
 
 pub begun_with-returns-then-call : goal.begun_with-returns-then-call
 begun_with-returns-then-call t c =
@@ -258,7 +259,8 @@ begun_with-returns-then-call t c =
     let list = syntax.expressions_view c.args.list.now in
     ap (λ k. typing.begun n w k (locator_view c.args.locator) c.args.at (Given list)) c.if-call.true
     ∙ begun_at_function n w c.in-Function.function c.in-Function.ensures (locator_view c.args.locator) c.args.at list
-    ∙ bind_ok (function_typed n c.in-Function.function c.args.at list) (value_view c.in_ok-value-in-Function.value) (λ v. Ok (typing.OfFunction v)) c.in_ok-value-in-Function.ensures
+    ∙ bind_ok (function_typed n c.in-Function.function c.args.at list) (value_view c.in_ok-value-in-Function.value) (λ v. Ok (typing.given_by c.in-Function.function v)) c.in_ok-value-in-Function.ensures
+    ∙ ap (λ s. Ok s) (sym (c.given.ensures n))
 
 pub begun_with-returns-in_err-all_arguments-in-Function : goal.begun_with-returns-in_err-all_arguments-in-Function
 begun_with-returns-in_err-all_arguments-in-Function t c =
@@ -308,7 +310,7 @@ begun_with-returns-then-call-2 t c =
     let result = c.procedure_called.result in
     gives_as (segment_view n) result _ _ (ap (λ k. typing.begun n w k (locator_view c.args.locator) c.args.at (Given list)) c.if-call-2.true)
     (call_given (segment_view n) result n w c.in-Procedure.procedure c.in-Procedure.ensures (locator_view c.args.locator) c.args.at list gs c.in_ok-arguments-in-Procedure.ensures
-    (λ q is. gives_as (segment_view n) result _ _ (ap (λ g. typing.procedure_called g q c.args.at gs) (sym c.greatest.ensures)) (c.procedure_called.ensures n q is)))
+    c.procedure_called.ensures)
 
 pub called-returns-in_err-all_arguments : goal.called-returns-in_err-all_arguments
 called-returns-in_err-all_arguments t c =
@@ -453,18 +455,39 @@ referred-returns t c =
     (segment_view n c.in_ok-first.first) (segment_view n c.in_ok-last.last) c.in_ok-first.ensures c.in_ok-last.ensures)
     c.ended.ensures
 
-pub value_of-denoted-requires : goal.value_of-denoted-requires
-value_of-denoted-requires t c = (omega (arith, c.decreases), c.requires)
+pub value_of-infixed-requires : goal.value_of-infixed-requires
+value_of-infixed-requires t c =
+    let n = compiled_in c.args.naming.now in
+    let size = λ (e : Expression). expression_size (syntax.expression_view e) in
+    let later = λ (e : Expression). later_expression n (syntax.expression_view e) in
+    let parts = or_parts (later c.in-Infix.left.value) (later c.in-Infix.right.value) (sym (ap later c.in-Infix.is) ∙ c.requires) in (
+      omega (arith, c.decreases, ap size c.in-Infix.is, ap size c.deref.ensures, ap size c.deref-in-Infix.ensures),
+      (ap later c.deref.ensures ∙ parts.0, ap later c.deref-in-Infix.ensures ∙ parts.1),
+    )
 
-pub value_of-returns-in_err-denoted : goal.value_of-returns-in_err-denoted
-value_of-returns-in_err-denoted t c =
+pub value_of-returns-in-Infix : goal.value_of-returns-in-Infix
+value_of-returns-in-Infix t c =
+    let n = naming_in c.args.naming.now in
+    let b = c.in-Infix in
+    gives_as value_view c.infixed.result _ _
+    (ap (λ e. typing.value_of n (syntax.expression_view e)) b.is
+    ∙ infix_valued n b.operator b.at (syntax.expression_view b.left.value) (syntax.expression_view b.right.value)
+    ∙ ap (λ (e : Expression). infixed n b.operator b.at (syntax.expression_view e) (syntax.expression_view b.right.value)) (sym c.deref.ensures)
+    ∙ ap (λ (e : Expression). infixed n b.operator b.at (syntax.expression_view c.deref.result.now) (syntax.expression_view e)) (sym c.deref-in-Infix.ensures))
+    c.infixed.ensures
+
+pub value_denoted-denoted-requires : goal.value_denoted-denoted-requires
+value_denoted-denoted-requires t c = (omega (arith, c.decreases), c.requires)
+
+pub value_denoted-returns-in_err-denoted : goal.value_denoted-returns-in_err-denoted
+value_denoted-returns-in_err-denoted t c =
     let e = c.in_err-denoted.field-0.0 in
     let x = syntax.expression_view c.args.expression.now in
     exits _ c.from_residual.result e _ c.from_residual.ensures.1
     (fails_on e (typing.denoted (naming_in c.args.naming.now) AsValue x) (λ d. typing.one_value (typing.first_token x) (calls.meant_as d)) c.in_err-denoted.ensures)
 
-pub value_of-returns : goal.value_of-returns
-value_of-returns t c =
+pub value_denoted-returns : goal.value_denoted-returns
+value_denoted-returns t c =
     let n = naming_in c.args.naming.now in
     let x = syntax.expression_view c.args.expression.now in
     gives_as value_view c.one_value.result _ _
@@ -519,43 +542,20 @@ denoted-returns-in_ok-value-in-Parenthesized t c =
     ap (λ e. typing.denoted n role (syntax.expression_view e)) b.is
     ∙ parenthesized_typed n role b.at (syntax.expression_view b.inner.value) (value_view c.in_ok-value-in-Parenthesized.value) (sym (ap here c.deref.ensures) ∙ c.in_ok-value-in-Parenthesized.ensures)
 
-pub denoted-value_of-requires-in-Prefix : goal.denoted-value_of-requires-in-Prefix
-denoted-value_of-requires-in-Prefix t c =
+pub denoted-prefixed-requires : goal.denoted-prefixed-requires
+denoted-prefixed-requires t c =
     let n = compiled_in c.args.naming.now in
     (omega (arith, c.decreases, ap (λ e. expression_size (syntax.expression_view e)) c.in-Prefix.is, ap (λ e. expression_size (syntax.expression_view e)) c.deref-in-Prefix.ensures), ap (λ e. later_expression n (syntax.expression_view e)) c.deref-in-Prefix.ensures ∙ sym (ap (λ e. later_expression n (syntax.expression_view e)) c.in-Prefix.is) ∙ c.requires)
 
-pub denoted-returns-in_err-operand_value-in-Prefix : goal.denoted-returns-in_err-operand_value-in-Prefix
-denoted-returns-in_err-operand_value-in-Prefix t c =
+pub denoted-returns-in-Prefix : goal.denoted-returns-in-Prefix
+denoted-returns-in-Prefix t c =
     let n = naming_in c.args.naming.now in
     let role = role_view c.args.role in
     let b = c.in-Prefix in
-    let here = λ (e : Expression). typing.value_of n (syntax.expression_view e) in
-    let e = c.in_err-operand_value-in-Prefix.field-0.0 in
-    exits _ c.from_residual-in_err-operand_value-in-Prefix.result e _ c.from_residual-in_err-operand_value-in-Prefix.ensures.1
-    (fails_as e _ _ (ap (λ e. typing.denoted n role (syntax.expression_view e)) b.is) (prefix_unmeant n role b.operator b.at (syntax.expression_view b.operand.value) e (fails_as e _ _ (sym (ap here c.deref-in-Prefix.ensures)) c.in_err-operand_value-in-Prefix.ensures)))
-
-pub denoted-returns-in_err-given-in-Prefix : goal.denoted-returns-in_err-given-in-Prefix
-denoted-returns-in_err-given-in-Prefix t c =
-    let n = naming_in c.args.naming.now in
-    let role = role_view c.args.role in
-    let b = c.in-Prefix in
-    let v = value_view c.in_ok-operand_value-in-Prefix.operand_value in
-    let here = λ (e : Expression). typing.value_of n (syntax.expression_view e) in
-    let e = c.in_err-given-in-Prefix.field-0.0 in
-    exits _ c.from_residual-in_err-given-in-Prefix.result e _ c.from_residual-in_err-given-in-Prefix.ensures.1
-    (fails_as e _ _ (ap (λ e. typing.denoted n role (syntax.expression_view e)) b.is) (prefix_refused n role b.operator b.at (syntax.expression_view b.operand.value) v e (sym (ap here c.deref-in-Prefix.ensures) ∙ c.in_ok-operand_value-in-Prefix.ensures)
-    (fails_as e _ _ (ap (λ g. typing.or_fault WrongOperandType b.at (types.prefix_value g b.operator v)) (sym c.greatest.ensures)) c.in_err-given-in-Prefix.ensures)))
-
-pub denoted-returns-in_ok-given-in-Prefix : goal.denoted-returns-in_ok-given-in-Prefix
-denoted-returns-in_ok-given-in-Prefix t c =
-    let n = naming_in c.args.naming.now in
-    let role = role_view c.args.role in
-    let b = c.in-Prefix in
-    let v = value_view c.in_ok-operand_value-in-Prefix.operand_value in
-    let here = λ (e : Expression). typing.value_of n (syntax.expression_view e) in
-    ap (λ e. typing.denoted n role (syntax.expression_view e)) b.is
-    ∙ prefix_typed n role b.operator b.at (syntax.expression_view b.operand.value) v (value_view c.in_ok-given-in-Prefix.given) (sym (ap here c.deref-in-Prefix.ensures) ∙ c.in_ok-operand_value-in-Prefix.ensures)
-    (ap (λ g. typing.or_fault WrongOperandType b.at (types.prefix_value g b.operator v)) (sym c.greatest.ensures) ∙ c.in_ok-given-in-Prefix.ensures)
+    gives_as denoted_view c.prefixed.result _ _
+    (ap (λ e. typing.denoted n role (syntax.expression_view e)) b.is
+    ∙ ap (λ (e : Expression). prefixed n b.operator b.at (syntax.expression_view e)) (sym c.deref-in-Prefix.ensures))
+    c.prefixed.ensures
 
 pub denoted-value_of-requires-in-Infix : goal.denoted-value_of-requires-in-Infix
 denoted-value_of-requires-in-Infix t c =
@@ -608,7 +608,7 @@ denoted-returns-in_err-combined-in-Infix t c =
     (fails_as e _ _ (ap (λ e. typing.denoted n role (syntax.expression_view e)) b.is)
     (infix_refused n role b.operator b.at left right v w e (sym (ap here c.deref-in-Infix.ensures) ∙ c.in_ok-left_value-in-Infix.ensures)
     (sym (ap here c.deref-in-Infix-2.ensures) ∙ c.in-Ok.ensures)
-    (fails_as e _ _ (ap (λ g. typing.or_fault WrongOperandType b.at (types.infix_value g b.operator v w)) (sym c.greatest-in-Infix.ensures)) c.in_err-combined-in-Infix.ensures)))
+    (fails_as e _ _ (ap (λ g. typing.or_fault WrongOperandType b.at (types.infix_value g b.operator v w)) (sym c.greatest.ensures)) c.in_err-combined-in-Infix.ensures)))
 
 pub denoted-returns-in_ok-combined-in-Infix : goal.denoted-returns-in_ok-combined-in-Infix
 denoted-returns-in_ok-combined-in-Infix t c =
@@ -623,4 +623,4 @@ denoted-returns-in_ok-combined-in-Infix t c =
     ap (λ e. typing.denoted n role (syntax.expression_view e)) b.is
     ∙ infix_typed n role b.operator b.at left right v w (value_view c.in_ok-combined-in-Infix.combined) (sym (ap here c.deref-in-Infix.ensures) ∙ c.in_ok-left_value-in-Infix.ensures)
     (sym (ap here c.deref-in-Infix-2.ensures) ∙ c.in-Ok.ensures)
-    (ap (λ g. typing.or_fault WrongOperandType b.at (types.infix_value g b.operator v w)) (sym c.greatest-in-Infix.ensures) ∙ c.in_ok-combined-in-Infix.ensures)
+    (ap (λ g. typing.or_fault WrongOperandType b.at (types.infix_value g b.operator v w)) (sym c.greatest.ensures) ∙ c.in_ok-combined-in-Infix.ensures)

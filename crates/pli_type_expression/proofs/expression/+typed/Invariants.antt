@@ -43,10 +43,19 @@ invariant-all_arguments-loop-place l =
 -- each call is for something smaller, or for the same with less left to do
 
 abbrev pub decreases-value_of : goal.decreases-value_of
-decreases-value_of l = expression_size (expression_view l.expression.now) + 1
+decreases-value_of l = expression_size (expression_view l.expression.now) + 2
+
+abbrev pub decreases-value_denoted : goal.decreases-value_denoted
+decreases-value_denoted l = expression_size (expression_view l.expression.now) + 1
 
 abbrev pub decreases-denoted : goal.decreases-denoted
 decreases-denoted l = expression_size (expression_view l.expression.now)
+
+abbrev pub decreases-prefixed : goal.decreases-prefixed
+decreases-prefixed l = expression_size (expression_view l.operand.now) + 3
+
+abbrev pub decreases-infixed : goal.decreases-infixed
+decreases-infixed l = expression_size (expression_view l.left.now) + expression_size (expression_view l.right.now) + 3
 
 abbrev pub decreases-referred : goal.decreases-referred
 decreases-referred l = reference_size (reference_view l.reference.now)

@@ -7,7 +7,7 @@ use Rattle.pli_map.proofs.Members.{member_past}
 use Rattle.pli_type_names.specs.OnWays.{placed_in}
 use Rattle.pli_type_names.specs.views.NameView.{part_view}
 use Rattle.pli_type_names.proofs.LevelsLead.{member_fits}
-use Rattle.pli_type_names.proofs.PlainLemmas.{PlainMember}
+use Rattle.pli_type_names.proofs.PlainLemmas.{PlainMember, plain_stands}
 use Rattle.pli_type_names.proofs.levels.member.Goals as goal
 
 pub returns-then-number-len-clause-part : goal.returns-then-number-len-clause-part
@@ -30,7 +30,7 @@ fits c =
     level.element.plain c.requires is
 
 pub into_placed-requires-clause-plain : goal.into_placed-requires-clause-plain
-into_placed-requires-clause-plain c = (fits c).plain
+into_placed-requires-clause-plain c = plain_stands (placed_view c.next.result).description (fits c).plain
 
 pub into_placed-requires-clause-within : goal.into_placed-requires-clause-within
 into_placed-requires-clause-within c =

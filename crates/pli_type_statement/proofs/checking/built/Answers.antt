@@ -3,7 +3,7 @@ use Rattle.pli_base.specs.declared.statement.Procedure.{out-Procedure}
 use Rattle.pli_base.specs.views.StatementView.{unit_view}
 use Rattle.pli_type.specs.Temporaries.{Next}
 use Rattle.pli_type.specs.Unbuilt.{first_unbuilt}
-use Rattle.pli_type_names.specs.UnitNaming.{Names, compiled_in, procedure_in}
+use Rattle.pli_type_names.specs.UnitNaming.{Names, compiled_in}
 use Rattle.pli_type_tree.specs.declared.statement.TypedStatement.{TypedStatement}
 use Rattle.pli_type_tree.specs.declared.unit.GlobalGroup.{GlobalGroup}
 use Rattle.pli_type_tree.specs.views.GlobalView.{globals_view, signature_view}
@@ -47,7 +47,7 @@ returns-in_ok-typed_unit-in-Some c =
     ap (λ (n : Names). first_unbuilt (compiled_in n) (unit_view u)) (sym c.requires.same) ∙ c.requires.built in
     let gives =
     c.procedure.ensures.returned
-    ∙ ap (λ (n : Names). (procedure_in n.unit 0).returned) named ∙ returned_found u in
+    ∙ returned_found c.enter.new.self ∙ ap (λ (n : Names). (unit_named n.unit).returned 0) named in
     let new = c.type_statements.new.walk in
     let w =
     whole_walked u _ new c.as_slice-statements.result.now _ _ named c.in_ok-surroundings.ensures gives refl same
@@ -83,7 +83,7 @@ returns-in-None c =
     ap (λ (n : Names). first_unbuilt (compiled_in n) (unit_view u)) (sym c.requires.same) ∙ c.requires.built in
     let gives =
     c.procedure.ensures.returned
-    ∙ ap (λ (n : Names). (procedure_in n.unit 0).returned) named ∙ returned_found u in
+    ∙ returned_found c.enter.new.self ∙ ap (λ (n : Names). (unit_named n.unit).returned 0) named in
     let new = c.type_statements.new.walk in
     let w =
     whole_walked u _ new c.as_slice-statements.result.now _ _ named c.in_ok-surroundings.ensures gives refl same

@@ -1,9 +1,9 @@
 use Rattle.std.proofs.Common.{Ok, option_map, ap, sym, ◌∙◌, subst}
 use Rattle.std.proofs.lemmas.Result.{err_from_is_err_and}
-use Rattle.pli_base.specs.declared.syntax.Reference.{out-Reference}
 use Rattle.pli_base.specs.views.StatementView.{range_view}
 use Rattle.pli_base.specs.views.SyntaxView as syntax
 use Rattle.pli_type.specs.StatementTyping.{controls, has_locator}
+use Rattle.pli_type.specs.Typing.{own_token}
 use Rattle.pli_type.specs.views.ValueView.{value_view}
 use Rattle.pli_base.specs.answers.FailureAnswers.{Gives}
 use Rattle.pli_type_expression.proofs.BindLemmas.{fails_as}
@@ -25,7 +25,8 @@ returns-in_err-variable-2 c =
     (c.in_ok-range.ensures ∙ ap (λ r. Ok (typed.range_view r)) (sym c.in_ok-kept.ensures.ok ∙ sym c.deref.ensures))
     c.in_ok-variable.ensures
     (fails_as c.in_err-variable-2.field-0.0 _ _
-    (ap (λ b. controls (out-Reference x.variable.now).first.name.at b (typed.range_view c.deref.result.now) (denoted_view c.in_ok-variable.variable)) (sym c.has_locator-is_located.ensures))
+    (ap (λ b. controls (own_token (syntax.reference_view x.variable.now)) b (typed.range_view c.deref.result.now) (denoted_view c.in_ok-variable.variable)) (sym c.has_locator-is_located.ensures)
+    ∙ ap (λ at. controls at c.has_locator-is_located.result (typed.range_view c.deref.result.now) (denoted_view c.in_ok-variable.variable)) (sym c.own_token-at.ensures))
     c.in_err-variable-2.ensures))
 
 pub returns : goal.returns
@@ -39,7 +40,8 @@ returns c =
     (c.in_ok-first.ensures ∙ ap (λ v. Ok (value_view v)) (sym c.in_ok-start.ensures.ok))
     (c.in_ok-range.ensures ∙ ap (λ r. Ok (typed.range_view r)) (sym c.in_ok-kept.ensures.ok))
     c.in_ok-variable.ensures
-    (ap (λ k. controls (out-Reference x.variable.now).first.name.at (has_locator (syntax.reference_view x.variable.now)) (typed.range_view k) d) (sym c.deref.ensures)
-    ∙ ap (λ b. controls (out-Reference x.variable.now).first.name.at b (typed.range_view c.deref.result.now) d) (sym c.has_locator-is_located.ensures)
+    (ap (λ k. controls (own_token (syntax.reference_view x.variable.now)) (has_locator (syntax.reference_view x.variable.now)) (typed.range_view k) d) (sym c.deref.ensures)
+    ∙ ap (λ b. controls (own_token (syntax.reference_view x.variable.now)) b (typed.range_view c.deref.result.now) d) (sym c.has_locator-is_located.ensures)
+    ∙ ap (λ at. controls at c.has_locator-is_located.result (typed.range_view c.deref.result.now) d) (sym c.own_token-at.ensures)
     ∙ c.in_ok-variable-2.ensures)))
     c.iterated.ensures

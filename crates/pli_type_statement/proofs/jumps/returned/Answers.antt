@@ -13,7 +13,7 @@ use Rattle.pli_type_statement.proofs.jumps.returned.Goals as goal
 pub value_of-requires : goal.value_of-requires
 value_of-requires c =
     ap (λ v. later_part (later_expression (compiled_in c.args.naming.now)) (option_map syntax.expression_view v)) (sym c.in-Some.is)
-    ∙ c.requires
+    ∙ c.requires.built
 
 pub returns-in_err-value-in-Some : goal.returns-in_err-value-in-Some
 returns-in_err-value-in-Some c =
@@ -25,5 +25,5 @@ pub returns-in_ok-value-in-Some : goal.returns-in_ok-value-in-Some
 returns-in_ok-value-in-Some c =
     return_goes_on form_view c.returned_value.result c.args.naming.now (surroundings_of (around_view c.args.around.now))
     c.args.at c.in-Some.expression c.args.value.now (value_view c.in_ok-value-in-Some.value) c.greatest.result
-    c.first_token-first.result c.in-Some.is c.in_ok-value-in-Some.ensures c.greatest.ensures c.first_token-first.ensures
-    c.returned_value.ensures
+    c.first_token-first.result c.area_here-area.result c.in-Some.is c.in_ok-value-in-Some.ensures c.greatest.ensures
+    c.first_token-first.ensures c.area_here-area.ensures c.returned_value.ensures

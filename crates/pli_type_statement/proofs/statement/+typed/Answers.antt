@@ -17,7 +17,7 @@ use Rattle.pli_type_tree.specs.views.TypedView.{form_view, statement_view, state
 use Rattle.pli_type_statement.specs.Walking.{HasRoom, WalksBody, WalksList, around, based_names, next_at, unit_at}
 use Rattle.pli_type_statement.specs.views.HeaderView.{header_view}
 use Rattle.pli_type_statement.proofs.Blocks.{begin_walked, block_placed, block_walked, group_placed, group_walked, in_group_around, procedure_answer, returned_is}
-use Rattle.pli_type_statement.proofs.NothingLater.{statement_built, procedure_built, do_built, if_built}
+use Rattle.pli_type_statement.proofs.NothingLater.{statement_built, do_built, if_built}
 use Rattle.pli_type_statement.proofs.RoomLeft.{room_behind, room_controlled, room_else, room_first, room_if, room_inside, room_next}
 use Rattle.pli_type_statement.proofs.SizeLemmas.{statement_size, body_size, alternative_size, item_size}
 use Rattle.pli_type_statement.proofs.TurnLemmas.{all_walked, do_walked, goes_on_first, goes_on_next, if_next_none, if_next_some, in_front, next_built, none_walked, simple_answer}
@@ -80,7 +80,7 @@ type_body-type_block-requires t c =
       (
         c.requires.placed,
         (
-          procedure_built (compiled_in n) c.requires.built.0 h ss end (ap (later_body (compiled_in n) c.requires.built.0) (sym is) ∙ c.requires.built.1),
+          ap (later_body (compiled_in n) c.requires.built.0) (sym is) ∙ c.requires.built.1,
           (
             subst (λ b. HasRoom (next_at c.args.walk.now) (regions_of b)) is c.requires.room,
             omega arith,

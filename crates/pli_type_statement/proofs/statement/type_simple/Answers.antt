@@ -7,6 +7,9 @@ use Rattle.pli_type_statement.specs.Walking.{around}
 use Rattle.pli_type_statement.proofs.WalkLemmas.{based_named, compiled_named, own_walked}
 use Rattle.pli_type_statement.proofs.statement.type_simple.Goals as goal
 
+pub simple-form-requires-clause-blocks : goal.simple-form-requires-clause-blocks
+simple-form-requires-clause-blocks c = c.requires.placed.blocks
+
 pub simple-form-requires-clause-based : goal.simple-form-requires-clause-based
 simple-form-requires-clause-based c = λ block. c.requires.placed.based block ∙ based_named c.args.walk.now.naming block
 

@@ -85,5 +85,20 @@ returns-clause-freeing c = law.freeing_keeps
 pub returns-clause-address : goal.returns-clause-address
 returns-clause-address c = law.address_keeps
 
+pub returns-clause-block : goal.returns-clause-block
+returns-clause-block c = law.block_keeps
+
+pub returns-clause-offset : goal.returns-clause-offset
+returns-clause-offset c = law.offset_keeps
+
+pub returns-clause-pointer : goal.returns-clause-pointer
+returns-clause-pointer c = law.pointer_keeps
+
+pub returns-clause-assigning : goal.returns-clause-assigning
+returns-clause-assigning c = law.assigning_keeps
+
+pub returns-clause-emptying : goal.returns-clause-emptying
+returns-clause-emptying c = law.emptying_keeps
+
 pub returns-clause-line : goal.returns-clause-line
 returns-clause-line c = law.line_keeps

@@ -1,4 +1,5 @@
-use Rattle.std.proofs.Common.{◌≡◌, suc, [], ◌∷◌, ◌++◌, map, sym, ap, ◌∙◌, arith, add-one}
+use Rattle.std.proofs.Common.{◌≡◌, ◌+◌, suc, [], ◌∷◌, ◌++◌, map, sym, ap, ◌∙◌, arith, add-one}
+use Rattle.std.proofs.lemmas.List.{length-map}
 use Rattle.pli_bytes.specs.Contents.{values_of}
 use Rattle.pli_map.specs.views.DescriptionView.{description_view}
 use Rattle.pli_world.specs.Storage as plain
@@ -7,7 +8,7 @@ use Rattle.pli_world.specs.World.{Yields}
 use Rattle.pli_store.specs.views.GenerationView.{generation_view, made_view}
 use Rattle.pli_store.specs.views.StorageView.{storage_view, with_storage}
 use Rattle.pli_store.proofs.MakingLemmas.{made_there, pushed_says}
-use Rattle.pli_store.proofs.RisingNumbers.{live_added, rise_added}
+use Rattle.pli_store.proofs.RisingNumbers.{live_added, rise_added, rise_length}
 use Rattle.pli_store.proofs.storage.Storage.add.Goals as goal
 use Rattle.pli_store.proofs.storage.Storage.add.Goals.{Else-is_err}
 
@@ -23,7 +24,16 @@ added c =
     }
 
 says : (c : Else-is_err) → map generation_view c.push.new.self.items ≡ storage_view c.args.self.now ++ added c ∷ []
-says c = pushed_says c.push.result c.args.self.now.generations.items c.push.new.self.items _ (sym c.is_err.ensures.value ∙ c.if-is_err.false) c.push.ensures.items
+says c =
+    pushed_says c.push.result c.args.self.now.generations.items c.push.new.self.items _ (sym c.is_err.ensures.value ∙ c.if-is_err.false) c.push.ensures.items
+    ∙ ap (λ bs. storage_view c.args.self.now ++ record (added c) { blocks = bs } ∷ []) c.in_ok-area.ensures.blocks
+
+pub overflow_cast-len : goal.overflow_cast-len
+overflow_cast-len c =
+    let few = rise_length 0 (storage_view c.args.self.now) c.args.self.now.made c.args.self.now.rising in
+    let count = length-map c.args.self.now.generations.items generation_view in
+    let owned = c.args.self.now.generations.ok.0 in
+    omega (arith, few, count, owned, c.len.ensures)
 
 pub invariant_of-self-2 : goal.invariant_of-self-2
 invariant_of-self-2 c =
@@ -49,3 +59,4 @@ returns-clause-answer c = λ w held.
     made_there d (made_view c.args.made) (values_of d c.args.bytes.items) before c.requires.room.0 c.requires.room.1 held
     ∙ ap (λ s. Yields (whole made d) (record before { storage = s; made = suc made })) (sym (says (goal.at.returns-clause-answer c).Else-is_err))
     ∙ ap (λ n. Yields (whole made d) (record before { storage = map generation_view c.push.new.self.items; made = n })) (sym (add-one made))
+    ∙ ap (λ p. Yields p (record before { storage = map generation_view c.push.new.self.items; made = made + 1 })) (sym c.of_whole-place.ensures)

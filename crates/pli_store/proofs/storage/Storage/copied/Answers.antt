@@ -34,7 +34,7 @@ returns-in_err-from-clause-answer c = λ w.
     let told = same_from_decides c.equals.result (same d e) c.equals.ensures (same_decides d e) in
     let p = err_from_is_err_and c.from_residual.result c.from_residual.ensures.1 in
     let before = with_storage c.args.self.now w in
-    rw (p.1, p.2) (copied_from_none {T = Unit {0}} (λ x. tt) (place_view c.args.source) (place_view c.args.target) before before c.in_err-from.field-0.0 (sym c.is_area.ensures ∙ c.if-is_area.false)
+    rw (p.1, p.2) (copied_from_none {T = Unit {0}} (λ x. tt) (place_view c.args.source) (place_view c.args.target) before before c.if-source-ne0.false c.in_err-from.field-0.0 (sym c.is_area.ensures ∙ c.if-is_area.false)
     (sym told ∙ c.if-not-equals.false) c.in_err-from.ensures)
 
 pub returns-in_err-to-clause-answer : goal.returns-in_err-to-clause-answer
@@ -44,7 +44,10 @@ returns-in_err-to-clause-answer c = λ w.
     let told = same_from_decides c.equals.result (same d e) c.equals.ensures (same_decides d e) in
     let p = err_from_is_err_and c.from_residual-in_err-to.result c.from_residual-in_err-to.ensures.1 in
     let before = with_storage c.args.self.now w in
-    rw (p.1, p.2) (copied_to_none (place_view c.args.source) (place_view c.args.target) before (sym c.is_area.ensures ∙ c.if-is_area.false) (sym told ∙ c.if-not-equals.false) c.in_ok-from.from c.in_ok-from.ensures {T = Unit {0}} (λ x. tt) before c.in_err-to.field-0.0 c.in_err-to.ensures)
+    rw (p.1, p.2) (copied_to_none (place_view c.args.source) (place_view c.args.target) before (sym c.is_area.ensures ∙ c.if-is_area.false) (sym told ∙ c.if-not-equals.false) c.in_ok-from.from c.in_ok-from.ensures {T = Unit {0}} (λ x. tt) before c.if-target-ne0.false c.in_err-to.field-0.0 c.in_err-to.ensures)
+
+pub copied_bytes-requires : goal.copied_bytes-requires
+copied_bytes-requires c = record { part = sym c.is_area.ensures ∙ c.if-is_area.false; same = c.equals.ensures.0 c.if-not-equals.false }
 
 pub copy_part-requires : goal.copy_part-requires
 copy_part-requires c =

@@ -11,7 +11,7 @@ use Rattle.pli_store.proofs.storage.Storage.held.Goals as goal
 pub returns-in_err-part : goal.returns-in_err-part
 returns-in_err-part c = λ w.
     let p = err_from_is_err_and c.from_residual.result c.from_residual.ensures.1 in
-    rw (p.1, p.2) (held_failed value_view (place_view c.args.place) (with_storage c.args.self.now w) (with_storage c.args.self.now w) c.in_err-part.field-0.0 c.in_err-part.ensures)
+    rw (p.1, p.2) (held_failed value_view (place_view c.args.place) (with_storage c.args.self.now w) (with_storage c.args.self.now w) c.if-place-ne0.false c.in_err-part.field-0.0 c.in_err-part.ensures)
 
 pub returns-then-not-is_scalar : goal.returns-then-not-is_scalar
 returns-then-not-is_scalar c = λ w. held_aggregate (place_view c.args.place) (with_storage c.args.self.now w) c.in_ok-part.part c.in_ok-part.ensures (sym c.if-not-is_scalar.ensures)

@@ -24,6 +24,6 @@ returns c =
     let whole : description_view g.description.now ≡ FixedBinary c.args.precision = c.if-not-is_number_of.ensures refl in
     let found : is_some (first_scalar (description_view g.description.now) 0 (description_view place.description.now)) ≡ true =
     rw (whole, c.requires) (ap is_some (whole_found (FixedBinary c.args.precision))) in
-    let first : place.offset ≡ 0 = c.if-place-ne0.false in
+    let first : place.offset ≡ 0 = c.if-place-ne0-2.false in
     subst (λ o. LeadsTo (storage_view c.args.self.now) (place_view place) (record { at = place.hint; offset = o })) first
-    (leads_to items (place_view place) place.hint stands refl g here (rw first found))
+    (leads_to items (place_view place) place.hint stands c.if-place-ne0.false g here (rw first found))

@@ -22,4 +22,4 @@ returns c =
     let whole = description_view g.description.now in
     let found : is_some (first_scalar whole place.offset (description_view place.description.now)) ≡ true =
     subst (λ d. is_some (first_scalar whole place.offset d) ≡ true) (sym c.requires) (c.if-not-is_number_at.ensures refl) in
-    leads_to items (place_view place) place.hint stands refl g here found
+    leads_to items (place_view place) place.hint stands c.if-place-ne0.false g here found

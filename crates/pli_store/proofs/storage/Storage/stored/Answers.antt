@@ -10,7 +10,7 @@ use Rattle.pli_store.proofs.storage.Storage.stored.Goals as goal
 pub returns-in_err-part-clause-answer : goal.returns-in_err-part-clause-answer
 returns-in_err-part-clause-answer c = λ w.
     let p = err_from_is_err_and c.from_residual.result c.from_residual.ensures.1 in
-    rw (p.1, p.2) (stored_failed {T = Unit {0}} (λ x. tt) (place_view c.args.place) (value_view c.args.value) (with_storage c.args.self.now w) (with_storage c.args.self.now w) c.in_err-part.field-0.0 c.in_err-part.ensures)
+    rw (p.1, p.2) (stored_failed {T = Unit {0}} (λ x. tt) (place_view c.args.place) (value_view c.args.value) (with_storage c.args.self.now w) (with_storage c.args.self.now w) c.if-place-ne0.false c.in_err-part.field-0.0 c.in_err-part.ensures)
 
 pub returns-then-not-holds-clause-answer : goal.returns-then-not-holds-clause-answer
 returns-then-not-holds-clause-answer c = λ w.

@@ -1,0 +1,2 @@
+pub mod AreaBlocksView
+pub mod BlocksView

@@ -1,3 +1,0 @@
-pub mod AreasView
-pub mod InhabitedView
-pub mod ReferenceView
