@@ -6,13 +6,16 @@ the order of its members and in row-major order.
 from math import prod
 
 import faults
-from typed import BITS, CHARACTERS, NUMBER, POINTER, VARYING, constant_value, described, element_of, scalars_of, types_of, whole_of
+from areas import Area
+from typed import AREA, BITS, CHARACTERS, NUMBER, OFFSET, POINTER, VARYING, constant_value, described, element_of, scalars_of, types_of, whole_of
 
 
 def first_value(kind):
-    """What a scalar begins with that is given nothing."""
-    if kind[0] in (NUMBER, POINTER):
-        return 0 if kind[0] == NUMBER else None
+    """What a scalar, or an area, begins with that is given nothing."""
+    if kind[0] == AREA:
+        return Area(kind[1])
+    if kind[0] in (NUMBER, POINTER, OFFSET):
+        return None if kind[0] == POINTER else 0
     return {CHARACTERS: " ", VARYING: "", BITS: "0"}[kind[0]] * (1 if kind[0] == VARYING else kind[1])
 
 
@@ -23,9 +26,9 @@ def fitted(text, kind):
 
 
 def given_value(constant, kind):
-    """The value of a constant in INITIAL; NULL is the null pointer."""
-    if kind[0] == POINTER:
-        return None
+    """The value of a constant in INITIAL; NULL is the null pointer, and the offset 0."""
+    if kind[0] in (POINTER, OFFSET):
+        return first_value(kind)
     return faults.value(constant) if kind[0] == NUMBER else fitted(constant_value(faults.Word(constant))[1], kind)
 
 

@@ -5,9 +5,9 @@ It prints how many units agreed, and of those that did not the ten shortest, eac
   the answers to each session of the examples and of several units (crates/pli_sessions), as they stand beside it, with those of meaning.py;
   300 programs grown at random, at each number of steps from 0 to 40, and at 5,000;
   300 programs grown so of which some variables are CONTROLLED, which ALLOCATE and FREE change, at the same numbers of steps;
-  300 programs grown so with pointers and BASED variables, at the same numbers of steps;
+  300 programs grown so with pointers and BASED variables, and 300 with areas and offsets too, at the same numbers of steps;
   3,000 units whose expressions have operands, arguments and targets of wrong types now and then: all their diagnostics; 500 with
-  CONTROLLED variables, and 500 with pointers.
+  CONTROLLED variables, 500 with pointers, and 500 with areas.
 Each token of a unit is typed on a line of its own, so that the line of a diagnostic tells the token. All is the same every time.
 Without PROGRAM meaning.py is run alone.
 """
@@ -19,7 +19,7 @@ import mutations
 from compared import compare
 
 PROGRAMS = 300
-FAULTY, FAULTY_STACKS, FAULTY_POINTERS = 3000, 500, 500
+FAULTY, FAULTY_STACKS, FAULTY_POINTERS, FAULTY_AREAS = 3000, 500, 500, 500
 SEED = 19741130
 FEW_STEPS, MANY_STEPS = 40, 5000
 SESSIONS = Path(__file__).resolve().parent.parent / "crates" / "pli_sessions" / "data"
@@ -49,6 +49,15 @@ POINTING = """
 HANG = """
     HANG : PROC ( Z , W ) RETURNS ( PTR ) ; DCL Z PTR , W FIXED BIN ( 15 ) , E FIXED BIN ( 15 ) BASED ( Z ) , R PTR , G FIXED BIN ( 15 ) ; IF W > 2 THEN Z = ADDR ( G ) ;
         IF Z = NULL THEN ALLOCATE E ; E = E + 1 ; PUT LIST ( E ) ; IF W = 2 THEN FREE E ; ALLOCATE U3 SET ( R ) ; R -> U3 = W ; RETURN ( R ) ; END HANG ;
+""".split()
+AREAS = """
+    DCL W1 AREA ( 69 ) , W2 AREA ( 56 ) , W3 AREA ( 48 ) CTL , ( O1 , O2 ) OFFSET ( W1 ) , O3 ( 2 ) OFFSET ( W2 ) STATIC INIT ( NULL ) , O4 OFFSET , O5 OFFSET ( W3 ) ;
+    DCL E1 FIXED BIN ( 15 ) BASED ( O1 ) INIT ( 3 ) , E2 ( 2 ) CHAR ( 3 ) BASED , 1 E3 BASED ( O2 ) , 2 E4 FIXED BIN ( 31 ) INIT ( 8 ) , 2 E5 OFFSET ( W1 ) , 1 E6 , 2 E7 FIXED BIN ( 31 ) , 2 E8 OFFSET ;
+""".split()
+HEAP = """
+    HEAP : PROC ( Z , W , U ) RETURNS ( OFFSET ( W1 ) ) ; DCL Z AREA ( 50 ) , W OFFSET ( Z ) , U FIXED BIN ( 15 ) , E FIXED BIN ( 15 ) BASED ( W ) , R PTR , Y OFFSET ( W1 ) ;
+        IF W = NULL THEN ALLOCATE E ; E = E + 1 ; PUT LIST ( E ) ; IF U = 2 THEN FREE E ; IF U > 2 THEN Z = EMPTY ; ALLOCATE E1 SET ( Y ) ; R = Y ; R -> U3 = U ; IF U = 1 THEN RETURN ( R ) ;
+        RETURN ( Y ) ; END HEAP ;
 """.split()
 ROUTINES = """
     ADD1 : PROC ( Z ) ; DCL Z FIXED BIN ( 15 ) ; Z = Z + 1 ; PUT LIST ( Z ) ; END ADD1 ;
@@ -389,6 +398,89 @@ class PointerGrower(Grower):
         return [*words, *"AWAY : PUT LIST ( 'AWAY' , N , P1 = P2 , U9 = NULL ) ;".split(), *ROUTINES, *HANG, *"END M ;".split()]
 
 
+class AreaGrower(PointerGrower):
+    """Programs with areas and offsets, beside pointers."""
+
+    def area(self):
+        return self.chosen("W1", "W1", "W2", "W3")
+
+    def offset(self):
+        """An offset that names an area."""
+        return self.chosen(["O1"], ["O1"], ["O2"], ["O3", "(", *self.subscript(2), ")"], ["E5"], ["O2", "->", "E5"], ["O5"])
+
+    def pointer(self):
+        return super().pointer() if self.below(2) else self.offset()
+
+    def heap(self):
+        call = ["HEAP", "(", self.chosen("W2", "W2", "W2", "W1") if self.slip() else "W2", ",", *self.chosen(["O3", "(", "1", ")"], ["O3", "(", "2", ")"], ["NULL"], ["(", "O1", ")"], ["E8"])]
+        return [*call, ",", *self.chosen(["I"], ["0"], ["1"], ["1"], ["2"], ["3"]), ")"]
+
+    def pointed(self):
+        """The value of a pointer, or of an offset that names an area."""
+        if self.slip():
+            return self.chosen(["O4"], ["W1"], ["EMPTY"], ["OFFSET", "(", "P1", ",", "W1", ")"], ["POINTER", "(", "P1", ",", "W1", ")"], ["POINTER", "(", "O1", ",", "(", "W1", ")", ")"], ["POINTER", "(", "O3", ",", "W2", ")"],
+                               ["POINTER", "(", "O1", ",", "O1", ")"], ["POINTER", "(", "NULL", ",", "W1", ")"], ["POINTER"], ["HEAP", "(", "W1", ",", "O1", ",", "1", ")"], ["HEAP", "(", "W2", ",", "P1", ",", "1", ")"])
+        if self.below(3):
+            return super().pointed()
+        return self.chosen(self.offset(), ["POINTER", "(", *self.chosen(self.offset(), ["O4"], ["E8"]), ",", self.area(), ")"], self.heap(), ["ADDR", "(", self.chosen("E1", "E3", "W1"), ")"])
+
+    def put_off(self):
+        """The value of an offset, which need not name an area."""
+        made = ["OFFSET", "(", *self.chosen(["O1"] if self.slip() else ["NULL"], ["P1"], ["U9"], ["ADDR", "(", "E1", ")"], ["POINTER", "(", "O4", ",", "W1", ")"]), ",", self.area(), ")"]
+        return self.chosen(self.offset(), ["O4"], ["E8"], ["NULL"], made, ["EMPTY"] if self.slip() else ["O1"])
+
+    def variable(self, kind):
+        if self.below(4):
+            return super().variable(kind)
+        if kind == "number":
+            return self.chosen(["E1"], ["E1"], ["E4"], ["E7"], [*self.offset(), "->", "U3"], ["O2", "->", "E4"])
+        return ["O5", "->", "E2", "(", *self.subscript(2), ")"] if kind == "characters" and self.below(2) else super().variable(kind)
+
+    def leaf(self, kind):
+        if self.slip():
+            return self.chosen(["W1"], ["O1"], ["EMPTY"], ["O4", "->", "U3"], ["W1", "->", "U3"], ["O1", "->", "I"], ["E2", "(", "1", ")"], ["ADDR", "(", "W1", ")"], ["O3"], ["LENGTH", "(", "W1", ")"], ["ALLOCATION", "(", "W1", ")"])
+        if kind == "bits" and self.below(6) == 0:
+            return ["(", *self.put_off(), self.chosen("=", "^="), *self.put_off(), ")"]
+        if kind == "number" and self.below(16) == 0:
+            return ["ALLOCATION", "(", "W3", ")"]
+        return super().leaf(kind)
+
+    def statement(self, label):
+        forms = [self.allocate_within, self.allocate_within, self.free, self.set_offset, self.set_offset, self.assign_area]
+        return self.chosen(*forms)() if self.below(6) == 0 else super().statement(label)
+
+    def set_offset(self):
+        return [*self.chosen(self.offset(), ["O4"], ["E8"]), "=", *self.put_off(), ";"] if self.below(2) else self.point()
+
+    def assign_area(self):
+        if self.slip():
+            return self.chosen(["W1", "=", "(", "W2", ")", ";"], ["W1", "=", "I", ";"], ["W1", "=", "NULL", ";"], ["W1", "=", "A", ";"], ["A", "=", "W1", ";"], ["W1", "=", "(", "EMPTY", ")", ";"], ["EMPTY", "=", "W1", ";"])
+        return [self.area(), "=", *self.chosen([self.area()], [self.area()], [self.area()], ["EMPTY"], ["EMPTY", "(", ")"]), ";"]
+
+    def allocate_within(self):
+        if self.slip():
+            return ["ALLOCATE", *self.chosen(["E1", "IN", "(", "I", ")"], ["E2", "IN", "(", "W1", ")"], ["E1", "SET", "(", "O4", ")"], ["U3", "IN", "(", "W1", ")", "SET", "(", "W2", ")"], ["W1"], ["W3", "IN", "(", "W1", ")"],
+                                             ["E1", "IN", "(", "EMPTY", ")"], ["E4", "IN", "(", "W1", ")", "SET", "(", "O1", ")"], ["E1", "SET", "(", "O3", ")", "IN", "(", "S", ")"]), ";"]
+        within = ["IN", "(", self.area(), ")", "SET", "(", *self.pointer(), ")"]
+        return ["ALLOCATE", *self.chosen(["E1"], ["E1"], ["E3"], ["E1", ",", "E3"], ["W3"], ["E2", "SET", "(", "O5", ")"], [self.chosen("E1", "U3"), *within], ["E3", "SET", "(", "O2", ")"], ["U4", "IN", "(", self.area(), ")"],
+                                         ["E1", "SET", "(", "O3", "(", *self.subscript(2), ")", ")", "IN", "(", "W2", ")"]), ";"]
+
+    def free(self):
+        if self.below(2):
+            return super().free()
+        return ["FREE", *self.chosen(["E1"], ["E3"], ["W3"], [*self.offset(), "->", "U3"], ["O5", "->", "E2"]), ";"]
+
+    def aggregate(self):
+        return self.chosen(["E3", "=", "E6", ";"], ["E6", "=", "E3", ";"]) if self.below(3) == 0 else super().aggregate()
+
+    def unit(self):
+        self.labels = 0
+        first = """ALLOCATE U1 , U4 , U3 SET ( P3 ( 1 ) ) , U1 SET ( P3 ( 2 ) ) , W3 , E1 , E3 , E1 SET ( O3 ( 1 ) ) , E1 SET ( O3 ( 2 ) ) , E2 SET ( O5 ) ;
+            U6 = P1 ; U9 = P3 ( 1 ) ; E5 = O1 ; E8 = O2 ; O4 = O1 ;""".split() if self.below(6) else []
+        words = [*"M : PROC OPTIONS ( MAIN ) ;".split(), *VARIABLES, *POINTING, *AREAS, *first, *self.list(6)]
+        return [*words, *"AWAY : PUT LIST ( 'AWAY' , N , P1 = O1 , O2 = O4 ) ;".split(), *ROUTINES, *HANG, *HEAP, *"END M ;".split()]
+
+
 def as_program(words):
     return [("M", words)]
 
@@ -396,7 +488,7 @@ def as_program(words):
 def shown(program):
     """What is not the same in all programs."""
     text = " ".join(program[0][1])
-    for part in (VARIABLES, STACKED, POINTING, ROUTINES, PUSH, HANG):
+    for part in (VARIABLES, STACKED, POINTING, AREAS, ROUTINES, PUSH, HANG, HEAP):
         text = text.replace(" ".join(part), "..")
     return text
 
@@ -432,6 +524,10 @@ def main():
     agree &= compare("programs with pointers", workbench, [as_program(sound.unit()) for _ in range(PROGRAMS)], steps, shown)
     faulted = [as_program(faulty.unit()) for _ in range(FAULTY_POINTERS)]
     agree &= compare("units with wrong types and pointers", workbench, faulted, [MANY_STEPS], shown)
+    sound, faulty = AreaGrower(mutations.Numbers(SEED + 6), False), AreaGrower(mutations.Numbers(SEED + 7), True)
+    agree &= compare("programs with areas", workbench, [as_program(sound.unit()) for _ in range(PROGRAMS)], steps, shown)
+    faulted = [as_program(faulty.unit()) for _ in range(FAULTY_AREAS)]
+    agree &= compare("units with wrong types and areas", workbench, faulted, [MANY_STEPS], shown)
     sys.exit(not agree)
 
 

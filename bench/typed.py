@@ -10,8 +10,14 @@ import faults
 import reader
 
 MOST_DIGITS = 31
-FUNCTIONS = {"ABS": 1, "MAX": 2, "MIN": 2, "MOD": 2, "DIVIDE": 3, "SIGN": 1, "LENGTH": 1, "INDEX": 2, "ALLOCATION": 1, "ADDR": 1, "NULL": 0, "LBOUND": 2, "HBOUND": 2, "SUBSTR": (2, 3)}
-NUMBER, CHARACTERS, VARYING, BITS, POINTER = "number", "characters", "varying", "bits", "pointer"
+FUNCTIONS = {"ABS": 1, "MAX": 2, "MIN": 2, "MOD": 2, "DIVIDE": 3, "SIGN": 1, "LENGTH": 1, "INDEX": 2, "ALLOCATION": 1, "LBOUND": 2, "HBOUND": 2, "SUBSTR": (2, 3)}
+FUNCTIONS |= {"ADDR": 1, "NULL": 0, "EMPTY": 0, "POINTER": 2, "OFFSET": 2}
+NUMBER, CHARACTERS, VARYING, BITS, POINTER, OFFSET, AREA = "number", "characters", "varying", "bits", "pointer", "offset", "area"
+
+# The type of NULL, which is a pointer or an offset as what it meets.
+NULL = "null"
+LOCATORS = {POINTER, OFFSET, NULL}
+STRINGS = {CHARACTERS, BITS}
 
 
 class Node(tuple):
@@ -93,15 +99,18 @@ class Reader(faults.Placed):
         return tree
 
 
-# descriptions: (NUMBER, p), (CHARACTERS, n), (VARYING, n), (BITS, n), (POINTER, None), ("array", bounds, element), ("structure", members)
+# descriptions: (NUMBER, p), (CHARACTERS, n), (VARYING, n), (BITS, n), (POINTER, None), (OFFSET, None), (AREA, bytes), ("array", bounds, element),
+# ("structure", members)
 
 
 def described(description):
     """One element of the attributes' type."""
     if description.data == {"number"}:
         return NUMBER, description.precision()
-    if description.data == {"locator"}:
-        return POINTER, None
+    if description.data in ({"locator"}, {"offset"}):
+        return (POINTER if "POINTER" in description.has else OFFSET), None
+    if description.data == {"area"}:
+        return AREA, faults.rounded(description.number("AREA", 1000), 8)
     if description.data == {"characters"}:
         return (VARYING if "VARYING" in description.has else CHARACTERS), description.number("CHARACTER", 1)
     return BITS, description.number("BIT", 1)
@@ -168,10 +177,15 @@ def implied_names(root):
     return given and given[0].split("."), root.description.block
 
 
-def has_implied(root):
-    """Whether BASED names a pointer."""
+def implied_item(root):
+    """The item that BASED names, or None."""
     names, block = implied_names(root)
-    return bool(names) and "POINTER" in faults.variable(block, names).description.has
+    return names and faults.variable(block, names)
+
+
+def area_named(description):
+    """The variable that OFFSET names in attributes, or None."""
+    return faults.variable(description.block, [description.given["OFFSET"][0]]) if "OFFSET" in description.given else None
 
 
 def is_procedure(meant):
@@ -181,8 +195,8 @@ def is_procedure(meant):
     return isinstance(meant, faults.Named) and meant.tree is not None and meant.tree[0] == "procedure"
 
 
-def is_scalar(description):
-    return description[0] in (NUMBER, CHARACTERS, VARYING, BITS, POINTER)
+def is_aggregate(description):
+    return description[0] in ("array", "structure")
 
 
 def scalars_of(description):
@@ -217,8 +231,10 @@ def size_of(description):
         return (2, 2) if given <= 15 else (4, 4)
     if kind == VARYING:
         return 2 + given, 2
-    if kind == POINTER:
-        return 8, 4
+    if kind in (POINTER, OFFSET):
+        return (8 if kind == POINTER else 4), 4
+    if kind == AREA:
+        return given, 8
     return (given, 1) if kind == CHARACTERS else (faults.rounded(given, 8) // 8, 1)
 
 
@@ -231,10 +247,12 @@ def decimal_digits(binary):
 
 
 class Value:
-    """The type of an expression: a description, and for a decimal constant its digits."""
+    """The type of an expression or a target: a description; for a decimal constant its digits; for an offset the area that it names, or None.
 
-    def __init__(self, description, decimal=None):
-        self.description, self.decimal = description, decimal
+    An area that is no variable's, as EMPTY and what stands in parentheses, has 0 bytes."""
+
+    def __init__(self, description, decimal=None, area=None):
+        self.description, self.decimal, self.area = description, decimal, area
 
     kind = property(lambda self: {VARYING: CHARACTERS}.get(self.description[0], self.description[0]))
     precision = property(lambda self: self.description[1])
@@ -302,11 +320,19 @@ def constant_value(word):
     return Value((NUMBER, binary_digits(len(word))), len(word)), int(word)
 
 
+def leads(value):
+    """Whether a value leads to storage: a pointer, or an offset that names an area."""
+    return value.kind == POINTER or value.kind == OFFSET and value.area is not None
+
+
 def converts(source, target):
     """Whether a value of a type is assigned to a scalar."""
-    if target[0] in (CHARACTERS, VARYING):
-        return source.kind != POINTER
-    return source.kind == target[0]
+    kinds = {
+        CHARACTERS: {NUMBER, CHARACTERS, BITS},
+        POINTER: {POINTER, NULL} | ({OFFSET} if leads(source) else set()),
+        OFFSET: {OFFSET, NULL} | ({POINTER} if leads(target) else set()),
+    }
+    return target.kind != AREA and source.kind in kinds.get(target.kind, {target.kind})
 
 
 class Types:
@@ -345,9 +371,9 @@ class Types:
                 self.argument(argument, block)
 
     def variable(self, reference, block, aggregates=True):
-        """The item that a reference names, with its subscripts and its description."""
+        """The item that a reference names, with its subscripts and its type."""
         if reference.locator is not None:
-            located = self.variable(Reference(reference.before()), block, aggregates=False)[2][0] == POINTER
+            is_located = leads(self.variable(Reference(reference.before()), block, aggregates=False)[2])
         item = self.meaning(reference, block)
         if not is_variable(item):
             self.arguments_of_no_variable(reference, block)
@@ -364,16 +390,25 @@ class Types:
             description = whole_of(item)
             if any(above[:-1]):
                 codes.add(3)
-        if not codes and not aggregates and not is_scalar(description):
+        if not codes and not aggregates and is_aggregate(description):
             codes.add(2)
         root = root_of(item)
         if reference.locator is None:
-            located = is_based(root) and has_implied(root)
-        if is_based(root) and not located or not is_based(root) and reference.locator is not None:
+            is_located = is_based(root) and self.is_led(root)
+        if is_based(root) and not is_located or not is_based(root) and reference.locator is not None:
             codes.add(10)
         if codes:
             raise Fault(min(codes), reference.at)
-        return item, written, description
+        return item, written, self.type_of(item, description)
+
+    @staticmethod
+    def type_of(item, description):
+        return Value(description, area=area_named(item.description))
+
+    def is_led(self, root):
+        """Whether BASED names what leads to storage."""
+        locator = implied_item(root)
+        return locator is not None and leads(self.type_of(locator, whole_of(locator)))
 
     # expressions
 
@@ -389,7 +424,8 @@ class Types:
         if is_reference(tree):
             return self.named(Reference(tree), tree, block)
         if tree[0] == "parentheses":
-            return self.value(tree[1], block)
+            found = self.value(tree[1], block)
+            return Value((AREA, 0)) if found.kind == AREA else found
         if len(tree) == 2:
             return self.prefixed(tree, block)
         return self.operated(tree, block)
@@ -414,22 +450,28 @@ class Types:
                 raise Fault(4, sign.at)
             return Value((BITS, 1))
         if sign == "||":
-            if kinds & {NUMBER, POINTER}:
+            if not kinds <= STRINGS:
                 raise Fault(4, sign.at)
             return Value((BITS if kinds == {BITS} else CHARACTERS, 1))
-        if kinds & {NUMBER, POINTER} and len(kinds) > 1 or POINTER in kinds and sign not in ("=", "^="):
+        if not (kinds <= STRINGS or kinds == {NUMBER} or sign in ("=", "^=") and self.are_locators(left, right)):
             raise Fault(4, sign.at)
         return Value((BITS, 1))
+
+    @staticmethod
+    def are_locators(left, right):
+        """Whether two locators are compared: a pointer is not, beside an offset that names no area."""
+        kinds = {left.kind, right.kind}
+        return kinds <= LOCATORS and (not {POINTER, OFFSET} <= kinds or leads(left) and leads(right))
 
     def named(self, reference, tree, block):
         """A variable, or a call."""
         item = self.meaning(reference, block) if reference.locator is None else None
         arguments = reference.parts[0].arguments
-        if isinstance(item, str) and len(reference.parts) == 1 and (arguments is not None or item == "NULL"):
+        if isinstance(item, str) and len(reference.parts) == 1 and (arguments is not None or item in ("NULL", "EMPTY")):
             return self.function(item, reference, arguments or [], block)
         if is_procedure(item) and arguments is not None:
             return self.call(item, reference.parts[0], tree, block, True)
-        return Value(self.variable(reference, block, aggregates=False)[2])
+        return self.variable(reference, block, aggregates=False)[2]
 
     def argument(self, tree, block):
         """The type of what may be an aggregate: a reference's alone."""
@@ -437,7 +479,7 @@ class Types:
             reference = Reference(tree)
             item = self.meaning(reference, block) if reference.locator is None else None
             if is_variable(item) or reference.locator is not None:
-                found = Value(self.variable(reference, block)[2])
+                found = self.variable(reference, block)[2]
                 self.types[id(tree)] = found
                 return found
         return self.value(tree, block)
@@ -458,7 +500,7 @@ class Types:
         if codes:
             raise Fault(min(codes), part.name.at)
         self.calls[id(tree)] = called
-        return Value(result) if is_value else None
+        return Value(result, area=self.area_returned(called)) if is_value else None
 
     def signature(self, called):
         """That of a procedure or an entry."""
@@ -466,15 +508,22 @@ class Types:
             return signature_of_entry(called.description)
         return signature_of_procedure(self.unit.blocks[id(called.tree)])
 
+    def area_returned(self, called):
+        """The area that the OFFSET in what a function returns names, or None."""
+        if isinstance(called, faults.Item):
+            return area_named(faults.Description(called.description.block, [], called.description.given["RETURNS"]))
+        return self.result(self.unit.blocks[id(called.tree)]).area
+
     @staticmethod
     def is_good(given, parameter):
-        if not is_scalar(parameter) or not is_scalar(given.description):
+        if is_aggregate(parameter) or is_aggregate(given.description) or given.kind == AREA:
             return given.description[0] != "structure" and given.description == parameter
-        return converts(given, parameter)
+        return converts(given, Value(parameter))
 
     @staticmethod
     def result(block):
-        return result_of(block.outer, block.results[0])
+        """The type of what a function returns."""
+        return Value(result_of(block.outer, block.results[0]), area=area_named(faults.Description(block.outer, [], block.results[0])))
 
     def function(self, name, reference, arguments, block):
         at, many = reference.at, FUNCTIONS[name]
@@ -486,19 +535,21 @@ class Types:
             return self.bound_of(at, arguments, block)
         if name in ("ALLOCATION", "ADDR"):
             return self.whole_in(at, name, arguments[0], block)
-        if name == "NULL":
-            return Value((POINTER, None))
+        if name in ("NULL", "EMPTY"):
+            return Value((NULL, None) if name == "NULL" else (AREA, 0))
         kinds = [self.constant_in(argument, block) if (name, place) == ("DIVIDE", 2) else self.value(argument, block) for place, argument in enumerate(arguments)]
         if name == "DIVIDE":
             if kinds[2] is None or not 1 <= kinds[2] <= MOST_DIGITS or any(kind.kind != NUMBER for kind in kinds[:2]):
                 raise Fault(13, at)
             return Value((NUMBER, kinds[2]))
+        if name in ("POINTER", "OFFSET"):
+            return self.located_in(at, name, *kinds)
         if name == "SUBSTR":
-            if kinds[0].kind in (NUMBER, POINTER) or any(kind.kind != NUMBER for kind in kinds[1:]):
+            if kinds[0].kind not in STRINGS or any(kind.kind != NUMBER for kind in kinds[1:]):
                 raise Fault(13, at)
             return Value((kinds[0].kind, 1))
         if name in ("LENGTH", "INDEX"):
-            if any(kind.kind in (NUMBER, POINTER) for kind in kinds) or len({kind.kind for kind in kinds}) > 1:
+            if any(kind.kind not in STRINGS for kind in kinds) or len({kind.kind for kind in kinds}) > 1:
                 raise Fault(13, at)
             return Value((NUMBER, 15))
         if any(kind.kind != NUMBER for kind in kinds):
@@ -506,6 +557,13 @@ class Types:
         if name == "SIGN":
             return Value((NUMBER, 15))
         return Value((NUMBER, kinds[-1].precision if name == "MOD" else max(kind.precision for kind in kinds)))
+
+    @staticmethod
+    def located_in(at, name, locator, area):
+        """POINTER takes an offset, OFFSET a pointer or NULL, both the reference of an area."""
+        if locator.kind not in ({OFFSET} if name == "POINTER" else {POINTER, NULL}) or area.kind != AREA or not area.description[1]:
+            raise Fault(13, at)
+        return Value((POINTER if name == "POINTER" else OFFSET, None))
 
     def constant_in(self, tree, block):
         """The value of a bare decimal constant, or None, after the faults within."""
@@ -518,7 +576,7 @@ class Types:
         array, number = arguments
         bounds = None
         if is_reference(array) and not self.is_call(array, block):
-            _, written, description = self.variable(Reference(array), block)
+            description = self.variable(Reference(array), block)[2].description
             bounds = description[1] if description[0] == "array" else None
         else:
             self.value(array, block)
@@ -544,7 +602,7 @@ class Types:
         if reference.locator is not None:
             return False
         meant = self.meaning(reference, block)
-        return meant == "NULL" or reference.parts[0].arguments is not None and not is_variable(meant)
+        return meant in ("NULL", "EMPTY") or reference.parts[0].arguments is not None and not is_variable(meant)
 
     # statements
 
@@ -594,18 +652,21 @@ class Types:
             kinds = {}
             for word in ("IN", "SET"):
                 if word in dict(given):
-                    kinds[word] = self.variable(Reference(dict(given)[word]), block, aggregates=False)[2][0]
+                    kinds[word] = self.variable(Reference(dict(given)[word]), block, aggregates=False)[2]
             meant = self.meaning(Reference(name), block)
-            is_set = kinds == {"SET": POINTER} or not kinds and is_based(meant) and has_implied(meant)
-            if not (is_stacked(meant) and not given or is_based(meant) and is_set):
+            if not (is_stacked(meant) and not given or is_based(meant) and self.is_placed(meant, **kinds)):
                 raise Fault(11, name.at)
+
+    def is_placed(self, root, IN=None, SET=None):
+        """Whether a BASED variable is allocated by what IN and SET name."""
+        return (not IN or IN.kind == AREA) and (leads(SET) if SET else self.is_led(root))
 
     def free(self, references, block):
         for tree in references:
             reference = Reference(tree)
             item, written, _ = self.variable(reference, block)
             if written or not (is_stacked(item) or is_based(item)):
-                raise Fault(11, first_token(tree))
+                raise Fault(11, reference.at)
 
     def condition(self, tree, block):
         if self.value(tree, block).kind != BITS:
@@ -617,7 +678,7 @@ class Types:
 
     def put(self, items, block):
         for item in items:
-            if self.value(item, block).kind == POINTER:
+            if self.value(item, block).kind in LOCATORS | {AREA}:
                 raise Fault(14, first_token(item))
 
     def call_statement(self, tree, block):
@@ -630,10 +691,13 @@ class Types:
         self.assigned(target, tree[2], tree.equals, block)
 
     def assigned(self, target, source, at, block):
-        if is_scalar(target):
-            if not converts(self.value(source, block), target):
-                raise Fault(5, at)
-        elif self.argument(source, block).description != target:
+        if is_aggregate(target.description):
+            is_good = self.argument(source, block).description == target.description
+        elif target.kind == AREA:
+            is_good = self.value(source, block).kind == AREA and is_reference(source)
+        else:
+            is_good = converts(self.value(source, block), target)
+        if not is_good:
             raise Fault(5, at)
 
     def returned(self, tree, block, procedure):
@@ -657,12 +721,13 @@ class Types:
             if word in ("to", "by"):
                 self.number(limit, block)
         reference = Reference(variable)
-        _, written, description = self.variable(reference, block, aggregates=False)
-        if written or reference.locator is not None or (("to" in rest or "by" in rest) and description[0] != NUMBER):
-            raise Fault(12, first_token(variable))
-        if not converts(begins, description):
+        _, written, target = self.variable(reference, block, aggregates=False)
+        is_counted = target.kind == NUMBER or not ("to" in rest or "by" in rest)
+        if written or reference.locator is not None or target.kind == AREA or not is_counted:
+            raise Fault(12, reference.at)
+        if not converts(begins, target):
             raise Fault(5, tree.equals)
         if "while" in rest:
             self.condition(rest["while"], block)
-        if "repeat" in rest and not converts(self.value(rest["repeat"], block), description):
+        if "repeat" in rest and not converts(self.value(rest["repeat"], block), target):
             raise Fault(5, first_token(rest["repeat"]))

@@ -5,7 +5,8 @@ It prints how many programs agreed, and of those that did not the ten shortest, 
   150 programs of two to four units grown at random, at each number of steps from 0 to 40, and at 5,000;
   300 of which some have other descriptions, values, names or main procedures than they should: what linking finds, and a run;
   200 whose expressions have operands, arguments and targets of wrong types now and then: all their diagnostics;
-  150 with variables that are CONTROLLED in most units, and EXTERNAL in most of these.
+  150 with variables that are CONTROLLED in most units, and EXTERNAL in most of these;
+  150 with an area and offsets in it, EXTERNAL in most units.
 The units call each other, both ways, and the main procedure; each has variables of the same names, of which most are EXTERNAL and others
 STATIC or AUTOMATIC in some units. The routines of runs.py are external procedures, whose bodies are grown, or internal ones in every unit.
 All is the same every time. Without PROGRAM meaning.py is run alone.
@@ -351,6 +352,31 @@ class StackGrower(Grower):
         return super().statement(label)
 
 
+class AreaGrower(Grower):
+    """Programs of several units, with an area and offsets in it that most units share; in some of them all these areas are CONTROLLED."""
+
+    def program(self):
+        self.stacked = ["CTL"] if self.below(4) == 0 else []
+        return super().program()
+
+    def variables(self):
+        of_area, of_offset = (["EXT"] if self.below(8) else self.chosen([], ["STATIC"] if not self.stacked else []) for _ in range(2))
+        size = self.chosen("50", "53", "56") if self.below(32) else "48"
+        words = ["DCL", "W0", "AREA", "(", size, ")", *of_area, *self.stacked, ",", "O0", "OFFSET", "(", "W0", ")", *of_offset]
+        made = ["ALLOCATE", "W0", ";"] if self.stacked else []
+        return [*super().variables(), *words, *"INIT ( NULL ) , U0 FIXED BIN ( 15 ) BASED ( O0 ) INIT ( 3 ) ;".split(), *made, *self.chosen([], "IF O0 = NULL THEN ALLOCATE U0 ;".split())]
+
+    def variable(self, kind):
+        return ["U0"] if kind == "number" and self.below(8) == 0 else super().variable(kind)
+
+    def statement(self, label):
+        if self.below(8):
+            return super().statement(label)
+        several = """ALLOCATE U0 ; | ALLOCATE U0 ; | ALLOCATE U0 IN ( W0 ) ; | FREE U0 ; | IF O0 = NULL THEN ALLOCATE U0 ; | IF O0 ^= NULL THEN U0 = N ; | O0 = NULL ;
+            | W0 = EMPTY ; | BEGIN ; DCL W1 AREA ( 50 ) ; W1 = W0 ; W0 = EMPTY ( ) ; W0 = W1 ; END ; | BEGIN ; DCL P0 PTR ; P0 = O0 ; O0 = NULL ; O0 = P0 ; PUT LIST ( P0 -> U0 ) ; END ;"""
+        return self.chosen(*several.split("|")).split()
+
+
 def shown(program):
     """The units, without the routines that are the same in all."""
     texts = []
@@ -372,6 +398,8 @@ def main():
     agree &= compare("programs with wrong types", workbench, [faulty.program() for _ in range(FAULTY)], [MANY_STEPS], shown)
     stacked = StackGrower(mutations.Numbers(SEED + 3), False)
     agree &= compare("programs with shared stacks", workbench, [stacked.program() for _ in range(PROGRAMS)], [*range(FEW_STEPS + 1), MANY_STEPS], shown)
+    placed = AreaGrower(mutations.Numbers(SEED + 4), False)
+    agree &= compare("programs with shared areas", workbench, [placed.program() for _ in range(PROGRAMS)], [*range(FEW_STEPS + 1), MANY_STEPS], shown)
     sys.exit(not agree)
 
 

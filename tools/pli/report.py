@@ -17,7 +17,8 @@ FAMILIES = {"CHARACTER": CHARACTER, "BIT": {"BIT"}, "FIXED BINARY": NUMBER, "POI
 FAMILIES |= {"OFFSET": {"OFFSET"}, "AREA": {"AREA"}}
 CONSTANTS = {"number": "FIXED BINARY", "binary": "FIXED BINARY", "string": "CHARACTER", "bits": "BIT"}
 NUMBERS = "ABS MAX MIN MOD DIVIDE SIGN LENGTH INDEX ALLOCATION LBOUND HBOUND".split()
-BUILT_IN = dict.fromkeys(NUMBERS, "FIXED BINARY") | {"ADDR": "POINTER", "POINTER": "POINTER", "OFFSET": "OFFSET"}
+NO_AREA = "OFFSET without an area"
+BUILT_IN = dict.fromkeys(NUMBERS, "FIXED BINARY") | {"ADDR": "POINTER", "POINTER": "POINTER", "OFFSET": NO_AREA}
 BUILT_IN |= {"NULL": "POINTER", "EMPTY": "AREA", "SUBSTR": ""}
 
 
@@ -160,8 +161,11 @@ def before(outline, code, at):
 
 def described(attributes, is_array=False):
     """The type that attributes say; nothing where they say none."""
-    texts = {token.text for token in attributes}
-    return "array of " * is_array + next((name for name, words in FAMILIES.items() if texts & words), "")
+    texts = [token.text for token in attributes]
+    name = next((name for name, words in FAMILIES.items() if words & {*texts}), "")
+    if name == "OFFSET" and ("OFFSET", "(") not in zip(texts, texts[1:]):
+        name = NO_AREA
+    return "array of " * is_array + name
 
 
 def returned(head):
@@ -273,6 +277,8 @@ def told_types(outline, code, at):
         around = (outline.statements[block] for block in types.blocks)
         each = next(each for each in around if each.word == "PROCEDURE")
         kinds = *kinds, returned(outline.tokens[each.at : each.end])
+    if code == "T5" and kinds == ("AREA", "AREA"):
+        return ["an area in parentheses is not assigned: write the variable alone"]
     if code == "T5":
         other = " of another description" if kinds[0] == kinds[1] else ""
         return [f"{kinds[0]} is assigned to {kinds[1]}{other}"] if all(kinds) else []

@@ -2,8 +2,8 @@
 """second.py: a workbench that answers commands as they come by the second opinion of bench/.
 
 It knows what bench/answers.py knows, and what the tests of the tool need beside that: lines that are no command,
-refusals of edits for their text, MEMBERS, faults of tokens and directives (by the tool's own scan.py), Z1 for storage
-and conditions, and output that is written as a run prints it.
+refusals of edits for their text, MEMBERS, faults of tokens and directives (by the tool's own scan.py), Z1 for
+conditions, and output that is written as a run prints it.
 """
 import re
 import sys
@@ -30,7 +30,6 @@ COMMAND = re.compile(
     re.IGNORECASE,
 )
 LATER = {"ON", "REVERT", "SIGNAL"}
-LATER_ATTRIBUTES = {"OFFSET", "AREA"}
 
 
 class Fault(Exception):
@@ -109,13 +108,7 @@ class Second(answers.Workbench):
     @staticmethod
     def later(tokens):
         """Where the first statement begins of a form that is not compiled yet."""
-        each = statements(tokens)
-        ends = [*(one.start for one in each[1:]), len(tokens)]
-        for one, end in zip(each, ends):
-            attributes = {token.text for token in tokens[one.at : end]} & LATER_ATTRIBUTES
-            if one.word in LATER or one.word in ("DECLARE", "PROCEDURE") and attributes:
-                return one.start
-        return None
+        return next((one.start for one in statements(tokens) if one.word in LATER), None)
 
     def tokens(self, name, around):
         """The tokens of a member with those that it includes in their places."""

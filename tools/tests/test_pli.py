@@ -165,8 +165,8 @@ class Places(Room):
                         "note: did you mean COUNT\n")
 
     def test_whole_lines_decide(self):
-        self.write(m_pli=body("DCL P OFFSET;"), q_pli="Q: PROC;\n  X = 1;\nEND;\n")
-        self.check_told(["m.pli", "q.pli"], "m.pli:2:1: Z1 NOT YET BUILT: DCL\n", "q.pli:2:3: A1 NOT DECLARED: X\n")
+        self.write(m_pli=body("REVERT AREA;"), q_pli="Q: PROC;\n  X = 1;\nEND;\n")
+        self.check_told(["m.pli", "q.pli"], "m.pli:2:1: Z1 NOT YET BUILT: REVERT\n", "q.pli:2:3: A1 NOT DECLARED: X\n")
 
     def test_notes_on_declarations(self):
         self.write(m_pli=body("DCL X BIT;", "DCL X CHAR(2);", "BEGIN; DCL X BIT; END;"))
