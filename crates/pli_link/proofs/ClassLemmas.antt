@@ -1,22 +1,18 @@
 -- Classes of templates: what is known stays known, and templates of one class are equal.
-use Rattle.std.proofs.Common.{◌≡◌, ℕ, zero, suc, ◌+◌, ◌<◌, ◌≤◌, Bool, true, false, not, ◌||◌, cond, if◌then◌else◌, Option, Some, None, option_map, List, [], ◌∷◌, ◌++◌, map, length, get_or, slice_get, refl, sym, ap, ◌∙◌, subst, arith}
+use Rattle.std.proofs.Common.{◌≡◌, ℕ, suc, ◌+◌, Bool, true, false, not, ◌||◌, cond, if◌then◌else◌, Option, Some, None, option_map, List, [], ◌∷◌, ◌++◌, map, refl, sym, ap, ◌∙◌, subst, arith}
 use Rattle.std.specs.List.{list_any, position_or_len}
 use Rattle.std.specs.Map.{lookup}
 use Rattle.std.specs.Option.{option_copied, option_eq}
 use Rattle.std.specs.Ordering.{on}
-use Rattle.std.specs.Prelude.{nat_eq, nat_lt}
-use Rattle.std.proofs.lemmas.Bool.Decides.{Decides-eqb, nat_tests}
+use Rattle.std.specs.Prelude.{nat_eq}
+use Rattle.std.proofs.lemmas.Bool.Decides.{Decides-eqb}
 use Rattle.std.proofs.lemmas.List.{map-append}
-use Rattle.std.proofs.lemmas.Option.{slice_get-map, slice_get-get_or}
 use Rattle.indexmap.specs.IndexSet.{insert_key}
 use denote.Ref.{Bor}
 use Rattle.pli_base.specs.Name.{Name}
 use Rattle.pli_type_tree.specs.Templates.{Template}
-use Rattle.pli_code.specs.CodeTables.{Code, template_at, with_description}
-use Rattle.pli_code.specs.declared.code.CodedTemplate.{CodedTemplate}
-use Rattle.pli_code.specs.views.CodeView.{coded_template_view}
 use Rattle.pli_type_keys.specs.Same.{same_template}
-use Rattle.pli_link.specs.answers.Classes.{place_of, IsClass, known_in, Grows, class_in, class_at, AreClasses, AreClassed, IsFirstClassed}
+use Rattle.pli_link.specs.answers.Classes.{place_of, IsClass, known_in, Grows, AreClassed, IsFirstClassed}
 use Rattle.pli_link.specs.laws.AlikeLaws.{option_decides}
 use Rattle.pli_type_keys.specs.laws.KeyLaws.{template_decides}
 use Rattle.pli_type_keys.specs.views.KeyView.{templated}
@@ -111,9 +107,6 @@ class_stays old new g None (Some k) h = absurd h
 class_stays old new g (Some t) None h = absurd h
 class_stays old new g (Some t) (Some k) h = ap (place_of t) (ap known_in g.is ∙ map-append templated old g.more) ∙ place_stays t (known_in old) (known_in g.more) k h
 
-pub classes_stay : (old new : List TemplateKey) (code : Code) (classes : List (Option ℕ)) → Grows old new → AreClasses (known_in old) code classes → AreClasses (known_in new) code classes
-classes_stay old new code classes g all = λ number. class_stays old new g (template_at code number) (class_at classes number) (all number)
-
 pub classed_stay : (old new : List TemplateKey) (es : List (Name × KnownExternal)) → Grows old new → AreClassed (known_in old) es → AreClassed (known_in new) es
 classed_stay old new [] g all = tt
 classed_stay old new (e ∷ es) g all = (class_stays old new g (option_map templated e.1.template) e.1.class all.0, classed_stay old new es g all.1)
@@ -176,53 +169,6 @@ same_class known a b k m h i =
     (λ e. (option_decides same_template template_decides a b).1 (class_is_one known a b k m h i ((option_decides nat_eq Decides-eqb k m).0 e)))
     (λ e. (option_decides nat_eq Decides-eqb k m).1 (one_class known a k m h (subst (λ o. IsClass known o m) (sym ((option_decides same_template template_decides a b).0 e)) i)))
 
--- classes of a unit, one more
-
-class_behind : (classes : List (Option ℕ)) (class : Option ℕ) (number : ℕ) → number < length classes → class_at (classes ++ class ∷ []) number ≡ class_at classes number
-class_behind [] class number lt = absurd (omega (arith, lt))
-class_behind (c ∷ classes) class zero lt = refl
-class_behind (c ∷ classes) class (suc number) lt = class_behind classes class number (omega (arith, lt))
-
-class_last : (classes : List (Option ℕ)) (class : Option ℕ) → class_at (classes ++ class ∷ []) (length classes) ≡ class
-class_last [] class = refl
-class_last (c ∷ classes) class = class_last classes class
-
--- a bound on a number that is raised by one: it is the last, or one before
-abbrev ClassesUpTo : (known : List Template) → Code → List (Option ℕ) → (bound : ℕ) → Type 0
-ClassesUpTo known code classes bound = (number : ℕ) → number < bound → IsClass known (template_at code number) (class_at classes number)
-
-pub one_more_class : (known : List Template) (code : Code) (classes : List (Option ℕ)) (class : Option ℕ) (n : ℕ) → length classes ≡ n
-    → ((number : ℕ) → number < n → IsClass known (template_at code number) (class_at classes number)) → IsClass known (template_at code n) class
-    → (number : ℕ) → number < n + 1 → IsClass known (template_at code number) (class_at (classes ++ class ∷ []) number)
-one_more_class known code classes class n long all last number lt = by (nat_lt number n) refl
-  where
-    by : (b : Bool) → nat_lt number n ≡ b → IsClass known (template_at code number) (class_at (classes ++ class ∷ []) number)
-    by true e =
-        let before : number < n = grind (arith, nat_tests) in
-        subst (IsClass known (template_at code number)) (sym (class_behind classes class number (omega (arith, before, long)))) (all number before)
-    by false e =
-        let same : number ≡ n = grind (arith, nat_tests) in
-        let end : number ≡ length classes = omega (arith, same, long) in
-        subst (λ k. IsClass known (template_at code k) (class_at (classes ++ class ∷ []) k)) (sym same)
-        (subst (IsClass known (template_at code n)) (sym (ap (class_at (classes ++ class ∷ [])) (sym long) ∙ class_last classes class)) last)
-
--- behind the last template there is none, and no class
-none_behind : {A : Type 0} (xs : List A) (number : ℕ) → length xs ≤ number → slice_get xs number ≡ None
-none_behind [] number le = refl
-none_behind (x ∷ xs) zero le = absurd (omega (arith, le))
-none_behind (x ∷ xs) (suc number) le = none_behind xs number (omega (arith, le))
-
-pub all_classes : (known : List Template) (code : Code) (classes : List (Option ℕ)) → length classes ≡ length code.templates
-    → ((number : ℕ) → number < length code.templates → IsClass known (template_at code number) (class_at classes number)) → AreClasses known code classes
-all_classes known code classes long all number = by (nat_lt number (length code.templates)) refl
-  where
-    by : (b : Bool) → nat_lt number (length code.templates) ≡ b → IsClass known (template_at code number) (class_at classes number)
-    by true e = all number (grind (arith, nat_tests))
-    by false e =
-        let past : length code.templates ≤ number = grind (arith, nat_tests) in
-        subst (IsClass known (template_at code number)) (sym (ap class_in (none_behind classes number (omega (arith, past, long)))))
-        (subst (λ o. IsClass known (with_description code o) None) (sym (none_behind code.templates number past)) tt)
-
 -- what is looked up in it has its class
 
 pub classed_found : (known : List Template) (test : Name → Bool) (es : List (Name × KnownExternal)) (g : Option (Bor KnownExternal)) → AreClassed known es
@@ -235,16 +181,3 @@ classed_found known test (y ∷ es) (Some x) all e = by (test y.0) e (classed_fo
         → IsClass known (option_map templated x.now.template) x.now.class
     by true h rest = subst (λ (z : KnownExternal). IsClass known (option_map templated z.template) z.class) (sym (some_is x.now y.1 h)) all.0
     by false h rest = rest h
-
--- steps of loops
-
-pub one_longer : {A : Type 0} (xs : List A) (x : A) → length (xs ++ x ∷ []) ≡ length xs + 1
-one_longer [] x = omega arith
-one_longer (y ∷ ys) x = omega (arith, one_longer ys x)
-
-pub one_found : (xs ys : List CodedTemplate) (i : ℕ) (x : CodedTemplate) → xs ≡ ys → i < length xs → x ≡ get_or xs i x
-    → slice_get (map coded_template_view ys) i ≡ Some (coded_template_view x)
-one_found xs ys i x same within is =
-    ap (λ l. slice_get (map coded_template_view l) i) (sym same)
-    ∙ slice_get-map coded_template_view xs i
-    ∙ ap (option_map coded_template_view) (slice_get-get_or xs i x within ∙ ap Some (sym is))

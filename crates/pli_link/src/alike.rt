@@ -33,10 +33,7 @@ pub(crate) fn description_at(code: &Code, number: u16) -> Option<&Description>
 }
 
 /// A template of a unit, if the tables have its description.
-pub(crate) fn found_template<'a>(
-    code: &'a Code,
-    template: &'a CodedTemplate,
-) -> Option<TemplateKey<'a>>
+fn found_template<'a>(code: &'a Code, template: &'a CodedTemplate) -> Option<TemplateKey<'a>>
     ensures { option_map templated result ≡ tables.with_description (code_view code.now) (Some (coded_template_view template.now)) }
 {
     Some(TemplateKey {

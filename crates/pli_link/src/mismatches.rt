@@ -1,22 +1,22 @@
 //! Globals that fit no procedure, or not the procedure or the variable of their name.
-ghost use Rattle.std.specs.Prelude.{◌≡◌, ◌++◌, List, [], Option, Some, map, option_map, IfOk, OnOk};
+ghost use Rattle.std.specs.Prelude.{◌≡◌, ◌++◌, ℕ, List, [], Option, Some, map, option_map, IfOk, OnOk};
 ghost use Rattle.pli_type_tree.specs.Templates.{Template};
 ghost use Rattle.pli_link.specs.Mismatches as spec;
 ghost use Rattle.pli_link.specs.Alike.{signature_at};
 ghost use Rattle.pli_link.specs.Names as meaning;
-ghost use Rattle.pli_link.specs.answers.Classes.{AreClasses, AreClassesFor, Grows, IsClass, IsFirstClassed, known_in};
+ghost use Rattle.pli_link.specs.answers.Classes.{Grows, IsClass, IsClassFor, IsFirstClassed, known_in};
 ghost use Rattle.pli_link.specs.answers.Tables.{AreNames, HaveClasses, units_in};
 ghost use Rattle.pli_type_keys.specs.declared.key.TemplateKey.{TemplateKey};
 ghost use Rattle.pli_link.specs.views.NameView.{declaration_view};
 ghost use Rattle.pli_link.specs.views.UnitView.{compiled_view};
 ghost use Rattle.pli_type_keys.specs.views.KeyView.{templated};
-ghost use Rattle.pli_code.specs.CodeTables.{there};
+ghost use Rattle.pli_code.specs.CodeTables.{template_at, there};
 ghost use Rattle.pli_code.specs.CodeTables as plain;
 ghost use Rattle.pli_link.specs.declared.global_fault.GlobalFault.TheVariants as faults;
 ghost use Rattle.pli_code.specs.views.CodeView.{code_view, global_view, signature_view};
 
 use crate::alike::{is_same_kind, is_same_signature};
-use crate::classes::{class_at, classes_for};
+use crate::classes::class_for;
 use crate::global_fault::GlobalFault;
 use crate::names::{KnownExternal, Names};
 use crate::units::{LinkedName, NamedUnit};
@@ -80,37 +80,36 @@ fn is_unlike(
     }
 }
 
-/// Whether an external variable of a unit, whose templates have these classes, is unlike the first one of its name, or
-/// has a procedure's name.
+/// Whether an external variable of a unit, whose template has this class, is unlike the first one of its name, or has a
+/// procedure's name.
 fn is_unlike_variable(
     names: &Names<'_, '_>,
-    classes: &[Option<usize>],
     name: &Name,
     kind: VariableKind,
-    template: u16,
+    class: Option<usize>,
 ) -> bool
     requires { AreNames names.now }
-    ensures { (code : plain.Code) (known : List TemplateKey) → HaveClasses known names.now → AreClasses (known_in known) code classes.now
+    ensures { (code : plain.Code) (template : ℕ) (known : List TemplateKey) → HaveClasses known names.now → IsClass (known_in known) (template_at code template) class
         → result ≡ spec.has_fault (units_in names.now) faults.Mismatch code (plain.ExternalVariable name.now kind template) }
 {
     is_unlike(
         kind,
-        class_at(classes, template),
+        class,
         unit_named(names, name),
         names.externals.get(name),
     )
 }
 
-/// Whether a global of a unit, whose templates have these classes, has a fault.
+/// Whether a global of a unit has a fault; of an external variable this is its template's class.
 fn has_fault(
     names: &Names<'_, '_>,
     fault: GlobalFault,
-    classes: &[Option<usize>],
+    class: Option<usize>,
     code: &Code,
     global: &CodedGlobal,
 ) -> bool
     requires { AreNames names.now }
-    ensures { (known : List TemplateKey) → HaveClasses known names.now → AreClassesFor fault (known_in known) (code_view code.now) classes.now
+    ensures { (known : List TemplateKey) → HaveClasses known names.now → IsClassFor fault (known_in known) (code_view code.now) (global_view global.now) class
         → result ≡ spec.has_fault (units_in names.now) fault (code_view code.now) (global_view global.now) }
 {
     match (fault, global) {
@@ -120,14 +119,9 @@ fn has_fault(
         (GlobalFault::Mismatch, CodedGlobal::EntryPoint { name, signature }) => {
             is_unlike_procedure(code, signature, unit_named(names, name))
         }
-        (
-            GlobalFault::Mismatch,
-            CodedGlobal::ExternalVariable {
-                name,
-                kind,
-                template,
-            },
-        ) => is_unlike_variable(names, classes, name, *kind, *template),
+        (GlobalFault::Mismatch, CodedGlobal::ExternalVariable { name, kind, .. }) => {
+            is_unlike_variable(names, name, *kind, class)
+        }
         _ => false,
     }
 }
@@ -148,15 +142,15 @@ fn name_of(global: &CodedGlobal) -> Option<Name>
 fn faulty_name(
     names: &Names<'_, '_>,
     fault: GlobalFault,
-    classes: &[Option<usize>],
+    class: Option<usize>,
     code: &Code,
     global: &CodedGlobal,
 ) -> Option<Name>
     requires { AreNames names.now }
-    ensures { (known : List TemplateKey) → HaveClasses known names.now → AreClassesFor fault (known_in known) (code_view code.now) classes.now
+    ensures { (known : List TemplateKey) → HaveClasses known names.now → IsClassFor fault (known_in known) (code_view code.now) (global_view global.now) class
         → there result ≡ spec.faulty_in (units_in names.now) fault (code_view code.now) (global_view global.now) }
 {
-    if has_fault(names, fault, classes, code, global) {
+    if has_fault(names, fault, class, code, global) {
         name_of(global)
     } else {
         None
@@ -164,21 +158,23 @@ fn faulty_name(
 }
 
 /// The names of the globals of a unit that have a fault, each once.
-fn names_with_fault(
+fn names_with_fault<'a>(
     alloc: Global,
-    names: &Names<'_, '_>,
+    known: &mut IndexSet<TemplateKey<'a>>,
+    names: &Names<'a, '_>,
     fault: GlobalFault,
-    classes: &[Option<usize>],
-    code: &Code,
+    code: &'a Code,
     globals: &[CodedGlobal],
 ) -> Result<IndexSet<Name>, AllocError>
-    requires { AreNames names.now }
-    ensures { IfOk result (λ found. (known : List TemplateKey) → HaveClasses known names.now → AreClassesFor fault (known_in known) (code_view code.now) classes.now
-        → found.keys ≡ spec.each_once [] (spec.faulty_names (units_in names.now) fault (code_view code.now) (map global_view globals.now))) }
+    requires names { AreNames names.now }
+    requires classes { HaveClasses known.old.keys names.now }
+    ensures found { IfOk result (λ found. found.keys ≡ spec.each_once [] (spec.faulty_names (units_in names.now) fault (code_view code.now) (map global_view globals.now))) }
+    ensures grows { Grows known.old.keys known.new.keys }
 {
     let mut found = IndexSet::new(alloc);
     for global in globals {
-        if let Some(name) = faulty_name(names, fault, classes, code, global) {
+        let class = class_for(known, fault, code, global)?;
+        if let Some(name) = faulty_name(names, fault, class, code, global) {
             found.insert(name)?;
         }
     }
@@ -214,12 +210,11 @@ pub(crate) fn faulty_names<'a>(
 {
     let mut linked = Vec::new(alloc);
     for unit in units {
-        let classes = classes_for(alloc, known, fault, &unit.deck.code)?;
         let found = names_with_fault(
             alloc,
+            known,
             names,
             fault,
-            &classes,
             &unit.deck.code,
             &unit.deck.code.globals,
         )?;

@@ -1,15 +1,13 @@
 //! What names mean to all units of a module.
-ghost use Rattle.std.specs.Prelude.{◌≡◌, List, map, IfOk, OnOk, option_map};
-ghost use Rattle.pli_type_tree.specs.Templates.{Template};
-ghost use Rattle.pli_link.specs.answers.Classes.{AreClassed, AreClasses, IsClass, known_in};
+ghost use Rattle.std.specs.Prelude.{◌≡◌, map, IfOk, OnOk};
+ghost use Rattle.pli_link.specs.answers.Classes.{AreClassed, known_in};
 ghost use Rattle.pli_link.specs.Names as spec;
 ghost use Rattle.pli_link.specs.views.UnitView.{compiled_view};
 ghost use Rattle.pli_link.specs.views.NameView.{declaration_view, externals_view};
-ghost use Rattle.pli_type_keys.specs.views.KeyView.{templated};
 ghost use Rattle.pli_code.specs.views.CodeView.{code_view, global_view};
 
 use crate::alike::template_at;
-use crate::classes::{class_at, classes_of};
+use crate::classes::class_of;
 use crate::units::NamedUnit;
 use indexmap::{IndexMap, IndexSet};
 use pli_base::Name;
@@ -68,34 +66,37 @@ pub(crate) fn procedures(
     Ok(found)
 }
 
-/// Notes a declaration for its name, unless one before has the name.
+/// Notes a declaration for its name, with the class of its template, unless one before has the name.
 fn note_external<'a>(
+    known: &mut IndexSet<TemplateKey<'a>>,
     externals: &mut BTreeMap<Name, KnownExternal<'a>>,
     name: Name,
     external: KnownExternal<'a>,
 ) -> Result<(), AllocError>
     ensures first { OnOk result (externals_view externals.new.entries ≡ spec.with_declaration (externals_view externals.old.entries) (name, declaration_view external.entry)) }
-    ensures classed { OnOk result ((known : List Template) → AreClassed known externals.old.entries → IsClass known (option_map templated external.entry.template) external.entry.class → AreClassed known externals.new.entries) }
+    ensures classed { OnOk result (AreClassed (known_in known.old.keys) externals.old.entries → AreClassed (known_in known.new.keys) externals.new.entries) }
 {
     if externals.contains_key(&name) {
         return Ok(());
     }
-    if externals.insert(name, external).is_err() {
+    let class = class_of(known, external.template)?;
+    let classed = KnownExternal { class, ..external };
+    if externals.insert(name, classed).is_err() {
         return Err(AllocError);
     }
     Ok(())
 }
 
-/// Notes the external variables of the unit of this number, whose templates have these classes.
+/// Notes the external variables of the unit of this number.
 fn note_shared<'a>(
+    known: &mut IndexSet<TemplateKey<'a>>,
     externals: &mut BTreeMap<Name, KnownExternal<'a>>,
     code: &'a Code,
     unit: usize,
-    classes: &[Option<usize>],
     globals: &'a [CodedGlobal],
 ) -> Result<(), AllocError>
     ensures first { OnOk result (externals_view externals.new.entries ≡ spec.first_declared (externals_view externals.old.entries) (spec.shared_from (code_view code.now) unit 0 (map global_view globals.now))) }
-    ensures classed { OnOk result ((known : List Template) → AreClasses known (code_view code.now) classes.now → AreClassed known externals.old.entries → AreClassed known externals.new.entries) }
+    ensures classed { OnOk result (AreClassed (known_in known.old.keys) externals.old.entries → AreClassed (known_in known.new.keys) externals.new.entries) }
 {
     for (number, global) in globals.iter().enumerate() {
         if let CodedGlobal::ExternalVariable {
@@ -107,17 +108,17 @@ fn note_shared<'a>(
             let external = KnownExternal {
                 kind: *kind,
                 template: template_at(code, *template),
-                class: class_at(classes, *template),
+                class: None,
                 unit,
                 global: number,
             };
-            note_external(externals, *name, external)?;
+            note_external(known, externals, *name, external)?;
         }
     }
     Ok(())
 }
 
-/// The external variables, each with its first declaration; the templates of all units become known.
+/// The external variables, each with its first declaration; their templates become known.
 pub(crate) fn externals<'a>(
     alloc: Global,
     known: &mut IndexSet<TemplateKey<'a>>,
@@ -128,12 +129,11 @@ pub(crate) fn externals<'a>(
 {
     let mut found = BTreeMap::new(alloc);
     for (number, unit) in units.iter().enumerate() {
-        let classes = classes_of(alloc, known, &unit.deck.code)?;
         note_shared(
+            known,
             &mut found,
             &unit.deck.code,
             number,
-            &classes,
             &unit.deck.code.globals,
         )?;
     }

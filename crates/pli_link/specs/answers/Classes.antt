@@ -1,11 +1,12 @@
--- Templates of all units, of equal ones one, by which the templates of a unit have numbers.
+-- Templates of external variables, of equal ones one, by which these templates have numbers.
 use Rattle.std.specs.Prelude.{◌≡◌, ℕ, suc, Option, Some, None, option_map, List, [], ◌∷◌, ◌++◌, map}
-use Rattle.std.specs.Prelude.{slice_get, if◌then◌else◌}
+use Rattle.std.specs.Prelude.{if◌then◌else◌}
 use Rattle.std.specs.List.{AllByRecursion}
 use denote.Ref.{Bor}
 use Rattle.pli_base.specs.Name.{Name}
 use Rattle.pli_type_tree.specs.Templates.{Template}
-use Rattle.pli_code.specs.CodeTables.{Code, template_at}
+use Rattle.pli_code.specs.CodeTables.{Code, CodedGlobal, OwnVariable, ExternalVariable, EntryPoint}
+use Rattle.pli_code.specs.CodeTables.{template_at}
 use Rattle.pli_type_keys.specs.Same.{same_template}
 use Rattle.pli_type_keys.specs.views.KeyView.{templated}
 use Rattle.pli_type_keys.specs.declared.key.TemplateKey.{TemplateKey}
@@ -34,24 +35,13 @@ pub record Grows (old new : List TemplateKey) : Type 0 where
   pub more : List TemplateKey
   pub is : new ≡ old ++ more
 
--- the class by a template's number
-abbrev pub class_in : Option (Option ℕ) → Option ℕ
-class_in None = None
-class_in (Some class) = class
-
--- the class of the template of a number
-abbrev pub class_at : (classes : List (Option ℕ)) → (number : ℕ) → Option ℕ
-class_at classes number = class_in (slice_get classes number)
-
--- the templates of a unit have these classes
-abbrev pub AreClasses : (known : List Template) → Code → (classes : List (Option ℕ)) → Type 0
-AreClasses known code classes =
-    (number : ℕ) → IsClass known (template_at code number) (class_at classes number)
-
--- so they have where a fault is looked for that classes tell: a mismatch
-abbrev pub AreClassesFor : GlobalFault → (known : List Template) → Code → (classes : List (Option ℕ)) → Type 0
-AreClassesFor Unresolved known code classes = Unit {0}
-AreClassesFor Mismatch known code classes = AreClasses known code classes
+-- the template of an external variable has this class, where a fault is looked for that classes tell: a mismatch
+abbrev pub IsClassFor : GlobalFault → (known : List Template) → Code → CodedGlobal → (class : Option ℕ)
+    → Type 0
+IsClassFor Unresolved known code g class = Unit {0}
+IsClassFor Mismatch known code (OwnVariable kind t) class = Unit {0}
+IsClassFor Mismatch known code (ExternalVariable name kind t) class = IsClass known (template_at code t) class
+IsClassFor Mismatch known code (EntryPoint name s) class = Unit {0}
 
 -- external variables have the classes of their templates
 abbrev pub AreClassed : (known : List Template) → List (Name × KnownExternal) → Type 0

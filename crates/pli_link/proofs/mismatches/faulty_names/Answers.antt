@@ -1,8 +1,7 @@
-use Rattle.std.proofs.Common.{◌∙◌, ap, sym, subst, arith, map}
+use Rattle.std.proofs.Common.{◌∙◌, ap, arith, map}
 use Rattle.std.proofs.lemmas.Grind.{common_steps}
 use Rattle.pli_link.specs.Mismatches.{each_once, faulty_names, linked_in}
-use Rattle.pli_link.specs.answers.Classes.{AreClassesFor, known_in}
-use Rattle.pli_link.specs.answers.Tables.{HaveClasses, units_in}
+use Rattle.pli_link.specs.answers.Tables.{units_in}
 use Rattle.pli_code.specs.views.CodeView.{code_view, global_view}
 use Rattle.pli_link.proofs.ClassLemmas.{classed_stay, grows_not, grows_on}
 use Rattle.pli_link.proofs.MismatchLemmas.{one_unit}
@@ -11,17 +10,17 @@ use Rattle.pli_link.proofs.mismatches.faulty_names.Goals as goal
 pub loop-unit-init : goal.loop-unit-init
 loop-unit-init c = (grind (arith, common_steps), grows_not c.args.known.now.keys)
 
-pub returns-in_err-classes-clause-grows : goal.returns-in_err-classes-clause-grows
-returns-in_err-classes-clause-grows c =
-    grows_on c.args.known.now.keys c.loop-unit.known.keys c.classes_for.new.known.keys c.loop-unit.invariant.1 c.classes_for.ensures.grows
+pub names_with_fault-requires-clause-classes : goal.names_with_fault-requires-clause-classes
+names_with_fault-requires-clause-classes c =
+    classed_stay c.args.known.now.keys c.loop-unit.known.keys c.args.names.now.externals.now.entries c.loop-unit.invariant.1 c.requires.classes
 
 pub returns-in_err-found-clause-grows : goal.returns-in_err-found-clause-grows
 returns-in_err-found-clause-grows c =
-    grows_on c.args.known.now.keys c.loop-unit.known.keys c.classes_for.new.known.keys c.loop-unit.invariant.1 c.classes_for.ensures.grows
+    grows_on c.args.known.now.keys c.loop-unit.known.keys c.names_with_fault.new.known.keys c.loop-unit.invariant.1 c.names_with_fault.ensures.grows
 
 pub returns-in_err-add_linked-clause-grows : goal.returns-in_err-add_linked-clause-grows
 returns-in_err-add_linked-clause-grows c =
-    grows_on c.args.known.now.keys c.loop-unit.known.keys c.classes_for.new.known.keys c.loop-unit.invariant.1 c.classes_for.ensures.grows
+    grows_on c.args.known.now.keys c.loop-unit.known.keys c.names_with_fault.new.known.keys c.loop-unit.invariant.1 c.names_with_fault.ensures.grows
 
 pub returns-clause-grows : goal.returns-clause-grows
 returns-clause-grows c = c.loop-unit.invariant.1
@@ -30,12 +29,8 @@ pub loop-unit-preserved : goal.loop-unit-preserved
 loop-unit-preserved c =
     let cs = units_in c.args.names.now in
     let unit = c.unit-item.result in
-    let known = c.classes_for.new.known.keys in
-    let grown = grows_on c.args.known.now.keys c.loop-unit.known.keys known c.loop-unit.invariant.1 c.in_ok-classes.ensures.grows in
-    let have : HaveClasses known c.args.names.now = classed_stay c.args.known.now.keys known c.args.names.now.externals.now.entries grown c.requires.classes in
-    let classes = subst (AreClassesFor c.args.fault (known_in known) (code_view unit.deck.now.code)) (sym c.deref.ensures.value) c.in_ok-classes.ensures.classes in
-    let told = c.in_ok-found.ensures known have classes ∙ ap (λ gs. each_once _ (faulty_names cs c.args.fault (code_view unit.deck.now.code) (map global_view gs))) c.deref-in-loop-unit.ensures.value in (
+    let told = c.in_ok-found.ensures.found ∙ ap (λ gs. each_once _ (faulty_names cs c.args.fault (code_view unit.deck.now.code) (map global_view gs))) c.deref.ensures.value in (
       one_unit cs c.args.fault c.args.units.now c.loop-unit.unit-index unit c.loop-unit.linked.items c.add_linked.new.linked.items (linked_in unit.unit c.in_ok-found.found.keys) _
           (omega (arith, c.loop-unit-test.true)) c.unit-item.is c.in_ok-add_linked.ensures (ap (linked_in unit.unit) told) c.loop-unit.invariant.0,
-      grown,
+      grows_on c.args.known.now.keys c.loop-unit.known.keys c.names_with_fault.new.known.keys c.loop-unit.invariant.1 c.in_ok-found.ensures.grows,
     )
