@@ -27,6 +27,7 @@ instruction_fits (coded.Global number) = is_short number
 instruction_fits (coded.AllocateControlled global) = is_short global
 instruction_fits (coded.FreeControlled global) = is_short global
 instruction_fits (coded.CountGenerations global) = is_short global
+instruction_fits (coded.On c block) = is_short block
 instruction_fits (coded.SetTemporary number) = is_short number
 instruction_fits (coded.TakeTemporary number) = is_short number
 instruction_fits other = true

@@ -5,8 +5,7 @@ use pli_run::RunError;
 
 /// An instruction of the stack machine, with numbers as wide as its bytes have them (own). Operands on its list are
 /// values and places, of which the newest is taken first. A target is the place of an instruction in its unit, counted
-/// from 0; blocks, globals, descriptions, templates and values are numbers of entries in the unit's tables. Those of
-/// conditions are read and written; no code of today's language has them.
+/// from 0; blocks, globals, descriptions, templates and values are numbers of entries in the unit's tables.
 #[derive(Clone, Copy)]
 pub enum Instruction {
     /// A step; the activation's statement is this one.
@@ -121,8 +120,8 @@ pub enum Instruction {
     AllocateBased {
         template: u16,
     },
-    /// Takes an area's place, makes a block there and gives a pointer to it. After the unit of the AREA condition,
-    /// jumps to the target.
+    /// Takes an area's place, makes a block there and gives a pointer to it. After the ON-unit of the AREA condition,
+    /// takes a step and jumps to the target.
     AllocateInArea {
         template: u16,
         target: u16,
@@ -135,14 +134,16 @@ pub enum Instruction {
     AssignArea,
     /// Takes an area and empties it.
     EmptyArea,
-    /// Establishes the unit of a condition.
+    /// The activation has the ON-unit of this block for a condition from then on.
     On {
         condition: Condition,
         block: u16,
     },
+    /// The activation has none for the condition from then on.
     Revert {
         condition: Condition,
     },
+    /// Raises the condition.
     Signal {
         condition: Condition,
     },

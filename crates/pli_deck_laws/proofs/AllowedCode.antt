@@ -10,7 +10,7 @@ use Rattle.pli_gen.specs.WellNumbered.{next_temporary, KeepsApart, KeepsApartFor
 use Rattle.pli_program.specs.Program as op
 use Rattle.pli_type_tree.specs.Iterations.{is_iterated}
 use Rattle.pli_type_tree.specs.TypedTree.{TypedExpression, TypedStatement, Statement, TypedStatements, NoStatement, StatementThen, NoElse, Else, TypedUnit}
-use Rattle.pli_type_tree.specs.TypedTree.{Form, Null, Assign, AssignAggregate, AssignArea, EmptyArea, Put, If, Begin, Group, While, Iterate, Call, Goto, Return, ReturnValue, Stop, Allocate, Free}
+use Rattle.pli_type_tree.specs.TypedTree.{Form, Null, Assign, AssignAggregate, AssignArea, EmptyArea, Put, If, Begin, Group, While, Iterate, Call, Goto, Return, ReturnValue, Stop, On, Revert, Signal, Allocate, Free}
 use Rattle.pli_deck_laws.specs.Limits.{parameter_limit, word_limit, IfThere}
 use Rattle.pli_deck_laws.specs.WellFormed.{IsHead, HasBlock, HasSlot, IsExpression, IsStatement, IsForm, AreStatements}
 use Rattle.pli_deck_laws.proofs.CodeGrows.{end_is_some}
@@ -95,6 +95,9 @@ module _ (globals blocks last : ℕ) (t : TypedUnit) (counted : length t.globals
     form_allowed number (ReturnValue outward value) parent used room p most n h apart inner end =
         joined globals blocks last (value_code value) (op.ReturnValue outward ∷ []) (value_allowed globals blocks last t counted named slotted value h.1) (h.0, tt)
     form_allowed number Stop parent used room p most n h apart inner end = (tt, tt)
+    form_allowed number (On condition block) parent used room p most n h apart inner end = (named block h, tt)
+    form_allowed number (Revert condition) parent used room p most n h apart inner end = (tt, tt)
+    form_allowed number (Signal condition) parent used room p most n h apart inner end = (tt, tt)
     form_allowed number (Allocate items) parent used room p most n h apart inner end = allocations_allowed globals blocks last t counted named slotted items used room p most h apart end
     form_allowed number (Free items) parent used room p most n h apart inner end = freeings_allowed globals blocks last t counted named slotted items h
 

@@ -53,6 +53,9 @@ module _ (globals blocks last : ℕ) where
   Allowed (op.FreeBased d) = IsDescription d
   Allowed op.AssignArea = Unit {0}
   Allowed op.EmptyArea = Unit {0}
+  Allowed (op.On c block) = block < blocks
+  Allowed (op.Revert c) = Unit {0}
+  Allowed (op.Signal c) = Unit {0}
   Allowed op.Put = Unit {0}
   Allowed op.Skip = Unit {0}
   Allowed (op.SetTemporary number) = number ≤ 65535

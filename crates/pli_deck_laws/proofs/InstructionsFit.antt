@@ -1,6 +1,8 @@
 -- Instructions whose numbers are within limits fit the fields of a deck, and name what is there.
 use Rattle.std.proofs.Common.{◌≡◌, ℕ, ◌<◌, ◌≤◌, true, length, refl, arith}
 use Rattle.std.specs.List.{AllByRecursion}
+use Rattle.pli_base.specs.declared.statement.Condition.{Condition}
+use Rattle.pli_base.specs.declared.statement.Condition.TheVariants.{FixedOverflow}
 use Rattle.pli_run.specs.declared.ending.RunError.{RunError}
 use Rattle.pli_run.specs.declared.ending.RunError.TheVariants as errors
 use Rattle.pli_map.specs.Description.{Description}
@@ -17,7 +19,7 @@ use Rattle.pli_code.specs.declared.instruction.Instruction.TheVariants as coded
 use Rattle.pli_type_keys.specs.Same.{same_value}
 use Rattle.pli_gen_emit.specs.Encoding.{NumberedTables, number_in, dummy, descriptions_named, templates_named, values_named, description_number, template_number, instruction_code}
 use Rattle.pli_code.specs.Fields.{u1, u2, u4, ◌⊗◌}
-use Rattle.pli_code.specs.Instructions.{bound, error, relation, instruction}
+use Rattle.pli_code.specs.Instructions.{bound, condition, error, relation, instruction}
 use Rattle.pli_deck_write.specs.DeckFaults.{Naming, OfDescription, OfTemplate, OfValue, OfGlobal, OfBlock, OfInstruction, named_by_instruction, targets_of}
 use Rattle.pli_deck_laws.specs.Limits.{link_limit, parameter_limit, IsOperation}
 use Rattle.pli_deck_laws.proofs.AllowedLemmas.{Allowed}
@@ -27,6 +29,10 @@ use Rattle.pli_deck_laws.proofs.FieldsFit.{fits_byte, fits_short, fits_word, fit
 error_fits : (e : RunError) → error.fits e ≡ true
 error_fits errors.SubscriptRange = refl
 error_fits e = refl
+
+condition_fits : (c : Condition) → condition.fits c ≡ true
+condition_fits FixedOverflow = refl
+condition_fits c = refl
 
 relation_fits : (r : Relation) → relation.fits r ≡ true
 relation_fits Equal = refl
@@ -149,6 +155,10 @@ module _ (tables : NumberedTables) (globals blocks last : ℕ) where
         let has = ts.0 in
         record { fits = fits_short (template_number tables t) (omega (arith, has, few_templates)); jumps = tt; names = (has, tt) }
     instruction_good (op.FreeBased d) h to ds ts vs = record { fits = description_fits (description_number tables d) ds.0; jumps = tt; names = (ds.0, tt) }
+    instruction_good (op.On c block) h to ds ts vs =
+        record { fits = fits_pair condition u2 c block (condition_fits c) (block_fits block h); jumps = tt; names = (h, tt) }
+    instruction_good (op.Revert c) h to ds ts vs = record { fits = condition_fits c; jumps = tt; names = tt }
+    instruction_good (op.Signal c) h to ds ts vs = record { fits = condition_fits c; jumps = tt; names = tt }
     instruction_good op.Put h to ds ts vs = record { fits = refl; jumps = tt; names = tt }
     instruction_good op.Skip h to ds ts vs = record { fits = refl; jumps = tt; names = tt }
     instruction_good (op.SetTemporary number) h to ds ts vs = record { fits = fits_short number h; jumps = tt; names = tt }

@@ -55,6 +55,7 @@ module _ (tables : NumberedTables) (globals blocks last : ℕ) (few_globals : gl
   instruction_narrow (op.AllocateControlled n) h = global_number n h
   instruction_narrow (op.FreeControlled n) h = global_number n h
   instruction_narrow (op.CountGenerations n) h = global_number n h
+  instruction_narrow (op.On c b) h = block_number b h
   instruction_narrow (op.SetTemporary n) h = short n h
   instruction_narrow (op.TakeTemporary n) h = short n h
   instruction_narrow i h = refl

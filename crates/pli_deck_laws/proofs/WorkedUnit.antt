@@ -59,6 +59,7 @@ worked_numbered = record {
   statements = (refl, (refl, tt));
   loops = (((omega arith, (tt, tt)), tt), (tt, tt));
   temporaries = (((omega arith, omega arith, (tt, tt)), tt), (tt, tt));
+  units = (((tt, tt), tt), (tt, tt));
 }
 
 pub worked_is_well_formed : WorkedIsWellFormed

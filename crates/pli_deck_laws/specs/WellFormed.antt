@@ -17,7 +17,7 @@ use Rattle.pli_type_tree.specs.TypedTree.{TypedStatement, Statement, TypedStatem
 use Rattle.pli_type_tree.specs.TypedTree.{StatementThen, OtherWise, NoElse, Else}
 use Rattle.pli_type_tree.specs.TypedTree.{Form, Null, Assign, AssignAggregate, AssignArea, EmptyArea, Put, If}
 use Rattle.pli_type_tree.specs.TypedTree.{Begin, Group, While, Iterate, Call, Goto, Return, ReturnValue, Stop}
-use Rattle.pli_type_tree.specs.TypedTree.{Allocate, Free}
+use Rattle.pli_type_tree.specs.TypedTree.{On, Revert, Signal, Allocate, Free}
 use Rattle.pli_type_tree.specs.TypedTree.{AllocatedItem, AllocatesControlled, AllocatesBased, AllocatesInArea}
 use Rattle.pli_type_tree.specs.TypedTree.{FreedItem, FreesControlled, FreesBased}
 use Rattle.pli_type_tree.specs.TypedTree.{TypedProcedure, TypedUnit}
@@ -181,6 +181,9 @@ module _ (t : TypedUnit) where
     IsForm (Return outward) = outward ≤ link_limit
     IsForm (ReturnValue outward e) = (outward ≤ link_limit) × IsExpression e
     IsForm Stop = Unit {0}
+    IsForm (On condition block) = HasBlock block
+    IsForm (Revert condition) = Unit {0}
+    IsForm (Signal condition) = Unit {0}
     IsForm (Allocate items) = AllByRecursion IsAllocated items
     IsForm (Free items) = AllByRecursion IsFreed items
 
@@ -194,7 +197,7 @@ module _ (t : TypedUnit) where
     AreStatements NoStatement = Unit {0}
     AreStatements (StatementThen first more) = IsStatement first × AreStatements more
 
-  -- a procedure stands in a block of the unit, or in none
+  -- a procedure, and so an ON-unit, stands in a block of the unit, or in none
   abbrev pub IsProcedure : TypedProcedure → Type 0
   IsProcedure f =
       IsHead f.head f.statements × IfThere HasBlock f.parent × (f.parameters ≤ parameter_limit)

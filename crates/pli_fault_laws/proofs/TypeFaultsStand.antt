@@ -24,7 +24,7 @@ use Rattle.pli_type.specs.StatementTyping.{WithProcedures}
 use Rattle.pli_type.specs.Temporaries.{Next}
 use Rattle.pli_type.specs.Typing.{first_token, behind_arrows, own_token}
 use Rattle.pli_type.specs.declared.beginning.Beginning.{Beginning}
-use Rattle.pli_type_tree.specs.TypedTree.{Callee, TypedArguments, TypedRange, TypedStatements, TypedProcedure, TypedUnit}
+use Rattle.pli_type_tree.specs.TypedTree.{Callee, Form, TypedArguments, TypedRange, TypedStatements, TypedProcedure, TypedUnit}
 use Rattle.pli_fault_laws.specs.StatementStarts.{Begins, BodyBegins, AllBegin, ElseBegins}
 use Rattle.pli_fault_laws.specs.TypeFaultPlaces.{AllStand, TypeFaultsStandAtTokens}
 use Rattle.pli_fault_laws.proofs.BelowLemmas.{Below, rising_below, below_left, below_right}
@@ -291,11 +291,11 @@ told_together high make (Ok x) (Err gs) p q = q
 told_together high make (Err fs) (Ok y) p q = p
 told_together high make (Err fs) (Err gs) p q = each_both high fs gs p q
 
-told_procedure : (high : ℕ) (make : TypedStatements → TypedProcedure)
-    (r : Result (WithProcedures TypedStatements) (List Fault)) → Told high r → Told high (statements.as_procedure make r)
+told_procedure : (high : ℕ) (form : Form) (make : TypedStatements → TypedProcedure)
+    (r : Result (WithProcedures TypedStatements) (List Fault)) → Told high r → Told high (statements.as_procedure form make r)
 unfolding Told
-told_procedure high make (Ok x) p = tt
-told_procedure high make (Err fs) p = p
+told_procedure high form make (Ok x) p = tt
+told_procedure high form make (Err fs) p = p
 
 -- units
 
@@ -318,7 +318,7 @@ mutual
       (λ d. only_assigned high (statements.naming_at u s) at equals d value a es.0 es.1))
   told_body high u s x number label at (tree.Declare declared) b a h = passed high _
   told_body high u s x number label at (tree.Procedure heading list end) b a h =
-      told_procedure high _ _
+      told_procedure high _ _ _
       (told_statements high u _ _ list b.1
       (below_right high (tokens_of_each name_tokens heading.parameters) (statements_tokens list) h.1))
   told_body high u s x number label at (tree.Begin list end) b a h = told_made high _ _ (told_statements high u _ _ list b h.1)
@@ -356,7 +356,10 @@ mutual
       told_own high _ (only_allocate high (statements.naming_at u s) x.temporary list h.1)
   told_body high u s x number label at (tree.Free list) b a h =
       told_own high _ (only_free high (statements.naming_at u s) list h.1)
-  told_body high u s x number label at other b a h = told_own high _ (told high _ _ a)
+  told_body high u s x number label at (tree.On c unit) b a h =
+      told_procedure high _ _ _ (told_together high _ _ _ (told_statement high u _ _ unit b h.1) (passed high _))
+  told_body high u s x number label at (tree.Revert c) b a h = passed high _
+  told_body high u s x number label at (tree.Signal c) b a h = passed high _
 
   told_alternative : (high : ℕ) (u : NamedUnit) (s : statements.Surroundings) (x : Next) (o : Alternative) → ElseBegins o
       → Below high (alternative_tokens o) → Told high (statements.alternative_typed u s x o)

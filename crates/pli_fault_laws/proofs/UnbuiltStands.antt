@@ -91,9 +91,9 @@ mutual
   body_below n high label at first tree.Null b f h = none_below high
   body_below n high label at first tree.Stop b f h = none_below high
   body_below n high label at first (tree.Goto name) b f h = none_below high
-  body_below n high label at first (tree.On condition unit) b f h = some_below high first f
-  body_below n high label at first (tree.Revert condition) b f h = some_below high first f
-  body_below n high label at first (tree.Signal condition) b f h = some_below high first f
+  body_below n high label at first (tree.On condition unit) b f h = statement_below n high unit b h.1
+  body_below n high label at first (tree.Revert condition) b f h = none_below high
+  body_below n high label at first (tree.Signal condition) b f h = none_below high
   body_below n high label at first (tree.Allocate allocations) b f h = if_below high _ first f
   body_below n high label at first (tree.Free references) b f h = if_below high _ first f
 

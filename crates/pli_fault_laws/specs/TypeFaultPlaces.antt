@@ -9,8 +9,8 @@ use Rattle.pli_type.specs.Checked.{checked}
 use Rattle.pli_type.specs.Names.{Compiled, NamedUnit}
 use Rattle.pli_type.specs.Unbuilt.{first_unbuilt}
 
--- in a unit that is read, the first form that is not compiled yet stands at a token of the text, whatever is
--- compiled
+-- in a unit that is read, the first statement with a constant over the limits, whatever these are, stands at
+-- a token of the text
 abbrev pub UnbuiltStandsAtToken : Type 0
 UnbuiltStandsAtToken =
     (n : Compiled) (ts : Tokens) (u : ExternalProcedure) (at : ℕ) → unit_of ts ≡ Ok u

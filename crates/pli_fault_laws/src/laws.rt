@@ -26,7 +26,7 @@ pub fn declaration_faults_rise()
     ensures { DeclarationFaultsRise }
 {}
 
-/// A law: in a unit that is read, the first form that is not compiled yet stands at a token of the text.
+/// A law: in a unit that is read, the first statement with a constant over the limits stands at a token of the text.
 #[tactic(auto, using(crate::proofs::UnbuiltStands::unbuilt_stands_at_token))]
 pub fn unbuilt_stands_at_token()
     ensures { UnbuiltStandsAtToken }

@@ -198,6 +198,7 @@ module _ (t : NumberedTables) (place : ℕ → ℕ) where
     whole (op.AllocateControlled global) h f = ap coded.AllocateControlled (cut_short global f)
     whole (op.FreeControlled global) h f = ap coded.FreeControlled (cut_short global f)
     whole (op.CountGenerations global) h f = ap coded.CountGenerations (cut_short global f)
+    whole (op.On c block) h f = ap (coded.On c) (cut_short block f)
     whole (op.SetTemporary number) h f = ap coded.SetTemporary (cut_short number f)
     whole (op.TakeTemporary number) h f = ap coded.TakeTemporary (cut_short number f)
     whole op.Nothing h f = absurd h

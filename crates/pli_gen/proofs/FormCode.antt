@@ -3,7 +3,7 @@ use Rattle.std.proofs.Common.{◌≡◌, ℕ, ◌≤◌, List, [], ◌∷◌, �
 use Rattle.std.specs.List.{AllByRecursion}
 use Rattle.pli_program.specs.Program as op
 use Rattle.pli_type_tree.specs.TypedTree.{Called, AllocatedItem, AllocatesControlled, AllocatesBased, AllocatesInArea}
-use Rattle.pli_type_tree.specs.TypedTree.{Form, Null, Assign, AssignAggregate, AssignArea, EmptyArea, Put, If, Begin, Group, While, Iterate, Call, Goto, Return, ReturnValue, Stop, Allocate, Free}
+use Rattle.pli_type_tree.specs.TypedTree.{Form, Null, Assign, AssignAggregate, AssignArea, EmptyArea, Put, If, Begin, Group, While, Iterate, Call, Goto, Return, ReturnValue, Stop, On, Revert, Signal, Allocate, Free}
 use Rattle.pli_gen_emit.specs.TreeTranslation.{value_code, place_code, skip_code, items_code, conversion_code, allocation_code, allocations_code, behind}
 use Rattle.pli_gen_emit.specs.answers.Pieces.{simple_code}
 use Rattle.pli_gen_emit.specs.answers.Instructions.{step_place}
@@ -62,6 +62,9 @@ form_passes (Begin head statements) p n h = ((tt, tt), λ q m d. refl)
 form_passes (Goto outward label) p n h = ((tt, tt), λ q m d. refl)
 form_passes (Return outward) p n h = ((tt, tt), λ q m d. refl)
 form_passes Stop p n h = ((tt, tt), λ q m d. refl)
+form_passes (On condition block) p n h = ((tt, tt), λ q m d. refl)
+form_passes (Revert condition) p n h = ((tt, tt), λ q m d. refl)
+form_passes (Signal condition) p n h = ((tt, tt), λ q m d. refl)
 form_passes (Allocate items) p n h = allocations_pass items p n h
 form_passes (Free items) p n h = all_pass (Free items) p n (freeings_simple items)
 form_passes Null p n h = (tt, λ q m d. refl)

@@ -10,3 +10,4 @@ pub mod StepPlaces
 pub mod TablesLookUp
 pub mod UnitEmitted
 pub mod UnitLemmas
+pub mod UnitsNumbered

@@ -5,7 +5,7 @@ use Rattle.pli_program.specs.Program as op
 use Rattle.pli_code.specs.declared.instruction.Instruction.{Instruction}
 use Rattle.pli_code.specs.declared.instruction.Instruction.TheVariants as coded
 use Rattle.pli_type_tree.specs.TypedTree.{TypedExpression, TypedStatement, Statement, TypedStatements, NoStatement, StatementThen, NoElse, Else}
-use Rattle.pli_type_tree.specs.TypedTree.{Form, Null, Assign, AssignAggregate, AssignArea, EmptyArea, Put, If, Begin, Group, While, Iterate, Call, Goto, Return, ReturnValue, Stop, Allocate, Free}
+use Rattle.pli_type_tree.specs.TypedTree.{Form, Null, Assign, AssignAggregate, AssignArea, EmptyArea, Put, If, Begin, Group, While, Iterate, Call, Goto, Return, ReturnValue, Stop, On, Revert, Signal, Allocate, Free}
 use Rattle.pli_gen_emit.specs.TreeTranslation.{BlockTree, behind, value_code, statement_code, form_code, list_code, end_code, block_code, blocks_code}
 use Rattle.pli_gen_emit.specs.TreeTranslation.{places_in, places_in_form, places_among, places_of, statement_place, list_place}
 use Rattle.pli_gen_emit.specs.answers.Instructions.{step_place}
@@ -119,6 +119,9 @@ mutual
   form_begins number (Return outward) p m d e = refl
   form_begins number (ReturnValue outward value) p m d e = none_in_form (ReturnValue outward value) p m d
   form_begins number Stop p m d e = refl
+  form_begins number (On condition block) p m d e = refl
+  form_begins number (Revert condition) p m d e = refl
+  form_begins number (Signal condition) p m d e = refl
   form_begins number (Allocate items) p m d e = none_in_form (Allocate items) p m d
   form_begins number (Free items) p m d e = none_in_form (Free items) p m d
 

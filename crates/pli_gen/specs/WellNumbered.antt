@@ -1,10 +1,11 @@
--- What is asked of a unit for its code to stand: how blocks, statements and temporaries are numbered, and how
--- deep loops nest.
+-- What is asked of a unit for its code to stand: how blocks, statements and temporaries are numbered, how deep
+-- loops nest, and which blocks are ON-units.
 use Rattle.std.specs.Prelude.{◌≡◌, ℕ, suc, ◌+◌, ◌≤◌, ◌-◌, nat_eq, Bool, true, false, Some, List, [], ◌∷◌}
 use Rattle.std.specs.Prelude.{◌++◌, slice_get}
 use Rattle.std.specs.List.{flat_map, list_any, AllByRecursion}
+use Rattle.pli_program.specs.Program.{OnUnit}
 use Rattle.pli_type_tree.specs.Iterations.{temporaries_of, is_iterated}
-use Rattle.pli_type_tree.specs.TypedTree.{TypedStatement, Statement, Form, If, Group, While, Iterate}
+use Rattle.pli_type_tree.specs.TypedTree.{TypedStatement, Statement, Form, If, Group, While, Iterate, On}
 use Rattle.pli_type_tree.specs.TypedTree.{Iteration, OtherWise, NoElse, Else, TypedStatements, NoStatement}
 use Rattle.pli_type_tree.specs.TypedTree.{StatementThen, TypedUnit, Allocate, AllocatedItem}
 use Rattle.pli_type_tree.specs.TypedTree.{AllocatesControlled, AllocatesBased, AllocatesInArea}
@@ -115,13 +116,48 @@ abbrev mutual
   KeepApart used size NoStatement = Unit {0}
   KeepApart used size (StatementThen first more) = KeepsApart used size first × KeepApart used size more
 
+-- among these blocks, that of a number is an ON-unit without parameters, whose ON stands in a block
+pub record IsOnUnitIn (bs : List BlockTree) (block number : ℕ) : Type 0 where
+  pub tree : BlockTree
+  pub there : slice_get bs number ≡ Some tree
+  pub kind : tree.kind ≡ OnUnit
+  pub parent : tree.parent ≡ Some block
+  pub parameters : tree.parameters ≡ 0
+
+abbrev mutual
+  -- each ON in a statement of a block names an ON-unit there
+  pub NamesUnits : (bs : List BlockTree) (block : ℕ) → TypedStatement → Type 0
+  NamesUnits bs block (Statement number form) = NamesUnitsForm bs block form
+
+  -- the same of a form
+  pub NamesUnitsForm : (bs : List BlockTree) (block : ℕ) → Form → Type 0
+  NamesUnitsForm bs block (If condition consequence alternative) =
+      NamesUnits bs block consequence × NamesUnitsElse bs block alternative
+  NamesUnitsForm bs block (Group statements) = NameUnits bs block statements
+  NamesUnitsForm bs block (While condition statements) = NameUnits bs block statements
+  NamesUnitsForm bs block (Iterate iteration statements) = NameUnits bs block statements
+  NamesUnitsForm bs block (On condition number) = IsOnUnitIn bs block number
+  NamesUnitsForm bs block form = Unit {0}
+
+  -- of an ELSE
+  pub NamesUnitsElse : (bs : List BlockTree) (block : ℕ) → OtherWise → Type 0
+  NamesUnitsElse bs block NoElse = Unit {0}
+  NamesUnitsElse bs block (Else statement) = NamesUnits bs block statement
+
+  -- of each statement of a list
+  pub NameUnits : (bs : List BlockTree) (block : ℕ) → TypedStatements → Type 0
+  NameUnits bs block NoStatement = Unit {0}
+  NameUnits bs block (StatementThen first more) = NamesUnits bs block first × NameUnits bs block more
+
 -- the blocks of a unit are numbered from 0, each once; its statements have different numbers; loops nest less
--- than 64 deep in each block; and an iteration's temporaries, and those of ALLOCATE's items, are apart from
--- those of the ones around it
+-- than 64 deep in each block; an iteration's temporaries, and those of ALLOCATE's items, are apart from those
+-- of the ones around it; and each ON names an ON-unit of its block
 pub record IsWellNumbered (t : TypedUnit) : Type 0 where
   pub blocks : AllByRecursion (λ b. slice_get (blocks_of t) b.head.number ≡ Some b)
       (flat_map blocks_of_procedure t.procedures)
   pub statements : AreDistinct (numbers_of (blocks_of t))
   pub loops : AllByRecursion (λ b. HaveRoom 64 b.statements) (flat_map blocks_of_procedure t.procedures)
   pub temporaries : AllByRecursion (λ b. KeepApart 0 b.head.temporaries b.statements)
+      (flat_map blocks_of_procedure t.procedures)
+  pub units : AllByRecursion (λ b. NameUnits (blocks_of t) b.head.number b.statements)
       (flat_map blocks_of_procedure t.procedures)

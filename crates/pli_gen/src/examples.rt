@@ -5,11 +5,12 @@ ghost use Rattle.pli_gen.specs.examples.TranslationExamples.{JumpsAndBlocks, Who
 ghost use Rattle.pli_gen.specs.examples.TranslationExamples.{TablesNumbered, InstructionsNumbered, LimitsKept};
 ghost use Rattle.pli_gen.specs.examples.TranslationExamples.{GlobalsNumbered, EntriesCalled, EntriesLinked};
 ghost use Rattle.pli_gen.specs.examples.TranslationExamples.{GenerationsStacked, ControlledLinked};
-ghost use Rattle.pli_gen.specs.examples.TranslationExamples.{PointersFollowed, AreasUsed};
+ghost use Rattle.pli_gen.specs.examples.TranslationExamples.{PointersFollowed, AreasUsed, UnitsEstablished, UnitsNumbered};
 
 /// Worked examples: an assignment and PUT; a reference with subscripts; a call; an aggregate; a group with a control
 /// variable; jumps between blocks; tables; globals and calls of entries; ALLOCATE, FREE and ALLOCATION; what
-/// pointers lead to; what areas hold.
+/// pointers lead to; what areas hold; ON-units.
+#[tactic(auto, using(crate::proofs::UnitsNumbered::units_numbered))]
 pub fn worked_examples()
     ensures assigned_and_printed { AssignedAndPrinted }
     ensures part_of_structure { PartOfStructure }
@@ -29,4 +30,6 @@ pub fn worked_examples()
     ensures controlled_linked { ControlledLinked }
     ensures pointers_followed { PointersFollowed }
     ensures areas_used { AreasUsed }
+    ensures units_established { UnitsEstablished }
+    ensures units_numbered { UnitsNumbered }
 {}

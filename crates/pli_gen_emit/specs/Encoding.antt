@@ -144,6 +144,9 @@ module _ (tables : NumberedTables) where
   instruction_code (op.FreeBased d) = coded.FreeBased (description_number d)
   instruction_code op.AssignArea = coded.AssignArea
   instruction_code op.EmptyArea = coded.EmptyArea
+  instruction_code (op.On c block) = coded.On c block
+  instruction_code (op.Revert c) = coded.Revert c
+  instruction_code (op.Signal c) = coded.Signal c
   instruction_code op.Put = coded.Put
   instruction_code op.Skip = coded.Skip
   instruction_code (op.SetTemporary number) = coded.SetTemporary number

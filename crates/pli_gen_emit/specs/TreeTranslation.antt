@@ -8,9 +8,10 @@ use Rattle.pli_run.specs.declared.ending.RunError.TheVariants.{NoReturnedValue}
 use Rattle.pli_program.specs.Program.{Instruction, Step, Line, Jump, JumpUnless, Local, Field}
 use Rattle.pli_program.specs.Program.{Subscript, Constant, Load, Store, Copy, MakeDummy, Operate, Skip}
 use Rattle.pli_program.specs.Program.{Raise}
-use Rattle.pli_program.specs.Program.{BlockKind, Procedure, BeginBlock, Block, GlobalCode, UnitCode}
+use Rattle.pli_program.specs.Program.{BlockKind, BeginBlock, Block, GlobalCode, UnitCode}
 use Rattle.pli_program.specs.Program as op
 use Rattle.pli_operation.specs.declared.operation.Operation.TheVariants.{Add, Within}
+use Rattle.pli_type_tree.specs.Blocks.{kind_of_procedure}
 use Rattle.pli_type_tree.specs.Iterations.{kept_by, limit_number, step_number, is_iterated}
 use Rattle.pli_type_tree.specs.Templates.{variable_of}
 use Rattle.pli_type_tree.specs.TypedTree.{Root, InSlot, OfProgram, NewestOf, Located, TypedExpression}
@@ -21,7 +22,8 @@ use Rattle.pli_type_tree.specs.TypedTree.{NoArgument, ByPlace, ByDummy, Conversi
 use Rattle.pli_type_tree.specs.TypedTree.{AsPointerIn, AsOffsetIn, BlockHead, TypedStatement, Statement}
 use Rattle.pli_type_tree.specs.TypedTree.{Form, Null, Assign, AssignAggregate, AssignArea, EmptyArea, Put, If}
 use Rattle.pli_type_tree.specs.TypedTree.{Begin, Group, While, Iterate, TypedRange, Once, ToBy, ByTo}
-use Rattle.pli_type_tree.specs.TypedTree.{Repeated, Iteration, Call, Goto, Return, ReturnValue, Stop}
+use Rattle.pli_type_tree.specs.TypedTree.{Repeated, Iteration, Call, Goto, Return, ReturnValue, Stop, On}
+use Rattle.pli_type_tree.specs.TypedTree.{Revert, Signal}
 use Rattle.pli_type_tree.specs.TypedTree.{Allocate, Free, OtherWise, NoElse, Else}
 use Rattle.pli_type_tree.specs.TypedTree.{AllocatedItem, AllocatesControlled, AllocatesBased, AllocatesInArea}
 use Rattle.pli_type_tree.specs.TypedTree.{FreedItem, FreesControlled, FreesBased}
@@ -284,6 +286,9 @@ abbrev mutual
   form_code number (Return outward) p = op.Return outward ∷ []
   form_code number (ReturnValue outward value) p = value_code value ++ op.ReturnValue outward ∷ []
   form_code number Stop p = op.Stop ∷ []
+  form_code number (On condition block) p = op.On condition block ∷ []
+  form_code number (Revert condition) p = op.Revert condition ∷ []
+  form_code number (Signal condition) p = op.Signal condition ∷ []
   form_code number (Allocate items) p = allocations_code items p
   form_code number (Free items) p = freeings_code items
 
@@ -356,10 +361,10 @@ begin_block parent head statements = record {
   statements = statements;
 }
 
--- a procedure's block
+-- the block of a procedure or an ON-unit
 abbrev pub procedure_block : TypedProcedure → BlockTree
 procedure_block f = record {
-  kind = Procedure;
+  kind = kind_of_procedure f;
   parent = f.parent;
   parameters = f.parameters;
   head = f.head;
@@ -393,7 +398,7 @@ abbrev mutual
   blocks_among parent NoStatement = []
   blocks_among parent (StatementThen first more) = blocks_in parent first ++ blocks_among parent more
 
--- a procedure's block and those inside it
+-- the block of a procedure or an ON-unit, and those inside it
 abbrev pub blocks_of_procedure : TypedProcedure → List BlockTree
 blocks_of_procedure f = procedure_block f ∷ blocks_among f.head.number f.statements
 

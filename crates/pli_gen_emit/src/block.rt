@@ -1,7 +1,9 @@
 //! The blocks of a unit in the order of their numbers.
 ghost use Rattle.std.specs.Prelude.{◌≡◌, ◌++◌, ◌∷◌, [], length, map, slice_set, get_or, replicate, IfOk, OnOk};
 ghost use Rattle.std.specs.List.{flat_map};
+ghost use Rattle.pli_type_tree.specs.Blocks.{kind_of_procedure};
 ghost use Rattle.pli_type_tree.specs.views.TypedView.{statement_view, statements_view, procedure_view};
+ghost use Rattle.pli_code.specs.views.CodeView.{kind_view};
 ghost use Rattle.pli_gen_emit.specs.TreeTranslation.{blocks_in, blocks_among, blocks_of_procedure, by_number};
 ghost use Rattle.pli_gen_emit.specs.answers.Collecting.{Collects};
 ghost use Rattle.pli_gen_emit.specs.views.BlockView.{block_tree, block_trees};
@@ -91,18 +93,32 @@ fn collect_in<'a>(parent: usize, statement: &'a TypedStatement, blocks: &mut Col
         | Form::Return { .. }
         | Form::ReturnValue { .. }
         | Form::Stop
+        | Form::On { .. }
+        | Form::Revert(_)
+        | Form::Signal(_)
         | Form::Allocate(_)
         | Form::Free(_) => {}
     }
 }
 
-/// Collects a procedure's block and those inside it.
+/// What kind of block a procedure or an ON-unit has.
+fn kind_of_procedure(procedure: &TypedProcedure) -> BlockKind
+    ensures { kind_view result ≡ kind_of_procedure (procedure_view procedure.now) }
+{
+    if procedure.is_on_unit {
+        BlockKind::OnUnit
+    } else {
+        BlockKind::Procedure
+    }
+}
+
+/// Collects the block of a procedure or an ON-unit, and those inside it.
 fn collect_procedure<'a>(procedure: &'a TypedProcedure, blocks: &mut Collected<'a>)
     ensures { Collects blocks.old blocks.new (blocks_of_procedure (procedure_view procedure.now)) }
 {
     let statements = procedure.statements.as_slice();
     let block = BlockSource {
-        kind: BlockKind::Procedure,
+        kind: kind_of_procedure(procedure),
         parent: procedure.parent,
         parameters: procedure.parameters,
         head: &procedure.head,

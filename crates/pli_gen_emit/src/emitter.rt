@@ -17,6 +17,7 @@ use crate::one::One;
 use crate::table::{
     NumberedTables, number_description, number_template, number_used, number_value,
 };
+use pli_base::statement::Condition;
 use pli_code::Instruction;
 use pli_map::Description;
 use pli_operation::Operation;
@@ -136,6 +137,15 @@ impl<'a> Emitter<'a> {
         let fits = block <= SHORT_LIMIT;
         let block = short(block);
         self.put(fits, Instruction::Begin { block });
+    }
+
+    /// Appends what establishes the ON-unit of a block.
+    pub(crate) fn on(&mut self, condition: Condition, block: usize)
+        ensures { Emits self.old self.new (op.On condition block ∷ []) }
+    {
+        let fits = block <= SHORT_LIMIT;
+        let block = short(block);
+        self.put(fits, Instruction::On { condition, block });
     }
 
     /// Appends a RETURN.

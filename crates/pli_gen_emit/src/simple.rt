@@ -154,6 +154,13 @@ pub(crate) fn emit_simple<'a>(form: &'a Form, code: &mut Emitter<'a>)
             code.return_value(*outward);
         }
         Form::Stop => code.emit(Instruction::Stop),
+        Form::On { condition, block } => code.on(*condition, *block),
+        Form::Revert(condition) => code.emit(Instruction::Revert {
+            condition: *condition,
+        }),
+        Form::Signal(condition) => code.emit(Instruction::Signal {
+            condition: *condition,
+        }),
         Form::Allocate(items) => emit_allocations(items.as_slice(), code),
         Form::Free(items) => emit_freeings(items.as_slice(), code),
         Form::Null | Form::If { .. } | Form::Group(_) | Form::While { .. } | Form::Iterate { .. } =>

@@ -103,6 +103,9 @@ fn emit_form<'a>(number: u32, form: &'a Form, code: &mut Emitter<'a>)
         | Form::Return { .. }
         | Form::ReturnValue { .. }
         | Form::Stop
+        | Form::On { .. }
+        | Form::Revert(_)
+        | Form::Signal(_)
         | Form::Allocate(_)
         | Form::Free(_) => emit_simple(form, code),
     }

@@ -1,17 +1,18 @@
 -- The code that the translation makes of each form stands as the simulation asks.
 use Rattle.std.specs.Prelude.{◌≡◌, ℕ, zero, suc, ◌+◌, ◌-◌, ◌≤◌, nat_eq, Bool, true, false, Option, Some, None, List, [], ◌∷◌, ◌++◌, map, slice_get, refl}
 use Rattle.std.specs.List.{flat_map, list_any, AllByRecursion}
-use Rattle.std.specs.Prelude.{◌||◌, if◌then◌else◌}
+use Rattle.std.specs.Prelude.{◌||◌, ◌&&◌, if◌then◌else◌}
 use Rattle.std.proofs.Common.{arith, ap, ◌∙◌, sym, subst, true≢false}
 use Rattle.std.proofs.lemmas.Bool.{eq-eqb}
 use Rattle.pli_run.specs.declared.ending.RunError.TheVariants.{NoReturnedValue}
 use Rattle.pli_program.specs.Program as op
 use Rattle.pli_base.specs.Name.{Name}
+use Rattle.pli_base.specs.declared.statement.Condition.{Condition}
 use Rattle.pli_operation.specs.declared.operation.Operation.TheVariants.{Add, Within}
-use Rattle.pli_program.specs.Program.{Instruction, Block, UnitCode}
+use Rattle.pli_program.specs.Program.{is_on_unit, Instruction, Block, UnitCode}
 use Rattle.pli_type_tree.specs.TypedTree.{TypedOperation, Fit, Operate, Root, InSlot, OfProgram, NewestOf, Located, TypedExpression, Literal, Held, Calculated, Called, Generations, Address, AsPointer, AsOffset, TypedReference, Whole, Part, Operands, NoOperand, OperandThen}
 use Rattle.pli_type_tree.specs.TypedTree.{Subscripts, NoSubscript, SubscriptThen, TypedArguments, NoArgument, ByPlace, ByDummy, TypedStatement, Statement}
-use Rattle.pli_type_tree.specs.TypedTree.{Conversion, ByOperations, AsPointerIn, AsOffsetIn, AllocatedItem, AllocatesControlled, AllocatesBased, AllocatesInArea, FreedItem, FreesControlled, FreesBased, Form, Null, Assign, AssignAggregate, AssignArea, EmptyArea, Put, Allocate, Free, If, Begin, Group, While, Iterate, Call, Goto, Return, ReturnValue, Stop}
+use Rattle.pli_type_tree.specs.TypedTree.{Conversion, ByOperations, AsPointerIn, AsOffsetIn, AllocatedItem, AllocatesControlled, AllocatesBased, AllocatesInArea, FreedItem, FreesControlled, FreesBased, Form, Null, Assign, AssignAggregate, AssignArea, EmptyArea, Put, Allocate, Free, If, Begin, Group, While, Iterate, Call, Goto, Return, ReturnValue, Stop, On, Revert, Signal}
 use Rattle.pli_type_tree.specs.Iterations.{kept_by, limit_number, step_number, is_iterated}
 use Rattle.pli_type_tree.specs.TypedTree.{Iteration, TypedRange, Once, ToBy, ByTo, Repeated}
 use Rattle.pli_type_tree.specs.TypedTree.{Callee, OfBlock, OfEntry, Global, OwnVariable, ExternalVariable, EntryPoint}
@@ -23,7 +24,7 @@ use Rattle.pli_gen_emit.specs.TreeTranslation.{keeps_code, sets_code, start_code
 use Rattle.pli_gen_emit.specs.TreeTranslation.{turn_place, list_place}
 use Rattle.pli_gen.proofs.IterationCode.{tests_length, iterate_ends}
 use Rattle.pli_gen.specs.laws.ListLaws.{all_front, all_back}
-use Rattle.pli_gen.specs.WellNumbered.{AreDistinct, HasTurns, HasRoom, HaveRoom, next_temporary, KeepsTemporary, KeepsApart, KeepApart, IsWellNumbered}
+use Rattle.pli_gen.specs.WellNumbered.{AreDistinct, HasTurns, HasRoom, HaveRoom, next_temporary, KeepsTemporary, KeepsApart, KeepApart, IsOnUnitIn, NamesUnits, NamesUnitsForm, NameUnits, IsWellNumbered}
 use Rattle.pli_gen.specs.WellNumbered.{numbers_in, numbers_in_form, numbers_in_else, numbers_among, numbers_of}
 use Rattle.std.proofs.lemmas.List.{map-append}
 use Rattle.pli_meaning_tree.specs.Effects.{Label}
@@ -265,13 +266,6 @@ module _ (u : UnitCode) (places : List (ℕ × ℕ)) (unit : ℕ) (at : Label �
   abbrev Known : List (ℕ × ℕ) → Type 0
   Known es = AllByRecursion (λ e. statement_place places e.0 ≡ e.1) es
 
-  -- a block that stands, has room for its loops and keeps the temporaries of its iterations apart
-  abbrev Placed : BlockTree → Type 0
-  Placed b = Found (slice_get u.blocks b.head.number) b × (HaveRoom 64 b.statements × KeepApart 0 b.head.temporaries b.statements)
-
-  abbrev AllPlaced : List BlockTree → Type 0
-  AllPlaced bs = AllByRecursion Placed bs
-
   -- a context in which the loops inside have room
   record Fits (c : Context) : Type 0 where
     most : c.bound ≤ 64
@@ -436,163 +430,6 @@ module _ (u : UnitCode) (places : List (ℕ × ℕ)) (unit : ℕ) (at : Label �
         does = record { middle = q; fst = record { here = step; ends = e }; snd = does };
       }
 
-  mutual
-    statement_stands : (s : TypedStatement) (block : ℕ) (c : Context) → Fits c → HasRoom c.bound s → KeepsApart c.depth c.size s → AllPlaced (blocks_in block s)
-        → (p : ℕ) → Known (places_in s p) → Stand (statement_code s p) p → stand.StatementStands u unit at block s c p (behind (statement_code s p) p)
-    statement_stands (Statement number form) block c fits room apart inner p known h =
-        record { middle = suc p; fst = record { here = h.0; ends = refl }; snd = form_stands form number block c fits room apart inner (suc p) known.1 h.1 }
-
-    form_stands : (form : Form) (number block : ℕ) (c : Context) → Fits c → HasRoom c.bound (Statement number form) → KeepsApart c.depth c.size (Statement number form) → AllPlaced (blocks_of_form block form)
-        → (p : ℕ) → Known (places_in_form form p) → Stand (form_code number form p) p → stand.FormStands u unit at block number form c p (behind (form_code number form p) p)
-    form_stands Null number block c fits room apart inner p known h = refl
-    form_stands (Assign target e) number block c fits room apart inner p known h =
-        two_parts (place_code target) (value_code e) op.Store (stand.PlaceStands u target) (stand.ValueStands u e) (place_stands target) (value_stands e) p h
-    form_stands (AssignAggregate target source) number block c fits room apart inner p known h =
-        two_parts (place_code target) (place_code source) op.Copy (stand.PlaceStands u target) (stand.PlaceStands u source) (place_stands target) (place_stands source) p h
-    form_stands (AssignArea target source) number block c fits room apart inner p known h =
-        two_parts (place_code target) (place_code source) op.AssignArea (stand.PlaceStands u target) (stand.PlaceStands u source) (place_stands target) (place_stands source) p h
-    form_stands (EmptyArea target) number block c fits room apart inner p known h =
-        joined (place_code target) (op.EmptyArea ∷ []) (stand.PlaceStands u target) (stand.Is u op.EmptyArea) (place_stands target) (one op.EmptyArea) p h
-    form_stands (Put skip items) number block c fits room apart inner p known h =
-        joined (skip_code skip) (items_code items) (stand.SkipStands u skip) (stand.ItemsStand u items) (skip_stands skip) (items_stand items) p h
-    form_stands (Allocate items) number block c fits room apart inner p known h = allocations_stand items c apart p h
-    form_stands (Free items) number block c fits room apart inner p known h = freeings_stand items p h
-    form_stands (If e consequence NoElse) number block c fits room apart inner p known h =
-        let q = suc (behind (value_code e) p) in
-        let part = statement_code consequence q in
-        let r = split (value_code e) (op.JumpUnless (behind part q) ∷ part) p h in
-        subst (λ z. stand.IfStands u unit at block (stand.ConditionStands u e) (stand.StatementStands u unit at block consequence c) NoElse c p z)
-        (sym (behind_both (value_code e) (op.JumpUnless (behind part q) ∷ part) p))
-        (record {
-          start = q;
-          holds = test_stands e (behind part q) p (later part q) r.0 r.1.0;
-          does = statement_stands consequence block c fits room.0 apart.0 (all_front Placed (blocks_in block consequence) [] inner) q
-              (all_front (λ e. statement_place places e.0 ≡ e.1) (places_in consequence q) [] known) r.1.1;
-        })
-    form_stands (If e consequence (Else other)) number block c fits room apart inner p known h =
-        let q = suc (behind (value_code e) p) in
-        let part = statement_code consequence q in
-        let t = suc (behind part q) in
-        let code = statement_code other t in
-        let z = behind code t in
-        let r = split_three (value_code e) (op.JumpUnless t ∷ part) (op.Jump z ∷ code) p h in
-        subst (λ z. stand.IfStands u unit at block (stand.ConditionStands u e) (stand.StatementStands u unit at block consequence c) (Else other) c p z)
-        (sym (behind_three (value_code e) (op.JumpUnless t ∷ part) (op.Jump z ∷ code) p))
-        (record {
-          start = q;
-          finish = behind part q;
-          target = t;
-          holds = test_stands e t p (let le = later part q in omega (arith, le)) r.0 r.1.0.0;
-          does = statement_stands consequence block c fits room.0 apart.0 (all_front Placed (blocks_in block consequence) (blocks_in block other) inner) q
-              (all_front (λ e. statement_place places e.0 ≡ e.1) (places_in consequence q) (places_in other t) known) r.1.0.1;
-          over = record { is = record { here = r.1.1.0; ends = refl }; on = later code t };
-          does_other = statement_stands other block c fits room.1 apart.1 (all_back Placed (blocks_in block consequence) (blocks_in block other) inner) t
-              (all_back (λ e. statement_place places e.0 ≡ e.1) (places_in consequence q) (places_in other t) known) r.1.1.1;
-        })
-    form_stands (Begin head statements) number block c fits room apart inner p known h =
-        let b = begin_block block head statements in
-        let f = inner.0.0 in
-        let r = split (list_code statements f.entry) (op.Return 0 ∷ []) f.entry f.code in
-        record {
-          begins = record { here = h.0; ends = refl };
-          block = record {
-            entry = f.entry;
-            there = f.is;
-            bound = 64;
-            some = omega arith;
-            finish = behind (list_code statements f.entry) f.entry;
-            behind = suc (behind (list_code statements f.entry) f.entry);
-            does = list_stands statements head.number (record { size = head.temporaries; depth = 0; bound = 64 }) (record { most = omega arith; depth = omega arith })
-                inner.0.1.0 inner.0.1.1 inner.1 f.entry f.known r.0;
-            ends = record { here = r.1.0; ends = refl };
-          };
-        }
-    form_stands (Group statements) number block c fits room apart inner p known h = list_stands statements block c fits room apart inner p known h
-    form_stands (While e statements) number block c fits room apart inner p known h =
-        let q = suc (suc (behind (value_code e) (suc p))) in
-        let code = list_code statements q in
-        let z = suc (behind code q) in
-        let r = split_three (op.Line number ∷ value_code e) (op.JumpUnless z ∷ op.Step number ∷ code) (op.Jump p ∷ []) p h in
-        subst (λ z. stand.FormStands u unit at block number (While e statements) c p z)
-        (sym (behind_three (op.Line number ∷ value_code e) (op.JumpUnless z ∷ op.Step number ∷ code) (op.Jump p ∷ []) p)) (
-          nests c fits room.0,
-          record {
-            start = suc (behind (value_code e) (suc p));
-            finish = behind code q;
-            behind = behind code q;
-            holds = record {
-              middle = suc p;
-              fst = record { here = r.0.0; ends = refl };
-              snd = test_stands e z (suc p) (let le = later code q in omega (arith, le)) r.0.1 r.1.0.0;
-            };
-            does = record {
-              middle = q;
-              fst = record { here = r.1.0.1.0; ends = refl };
-              snd = list_stands statements block (stand.deeper c) (deeper_fits c fits) room.1 apart inner q known r.1.0.1.1;
-            };
-            does_between = refl;
-            back = record { here = r.1.1.0; ends = refl };
-          },
-        )
-    form_stands (Iterate i statements) number block c fits room apart inner p known h =
-        let turn = turn_place i p in
-        let q = list_place i p in
-        let code = list_code statements q in
-        let between = advances_code i.range i in
-        let back = back_code (is_iterated i.range) number between turn in
-        let out = behind back (behind code q) in
-        let tests = tests_code i out in
-        let keeps = keeps_code i.temporary (i.start ∷ kept_by i.range) in
-        let sets = sets_code i (op.TakeTemporary i.temporary ∷ []) in
-        let take = stand.Is u (op.TakeTemporary i.temporary) in
-        let r = split_three (start_code i) tests (op.Step number ∷ (code ++ back)) p h in
-        let s = split keeps sets p r.0 in
-        let e : suc (behind tests turn) ≡ q = ap suc (tests_length i out 0 turn) in
-        let l = split code back q (subst (λ k. Stand (code ++ back) k) e r.1.1.1) in
-        let next = next_temporary i in
-        subst (λ z. stand.FormStands u unit at block number (Iterate i statements) c p z) (sym (iterate_ends number i (list_code statements) p)) (
-          record { free = apart.0; room = apart.1 },
-          record {
-            middle = behind keeps p;
-            fst = keeps_stand i.temporary (i.start ∷ kept_by i.range) p s.0;
-            snd = record {
-              middle = turn;
-              fst = subst (λ z. stand.SetsStand u i take (behind keeps p) z) (sym (behind_both keeps sets p))
-                  (sets_stand i (op.TakeTemporary i.temporary ∷ []) take (one (op.TakeTemporary i.temporary)) (behind keeps p) s.1);
-              snd = turns_stand (is_iterated i.range) i number between (stand.AdvancesStand u i.range i) (advances_stand i.range i) (stand.ListStands u unit at block statements)
-                  (stand.using next c) turn q (behind code q) (later code q) e r.1.0 r.1.1.0
-                  (turned (is_iterated i.range) statements (stand.ListStands u unit at block statements) c.size next c.bound q (behind code q) fits.most room
-                  (λ n most space. list_stands statements block (record { size = c.size; depth = next; bound = n }) (record { most = most; depth = apart.1 }) space apart.2 inner q known l.0))
-                  l.1;
-            };
-          },
-        )
-    form_stands (Call callee args) number block c fits room apart inner p known h = call_stands callee args (arguments_stand args) p h
-    form_stands (Goto outward label) number block c fits room apart inner p known h =
-        subst (λ k. stand.Is u (op.Goto outward k) p (suc p)) (sym (lead label)) (one (op.Goto outward label) p h)
-    form_stands (Return outward) number block c fits room apart inner p known h = one (op.Return outward) p h
-    form_stands (ReturnValue outward e) number block c fits room apart inner p known h =
-        joined (value_code e) (op.ReturnValue outward ∷ []) (stand.ValueStands u e) (stand.Is u (op.ReturnValue outward)) (value_stands e) (one (op.ReturnValue outward)) p h
-    form_stands Stop number block c fits room apart inner p known h = one op.Stop p h
-
-    list_stands : (ss : TypedStatements) (block : ℕ) (c : Context) → Fits c → HaveRoom c.bound ss → KeepApart c.depth c.size ss → AllPlaced (blocks_among block ss)
-        → (p : ℕ) → Known (places_among ss p) → Stand (list_code ss p) p → stand.ListStands u unit at block ss c p (behind (list_code ss p) p)
-    list_stands NoStatement block c fits room apart inner p known h = refl
-    list_stands (StatementThen s more) block c fits room apart inner p known h =
-        let code = statement_code s p in
-        let q = behind code p in
-        let r = split code (list_code more q) p h in (
-          starts s p (all_front (λ e. statement_place places e.0 ≡ e.1) (places_in s p) (places_among more q) known),
-          record {
-            middle = q;
-            fst = statement_stands s block c fits room.0 apart.0 (all_front Placed (blocks_in block s) (blocks_among block more) inner) p
-                (all_front (λ e. statement_place places e.0 ≡ e.1) (places_in s p) (places_among more q) known) r.0;
-            snd = subst (λ z. stand.ListStands u unit at block more c q z) (sym (behind_both code (list_code more q) p))
-                (list_stands more block c fits room.1 apart.1 (all_back Placed (blocks_in block s) (blocks_among block more) inner) q
-                (all_back (λ e. statement_place places e.0 ≡ e.1) (places_in s p) (places_among more q) known) r.1);
-          },
-        )
-
   -- blocks
 
   -- of blocks that stand one behind the other, each is found by its number
@@ -612,36 +449,6 @@ module _ (u : UnitCode) (places : List (ℕ × ℕ)) (unit : ℕ) (at : Label �
   end_stands None = one (op.Return 0)
   end_stands (Some s) = before (op.Line s) (op.Raise NoReturnedValue ∷ []) (stand.Is u (op.Raise NoReturnedValue)) (one (op.Raise NoReturnedValue))
 
-  procedure_stands : (f : TypedProcedure) → AllPlaced (blocks_of_procedure f) → stand.ProcedureStands u unit at f
-  procedure_stands f inner =
-      let b = inner.0.0 in
-      let r = split (list_code f.statements b.entry) (end_code f.function_end) b.entry b.code in
-      let finish = behind (list_code f.statements b.entry) b.entry in
-      record {
-        entry = b.entry;
-        there = b.is;
-        bound = 64;
-        some = omega arith;
-        finish = finish;
-        behind = behind (end_code f.function_end) finish;
-        does = list_stands f.statements f.head.number (record { size = f.head.temporaries; depth = 0; bound = 64 }) (record { most = omega arith; depth = omega arith }) inner.0.1.0 inner.0.1.1 inner.1 b.entry b.known r.0;
-        ends = end_stands f.function_end finish r.1;
-      }
-
-  procedures_stand : (fs : List TypedProcedure) → AllPlaced (flat_map blocks_of_procedure fs) → stand.ProceduresStand u unit at fs
-  procedures_stand [] inner = tt
-  procedures_stand (f ∷ fs) inner = (
-    procedure_stands f (all_front Placed (blocks_of_procedure f) (flat_map blocks_of_procedure fs) inner),
-    procedures_stand fs (all_back Placed (blocks_of_procedure f) (flat_map blocks_of_procedure fs) inner),
-  )
-
-  -- blocks that are found and have room
-  all_placed : (all bs : List BlockTree) → ((i : ℕ) (b : BlockTree) → slice_get all i ≡ Some b → Found (slice_get u.blocks i) b)
-      → AllByRecursion (λ b. slice_get all b.head.number ≡ Some b) bs → AllByRecursion (λ b. HaveRoom 64 b.statements) bs
-      → AllByRecursion (λ b. KeepApart 0 b.head.temporaries b.statements) bs → AllPlaced bs
-  all_placed all [] find numbers rooms apart = tt
-  all_placed all (b ∷ bs) find numbers rooms apart = ((find b.head.number b numbers.0, (rooms.0, apart.0)), all_placed all bs find numbers.1 rooms.1 apart.1)
-
   -- code that a unit has from a place on
   stand_all : (is : List Instruction) (p : ℕ) → ((k : ℕ) → slice_get u.instructions (p + k) ≡ slice_get (map (with_target places) is) k) → Stand is p
   stand_all [] p h = tt
@@ -649,6 +456,219 @@ module _ (u : UnitCode) (places : List (ℕ × ℕ)) (unit : ℕ) (at : Label �
       let here : p ≡ p + 0 = omega arith in
       let next : (k : ℕ) → suc p + k ≡ p + suc k = λ k. omega arith in
       (ap (slice_get u.instructions) here ∙ h 0, stand_all is (suc p) (λ k. ap (slice_get u.instructions) (next k) ∙ h (suc k)))
+
+  -- among all blocks of a unit, each of which is found by its number
+  module _ (all : List BlockTree) (find : (i : ℕ) (b : BlockTree) → slice_get all i ≡ Some b → Found (slice_get u.blocks i) b) where
+    -- among all blocks, one that stands, has room for its loops, keeps the temporaries of its iterations apart and names
+    -- ON-units of its own
+    abbrev Placed : BlockTree → Type 0
+    Placed b =
+        Found (slice_get u.blocks b.head.number) b
+        × (HaveRoom 64 b.statements × (KeepApart 0 b.head.temporaries b.statements × NameUnits all b.head.number b.statements))
+
+    abbrev AllPlaced : List BlockTree → Type 0
+    AllPlaced bs = AllByRecursion Placed bs
+
+    -- an ON-unit that ON names
+    on_stands : (condition : Condition) (number block : ℕ) → IsOnUnitIn all block number → Made (op.On condition number ∷ []) (stand.OnStands u condition number block)
+    on_stands condition number block is p h =
+        let found = find number is.tree is.there in
+        record {
+          establishes = record { here = h.0; ends = refl };
+          block = block_at is.tree found.entry;
+          there = found.is;
+          suits = ap (λ k. is_on_unit k && nat_eq is.tree.parameters 0) is.kind ∙ ap (λ n. nat_eq n 0) is.parameters;
+          around = is.parent;
+        }
+
+    mutual
+      statement_stands : (s : TypedStatement) (block : ℕ) (c : Context) → Fits c → HasRoom c.bound s → KeepsApart c.depth c.size s → NamesUnits all block s → AllPlaced (blocks_in block s)
+          → (p : ℕ) → Known (places_in s p) → Stand (statement_code s p) p → stand.StatementStands u unit at block s c p (behind (statement_code s p) p)
+      statement_stands (Statement number form) block c fits room apart units inner p known h =
+          record { middle = suc p; fst = record { here = h.0; ends = refl }; snd = form_stands form number block c fits room apart units inner (suc p) known.1 h.1 }
+
+      form_stands : (form : Form) (number block : ℕ) (c : Context) → Fits c → HasRoom c.bound (Statement number form) → KeepsApart c.depth c.size (Statement number form) → NamesUnitsForm all block form → AllPlaced (blocks_of_form block form)
+          → (p : ℕ) → Known (places_in_form form p) → Stand (form_code number form p) p → stand.FormStands u unit at block number form c p (behind (form_code number form p) p)
+      form_stands Null number block c fits room apart units inner p known h = refl
+      form_stands (Assign target e) number block c fits room apart units inner p known h =
+          two_parts (place_code target) (value_code e) op.Store (stand.PlaceStands u target) (stand.ValueStands u e) (place_stands target) (value_stands e) p h
+      form_stands (AssignAggregate target source) number block c fits room apart units inner p known h =
+          two_parts (place_code target) (place_code source) op.Copy (stand.PlaceStands u target) (stand.PlaceStands u source) (place_stands target) (place_stands source) p h
+      form_stands (AssignArea target source) number block c fits room apart units inner p known h =
+          two_parts (place_code target) (place_code source) op.AssignArea (stand.PlaceStands u target) (stand.PlaceStands u source) (place_stands target) (place_stands source) p h
+      form_stands (EmptyArea target) number block c fits room apart units inner p known h =
+          joined (place_code target) (op.EmptyArea ∷ []) (stand.PlaceStands u target) (stand.Is u op.EmptyArea) (place_stands target) (one op.EmptyArea) p h
+      form_stands (Put skip items) number block c fits room apart units inner p known h =
+          joined (skip_code skip) (items_code items) (stand.SkipStands u skip) (stand.ItemsStand u items) (skip_stands skip) (items_stand items) p h
+      form_stands (Allocate items) number block c fits room apart units inner p known h = allocations_stand items c apart p h
+      form_stands (Free items) number block c fits room apart units inner p known h = freeings_stand items p h
+      form_stands (If e consequence NoElse) number block c fits room apart units inner p known h =
+          let q = suc (behind (value_code e) p) in
+          let part = statement_code consequence q in
+          let r = split (value_code e) (op.JumpUnless (behind part q) ∷ part) p h in
+          subst (λ z. stand.IfStands u unit at block (stand.ConditionStands u e) (stand.StatementStands u unit at block consequence c) NoElse c p z)
+          (sym (behind_both (value_code e) (op.JumpUnless (behind part q) ∷ part) p))
+          (record {
+            start = q;
+            holds = test_stands e (behind part q) p (later part q) r.0 r.1.0;
+            does = statement_stands consequence block c fits room.0 apart.0 units.0 (all_front Placed (blocks_in block consequence) [] inner) q
+                (all_front (λ e. statement_place places e.0 ≡ e.1) (places_in consequence q) [] known) r.1.1;
+          })
+      form_stands (If e consequence (Else other)) number block c fits room apart units inner p known h =
+          let q = suc (behind (value_code e) p) in
+          let part = statement_code consequence q in
+          let t = suc (behind part q) in
+          let code = statement_code other t in
+          let z = behind code t in
+          let r = split_three (value_code e) (op.JumpUnless t ∷ part) (op.Jump z ∷ code) p h in
+          subst (λ z. stand.IfStands u unit at block (stand.ConditionStands u e) (stand.StatementStands u unit at block consequence c) (Else other) c p z)
+          (sym (behind_three (value_code e) (op.JumpUnless t ∷ part) (op.Jump z ∷ code) p))
+          (record {
+            start = q;
+            finish = behind part q;
+            target = t;
+            holds = test_stands e t p (let le = later part q in omega (arith, le)) r.0 r.1.0.0;
+            does = statement_stands consequence block c fits room.0 apart.0 units.0 (all_front Placed (blocks_in block consequence) (blocks_in block other) inner) q
+                (all_front (λ e. statement_place places e.0 ≡ e.1) (places_in consequence q) (places_in other t) known) r.1.0.1;
+            over = record { is = record { here = r.1.1.0; ends = refl }; on = later code t };
+            does_other = statement_stands other block c fits room.1 apart.1 units.1 (all_back Placed (blocks_in block consequence) (blocks_in block other) inner) t
+                (all_back (λ e. statement_place places e.0 ≡ e.1) (places_in consequence q) (places_in other t) known) r.1.1.1;
+          })
+      form_stands (Begin head statements) number block c fits room apart units inner p known h =
+          let b = begin_block block head statements in
+          let f = inner.0.0 in
+          let r = split (list_code statements f.entry) (op.Return 0 ∷ []) f.entry f.code in
+          record {
+            begins = record { here = h.0; ends = refl };
+            block = record {
+              entry = f.entry;
+              there = f.is;
+              bound = 64;
+              some = omega arith;
+              finish = behind (list_code statements f.entry) f.entry;
+              behind = suc (behind (list_code statements f.entry) f.entry);
+              does = list_stands statements head.number (record { size = head.temporaries; depth = 0; bound = 64 }) (record { most = omega arith; depth = omega arith })
+                  inner.0.1.0 inner.0.1.1.0 inner.0.1.1.1 inner.1 f.entry f.known r.0;
+              ends = record { here = r.1.0; ends = refl };
+            };
+          }
+      form_stands (Group statements) number block c fits room apart units inner p known h = list_stands statements block c fits room apart units inner p known h
+      form_stands (While e statements) number block c fits room apart units inner p known h =
+          let q = suc (suc (behind (value_code e) (suc p))) in
+          let code = list_code statements q in
+          let z = suc (behind code q) in
+          let r = split_three (op.Line number ∷ value_code e) (op.JumpUnless z ∷ op.Step number ∷ code) (op.Jump p ∷ []) p h in
+          subst (λ z. stand.FormStands u unit at block number (While e statements) c p z)
+          (sym (behind_three (op.Line number ∷ value_code e) (op.JumpUnless z ∷ op.Step number ∷ code) (op.Jump p ∷ []) p)) (
+            nests c fits room.0,
+            record {
+              start = suc (behind (value_code e) (suc p));
+              finish = behind code q;
+              behind = behind code q;
+              holds = record {
+                middle = suc p;
+                fst = record { here = r.0.0; ends = refl };
+                snd = test_stands e z (suc p) (let le = later code q in omega (arith, le)) r.0.1 r.1.0.0;
+              };
+              does = record {
+                middle = q;
+                fst = record { here = r.1.0.1.0; ends = refl };
+                snd = list_stands statements block (stand.deeper c) (deeper_fits c fits) room.1 apart units inner q known r.1.0.1.1;
+              };
+              does_between = refl;
+              back = record { here = r.1.1.0; ends = refl };
+            },
+          )
+      form_stands (Iterate i statements) number block c fits room apart units inner p known h =
+          let turn = turn_place i p in
+          let q = list_place i p in
+          let code = list_code statements q in
+          let between = advances_code i.range i in
+          let back = back_code (is_iterated i.range) number between turn in
+          let out = behind back (behind code q) in
+          let tests = tests_code i out in
+          let keeps = keeps_code i.temporary (i.start ∷ kept_by i.range) in
+          let sets = sets_code i (op.TakeTemporary i.temporary ∷ []) in
+          let take = stand.Is u (op.TakeTemporary i.temporary) in
+          let r = split_three (start_code i) tests (op.Step number ∷ (code ++ back)) p h in
+          let s = split keeps sets p r.0 in
+          let e : suc (behind tests turn) ≡ q = ap suc (tests_length i out 0 turn) in
+          let l = split code back q (subst (λ k. Stand (code ++ back) k) e r.1.1.1) in
+          let next = next_temporary i in
+          subst (λ z. stand.FormStands u unit at block number (Iterate i statements) c p z) (sym (iterate_ends number i (list_code statements) p)) (
+            record { free = apart.0; room = apart.1 },
+            record {
+              middle = behind keeps p;
+              fst = keeps_stand i.temporary (i.start ∷ kept_by i.range) p s.0;
+              snd = record {
+                middle = turn;
+                fst = subst (λ z. stand.SetsStand u i take (behind keeps p) z) (sym (behind_both keeps sets p))
+                    (sets_stand i (op.TakeTemporary i.temporary ∷ []) take (one (op.TakeTemporary i.temporary)) (behind keeps p) s.1);
+                snd = turns_stand (is_iterated i.range) i number between (stand.AdvancesStand u i.range i) (advances_stand i.range i) (stand.ListStands u unit at block statements)
+                    (stand.using next c) turn q (behind code q) (later code q) e r.1.0 r.1.1.0
+                    (turned (is_iterated i.range) statements (stand.ListStands u unit at block statements) c.size next c.bound q (behind code q) fits.most room
+                    (λ n most space. list_stands statements block (record { size = c.size; depth = next; bound = n }) (record { most = most; depth = apart.1 }) space apart.2 units inner q known l.0))
+                    l.1;
+              };
+            },
+          )
+      form_stands (Call callee args) number block c fits room apart units inner p known h = call_stands callee args (arguments_stand args) p h
+      form_stands (Goto outward label) number block c fits room apart units inner p known h =
+          subst (λ k. stand.Is u (op.Goto outward k) p (suc p)) (sym (lead label)) (one (op.Goto outward label) p h)
+      form_stands (Return outward) number block c fits room apart units inner p known h = one (op.Return outward) p h
+      form_stands (ReturnValue outward e) number block c fits room apart units inner p known h =
+          joined (value_code e) (op.ReturnValue outward ∷ []) (stand.ValueStands u e) (stand.Is u (op.ReturnValue outward)) (value_stands e) (one (op.ReturnValue outward)) p h
+      form_stands Stop number block c fits room apart units inner p known h = one op.Stop p h
+      form_stands (On condition unit_block) number block c fits room apart units inner p known h = on_stands condition unit_block block units p h
+      form_stands (Revert condition) number block c fits room apart units inner p known h = one (op.Revert condition) p h
+      form_stands (Signal condition) number block c fits room apart units inner p known h = one (op.Signal condition) p h
+
+      list_stands : (ss : TypedStatements) (block : ℕ) (c : Context) → Fits c → HaveRoom c.bound ss → KeepApart c.depth c.size ss → NameUnits all block ss → AllPlaced (blocks_among block ss)
+          → (p : ℕ) → Known (places_among ss p) → Stand (list_code ss p) p → stand.ListStands u unit at block ss c p (behind (list_code ss p) p)
+      list_stands NoStatement block c fits room apart units inner p known h = refl
+      list_stands (StatementThen s more) block c fits room apart units inner p known h =
+          let code = statement_code s p in
+          let q = behind code p in
+          let r = split code (list_code more q) p h in (
+            starts s p (all_front (λ e. statement_place places e.0 ≡ e.1) (places_in s p) (places_among more q) known),
+            record {
+              middle = q;
+              fst = statement_stands s block c fits room.0 apart.0 units.0 (all_front Placed (blocks_in block s) (blocks_among block more) inner) p
+                  (all_front (λ e. statement_place places e.0 ≡ e.1) (places_in s p) (places_among more q) known) r.0;
+              snd = subst (λ z. stand.ListStands u unit at block more c q z) (sym (behind_both code (list_code more q) p))
+                  (list_stands more block c fits room.1 apart.1 units.1 (all_back Placed (blocks_in block s) (blocks_among block more) inner) q
+                  (all_back (λ e. statement_place places e.0 ≡ e.1) (places_in s p) (places_among more q) known) r.1);
+            },
+          )
+
+    procedure_stands : (f : TypedProcedure) → AllPlaced (blocks_of_procedure f) → stand.ProcedureStands u unit at f
+    procedure_stands f inner =
+        let b = inner.0.0 in
+        let r = split (list_code f.statements b.entry) (end_code f.function_end) b.entry b.code in
+        let finish = behind (list_code f.statements b.entry) b.entry in
+        record {
+          entry = b.entry;
+          there = b.is;
+          bound = 64;
+          some = omega arith;
+          finish = finish;
+          behind = behind (end_code f.function_end) finish;
+          does = list_stands f.statements f.head.number (record { size = f.head.temporaries; depth = 0; bound = 64 }) (record { most = omega arith; depth = omega arith }) inner.0.1.0 inner.0.1.1.0 inner.0.1.1.1 inner.1 b.entry b.known r.0;
+          ends = end_stands f.function_end finish r.1;
+        }
+
+    procedures_stand : (fs : List TypedProcedure) → AllPlaced (flat_map blocks_of_procedure fs) → stand.ProceduresStand u unit at fs
+    procedures_stand [] inner = tt
+    procedures_stand (f ∷ fs) inner = (
+      procedure_stands f (all_front Placed (blocks_of_procedure f) (flat_map blocks_of_procedure fs) inner),
+      procedures_stand fs (all_back Placed (blocks_of_procedure f) (flat_map blocks_of_procedure fs) inner),
+    )
+
+    -- blocks that are found, have room and name ON-units
+    all_placed : (bs : List BlockTree) → AllByRecursion (λ b. slice_get all b.head.number ≡ Some b) bs → AllByRecursion (λ b. HaveRoom 64 b.statements) bs
+        → AllByRecursion (λ b. KeepApart 0 b.head.temporaries b.statements) bs → AllByRecursion (λ b. NameUnits all b.head.number b.statements) bs → AllPlaced bs
+    all_placed [] numbers rooms apart units = tt
+    all_placed (b ∷ bs) numbers rooms apart units = ((find b.head.number b numbers.0, (rooms.0, (apart.0, units.0))), all_placed bs numbers.1 rooms.1 apart.1 units.1)
 
 -- a place that another number does not hide
 not_hidden : (n p : ℕ) (full es : List (ℕ × ℕ)) → list_any (nat_eq n) (map (λ e. e.0) es) ≡ false
@@ -699,6 +719,9 @@ mutual
   numbered_in_form (Return outward) p = refl
   numbered_in_form (ReturnValue outward e) p = refl
   numbered_in_form Stop p = refl
+  numbered_in_form (On condition block) p = refl
+  numbered_in_form (Revert condition) p = refl
+  numbered_in_form (Signal condition) p = refl
 
   numbered_in_else : (a : OtherWise) (p : ℕ) → map (λ e. e.0) (places_in_else a p) ≡ numbers_in_else a
   numbered_in_else NoElse p = refl
@@ -742,5 +765,6 @@ unit_stands program names at unit t links well linked lead =
     record {
       names = refl;
       globals = globals_stand program names t.globals links linked;
-      procedures = procedures_stand u places unit at lead t.procedures (all_placed u places unit at lead bs (flat_map blocks_of_procedure t.procedures) find well.blocks well.loops well.temporaries);
+      procedures = procedures_stand u places unit at lead bs find t.procedures
+          (all_placed u places unit at lead bs find (flat_map blocks_of_procedure t.procedures) well.blocks well.loops well.temporaries well.units);
     }

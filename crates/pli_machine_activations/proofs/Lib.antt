@@ -1,4 +1,5 @@
 pub mod BeginningLemmas
+pub mod ConditionLemmas
 pub mod DisplayLemmas
 pub mod DummyArguments
 pub mod EndLemmas

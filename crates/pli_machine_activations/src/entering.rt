@@ -1,5 +1,6 @@
 //! Beginnings of activations.
-ghost use Rattle.std.specs.Prelude.{◌≡◌, ◌<◌, ℕ, List, [], ◌∷◌, map, length, replicate, None, IfOk, OnOk};
+ghost use Rattle.std.specs.Prelude.{◌≡◌, ◌<◌, ℕ, List, [], ◌∷◌, map, length, replicate, false, None, IfOk, OnOk};
+ghost use Rattle.pli_world.specs.Activations.{no_on_unit};
 ghost use Rattle.pli_machine_activations.specs.views.Image.{Image};
 ghost use Rattle.pli_store.specs.views.StorageView.{place_view};
 ghost use Rattle.pli_machine_step.specs.Machine.{enters, fresh};
@@ -10,6 +11,7 @@ ghost use Rattle.pli_machine_activations.specs.views.MachineView.{Moves, activat
 
 use crate::arguments::hand_over;
 use crate::machine::{Activation, Machine, Stop};
+use crate::on_units::OnUnits;
 use crate::ready::ReadyCode;
 use crate::spare::Room;
 use crate::stops::stop_at;
@@ -47,7 +49,7 @@ pub fn activation<'m>(
     requires operands { room.operands.items ≡ [] }
     requires pending { room.pending.items ≡ [] }
     requires temporaries { room.temporaries.items ≡ [] }
-    ensures { IfOk result (λ a. (frame_view a ≡ record { unit = unit; next = block.now.entry; operands = []; locals = fresh block.now.temporaries })
+    ensures { IfOk result (λ a. (frame_view a ≡ record { unit = unit; next = block.now.entry; operands = []; locals = fresh block.now.temporaries; again = false })
         × (activation_view a ≡ record {
           unit = unit;
           block = number;
@@ -56,6 +58,7 @@ pub fn activation<'m>(
           slots = map place_view slots.entry.items;
           pending = [];
           owned = owned.items;
+          on_units = no_on_unit;
         })) }
 {
     let Room {
@@ -77,11 +80,17 @@ pub fn activation<'m>(
         temporaries,
         jumps: 0,
         stamp: 0,
+        on_units: OnUnits {
+            overflow: None,
+            zero_divide: None,
+            area: None,
+        },
+        again: false,
     })
 }
 
-/// Lets the newest activation wait, with what it hands over, and begins one of a block of a unit, whose variables are
-/// not made yet.
+/// Lets the newest activation wait, with what it hands over, to execute its next instruction again or not, and begins
+/// one of a block of a unit, whose variables are not made yet.
 #[inline(always)]
 fn begin_block<'m>(
     alloc: Global,
@@ -91,24 +100,26 @@ fn begin_block<'m>(
     block: &Block,
     link: u32,
     places: Vec<Place<'m>>,
+    again: bool,
 ) -> Result<(), AllocError>
     requires { length machine.old.waiting.items < 1000 }
     ensures { OnOk result ((image : Image) (put : List ℕ) →
-        HasBegun image put unit number block.now.statement block.now.entry block.now.temporaries link (map place_view places.entry.items) machine.old machine.new) }
+        HasBegun image put unit number block.now.statement block.now.entry block.now.temporaries link (map place_view places.entry.items) again machine.old machine.new) }
 {
     let pending = mem::replace(&mut machine.here.pending, Vec::new(alloc));
     let (handed, others) = hand_over(alloc, pending, &places)?;
     machine.here.pending = others;
     let room = machine.spare.take_room(alloc);
     let new = activation(unit, number, block, link, places, handed, room)?;
-    let before = mem::replace(&mut machine.here, new);
+    let mut before = mem::replace(&mut machine.here, new);
+    before.again = again;
     machine.waiting.push(before)?;
     machine.display.turn(&machine.waiting, link);
     Ok(())
 }
 
-/// Enters a block of a unit, of which this is the code, while the newest activation waits. There is room for one
-/// activation more.
+/// Enters a block of a unit, of which this is the code, while the newest activation waits, to execute its next
+/// instruction again or not. There is room for one activation more.
 #[inline(always)]
 pub fn enter<'m>(
     alloc: Global,
@@ -119,13 +130,14 @@ pub fn enter<'m>(
     block: &Block,
     link: u32,
     places: Vec<Place<'m>>,
+    again: bool,
 ) -> Result<Option<Stop>, AllocError>
     requires { length machine.old.waiting.items < 1000 }
     ensures { IfOk result (λ stop. (image : Image) → Moves image
-        (λ here frames w. enters unit number (block_looked_up (code_view ready.now.code.now) (block_view block.now)) link (map place_view places.entry.items) (here ∷ frames) w)
+        (λ here frames w. enters unit number (block_looked_up (code_view ready.now.code.now) (block_view block.now)) link (map place_view places.entry.items) (record here { again = again } ∷ frames) w)
         machine.old machine.new stop) }
 {
-    begin_block(alloc, machine, unit, number, block, link, places)?;
+    begin_block(alloc, machine, unit, number, block, link, places, again)?;
     match make_variables(alloc, ready, machine, &block.variables) {
         Ok(()) => Ok(None),
         Err(fault) => Ok(Some(stop_at(fault)?)),

@@ -2,7 +2,7 @@
 ghost use Rattle.std.specs.Prelude.{◌≡◌, ◌<◌, true, length, IfOk};
 ghost use Rattle.pli_machine_activations.specs.views.Image.{Image};
 ghost use Rattle.pli_value.specs.Value.{value_view};
-ghost use Rattle.pli_machine_step.specs.Machine.{returned_with};
+ghost use Rattle.pli_machine_step.specs.Machine.{goes_on, returned_with};
 ghost use Rattle.pli_program.specs.Program.{Return, ReturnValue};
 ghost use Rattle.pli_machine_activations.specs.answers.Activated.{Leaves};
 ghost use Rattle.pli_machine_activations.specs.views.MachineView.{Does, Moves};
@@ -24,7 +24,7 @@ fn lend(pending: &mut Vec<u32>, ended: &mut Vec<u32>)
     }
 }
 
-/// Ends the newest activation, where one waits for it; else the machine stays as it is.
+/// Ends the newest activation, where one waits for it, which is to go on as it waited; else the machine stays as it is.
 pub fn leave(machine: &mut Machine) -> bool
     ensures leaves { Leaves result machine.old machine.new }
     ensures fewer { result ≡ true → length machine.new.waiting.items < length machine.old.waiting.items }
@@ -43,6 +43,22 @@ pub fn leave(machine: &mut Machine) -> bool
     }
 }
 
+/// Lets the newest activation go on that has waited: by a step where it executes its next instruction again.
+#[inline(always)]
+fn resume(machine: &mut Machine) -> Option<Stop>
+    ensures { (image : Image) →
+        Moves image (λ here frames w. goes_on machine.old.here.again (record here { again = machine.old.here.again }) frames w) machine.old machine.new result }
+{
+    if !machine.here.again {
+        return None;
+    }
+    if machine.steps >= machine.limit {
+        return Some(Stop::OutOfSteps);
+    }
+    machine.steps += 1;
+    None
+}
+
 /// Ends the newest activation and so many more.
 pub fn return_from(machine: &mut Machine, outward: u8) -> Option<Stop>
     ensures { Does (Return outward) machine.old machine.new result }
@@ -53,7 +69,7 @@ pub fn return_from(machine: &mut Machine, outward: u8) -> Option<Stop>
         }
     }
     if leave(machine) {
-        None
+        resume(machine)
     } else {
         Some(Stop::Ended)
     }
@@ -78,7 +94,7 @@ pub fn give_back(
         return Ok(Some(Stop::Fault));
     }
     push(&mut machine.here.operands, Operand::OfValue(value))?;
-    Ok(None)
+    Ok(resume(machine))
 }
 
 /// Takes a value, ends the newest activation and so many more, and gives the value to the one that goes on. A number takes

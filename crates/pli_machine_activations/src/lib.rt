@@ -1,9 +1,10 @@
-//! The machine between two instructions: its activations and storage, how blocks are entered and left, and what there
-//! is before the first instruction.
+//! The machine between two instructions: its activations and storage, how blocks are entered and left, how conditions
+//! are raised, and what there is before the first instruction.
 #![tactic(auto)]
 
 mod arguments;
 mod calling;
+mod conditions;
 mod display;
 mod dummies;
 mod entering;
@@ -14,6 +15,7 @@ mod linked;
 mod loaded;
 mod machine;
 mod numbered;
+mod on_units;
 mod ready;
 mod spare;
 mod starting;
@@ -23,6 +25,7 @@ mod variables;
 mod walk;
 
 pub use calling::{call, enter_begin};
+pub use conditions::{condition_of, establish, raise, revert};
 pub use dummies::{dummy_with, make_dummy};
 pub use external::call_entry;
 pub use globals::{static_place, static_stack, unit_at};
@@ -31,6 +34,7 @@ pub use linked::LinkedGlobal;
 pub use loaded::Loaded;
 pub use machine::{Activation, Machine, Stop};
 pub use numbered::linked_at;
+pub use on_units::OnUnits;
 pub use starting::{Beginning, begin};
 pub use stops::stop_at;
 pub use unit::ActiveUnit;

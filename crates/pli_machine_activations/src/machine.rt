@@ -3,6 +3,7 @@ ghost use Rattle.std.specs.Prelude.{◌≤◌, length};
 ghost use Rattle.pli_machine_activations.specs.views.DisplayView.{IsDisplay};
 
 use crate::display::Display;
+use crate::on_units::OnUnits;
 use crate::spare::Spare;
 use pli_machine_operate::Operand;
 use pli_run::RunError;
@@ -44,6 +45,10 @@ pub struct Activation<'m> {
     /// How many backward jumps were made since the step of the number `stamp`.
     pub jumps: u32,
     pub stamp: u64,
+    /// Its own ON-units.
+    pub on_units: OnUnits,
+    /// Of one that waits, whether it waits for an ON-unit behind which it executes its next instruction again.
+    pub again: bool,
 }
 
 /// A run between two instructions.

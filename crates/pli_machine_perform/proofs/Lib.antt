@@ -1,5 +1,6 @@
 pub mod AreaMoves
 pub mod GenerationMoves
+pub mod HaltLemmas
 pub mod InstructionsDo
 pub mod OperationLemmas
 pub mod PointerMoves

@@ -1,1 +1,2 @@
 pub mod ActView
+pub mod HaltView

@@ -1,5 +1,5 @@
 //! Instructions on areas.
-ghost use Rattle.std.specs.Prelude.{ℕ, map, IfOk, IfSome};
+ghost use Rattle.std.specs.Prelude.{map, IfOk, IfSome};
 ghost use Rattle.pli_map.specs.views.DescriptionView.{description_view};
 ghost use Rattle.pli_program.specs.Program.{AllocateInArea, AssignArea, EmptyArea, ToOffset, ToPointer};
 ghost use Rattle.pli_stacks.specs.answers.LaidBytes.{IsLaid};
@@ -7,8 +7,11 @@ ghost use Rattle.pli_type_tree.specs.views.TemplateView.{initial_view};
 ghost use Rattle.pli_code.specs.CodeTables.{looked_up};
 ghost use Rattle.pli_code.specs.declared.instruction.Instruction.TheVariants as coded;
 ghost use Rattle.pli_code.specs.views.CodeView.{code_view};
+ghost use Rattle.pli_machine_activations.specs.views.ImageView.{image_of};
 ghost use Rattle.pli_machine_activations.specs.views.MachineView.{Does};
+ghost use Rattle.pli_machine_perform.specs.views.HaltView.{DoesIn};
 
+use crate::halting::{settle, settle_again};
 use crate::inhabiting;
 use pli_machine_activations::{ActiveUnit, Machine, Stop, laid_in, template_of};
 use pli_map::Description;
@@ -30,54 +33,63 @@ pub fn to_offset(machine: &mut Machine) -> Result<Option<Stop>, AllocError>
 }
 
 /// ALLOCATE in the area of the newest place of a BASED variable of a description and of initial values, or of what is
-/// laid for them.
+/// laid for them. Behind an ON-unit that takes the condition of a full area the code goes on at the target.
 fn allocate_at<'m>(
     alloc: Global,
+    unit: &ActiveUnit<'_, 'm>,
     machine: &mut Machine<'m>,
     description: &'m Description,
     scalars: &[InitialScalar],
     laid: Option<&[u8]>,
+    target: u16,
 ) -> Result<Option<Stop>, AllocError>
     requires { IfSome laid (λ bytes. IsLaid (record { description = description_view description.now; initial = map initial_view scalars.now }) bytes.now) }
-    ensures { (after : ℕ) → IfOk result (Does
-        (AllocateInArea (record { description = description_view description.now; initial = map initial_view scalars.now }) after)
+    ensures { IfOk result (DoesIn (image_of unit.now.loaded.now)
+        (AllocateInArea (record { description = description_view description.now; initial = map initial_view scalars.now }) target)
         machine.old machine.new) }
 {
-    inhabiting::allocate(
+    let halt = inhabiting::allocate(
         alloc,
         &mut machine.here.operands,
         &mut machine.storage,
         description,
         scalars,
         laid,
-    )
+    )?;
+    settle_again(alloc, unit.loaded, machine, halt, target as usize)
 }
 
 /// ALLOCATE in the area of the newest place of a BASED variable of a template of the tables: the pointer to its block.
-/// Where a unit that takes the condition of a full area would go on changes nothing.
+/// Behind an ON-unit that takes the condition of a full area the code goes on at the target, by a step.
 pub fn allocate_in_area<'m>(
     alloc: Global,
     unit: &ActiveUnit<'_, 'm>,
     machine: &mut Machine<'m>,
     template: u16,
+    target: u16,
 ) -> Result<Option<Stop>, AllocError>
-    ensures { (after : ℕ) → IfOk result
-        (Does (looked_up (code_view unit.now.linked.now.deck.code) (coded.AllocateInArea template after)) machine.old machine.new) }
+    ensures { IfOk result (DoesIn (image_of unit.now.loaded.now)
+        (looked_up (code_view unit.now.linked.now.deck.code) (coded.AllocateInArea template target)) machine.old machine.new) }
 {
     match template_of(&unit.linked.deck.code, template) {
         Some((description, scalars)) => {
             let laid = laid_in(unit, template);
-            allocate_at(alloc, machine, description, scalars, laid)
+            allocate_at(alloc, unit, machine, description, scalars, laid, target)
         }
         None => Ok(Some(Stop::Fault)),
     }
 }
 
 /// Puts the blocks of the newest place's area at that of the place below it.
-pub fn assign_area(machine: &mut Machine) -> Result<Option<Stop>, AllocError>
-    ensures { IfOk result (Does AssignArea machine.old machine.new) }
+pub fn assign_area<'m>(
+    alloc: Global,
+    unit: &ActiveUnit<'_, 'm>,
+    machine: &mut Machine<'m>,
+) -> Result<Option<Stop>, AllocError>
+    ensures { IfOk result (DoesIn (image_of unit.now.loaded.now) AssignArea machine.old machine.new) }
 {
-    inhabiting::assign(&mut machine.here.operands, &mut machine.storage)
+    let halt = inhabiting::assign(&mut machine.here.operands, &mut machine.storage)?;
+    settle(alloc, unit.loaded, machine, halt)
 }
 
 /// Ends all blocks of the newest place's area.

@@ -8,8 +8,10 @@ ghost use Rattle.pli_program.specs.Program.{UnitCode, AllocateControlled, FreeCo
 ghost use Rattle.pli_code.specs.Modules.{program_of};
 ghost use Rattle.pli_machine_activations.specs.views.ImageView.{image_of};
 ghost use Rattle.pli_machine_activations.specs.views.MachineView.{Moves, world_of};
+ghost use Rattle.pli_machine_perform.specs.views.HaltView.{DoesIn, Settles, giving_zero};
 
-use pli_machine_activations::{ActiveUnit, Machine, Stop, static_stack, stop_at};
+use crate::halting::{Halt, halt_at};
+use pli_machine_activations::{ActiveUnit, Machine, Stop, raise, static_stack, stop_at};
 use pli_machine_operate::{Operand, push};
 use pli_value::Value;
 use std::alloc::{AllocError, Global};
@@ -76,16 +78,34 @@ fn count_value(count: u16) -> Value
     Value::Number(i64::from(count))
 }
 
+/// What comes of a count that is none: the run stops, or a condition is raised, behind whose ON-unit the count is 0.
+fn count_halted<'m>(
+    alloc: Global,
+    unit: &ActiveUnit<'_, 'm>,
+    machine: &mut Machine<'m>,
+    halt: Halt,
+) -> Result<Option<Stop>, AllocError>
+    ensures { IfOk result (Settles (image_of unit.now.loaded.now) giving_zero (Some halt) machine.old machine.new) }
+{
+    match halt {
+        Halt::Stops(stop) => Ok(Some(stop)),
+        Halt::Raises(condition) => {
+            push(&mut machine.here.operands, Operand::OfValue(count_value(0)))?;
+            raise(alloc, unit.loaded, machine, condition, false)
+        }
+    }
+}
+
 /// Puts upon the operands how many generations a CONTROLLED variable has, by its number among the globals of the newest
-/// activation's unit.
+/// activation's unit; 0 behind an ON-unit that takes the condition of too many.
 pub fn count_generations<'m>(
+    alloc: Global,
     unit: &ActiveUnit<'_, 'm>,
     machine: &mut Machine<'m>,
     global: usize,
 ) -> Result<Option<Stop>, AllocError>
     requires { machine.old.here.unit ≡ unit.now.number }
-    ensures { IfOk result (λ stop. (u : UnitCode) → Moves (image_of unit.now.loaded.now)
-        (act (program_of (image_of unit.now.loaded.now).linked) u (Some (CountGenerations global))) machine.old machine.new stop) }
+    ensures { IfOk result (DoesIn (image_of unit.now.loaded.now) (CountGenerations global) machine.old machine.new) }
 {
     let Some(stack) = named_stack(unit, machine, global) else {
         return Ok(Some(Stop::Fault));
@@ -98,6 +118,9 @@ pub fn count_generations<'m>(
             )?;
             Ok(None)
         }
-        Err(fault) => Ok(Some(stop_at(fault)?)),
+        Err(fault) => {
+            let halt = halt_at(fault)?;
+            count_halted(alloc, unit, machine, halt)
+        }
     }
 }

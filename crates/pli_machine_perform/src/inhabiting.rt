@@ -1,5 +1,5 @@
 //! Instructions on areas, on operands and storage.
-ghost use Rattle.std.specs.Prelude.{map, IfOk, IfSome};
+ghost use Rattle.std.specs.Prelude.{ℕ, map, IfOk, IfSome};
 ghost use Rattle.pli_machine_step.specs.Machine.{allocates_in, assigns_area, empties};
 ghost use Rattle.pli_machine_step.specs.Machine as plain;
 ghost use Rattle.pli_map.specs.views.DescriptionView.{description_view};
@@ -7,7 +7,9 @@ ghost use Rattle.pli_stacks.specs.answers.LaidBytes.{IsLaid};
 ghost use Rattle.pli_type_tree.specs.Templates.{variable_of};
 ghost use Rattle.pli_type_tree.specs.views.TemplateView.{initial_view};
 ghost use Rattle.pli_machine_activations.specs.views.MachineView.{Works};
+ghost use Rattle.pli_machine_perform.specs.views.HaltView.{Inhabits, as_it_is, to_do_again};
 
+use crate::halting::{Halt, halt_at};
 use pli_locators::{allocate_in, offset_in, pointer_in};
 use pli_machine_activations::{Stop, stop_at};
 use pli_machine_operate::{Operand, pop_locator, pop_place, push};
@@ -67,24 +69,24 @@ pub fn allocate<'m>(
     description: &'m Description,
     scalars: &[InitialScalar],
     laid: Option<&[u8]>,
-) -> Result<Option<Stop>, AllocError>
+) -> Result<Option<Halt>, AllocError>
     requires { IfSome laid (λ bytes. IsLaid (record { description = description_view description.now; initial = map initial_view scalars.now }) bytes.now) }
-    ensures { IfOk result (Works
-        (allocates_in (variable_of (record { description = description_view description.now; initial = map initial_view scalars.now })))
-        operands.old.items operands.new.items storage.old storage.new) }
+    ensures { IfOk result (λ halt. (after : ℕ) → Inhabits (to_do_again after)
+        (λ p. allocates_in p (variable_of (record { description = description_view description.now; initial = map initial_view scalars.now })) after)
+        operands.old.items operands.new.items storage.old storage.new halt) }
 {
     let Some(area) = pop_place(operands) else {
-        return Ok(Some(Stop::Fault));
+        return Ok(Some(Halt::Stops(Stop::Fault)));
     };
     if is_area(description) {
-        return Ok(Some(Stop::Fault));
+        return Ok(Some(Halt::Stops(Stop::Fault)));
     }
     match allocate_in(alloc, storage, area, description, scalars, laid) {
         Ok(locator) => {
             push(operands, Operand::OfValue(Value::Locator(locator)))?;
             Ok(None)
         }
-        Err(fault) => Ok(Some(stop_at(fault)?)),
+        Err(fault) => Ok(Some(halt_at(fault)?)),
     }
 }
 
@@ -92,18 +94,18 @@ pub fn allocate<'m>(
 pub fn assign(
     operands: &mut Vec<Operand>,
     storage: &mut Storage,
-) -> Result<Option<Stop>, AllocError>
-    ensures { IfOk result (Works assigns_area operands.old.items operands.new.items storage.old storage.new) }
+) -> Result<Option<Halt>, AllocError>
+    ensures { IfOk result (Inhabits as_it_is assigns_area operands.old.items operands.new.items storage.old storage.new) }
 {
     let Some(source) = pop_place(operands) else {
-        return Ok(Some(Stop::Fault));
+        return Ok(Some(Halt::Stops(Stop::Fault)));
     };
     let Some(target) = pop_place(operands) else {
-        return Ok(Some(Stop::Fault));
+        return Ok(Some(Halt::Stops(Stop::Fault)));
     };
     match storage.assign_area(source, target) {
         Ok(()) => Ok(None),
-        Err(fault) => Ok(Some(stop_at(fault)?)),
+        Err(fault) => Ok(Some(halt_at(fault)?)),
     }
 }
 

@@ -5,13 +5,16 @@ ghost use Rattle.pli_program.specs.Program.{Jump, JumpUnless, Load, Store, Copy,
 ghost use Rattle.pli_code.specs.CodeTables.{looked_up};
 ghost use Rattle.pli_code.specs.declared.instruction.Instruction.TheVariants as coded;
 ghost use Rattle.pli_code.specs.views.CodeView.{code_view};
+ghost use Rattle.pli_machine_activations.specs.views.ImageView.{image_of};
 ghost use Rattle.pli_machine_activations.specs.views.MachineView.{Does};
+ghost use Rattle.pli_machine_perform.specs.views.HaltView.{DoesIn};
 
+use crate::halting::settle;
 use crate::keeping::put_constant;
 use crate::operate::{operate, operate_fit};
 use crate::{jumping, places, storing};
 use pli_code::Code;
-use pli_machine_activations::{Machine, Stop, template_of};
+use pli_machine_activations::{ActiveUnit, Machine, Stop, template_of};
 use pli_map::Description;
 use pli_operation::Operation;
 use std::alloc::{AllocError, Global};
@@ -123,38 +126,43 @@ pub fn make_dummy<'m>(
 
 /// Fits the newest operand to a description.
 #[inline]
-fn fit_at(
+fn fit_at<'m>(
     alloc: Global,
-    machine: &mut Machine,
+    unit: &ActiveUnit<'_, 'm>,
+    machine: &mut Machine<'m>,
     description: &Description,
 ) -> Result<Option<Stop>, AllocError>
-    ensures { IfOk result (Does (Fit (description_view description.now)) machine.old machine.new) }
+    ensures { IfOk result (DoesIn (image_of unit.now.loaded.now) (Fit (description_view description.now)) machine.old machine.new) }
 {
-    operate_fit(alloc, &mut machine.here.operands, description)
+    let halt = operate_fit(alloc, &mut machine.here.operands, description)?;
+    settle(alloc, unit.loaded, machine, halt)
 }
 
 /// Fits the newest operand to a description of the tables.
-pub fn fit(
+pub fn fit<'m>(
     alloc: Global,
-    code: &Code,
-    machine: &mut Machine,
+    unit: &ActiveUnit<'_, 'm>,
+    machine: &mut Machine<'m>,
     description: u16,
 ) -> Result<Option<Stop>, AllocError>
-    ensures { IfOk result (Does (looked_up (code_view code.now) (coded.Fit description)) machine.old machine.new) }
+    ensures { IfOk result (DoesIn (image_of unit.now.loaded.now)
+        (looked_up (code_view unit.now.linked.now.deck.code) (coded.Fit description)) machine.old machine.new) }
 {
-    match code.descriptions.get(description as usize) {
-        Some(description) => fit_at(alloc, machine, description),
+    match unit.linked.deck.code.descriptions.get(description as usize) {
+        Some(description) => fit_at(alloc, unit, machine, description),
         None => Ok(Some(Stop::Fault)),
     }
 }
 
 /// An operation on the newest operands.
-pub fn calculate(
+pub fn calculate<'m>(
     alloc: Global,
-    machine: &mut Machine,
+    unit: &ActiveUnit<'_, 'm>,
+    machine: &mut Machine<'m>,
     operation: Operation,
 ) -> Result<Option<Stop>, AllocError>
-    ensures { IfOk result (Does (Operate operation) machine.old machine.new) }
+    ensures { IfOk result (DoesIn (image_of unit.now.loaded.now) (Operate operation) machine.old machine.new) }
 {
-    operate(alloc, &mut machine.here.operands, operation)
+    let halt = operate(alloc, &mut machine.here.operands, operation)?;
+    settle(alloc, unit.loaded, machine, halt)
 }

@@ -2,7 +2,9 @@
 #![tactic(auto)]
 
 mod areas;
+mod conditions;
 mod generations;
+mod halting;
 mod inhabiting;
 mod instructions;
 mod jumping;

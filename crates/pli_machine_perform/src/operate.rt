@@ -3,9 +3,12 @@ ghost use Rattle.std.specs.Prelude.{IfOk};
 ghost use Rattle.pli_map.specs.views.DescriptionView.{description_view};
 ghost use Rattle.pli_machine_step.specs.Machine.{fits};
 ghost use Rattle.pli_machine_operate.specs.views.CalculationView.{calculation_view, immediate_view};
-ghost use Rattle.pli_machine_activations.specs.views.MachineView.{Acts};
+ghost use Rattle.pli_operation.specs.Operations.{RaisesCondition};
 ghost use Rattle.pli_machine_perform.specs.views.ActView.{calculated_as, operated_as, operated_by};
+ghost use Rattle.pli_machine_perform.specs.views.HaltView.{Computes};
 
+use crate::halting::Halt;
+use pli_base::statement::Condition;
 use pli_machine_activations::Stop;
 use pli_machine_operate::{
     Calculation, Immediate, Operand, calculate_by, calculate_from, calculate_numbers,
@@ -19,10 +22,21 @@ use pli_value::Value;
 use pli_value::number::Raised;
 use std::alloc::{AllocError, Global};
 
-/// Puts what an operation comes to upon the operands, or raises an error.
+/// Raises a condition. Behind the ON-unit that takes it the operation gives 0, which is put upon the operands.
+fn raise_zero(operands: &mut Vec<Operand>, raised: Raised) -> Result<Option<Halt>, AllocError>
+    ensures { IfOk result (Computes (calculated_as (RaisesCondition raised)) operands.old.items operands.new.items) }
+{
+    push(operands, Operand::OfValue(Value::Number(0)))?;
+    match raised {
+        Raised::Overflow => Ok(Some(Halt::Raises(Condition::FixedOverflow))),
+        Raised::ZeroDivide => Ok(Some(Halt::Raises(Condition::ZeroDivide))),
+    }
+}
+
+/// Puts what an operation comes to upon the operands, raises a condition, or stops the run.
 #[inline]
-fn give(operands: &mut Vec<Operand>, calculation: Calculation) -> Result<Option<Stop>, AllocError>
-    ensures { IfOk result (Acts (calculated_as (calculation_view calculation)) operands.old.items operands.new.items) }
+fn give(operands: &mut Vec<Operand>, calculation: Calculation) -> Result<Option<Halt>, AllocError>
+    ensures { IfOk result (Computes (calculated_as (calculation_view calculation)) operands.old.items operands.new.items) }
 {
     match calculation {
         Calculation::Gives(value) => {
@@ -33,14 +47,9 @@ fn give(operands: &mut Vec<Operand>, calculation: Calculation) -> Result<Option<
             push(operands, Operand::OneBit(bit))?;
             Ok(None)
         }
-        Calculation::RaisesCondition(Raised::Overflow) => Ok(Some(Stop::Raised(
-            RunError::FixedOverflow,
-        ))),
-        Calculation::RaisesCondition(Raised::ZeroDivide) => Ok(Some(Stop::Raised(
-            RunError::ZeroDivide,
-        ))),
-        Calculation::OutOfString => Ok(Some(Stop::Raised(RunError::StringRange))),
-        Calculation::Misfits => Ok(Some(Stop::Fault)),
+        Calculation::RaisesCondition(raised) => raise_zero(operands, raised),
+        Calculation::OutOfString => Ok(Some(Halt::Stops(Stop::Raised(RunError::StringRange)))),
+        Calculation::Misfits => Ok(Some(Halt::Stops(Stop::Fault))),
     }
 }
 
@@ -49,8 +58,8 @@ fn give(operands: &mut Vec<Operand>, calculation: Calculation) -> Result<Option<
 fn give_immediate(
     operands: &mut Vec<Operand>,
     immediate: Immediate,
-) -> Result<Option<Stop>, AllocError>
-    ensures { IfOk result (Acts (calculated_as (immediate_view immediate)) operands.old.items operands.new.items) }
+) -> Result<Option<Halt>, AllocError>
+    ensures { IfOk result (Computes (calculated_as (immediate_view immediate)) operands.old.items operands.new.items) }
 {
     match immediate {
         Immediate::Number(number) => {
@@ -61,9 +70,8 @@ fn give_immediate(
             push(operands, Operand::OneBit(bit))?;
             Ok(None)
         }
-        Immediate::Raises(Raised::Overflow) => Ok(Some(Stop::Raised(RunError::FixedOverflow))),
-        Immediate::Raises(Raised::ZeroDivide) => Ok(Some(Stop::Raised(RunError::ZeroDivide))),
-        Immediate::Misfits => Ok(Some(Stop::Fault)),
+        Immediate::Raises(raised) => raise_zero(operands, raised),
+        Immediate::Misfits => Ok(Some(Halt::Stops(Stop::Fault))),
     }
 }
 
@@ -73,8 +81,8 @@ pub fn operate(
     alloc: Global,
     operands: &mut Vec<Operand>,
     operation: Operation,
-) -> Result<Option<Stop>, AllocError>
-    ensures { IfOk result (Acts (operated_as operation) operands.old.items operands.new.items) }
+) -> Result<Option<Halt>, AllocError>
+    ensures { IfOk result (Computes (operated_as operation) operands.old.items operands.new.items) }
 {
     match operation.arity() {
         1 => operate_from(alloc, operands, operation),
@@ -88,11 +96,11 @@ fn operate_from(
     alloc: Global,
     operands: &mut Vec<Operand>,
     operation: Operation,
-) -> Result<Option<Stop>, AllocError>
-    ensures { IfOk result (Acts (operated_by 1 operation) operands.old.items operands.new.items) }
+) -> Result<Option<Halt>, AllocError>
+    ensures { IfOk result (Computes (operated_by 1 operation) operands.old.items operands.new.items) }
 {
     let Some(value) = pop_value(alloc, operands)? else {
-        return Ok(Some(Stop::Fault));
+        return Ok(Some(Halt::Stops(Stop::Fault)));
     };
     let calculation = calculate_from(alloc, operation, &value)?;
     give(operands, calculation)
@@ -104,8 +112,8 @@ fn operate_with(
     alloc: Global,
     operands: &mut Vec<Operand>,
     operation: Operation,
-) -> Result<Option<Stop>, AllocError>
-    ensures { IfOk result (Acts (operated_by 2 operation) operands.old.items operands.new.items) }
+) -> Result<Option<Halt>, AllocError>
+    ensures { IfOk result (Computes (operated_by 2 operation) operands.old.items operands.new.items) }
 {
     match take_two_numbers(operands) {
         Some((left, right)) => {
@@ -121,15 +129,15 @@ fn operate_with_values(
     alloc: Global,
     operands: &mut Vec<Operand>,
     operation: Operation,
-) -> Result<Option<Stop>, AllocError>
-    ensures { IfOk result (Acts (operated_by 2 operation) operands.old.items operands.new.items) }
+) -> Result<Option<Halt>, AllocError>
+    ensures { IfOk result (Computes (operated_by 2 operation) operands.old.items operands.new.items) }
 {
     let Some(right) = take_value(alloc, operands)? else {
-        return Ok(Some(Stop::Fault));
+        return Ok(Some(Halt::Stops(Stop::Fault)));
     };
     let Some(left) = pop_value(alloc, operands)? else {
         drop(right);
-        return Ok(Some(Stop::Fault));
+        return Ok(Some(Halt::Stops(Stop::Fault)));
     };
     let outcome = calculate_with(alloc, operation, left, right.value());
     drop(right);
@@ -142,8 +150,8 @@ fn operate_by(
     alloc: Global,
     operands: &mut Vec<Operand>,
     operation: Operation,
-) -> Result<Option<Stop>, AllocError>
-    ensures { IfOk result (Acts (operated_by 3 operation) operands.old.items operands.new.items) }
+) -> Result<Option<Halt>, AllocError>
+    ensures { IfOk result (Computes (operated_by 3 operation) operands.old.items operands.new.items) }
 {
     match operation {
         Operation::Within => operate_within(alloc, operands),
@@ -153,8 +161,8 @@ fn operate_by(
 
 /// Whether the newest number has not passed a limit. Numbers are not moved.
 #[inline]
-fn operate_within(alloc: Global, operands: &mut Vec<Operand>) -> Result<Option<Stop>, AllocError>
-    ensures { IfOk result (Acts (operated_by 3 Operation.Within) operands.old.items operands.new.items) }
+fn operate_within(alloc: Global, operands: &mut Vec<Operand>) -> Result<Option<Halt>, AllocError>
+    ensures { IfOk result (Computes (operated_by 3 Operation.Within) operands.old.items operands.new.items) }
 {
     match take_three_numbers(operands) {
         Some((number, limit, step)) => {
@@ -169,11 +177,11 @@ fn operate_by_values(
     alloc: Global,
     operands: &mut Vec<Operand>,
     operation: Operation,
-) -> Result<Option<Stop>, AllocError>
-    ensures { IfOk result (Acts (operated_by 3 operation) operands.old.items operands.new.items) }
+) -> Result<Option<Halt>, AllocError>
+    ensures { IfOk result (Computes (operated_by 3 operation) operands.old.items operands.new.items) }
 {
     let Some((first, second, third)) = pop_three(alloc, operands)? else {
-        return Ok(Some(Stop::Fault));
+        return Ok(Some(Halt::Stops(Stop::Fault)));
     };
     let outcome = calculate_by(alloc, operation, &first, &second, &third);
     drop(first);
@@ -189,8 +197,8 @@ pub fn operate_fit(
     alloc: Global,
     operands: &mut Vec<Operand>,
     description: &Description,
-) -> Result<Option<Stop>, AllocError>
-    ensures { IfOk result (Acts (fits (description_view description.now)) operands.old.items operands.new.items) }
+) -> Result<Option<Halt>, AllocError>
+    ensures { IfOk result (Computes (λ p. fits p (description_view description.now)) operands.old.items operands.new.items) }
 {
     match pop_number(operands) {
         Some(number) => give_immediate(operands, fit_number(description, number)),
@@ -203,11 +211,11 @@ fn fit_to(
     alloc: Global,
     operands: &mut Vec<Operand>,
     description: &Description,
-) -> Result<Option<Stop>, AllocError>
-    ensures { IfOk result (Acts (fits (description_view description.now)) operands.old.items operands.new.items) }
+) -> Result<Option<Halt>, AllocError>
+    ensures { IfOk result (Computes (λ p. fits p (description_view description.now)) operands.old.items operands.new.items) }
 {
     let Some(value) = pop_value(alloc, operands)? else {
-        return Ok(Some(Stop::Fault));
+        return Ok(Some(Halt::Stops(Stop::Fault)));
     };
     let calculation = fit(alloc, description, value)?;
     give(operands, calculation)

@@ -5,6 +5,7 @@ ghost use Rattle.pli_machine_activations.specs.views.ImageView.{image_of};
 ghost use Rattle.pli_machine_activations.specs.views.MachineView.{Performs};
 
 use crate::areas::{allocate_in_area, assign_area, empty_area, to_offset, to_pointer};
+use crate::conditions::{establish, revert, signal};
 use crate::generations::{allocate_controlled, count_generations, free_controlled};
 use crate::instructions::{
     calculate, constant, copy, field, fit, jump, jump_unless, load, make_dummy, store, subscript,
@@ -66,8 +67,8 @@ pub fn perform<'m>(
         Instruction::Store => store(alloc, machine),
         Instruction::Copy => copy(machine),
         Instruction::MakeDummy { template } => make_dummy(alloc, code, machine, template),
-        Instruction::Fit { description } => fit(alloc, code, machine, description),
-        Instruction::Operate(operation) => calculate(alloc, machine, operation),
+        Instruction::Fit { description } => fit(alloc, unit, machine, description),
+        Instruction::Operate(operation) => calculate(alloc, unit, machine, operation),
         Instruction::AddressOf => address_of(machine),
         Instruction::Put => put(alloc, machine),
         Instruction::Skip => skip(machine),
@@ -78,20 +79,19 @@ pub fn perform<'m>(
         }
         Instruction::FreeControlled { global } => free_controlled(unit, machine, global as usize),
         Instruction::CountGenerations { global } => {
-            count_generations(unit, machine, global as usize)
+            count_generations(alloc, unit, machine, global as usize)
         }
         Instruction::AllocateBased { template } => allocate_based(alloc, unit, machine, template),
         Instruction::FreeBased { description } => free_based(code, machine, description),
         Instruction::ToPointer => to_pointer(machine),
         Instruction::ToOffset => to_offset(machine),
-        Instruction::AllocateInArea {
-            template,
-            target: _after,
-        } => allocate_in_area(alloc, unit, machine, template),
-        Instruction::AssignArea => assign_area(machine),
+        Instruction::AllocateInArea { template, target } => {
+            allocate_in_area(alloc, unit, machine, template, target)
+        }
+        Instruction::AssignArea => assign_area(alloc, unit, machine),
         Instruction::EmptyArea => empty_area(machine),
-        Instruction::On { .. } | Instruction::Revert { .. } | Instruction::Signal { .. } => Ok(Some(
-            Stop::Fault,
-        )),
+        Instruction::On { condition, block } => Ok(establish(unit, machine, condition, block)),
+        Instruction::Revert { condition } => Ok(revert(machine, condition)),
+        Instruction::Signal { condition } => signal(alloc, unit, machine, condition),
     }
 }

@@ -146,7 +146,13 @@ named_typed name u h = record { procedures = h.procedures; outer = h.outer; made
 
 named_numbered : (name : Name) (u : TypedUnit) → IsWellNumbered u → IsWellNumbered (of_member name u)
 named_numbered name u h =
-    record { blocks = h.blocks; statements = h.statements; loops = h.loops; temporaries = h.temporaries }
+    record {
+      blocks = h.blocks;
+      statements = h.statements;
+      loops = h.loops;
+      temporaries = h.temporaries;
+      units = h.units;
+    }
 
 -- the trees of members, of which the units are the code
 pub record AreCoded (entries some : List (Name × Member)) (cs : List Compiled) : Type 0 where

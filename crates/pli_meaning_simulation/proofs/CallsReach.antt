@@ -1,25 +1,33 @@
 -- The machine does what calls mean, at each level.
-use Rattle.std.specs.Prelude.{◌≡◌, ℕ, zero, suc, ◌+◌, nat_eq, Bool, true, false, Option, Some, None, List, [], ◌∷◌, length, slice_get, if◌then◌else◌, refl}
+use Rattle.std.specs.Prelude.{◌≡◌, ℕ, zero, suc, ◌+◌, nat_eq, Bool, true, false, not, ◌&&◌, Option, Some, None, List, [], ◌∷◌, length, slice_get, if◌then◌else◌, refl}
 use Rattle.std.proofs.Common.{ap, ◌∙◌, sym, subst, arith}
 use Rattle.std.proofs.lemmas.Bool.{eqb-true}
 use Rattle.pli_base.specs.Name.{Name}
+use Rattle.pli_base.specs.declared.statement.Condition.{Condition}
+use Rattle.pli_world.specs.Conditions.{Handler, handler}
 use Rattle.pli_world.specs.Storage.{Place}
 use Rattle.pli_world.specs.World.{World, entered, left_by, stepped}
 use Rattle.pli_value.specs.Value.{Value}
 use Rattle.pli_program.specs.Program as op
-use Rattle.pli_program.specs.Program.{Procedure, is_external, Block, UnitCode, Program}
+use Rattle.pli_program.specs.Program.{Procedure, OnUnit, is_procedure, is_external, Block, UnitCode, Program}
 use Rattle.pli_machine_step.specs.Machine as machine
-use Rattle.pli_machine_step.specs.Machine.{Operand, Locals, Frame, At, Move, Steps, calm, fresh, places_off, called, link_of, enters, faulty, act, resume}
+use Rattle.pli_machine_step.specs.Machine.{Operand, Locals, Frame, At, Move, Steps, calm, fresh, places_off, called, link_of, enters, faulty, raises, act, resume}
+use Rattle.pli_type_tree.specs.Blocks.{kind_of_procedure}
 use Rattle.pli_type_tree.specs.TypedTree.{Callee, OfBlock, OfEntry, Global, OwnVariable, ExternalVariable, EntryPoint, TypedProcedure, TypedUnit}
 use Rattle.pli_meaning_tree.specs.Effects as effect
 use Rattle.pli_meaning_tree.specs.Effects.{Label, Effect, Lost, Flow, Next, Returned, leaving, procedure_end}
-use Rattle.pli_meaning_tree.specs.TreeMeaning.{Calls, in_order, head_in, static_link, activation_of, does_from, does_list, procedure_run, activates_in, activates, procedure_in, unit_named, entry_unit, activates_outer, activates_unit, activates_entry, called_in, calls}
+use Rattle.pli_meaning_tree.specs.TreeMeaning.{Calls, in_order, head_in, static_link, activation_of, does_from, does_list, procedure_run, activates_in, activates, procedure_in, unit_named, entry_unit, activates_outer, activates_unit, activates_entry, called_in, runs_block, runs_unit, raised_in, calls}
 use Rattle.pli_meaning_simulation.specs.CodeStands.{Context, call_of, block_of, EndStands, ProcedureStands, ProceduresStand, GlobalStands, GlobalsStand, UnitStands, UnitsStand}
-use Rattle.pli_meaning_simulation.proofs.ReachesLemmas.{Fine, calm_kept, calm_fine, stays, from, frame, flows, returns, Reaches, gives, keeping, goes}
+use Rattle.pli_meaning_simulation.proofs.ReachesLemmas.{Fine, calm_kept, calm_fine, stays, from, waiting, frame, flows, resumes, returns, Reaches, gives, keeping, goes}
 use Rattle.pli_meaning_simulation.proofs.ExpressionsReach.{CallsRun, places_above, places_come_off, as_long}
 use Rattle.pli_meaning_simulation.proofs.ControlReaches.{fresh_fine, leaves, full_run, step_run, enters_run}
 use Rattle.pli_meaning_simulation.proofs.FormsReach.{list_run}
 use Rattle.pli_meaning_simulation.proofs.StatementsReach.{from_run}
+
+-- a procedure is what is no ON-unit
+pub kinds_same : (b : Bool) → is_procedure (if b then OnUnit else Procedure) ≡ not b
+kinds_same true = refl
+kinds_same false = refl
 
 module _ (p : Program) (number : ℕ) (u : UnitCode) (at : Label → ℕ) where
   -- what a look-up of a procedure finds has its number, and its code stands
@@ -41,7 +49,7 @@ module _ (p : Program) (number : ℕ) (u : UnitCode) (at : Label → ℕ) where
 
   module _ (there : slice_get p.units number ≡ Some u) (call : Calls) (calls_run : CallsRun p number u at call) (level : ℕ) (f : TypedProcedure) (is : ProcedureStands u number at f) where
     abbrev pub code : Block
-    code = block_of Procedure f.parent f.parameters f.head is.entry
+    code = block_of (kind_of_procedure f) f.parent f.parameters f.head is.entry
 
     abbrev pub context : Context
     context = record { size = f.head.temporaries; depth = 0; bound = is.bound }
@@ -61,50 +69,50 @@ module _ (p : Program) (number : ℕ) (u : UnitCode) (at : Label → ℕ) where
 -- a call that stands in one unit, of a procedure of another one or of the same
 module _ (p : Program) (number : ℕ) (u : UnitCode) (at : Label → ℕ) (other : ℕ) (v : UnitCode) (there : slice_get p.units other ≡ Some v) where
   -- the end of a procedure
-  procedure_end_run : (function_end : Option ℕ) (x : Flow) (finish behind : ℕ) {b : ℕ} {ops : List Operand} → EndStands v other at function_end finish behind → {c : Context} (n l : Locals) → Fine c l
-      → (fs : List Frame) (w : World) (left : ℕ)
-      → Reaches p number u at c (flows p other v finish (frame p number u b ops l ∷ fs) n x w left) l (returns p number u b ops fs) fs (procedure_end function_end x w left)
-  procedure_end_run None Next finish behind is n l fine fs w left = gives p number u at None (left_by w) left fine (goes p other v at there is refl)
-  procedure_end_run (Some s) Next finish behind is n l fine fs w left = record { by = from p (goes p other v at there is.fst refl) (goes p other v at there is.snd refl) }
-  procedure_end_run None (Returned zero None) finish behind is n l fine fs w left = gives p number u at None (left_by w) left fine (stays p _)
-  procedure_end_run (Some s) (Returned zero None) finish behind is n l fine fs w left = gives p number u at None (left_by w) left fine (stays p _)
-  procedure_end_run None (Returned zero (Some x)) finish behind is n l fine fs w left = gives p number u at (Some x) (left_by w) left fine (stays p _)
-  procedure_end_run (Some s) (Returned zero (Some x)) finish behind is n l fine fs w left = gives p number u at (Some x) (left_by w) left fine (stays p _)
-  procedure_end_run None (Returned (suc d) o) finish behind is n l fine fs w left = record { by = tt }
-  procedure_end_run (Some s) (Returned (suc d) o) finish behind is n l fine fs w left = record { by = tt }
+  procedure_end_run : (function_end : Option ℕ) (x : Flow) (finish behind b : ℕ) (ops : List Operand) (again : Bool) → EndStands v other at function_end finish behind → {c : Context} (n l : Locals)
+      → Fine c l → (fs : List Frame) (w : World) (left : ℕ)
+      → Reaches p number u at c (flows p other v finish (waiting p number u b ops l again ∷ fs) n x w left) l (resumes p number u b ops again fs) fs (procedure_end function_end x w left)
+  procedure_end_run None Next finish behind b ops again is n l fine fs w left = gives p number u at None (left_by w) left fine (goes p other v at there is refl)
+  procedure_end_run (Some s) Next finish behind b ops again is n l fine fs w left = record { by = from p (goes p other v at there is.fst refl) (goes p other v at there is.snd refl) }
+  procedure_end_run None (Returned zero None) finish behind b ops again is n l fine fs w left = gives p number u at None (left_by w) left fine (stays p _)
+  procedure_end_run (Some s) (Returned zero None) finish behind b ops again is n l fine fs w left = gives p number u at None (left_by w) left fine (stays p _)
+  procedure_end_run None (Returned zero (Some x)) finish behind b ops again is n l fine fs w left = gives p number u at (Some x) (left_by w) left fine (stays p _)
+  procedure_end_run (Some s) (Returned zero (Some x)) finish behind b ops again is n l fine fs w left = gives p number u at (Some x) (left_by w) left fine (stays p _)
+  procedure_end_run None (Returned (suc d) o) finish behind b ops again is n l fine fs w left = record { by = tt }
+  procedure_end_run (Some s) (Returned (suc d) o) finish behind b ops again is n l fine fs w left = record { by = tt }
 
   module _ (call : Calls) (calls_run : CallsRun p other v at call) (level : ℕ) (f : TypedProcedure) (is : ProcedureStands v other at f)
       (c : Context) (b : ℕ) (ops : List Operand) (l : Locals) (fine : Fine c l) (fs : List Frame) where
     abbrev block : Block
     block = code p other v at there call calls_run level f is
 
-    -- its activation
-    activation_run : (link : ℕ) (places : List Place) (w : World) (left : ℕ)
-        → Reaches p number u at c (resume (machine.calls other f.head.number block (Some link) places (frame p number u b ops l) fs w) left) l (returns p number u b ops fs) fs
+    -- its activation, while a frame waits
+    activation_run : (again : Bool) (link : ℕ) (places : List Place) (w : World) (left : ℕ)
+        → Reaches p number u at c (resume (machine.calls other f.head.number block (Some link) places (waiting p number u b ops l again) fs w) left) l (resumes p number u b ops again fs) fs
         (effect.unless_full (procedure_run p.greatest call level other f link places) w left)
-    activation_run link places w left =
-        let waiting = frame p number u b ops (calm l) in
+    activation_run again link places w left =
+        let calmly = waiting p number u b ops (calm l) again in
         full_run p number u at (procedure_run p.greatest call level other f link places)
-        (Steps w (enters other f.head.number block link places (waiting ∷ fs) (stepped w))) w left
+        (Steps w (enters other f.head.number block link places (calmly ∷ fs) (stepped w))) w left
         (step_run p number u at
         (activation_of (head_in other f.head) link places (does_list p.greatest call other level f.head.number f.statements) (procedure_end f.function_end))
-        (enters other f.head.number block link places (waiting ∷ fs) (stepped w)) w left
+        (enters other f.head.number block link places (calmly ∷ fs) (stepped w)) w left
         (λ left. enters_run p number u at (first p other v at there call calls_run level f is) (entered (head_in other f.head) link places (stepped w))
         (λ _ w left. leaving (does_list p.greatest call other level f.head.number f.statements w left) (procedure_end f.function_end)) (stepped w) left
         (λ x. keeping p number u at (calm_kept c l fine)
-        (leaves p number u at other v {d = context p other v at there call calls_run level f is} {to = flows p other v is.finish (waiting ∷ fs)}
+        (leaves p number u at other v {d = context p other v at there call calls_run level f is} {to = flows p other v is.finish (calmly ∷ fs)}
         (does_list p.greatest call other level f.head.number f.statements x left) (procedure_end f.function_end) (calm_fine c l fine) refl
-        (body_run p other v at there call calls_run level f is (waiting ∷ fs) x left)
-        (λ n fine2 x w left. procedure_end_run f.function_end x is.finish is.behind is.ends n (calm l) (calm_fine c l fine) fs w left)))))
+        (body_run p other v at there call calls_run level f is (calmly ∷ fs) x left)
+        (λ n fine2 x w left. procedure_end_run f.function_end x is.finish is.behind b ops again is.ends n (calm l) (calm_fine c l fine) fs w left)))))
 
     -- from the test
-    tested_run : (link : Option ℕ) (places : List Place) (w : World) (left : ℕ) (t : Bool) → nat_eq f.parameters (length places) ≡ t
+    tested_run : (link : Option ℕ) (places : List Place) (w : World) (left : ℕ) (t : Bool) → not f.is_on_unit && nat_eq f.parameters (length places) ≡ t
         → Reaches p number u at c (resume (if t then machine.calls other f.head.number block link places (frame p number u b ops l) fs w else faulty w) left) l (returns p number u b ops fs) fs
         (activates_in p.greatest call level other f link places w left)
     tested_run None places w left t e = record { by = tt }
     tested_run (Some link) places w left true e =
         subst (λ t. Reaches p number u at c (resume (machine.calls other f.head.number block (Some link) places (frame p number u b ops l) fs w) left) l (returns p number u b ops fs) fs
-        (if t then effect.unless_full (procedure_run p.greatest call level other f link places) w left else Lost)) (sym e) (activation_run link places w left)
+        (if t then effect.unless_full (procedure_run p.greatest call level other f link places) w left else Lost)) (sym e) (activation_run false link places w left)
     tested_run (Some link) places w left false e =
         subst (λ t. Reaches p number u at c (resume (faulty w) left) l (returns p number u b ops fs) fs
         (if t then effect.unless_full (procedure_run p.greatest call level other f link places) w left else Lost)) (sym e) (record { by = tt })
@@ -120,11 +128,13 @@ module _ (p : Program) (number : ℕ) (u : UnitCode) (at : Label → ℕ) (other
         let count : length before ≡ length places = let e = as_long before [] in omega arith in
         let same =
         ap (λ x. resume (machine.called_with other f.head.number block (length before) x here fs w) left) (places_come_off before [] ops)
-        ∙ ap (λ n. resume (if nat_eq f.parameters n then machine.calls other f.head.number block (link_of other f.parent w) places (frame p number u b ops l) fs w else faulty w) left) count
-        ∙ ap (λ x. resume (if nat_eq f.parameters (length places) then machine.calls other f.head.number block x places (frame p number u b ops l) fs w else faulty w) left)
+        ∙ ap (λ n. resume (if is_procedure (kind_of_procedure f) && nat_eq f.parameters n then machine.calls other f.head.number block (link_of other f.parent w) places (frame p number u b ops l) fs w else faulty w) left) count
+        ∙ ap (λ k. resume (if k && nat_eq f.parameters (length places) then machine.calls other f.head.number block (link_of other f.parent w) places (frame p number u b ops l) fs w else faulty w) left)
+        (kinds_same f.is_on_unit)
+        ∙ ap (λ x. resume (if not f.is_on_unit && nat_eq f.parameters (length places) then machine.calls other f.head.number block x places (frame p number u b ops l) fs w else faulty w) left)
         (links_same p other v at f.parent w) in
         subst (λ s. Reaches p number u at c s l (returns p number u b ops fs) fs (activates_in p.greatest call level other f (static_link other f.parent w) places w left)) (sym same)
-        (tested_run (static_link other f.parent w) places w left (nat_eq f.parameters (length places)) refl)
+        (tested_run (static_link other f.parent w) places w left (not f.is_on_unit && nat_eq f.parameters (length places)) refl)
 
 -- where the unit of a number of a program stands among its code
 abbrev pub IsThere : List TypedUnit → List Name → (Label → ℕ) → (number : ℕ) → Option TypedUnit → List UnitCode → (place : ℕ) → Type 0
@@ -259,9 +269,56 @@ module _ (p : Program) (units : List TypedUnit) (names : List Name) (at : Label 
             (sym h.2.named)
             (unit_run h.2.unit (slice_get units h.2.unit) (unit_there units names at units p.units h.2.unit stand)))
 
+  -- a condition that is raised while a frame waits
+  module _ (level : ℕ) (run : AllRun level) (number : ℕ) (u : UnitCode) (c : Context) (b : ℕ) (ops : List Operand) (l : Locals) (again : Bool) (fs : List Frame) (fine : Fine c l)
+      (w : World) (left : ℕ) where
+    abbrev Takes : Move → Effect (Option Value) → Type 0
+    Takes m o = Reaches p number u at c (resume m left) l (resumes p number u b ops again fs) fs o
+
+    abbrev waits : Frame
+    waits = waiting p number u b ops l again
+
+    -- the ON-unit of a unit that stands
+    block_run : (h : Handler) (t : TypedUnit) (v : UnitCode) → slice_get p.units h.unit ≡ Some v → (is : UnitStands units names at h.unit t v)
+        → Takes (machine.runs_block h (slice_get v.blocks h.block) waits fs w)
+        (runs_block p.greatest (calls p.greatest units level h.unit t) level h (procedure_in t.procedures h.block) w left)
+    block_run h t v there is = by (procedure_in t.procedures h.block) (procedure_there p h.unit v at t.procedures h.block is.procedures)
+      where
+        call : Calls
+        call = calls p.greatest units level h.unit t
+
+        by : (o : Option TypedProcedure) → Found p h.unit v at h.block o
+            → Takes (machine.runs_block h (slice_get v.blocks h.block) waits fs w) (runs_block p.greatest call level h o w left)
+        by None found = record { by = tt }
+        by (Some f) found =
+            let body = code p h.unit v at there call (run h.unit v there t is) level f found.1 in
+            let there_too : slice_get v.blocks h.block ≡ Some body = ap (slice_get v.blocks) (sym found.0) ∙ found.1.there in
+            subst (λ x. Takes (machine.runs_block h x waits fs w) (runs_block p.greatest call level h (Some f) w left)) (sym there_too)
+            (subst (λ k. Takes (machine.calls h.unit k body (Some h.link) [] waits fs w) (runs_block p.greatest call level h (Some f) w left)) found.0
+            (activation_run p number u at h.unit v there call (run h.unit v there t is) level f found.1 c b ops l fine fs again h.link [] w left))
+
+    pub raised_run : (k : Condition) (o : Option Handler) → Takes (raises p k o waits fs w) (raised_in p.greatest units (calls p.greatest units level) level k o w left)
+    raised_run k None = record { by = stays p _ }
+    raised_run k (Some h) = by (slice_get units h.unit) (unit_there units names at units p.units h.unit stand)
+      where
+        by : (o : Option TypedUnit) → IsThere units names at h.unit o p.units h.unit
+            → Takes (machine.runs_unit h (slice_get p.units h.unit) waits fs w) (runs_unit p.greatest (calls p.greatest units level) level h o w left)
+        by None is = record { by = tt }
+        by (Some t) is =
+            subst (λ x. Takes (machine.runs_unit h x waits fs w) (runs_unit p.greatest (calls p.greatest units level) level h (Some t) w left)) (sym is.1)
+            (block_run h t is.0 is.1 is.2)
+
   pub calls_run : (level : ℕ) → AllRun level
-  calls_run zero number u there t is = record { procedure = λ callee before c b ops l fs fine w left. record { by = tt } }
-  calls_run (suc level) number u there t is = record { procedure = λ callee before c b ops l fs fine w left. by (calls_run level) callee before c b ops l fs fine w left }
+  calls_run zero number u there t is =
+      record {
+        procedure = λ callee before c b ops l fs fine w left. record { by = tt };
+        conditions = λ k c b ops l again fs fine w left. record { by = tt };
+      }
+  calls_run (suc level) number u there t is =
+      record {
+        procedure = λ callee before c b ops l fs fine w left. by (calls_run level) callee before c b ops l fs fine w left;
+        conditions = λ k c b ops l again fs fine w left. raised_run level (calls_run level) number u c b ops l again fs fine w left k (handler k w.activations);
+      }
     where
       by : AllRun level → (callee : Callee) (before : List Place) (c : Context) (b : ℕ) (ops : List Operand) (l : Locals) (fs : List Frame) (fine : Fine c l) (w : World) (left : ℕ)
           → Reaches p number u at c (resume (act p u (Some (call_of callee (length before))) (frame p number u b (places_above before ops) l) fs w) left) l (returns p number u b ops fs) fs

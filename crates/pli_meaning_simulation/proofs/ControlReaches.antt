@@ -15,7 +15,7 @@ use Rattle.pli_meaning_tree.specs.Effects as effect
 use Rattle.pli_meaning_tree.specs.Effects.{Label, Effect, Gives, Jumps, Fails, Spent, Lost, Short, Flow, Next, Doing, and_then, nothing_done, followed, answered, as_step, chosen, truth, turns, on_jump, caught, leaving}
 use Rattle.pli_meaning_tree.specs.TreeMeaning.{jumps_to}
 use Rattle.pli_meaning_simulation.specs.CodeStands.{Context, deeper, Nests, Is, Forward}
-use Rattle.pli_meaning_simulation.proofs.ReachesLemmas.{Fine, Kept, kept_out, kept_same, WithinContext, Target, Comes, stays, Arrives, arrives_from, frame, flows, tested, landed, Reaches, gives, then_reaches, keeping, bound, goes_on_in, goes}
+use Rattle.pli_meaning_simulation.proofs.ReachesLemmas.{Fine, Kept, kept_out, kept_same, WithinContext, Target, Comes, stays, Arrives, arrives_from, waiting, frame, flows, tested, landed, Reaches, gives, then_reaches, keeping, bound, goes_on_in, goes}
 
 -- an activation has made at most as many jumps since the last step as it has counted
 few_jumps : (w : World) (l : Locals) → jumps_at w l ≤ l.jumps
@@ -51,9 +51,9 @@ module _ (p : Program) (number : ℕ) (u : UnitCode) where
   jump_on {target} {b} old ops l fs w le =
       ap (λ t. if t then counted_jump target ops (frame p number u b old l) fs w else Goes (frame p number u target ops l) fs w) (le-ltb target b le)
 
-  pub counted_goes : (target : ℕ) (b : ℕ) (old ops : List Operand) (l : Locals) (fs : List Frame) (w : World) → l.jumps < 64
-      → counted_jump target ops (frame p number u b old l) fs w ≡ Goes (frame p number u target ops (counted w l)) fs w
-  counted_goes target b old ops l fs w few =
+  pub counted_goes : (target : ℕ) (b : ℕ) (old ops : List Operand) (l : Locals) (again : Bool) (fs : List Frame) (w : World) → l.jumps < 64
+      → counted_jump target ops (waiting p number u b old l again) fs w ≡ Goes (frame p number u target ops (counted w l)) fs w
+  counted_goes target b old ops l again fs w few =
       ap (λ t. if t then Goes (frame p number u target ops (counted w l)) fs w else machine.faulty w) (lt-ltb (jumps_at w l) 64 (let a = few_jumps w l in omega arith))
 
   -- a jump to anywhere counts at most once
@@ -70,7 +70,7 @@ module _ (p : Program) (number : ℕ) (u : UnitCode) where
       way t = if t then counted_jump target [] (frame p number u b old l) fs w else Goes (frame p number u target [] l) fs w
 
       by : (t : Bool) → nat_lt target b ≡ t → Hops target b old l fs w
-      by true e = record { locals = counted w l; same = refl; few = let a = few_jumps w l in omega arith; goes = ap way e ∙ counted_goes target b old [] l fs w less }
+      by true e = record { locals = counted w l; same = refl; few = let a = few_jumps w l in omega arith; goes = ap way e ∙ counted_goes target b old [] l false fs w less }
       by false e = record { locals = l; same = refl; few = omega arith; goes = ap way e }
 
   module _ (at : Label → ℕ) where
@@ -117,12 +117,12 @@ module _ (p : Program) (number : ℕ) (u : UnitCode) where
         on_jump_run held (run start w left) (λ k. caught level held run (Some k)) (f start l fine w left) (λ k m fine w left. caught_run level held run f (Some k) m fine w left)
 
     -- a jump that leaves an activation lands in the one that waits for it, or goes on out
-    pub lands_out : (h : ℕ) (k : Label) {c : Context} (b : ℕ) (ops : List Operand) (l : Locals) (fs : List Frame) → Fine c l → l.jumps ≡ 0 → (w : World) (left : ℕ)
-        → Arrives p c (resume (lands h (at k) (frame p number u b ops l ∷ fs) w) left) l (λ m. landed p number u at h k m fs w left)
-    lands_out h k {c} b ops l fs fine none w left = by (nat_eq h (height w))
+    pub lands_out : (h : ℕ) (k : Label) {c : Context} (b : ℕ) (ops : List Operand) (l : Locals) (again : Bool) (fs : List Frame) → Fine c l → l.jumps ≡ 0 → (w : World) (left : ℕ)
+        → Arrives p c (resume (lands h (at k) (waiting p number u b ops l again ∷ fs) w) left) l (λ m. landed p number u at h k m fs w left)
+    lands_out h k {c} b ops l again fs fine none w left = by (nat_eq h (height w))
       where
         by : (mine : Bool)
-            → Arrives p c (resume (if mine then counted_jump (at k) [] (frame p number u b ops l) fs (cleared w) else lands h (at k) fs (left_by w)) left) l
+            → Arrives p c (resume (if mine then counted_jump (at k) [] (waiting p number u b ops l again) fs (cleared w) else lands h (at k) fs (left_by w)) left) l
             (λ m. if mine then At (frame p number u (at k) [] m) fs (cleared w) left else resume (lands h (at k) fs (left_by w)) left)
         by true =
             record {
@@ -130,25 +130,25 @@ module _ (p : Program) (number : ℕ) (u : UnitCode) where
               kept = record { agree = λ i lt. refl; fine = record { room = fine.room; few = let e = few_jumps (cleared w) l in let f = fine.some in omega arith; some = fine.some } };
               comes =
                   subst (λ v. Comes p (resume v left) (At (frame p number u (at k) [] (counted (cleared w) l)) fs (cleared w) left))
-                  (sym (counted_goes (at k) b ops [] l fs (cleared w) (omega arith))) (stays p _);
+                  (sym (counted_goes (at k) b ops [] l again fs (cleared w) (omega arith))) (stays p _);
             }
         by false = record { locals = l; kept = kept_same c l fine; comes = stays p _ }
 
     -- the end of an activation, of any unit
-    pub leaves : {A B : Type 0} (other : ℕ) (v : UnitCode) {d c : Context} {s : State} {l m : Locals} {to : Target A} {to2 : Target B} {fs : List Frame} {b : ℕ} {ops : List Operand}
-        (o : Effect A) (go : A → Doing B) → Fine c m → m.jumps ≡ 0 → Reaches p other v at d s l to (frame p number u b ops m ∷ fs) o
+    pub leaves : {A B : Type 0} (other : ℕ) (v : UnitCode) {d c : Context} {s : State} {l m : Locals} {to : Target A} {to2 : Target B} {fs : List Frame} {b : ℕ} {ops : List Operand} {again : Bool}
+        (o : Effect A) (go : A → Doing B) → Fine c m → m.jumps ≡ 0 → Reaches p other v at d s l to (waiting p number u b ops m again ∷ fs) o
         → ((n : Locals) → Fine d n → (x : A) (w : World) (left : ℕ) → Reaches p number u at c (to n x w left) m to2 fs (go x w left))
         → Reaches p number u at c s m to2 fs (leaving o go)
     leaves other v (Gives x w left) go fine none r f = then_reaches p number u at r.by.comes (f r.by.locals r.by.kept.fine x w left)
-    leaves other v {c} {s} {m} {to2} {fs} {b} {ops} (Jumps h k w left) go fine none r f = by (nat_eq h (height w)) refl
+    leaves other v {c} {s} {m} {to2} {fs} {b} {ops} {again} (Jumps h k w left) go fine none r f = by (nat_eq h (height w)) refl
       where
         by : (mine : Bool) → nat_eq h (height w) ≡ mine → Reaches p number u at c s m to2 fs (if mine then Lost else Jumps h k (left_by w) left)
         by true e = record { by = tt }
         by false e =
             let a = r.by in
-            let come = subst (λ b2. Comes p s (if b2 then At (frame p other v (at k) [] a.locals) (frame p number u b ops m ∷ fs) (cleared w) left
-            else resume (lands h (at k) (frame p number u b ops m ∷ fs) (left_by w)) left)) e a.comes in
-            record { by = arrives_from p come (lands_out h k b ops m fs fine none (left_by w) left) }
+            let come = subst (λ b2. Comes p s (if b2 then At (frame p other v (at k) [] a.locals) (waiting p number u b ops m again ∷ fs) (cleared w) left
+            else resume (lands h (at k) (waiting p number u b ops m again ∷ fs) (left_by w)) left)) e a.comes in
+            record { by = arrives_from p come (lands_out h k b ops m again fs fine none (left_by w) left) }
     leaves other v (Fails e w) go fine none r f = record { by = r.by }
     leaves other v (Spent w) go fine none r f = record { by = r.by }
     leaves other v Lost go fine none r f = record { by = tt }
@@ -206,7 +206,7 @@ module _ (p : Program) (number : ℕ) (u : UnitCode) where
 
           by : (o : Answer ℕ) → height_of outward w ≡ o
               → Reaches p number u at c (At (frame p number u a [] l) fs w left) l (flows p number u q fs) fs (and_then (answered o left) (λ h w left. Jumps h k w left))
-          by (Yields h v) e = record { by = arrives_from p (goes p number u at there is (ap way e)) (lands_out h k b [] l fs fine none v left) }
+          by (Yields h v) e = record { by = arrives_from p (goes p number u at there is (ap way e)) (lands_out h k b [] l false fs fine none v left) }
           by (Raises x v) e = record { by = goes p number u at there is (ap way e) }
           by Wrong e = record { by = tt }
 

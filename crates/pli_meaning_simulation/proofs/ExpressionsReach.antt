@@ -1,5 +1,5 @@
 -- The machine does what expressions and references mean, for any operands and frames beneath.
-use Rattle.std.specs.Prelude.{◌≡◌, ℕ, ℤ, ◌+◌, Option, Some, None, List, [], ◌∷◌, length, slice_get, refl}
+use Rattle.std.specs.Prelude.{◌≡◌, ℕ, ℤ, pos, ◌+◌, Option, Some, None, List, [], ◌∷◌, length, slice_get, refl}
 use Rattle.std.proofs.Common.{ap, ◌∙◌, sym, subst, arith}
 use Rattle.pli_operation.specs.Operations.{Misfits, arity, calculated, fitted_to}
 use Rattle.pli_map.specs.Description.{Description}
@@ -14,11 +14,12 @@ use Rattle.pli_program.specs.Program.{UnitCode, Program}
 use Rattle.pli_machine_step.specs.Machine.{Operand, OfValue, AtPlace, Locals, Frame, At, values_off, places_off, operated, act, resume}
 use Rattle.pli_type_tree.specs.TypedOperations.{comes_to}
 use Rattle.pli_type_tree.specs.TypedTree.{TypedOperation, Fit, Operate, Root, InSlot, OfProgram, NewestOf, Located, Callee, TypedExpression, Literal, Held, Calculated, Called, Generations, Address, AsPointer, AsOffset, TypedReference, Whole, Part, Operands, NoOperand, OperandThen, Subscripts, NoSubscript, SubscriptThen, TypedArguments, NoArgument, ByPlace, ByDummy}
-use Rattle.pli_meaning_tree.specs.Effects.{Label, Doing, answered}
+use Rattle.pli_meaning_tree.specs.Effects.{Label, Doing, answered, resolved}
 use Rattle.pli_meaning_tree.specs.TreeMeaning as meaning
 use Rattle.pli_meaning_tree.specs.TreeMeaning.{Calls, a_value, in_order, root_place, element_of, value_of, place_of, element_at, called_with}
 use Rattle.pli_meaning_simulation.specs.CodeStands.{Then, Context, arguments_in, call_of, operation_code, Is, RootStands, ValueStands, OperandsStand, PlaceStands, SubscriptsStand, ArgumentsStand}
 use Rattle.pli_meaning_simulation.proofs.ReachesLemmas.{Fine, Comes, stays, frame, pushes, returns, Reaches, gives, then_reaches, bound, goes, answers}
+use Rattle.pli_meaning_simulation.proofs.ConditionsReach.{RaisesRun, resolved_run}
 use Rattle.pli_meaning_simulation.proofs.Arity.{Arity, Full, Misfit, full_or_misfit}
 
 -- operands of which the last stands first, above others
@@ -48,12 +49,13 @@ many_misfit greatest d [] v w behind = refl
 many_misfit greatest d (x ∷ vs) v w behind = many_misfit greatest d vs x v (w ∷ behind)
 
 module _ (p : Program) (number : ℕ) (u : UnitCode) (at : Label → ℕ) where
-  -- a call does what it means, from its instruction on
+  -- a call does what it means, from its instruction on; and so does a condition that is raised
   pub record CallsRun (call : Calls) : Type 0 where
     pub procedure :
         (callee : Callee) (before : List Place) (c : Context) (b : ℕ) (ops : List Operand) (l : Locals) (fs : List Frame) → Fine c l → (w : World) (left : ℕ)
         → Reaches p number u at c (resume (act p u (Some (call_of callee (length before))) (frame p number u b (places_above before ops) l) fs w) left) l
         (returns p number u b ops fs) fs (call.procedure callee (in_order before []) w left)
+    pub conditions : RaisesRun p number u at call.condition
 
   module _ (there : slice_get p.units number ≡ Some u) (call : Calls) (calls_run : CallsRun call) (c : Context) where
     -- what a thing pushes when it stands from a to b
@@ -75,11 +77,12 @@ module _ (p : Program) (number : ℕ) (u : UnitCode) (at : Label → ℕ) where
     pub operation_run : (operation : TypedOperation) {a b : ℕ} → Is u (operation_code operation) a b → (before : List Value) (ops : List Operand) (l : Locals) → Fine c l
         → (fs : List Frame) (w : World) (left : ℕ)
         → Reaches p number u at c (At (frame p number u a (values_above before ops) l) fs w left) l (pushes p number u OfValue b ops fs) fs
-        (answered (calculation (comes_to p.greatest operation (in_order before [])) w) left)
+        (resolved call.condition (Number (pos 0)) (calculation (comes_to p.greatest operation (in_order before [])) w) left)
     operation_run (Fit d) is [] ops l fine fs w left = record { by = tt }
-    operation_run (Fit d) is (v ∷ []) ops l fine fs w left = answers p number u at there (λ x. OfValue x ∷ ops) (calculation (fitted_to d v) w) is fine w left refl
+    operation_run (Fit d) is (v ∷ []) ops l fine fs w left =
+        resolved_run p number u at call.condition calls_run.conditions there (λ x. OfValue x ∷ ops) (Number (pos 0)) (calculation (fitted_to d v) w) is fine w left refl
     operation_run (Fit d) {a} {b} is (v ∷ x ∷ before) ops l fine fs w left =
-        subst (λ c2. Reaches p number u at c (At (frame p number u a (values_above (v ∷ x ∷ before) ops) l) fs w left) l (pushes p number u OfValue b ops fs) fs (answered (calculation c2 w) left))
+        subst (λ c2. Reaches p number u at c (At (frame p number u a (values_above (v ∷ x ∷ before) ops) l) fs w left) l (pushes p number u OfValue b ops fs) fs (resolved call.condition (Number (pos 0)) (calculation c2 w) left))
         (sym (many_misfit p.greatest d before x v [])) (record { by = tt })
     operation_run (Operate operation) {a} {b} is before ops l fine fs w left = by (full_or_misfit p.greatest operation (in_order before []))
       where
@@ -87,14 +90,14 @@ module _ (p : Program) (number : ℕ) (u : UnitCode) (at : Label → ℕ) where
         o = calculation (calculated p.greatest operation (in_order before [])) w
 
         by : Arity p.greatest operation (in_order before [])
-            → Reaches p number u at c (At (frame p number u a (values_above before ops) l) fs w left) l (pushes p number u OfValue b ops fs) fs (answered o left)
+            → Reaches p number u at c (At (frame p number u a (values_above before ops) l) fs w left) l (pushes p number u OfValue b ops fs) fs (resolved call.condition (Number (pos 0)) o left)
         by (Full e) =
             let n : length before ≡ arity operation = let f = as_long before [] in omega arith in
-            answers p number u at there (λ x. OfValue x ∷ ops) o is fine w left
-            (ap (λ k. operated p.greatest operation (values_off k [] (values_above before ops)) (frame p number u b (values_above before ops) l) fs w) (sym n)
-            ∙ ap (λ t. operated p.greatest operation t (frame p number u b (values_above before ops) l) fs w) (values_come_off before [] ops))
+            resolved_run p number u at call.condition calls_run.conditions there (λ x. OfValue x ∷ ops) (Number (pos 0)) o is fine w left
+            (ap (λ k. operated p operation (values_off k [] (values_above before ops)) (frame p number u b (values_above before ops) l) fs w) (sym n)
+            ∙ ap (λ t. operated p operation t (frame p number u b (values_above before ops) l) fs w) (values_come_off before [] ops))
         by (Misfit e) =
-            subst (λ x. Reaches p number u at c (At (frame p number u a (values_above before ops) l) fs w left) l (pushes p number u OfValue b ops fs) fs (answered (calculation x w) left)) (sym e) (record { by = tt })
+            subst (λ x. Reaches p number u at c (At (frame p number u a (values_above before ops) l) fs w left) l (pushes p number u OfValue b ops fs) fs (resolved call.condition (Number (pos 0)) (calculation x w) left)) (sym e) (record { by = tt })
 
     value_given : (v : Option Value) {b : ℕ} (ops : List Operand) (l : Locals) → Fine c l → (fs : List Frame) (w : World) (left : ℕ)
         → Reaches p number u at c (returns p number u b ops fs l v w left) l (pushes p number u OfValue b ops fs) fs (a_value v w left)
@@ -112,7 +115,8 @@ module _ (p : Program) (number : ℕ) (u : UnitCode) (at : Label → ℕ) where
           bound p number u at {to = returns p number u b ops fs} (called_with p.greatest call callee arguments [] w left) _
           (called_run arguments callee (arguments_in arguments) is [] (omega arith) ops l fine fs w left)
           (λ m k v w left. value_given v ops m k.fine fs w left)
-      value_run (Generations n) is ops l fine fs w left = answers p number u at there (λ v. OfValue v ∷ ops) (generations_counted n w) is fine w left refl
+      value_run (Generations n) is ops l fine fs w left =
+          resolved_run p number u at call.condition calls_run.conditions there (λ v. OfValue v ∷ ops) (Number (pos 0)) (generations_counted n w) is fine w left refl
       value_run (Address r) is ops l fine fs w left =
           bound p number u at (place_of p.greatest call r w left) _ (place_run r is.fst ops l fine fs w left)
           (λ m k q w left. answers p number u at there (λ v. OfValue v ∷ ops) (address_of q w) is.snd k.fine w left refl)

@@ -1,19 +1,22 @@
 -- The machine does what each form of a statement means, from what its parts do.
 use Rattle.std.specs.Prelude.{◌≡◌, ℕ, zero, suc, Bool, true, false, Option, Some, None, List, [], ◌∷◌, slice_get, if◌then◌else◌, refl}
 use Rattle.std.proofs.Common.{ap, ◌∙◌, sym, subst, arith}
+use Rattle.pli_base.specs.declared.statement.Condition.{Condition}
 use Rattle.pli_world.specs.Areas.{emptied, assigned}
+use Rattle.pli_world.specs.Conditions.{established, signalled}
 use Rattle.pli_world.specs.World.{World, stored, copied, printed, line_ended, entered, left_by, at_statement}
 use Rattle.pli_value.specs.Value.{Value, Number, Characters, Bits, Located}
 use Rattle.pli_value.specs.Conversions.{bit_constant}
 use Rattle.pli_program.specs.Program as op
 use Rattle.pli_program.specs.Program.{BeginBlock, Block, UnitCode, Program}
 use Rattle.pli_machine_step.specs.Machine as machine
-use Rattle.pli_machine_step.specs.Machine.{OfValue, AtPlace, Locals, Frame, State, At, calm, fresh, begun, enters, resume}
+use Rattle.pli_machine_step.specs.Machine.{OfValue, AtPlace, Locals, Frame, State, At, Goes, given, faulty, calm, fresh, begun, enters, resume}
 use Rattle.pli_type_tree.specs.TypedTree.{Callee, TypedExpression, Called, TypedReference, TypedArguments, BlockHead, TypedStatements}
-use Rattle.pli_meaning_tree.specs.Effects.{Label, Effect, Gives, Jumps, Fails, Spent, Lost, Short, Flow, Next, Returned, Doing, and_then, nothing_done, answered, as_statement, back_at, truth, chosen, turns, leaving, block_end}
-use Rattle.pli_meaning_tree.specs.TreeMeaning.{Calls, no_value, printed_item, value_of, place_of, called_with, condition, assigns, assigns_aggregate, assigns_area, empties, puts, skips, does_call, returns_value, labels_in, as_list, head_in, static_link, activation_of, in_block}
-use Rattle.pli_meaning_simulation.specs.CodeStands.{Span, Empty, Then, Context, deeper, Nests, arguments_in, block_of, Is, Guarded, Choice, Loop, BeginStands, ValueStands, PlaceStands, ConditionStands, ItemsStand, SkipStands}
+use Rattle.pli_meaning_tree.specs.Effects.{Label, Effect, Gives, Jumps, Fails, Spent, Lost, Short, Flow, Next, Returned, Doing, and_then, nothing_done, answered, resolved, as_statement, back_at, truth, chosen, turns, leaving, block_end}
+use Rattle.pli_meaning_tree.specs.TreeMeaning.{Calls, no_value, printed_item, value_of, place_of, called_with, condition, assigns, assigns_aggregate, assigns_area, empties, puts, skips, does_call, signals, returns_value, establishes, labels_in, as_list, head_in, static_link, activation_of, in_block}
+use Rattle.pli_meaning_simulation.specs.CodeStands.{Span, Empty, Then, Context, deeper, Nests, arguments_in, block_of, Is, Guarded, Choice, Loop, BeginStands, OnStands, ValueStands, PlaceStands, ConditionStands, ItemsStand, SkipStands}
 use Rattle.pli_meaning_simulation.proofs.ReachesLemmas.{Fine, Target, Comes, stays, from, frame, flows, tested, returns, Reaches, gives, passes, then_reaches, bound, goes_on, goes, begins, answers}
+use Rattle.pli_meaning_simulation.proofs.ConditionsReach.{resolved_run}
 use Rattle.pli_meaning_simulation.proofs.ExpressionsReach.{CallsRun, value_run, place_run, called_run}
 use Rattle.pli_meaning_simulation.proofs.ControlReaches.{turn_kept, fresh_fine, jump_on, chosen_run, start_of, caught_run, leaves, full_run, enters_run, truth_run, turns_run}
 
@@ -56,6 +59,17 @@ module _ (p : Program) (number : ℕ) (u : UnitCode) (at : Label → ℕ) where
     printed_run (Located a) is l fine fs w left = record { by = tt }
     printed_run (Characters text) is l fine fs w left = gives p number u at Next (printed text w) left fine (goes p number u at there is refl)
     printed_run (Bits bits) is l fine fs w left = gives p number u at Next (printed (bit_constant bits) w) left fine (goes p number u at there is refl)
+
+    -- the block of an ON-unit suits ON
+    pub on_run : (k : Condition) (n block : ℕ) {c : Context} {a b : ℕ} → OnStands u k n block a b → Runs c (establishes number block k n) a b
+    on_run k n block {b = b} is l fine fs w left =
+        let here = frame p number u b [] l in
+        bound p number u at (answered (established number (Some block) k n w) left) _
+        (answers p number u at there (λ _. []) (established number (Some block) k n w) is.establishes fine w left
+        (ap (λ o. machine.establishes k n o here fs w) is.there
+        ∙ ap (λ t. if t then given w (established number is.block.parent k n w) (λ _ w. Goes here fs w) else faulty w) is.suits
+        ∙ ap (λ q. given w (established number q k n w) (λ _ w. Goes here fs w)) is.around))
+        (λ m kept _ w left. gives p number u at Next w left kept.fine (stays p _))
 
     pub no_value_run : (v : Option Value) {b : ℕ} {c : Context} (l : Locals) → Fine c l → (fs : List Frame) (w : World) (left : ℕ)
         → Reaches p number u at c (returns p number u b [] fs l v w left) l (flows p number u b fs) fs (no_value v w left)
@@ -125,7 +139,8 @@ module _ (p : Program) (number : ℕ) (u : UnitCode) (at : Label → ℕ) where
       area_run target source {c} is l fine fs w left =
           bound p number u at (place_of p.greatest call target w left) _ (place_run p number u at there call calls_run c target is.fst [] l fine fs w left)
           (λ m k q w left. bound p number u at (place_of p.greatest call source w left) _ (place_run p number u at there call calls_run c source is.snd.fst (AtPlace q ∷ []) m k.fine fs w left)
-          (λ m k r w left. bound p number u at (answered (assigned r q w) left) _ (answers p number u at there (λ _. []) (assigned r q w) is.snd.snd k.fine w left refl)
+          (λ m k r w left. bound p number u at (resolved call.condition tt (assigned r q w) left) _
+          (resolved_run p number u at call.condition calls_run.conditions there (λ _. []) tt (assigned r q w) is.snd.snd k.fine w left refl)
           (λ m k _ w left. gives p number u at Next w left k.fine (stays p _))))
 
       pub empty_run : (target : TypedReference) {c : Context} {a b : ℕ} → Then (PlaceStands u target) (Is u op.EmptyArea) a b → Runs c (empties p.greatest call target) a b
@@ -133,6 +148,12 @@ module _ (p : Program) (number : ℕ) (u : UnitCode) (at : Label → ℕ) where
           bound p number u at (place_of p.greatest call target w left) _ (place_run p number u at there call calls_run c target is.fst [] l fine fs w left)
           (λ m k q w left. bound p number u at (answered (emptied q w) left) _ (answers p number u at there (λ _. []) (emptied q w) is.snd k.fine w left refl)
           (λ m k _ w left. gives p number u at Next w left k.fine (stays p _)))
+
+      pub signal_run : (k : Condition) {c : Context} {a b : ℕ} → Is u (op.Signal k) a b → Runs c (signals p.greatest call k) a b
+      signal_run k is l fine fs w left =
+          bound p number u at (resolved call.condition tt (signalled k w) left) _
+          (resolved_run p number u at call.condition calls_run.conditions there (λ _. []) tt (signalled k w) is fine w left refl)
+          (λ m kept _ w left. gives p number u at Next w left kept.fine (stays p _))
 
       pub puts_run : (es : List TypedExpression) {c : Context} {a b : ℕ} → ItemsStand u es a b → Runs c (puts p.greatest call es) a b
       puts_run [] is l fine fs w left = passes p number u at is fine w left

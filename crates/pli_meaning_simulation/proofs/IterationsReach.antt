@@ -1,16 +1,16 @@
 -- The machine does what iterations mean: what they keep stands in temporaries.
-use Rattle.std.specs.Prelude.{◌≡◌, ℕ, zero, suc, ◌+◌, ◌<◌, ◌≤◌, Bool, true, false, Option, Some, None, List, [], ◌∷◌, ◌++◌, length, slice_get, refl}
+use Rattle.std.specs.Prelude.{◌≡◌, ℕ, pos, zero, suc, ◌+◌, ◌<◌, ◌≤◌, Bool, true, false, Option, Some, None, List, [], ◌∷◌, ◌++◌, length, slice_get, refl}
 use Rattle.std.proofs.Common.{ap, ◌∙◌, sym, subst, arith}
 use Rattle.pli_operation.specs.declared.operation.Operation.TheVariants.{Add, Within}
 use Rattle.pli_operation.specs.Operations.{calculated}
 use Rattle.pli_world.specs.World.{World, known, held, stored, calculation, at_statement}
-use Rattle.pli_value.specs.Value.{Value}
+use Rattle.pli_value.specs.Value.{Value, Number}
 use Rattle.pli_program.specs.Program as op
 use Rattle.pli_program.specs.Program.{UnitCode, Program}
 use Rattle.pli_machine_step.specs.Machine.{Operand, OfValue, AtPlace, Locals, Frame, At, calm}
 use Rattle.pli_type_tree.specs.Iterations.{kept_by, limit_number, step_number, is_iterated}
 use Rattle.pli_type_tree.specs.TypedTree.{Operate, TypedExpression, TypedRange, Once, ToBy, ByTo, Repeated, Iteration}
-use Rattle.pli_meaning_tree.specs.Effects.{Label, Gives, Flow, Next, Doing, nothing_done, followed, answered, as_statement, back_at, truth, chosen}
+use Rattle.pli_meaning_tree.specs.Effects.{Label, Gives, Flow, Next, Doing, nothing_done, followed, answered, resolved, as_statement, back_at, truth, chosen}
 use Rattle.pli_meaning_tree.specs.TreeMeaning.{Calls, value_of, place_of, keeps, kept, converted, sets, advanced, within_limit, while_holds, may_turn, advances, turned, iterates}
 use Rattle.pli_meaning_simulation.specs.CodeStands.{Span, Then, Context, using, deeper, Is, KeepsStand, SetsStand, AdvancedStands, LimitStands, WhileStands, TestStands, AdvancesStand, TurnsStand, IterateStands}
 use Rattle.pli_meaning_simulation.proofs.ReachesLemmas.{Fine, Kept, kept_on, calm_kept, Comes, stays, frame, pushes, flows, tested, Reaches, gives, passes, then_reaches, reach_out, bound, goes_on, goes, begins, answers}
@@ -109,7 +109,7 @@ module _ (p : Program) (number : ℕ) (u : UnitCode) (at : Label → ℕ) (there
         (λ m k q w left. let h = stay l m k h in bound p number u at (answered (held q w) left) _ (answers p number u at there (λ v. OfValue v ∷ []) (held q w) is.snd.fst k.fine w left refl)
         (λ n k x w left. let h = stay m n k h in bound p number u at (kept p.greatest call vs limit w left) _ (kept_run i.temporary limit vs is.snd.snd.fst (OfValue x ∷ []) n k.fine h fs w left)
         (λ o k y w left. let h = stay n o k h in bound p number u at (kept p.greatest call vs step w left) _ (kept_run i.temporary step vs is.snd.snd.snd.fst (OfValue y ∷ OfValue x ∷ []) o k.fine h fs w left)
-        (λ r k z w left. bound p number u at (answered (calculation (calculated p.greatest Within (x ∷ y ∷ z ∷ [])) w) left) truth
+        (λ r k z w left. bound p number u at (resolved call.condition (Number (pos 0)) (calculation (calculated p.greatest Within (x ∷ y ∷ z ∷ [])) w) left) truth
         (operation_run p number u at there call calls_run c (Operate Within) is.snd.snd.snd.snd.fst (z ∷ y ∷ x ∷ []) [] r k.fine fs w left)
         (λ s k v w left. truth_run p number u at there v is.snd.snd.snd.snd.snd s k.fine fs w left)))))
 

@@ -1,5 +1,6 @@
 pub mod Arity
 pub mod CallsReach
+pub mod ConditionsReach
 pub mod ControlReaches
 pub mod ConversionsReach
 pub mod ExpressionsReach

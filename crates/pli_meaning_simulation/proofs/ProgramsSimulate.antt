@@ -1,5 +1,5 @@
 -- The simulation: the run of a program's code gives what the program means.
-use Rattle.std.specs.Prelude.{◌≡◌, ◌≢◌, ℕ, zero, suc, nat_eq, ◌&&◌, Bool, true, false, Option, Some, None, List, [], ◌∷◌, map, slice_get, if◌then◌else◌, refl}
+use Rattle.std.specs.Prelude.{◌≡◌, ◌≢◌, ℕ, zero, suc, nat_eq, ◌&&◌, Bool, true, false, not, Option, Some, None, List, [], ◌∷◌, map, slice_get, if◌then◌else◌, refl}
 use Rattle.std.proofs.Common.{ap, ◌∙◌, sym, subst, true≢false}
 use Rattle.pli_run.specs.declared.ending.Ending.{Ending}
 use Rattle.pli_base.specs.Name.{Name}
@@ -7,9 +7,10 @@ use Rattle.pli_run.specs.declared.ending.Ending.TheVariants as message
 use Rattle.pli_world.specs.Ends.{RunEnd, Ended, OutOfSteps, told}
 use Rattle.pli_world.specs.World.{World, Answer, Yields, Raises, Wrong, nothing, entered, stepped, left_by, height}
 use Rattle.pli_value.specs.Value.{Value}
-use Rattle.pli_program.specs.Program.{is_external, UnitCode, Program}
+use Rattle.pli_program.specs.Program.{Procedure, OnUnit, is_procedure, is_external, UnitCode, Program}
 use Rattle.pli_machine_step.specs.Machine.{Locals, State, Over, Goes, Steps, given, enters, faulty, resume}
-use Rattle.pli_machine_step.specs.Runs.{Outcome, outcome_of, names_of, main_block, main_unit, start, ProgramRunsTo}
+use Rattle.pli_machine_step.specs.Runs.{Outcome, outcome_of, names_of, is_main, main_block, main_unit, start, ProgramRunsTo}
+use Rattle.pli_type_tree.specs.Blocks.{kind_of_procedure}
 use Rattle.pli_type_tree.specs.TypedTree.{TypedProcedure, TypedUnit}
 use Rattle.pli_meaning_tree.specs.Effects.{Label, Effect, Gives, Jumps, Fails, Spent, Lost, Short, Flow, Next, Returned, and_then, answered, leaving, procedure_end}
 use Rattle.pli_meaning_tree.specs.TreeMeaning.{Calls, head_in, does_list, procedure_run, procedure_in, calls, all_made, main_run, unit_run, run_effect, unit_names, unless_fault, ran}
@@ -31,6 +32,19 @@ names_same program names at number (t ∷ ts) (u ∷ us) stand =
 
 some_is : (a b : Outcome) → Some a ≡ Some b → a ≡ b
 some_is a b e = cc
+
+-- a main procedure: an external one without parameters
+abbrev is_main_procedure : TypedProcedure → Bool
+is_main_procedure f = is_external f.parent && (not f.is_on_unit && nat_eq f.parameters 0)
+
+tests_same : (x y z : Bool) → (is_procedure (if x then OnUnit else Procedure) && y && z) ≡ (y && (not x && z))
+tests_same true true z = refl
+tests_same true false z = refl
+tests_same false true z = refl
+tests_same false false z = refl
+
+mains_same : (f : TypedProcedure) → (is_procedure (kind_of_procedure f) && is_external f.parent && nat_eq f.parameters 0) ≡ is_main_procedure f
+mains_same f = tests_same f.is_on_unit (is_external f.parent) (nat_eq f.parameters 0)
 
 -- the end to which a whole run leads
 module _ (p : Program) where
@@ -123,10 +137,12 @@ module _ (p : Program) where
           let b = code p number u at there call run level f found.1 in
           let block : slice_get u.blocks 0 ≡ Some b = ap (slice_get u.blocks) (sym found.0) ∙ found.1.there in
           subst (λ x. Ends (resume (main_block number x w) left)
-          (if is_external f.parent && nat_eq f.parameters 0 then procedure_run p.greatest call level number f 0 [] w left else Lost)) (sym block)
-          (subst (λ k. Ends (resume (if is_external f.parent && nat_eq f.parameters 0 then Steps w (enters number k b 0 [] [] (stepped w)) else faulty w) left)
-          (if is_external f.parent && nat_eq f.parameters 0 then procedure_run p.greatest call level number f 0 [] w left else Lost)) found.0
-          (main_ends number u at there call run level f found.1 w left (is_external f.parent && nat_eq f.parameters 0)))
+          (if is_main_procedure f then procedure_run p.greatest call level number f 0 [] w left else Lost)) (sym block)
+          (subst (λ k. Ends (resume (if is_main b then Steps w (enters number k b 0 [] [] (stepped w)) else faulty w) left)
+          (if is_main_procedure f then procedure_run p.greatest call level number f 0 [] w left else Lost)) found.0
+          (subst (λ t. Ends (resume (if t then Steps w (enters number f.head.number b 0 [] [] (stepped w)) else faulty w) left)
+          (if is_main_procedure f then procedure_run p.greatest call level number f 0 [] w left else Lost)) (sym (mains_same f))
+          (main_ends number u at there call run level f found.1 w left (is_main_procedure f))))
 
   -- the main unit
   unit_ends : (program : List TypedUnit) (names : List Name) (at : Label → ℕ) → UnitsStand program names at 0 program p.units → (o : Option TypedUnit) (number : ℕ) → IsThere program names at number o p.units number → (level : ℕ) (w : World) (left : ℕ)

@@ -7,6 +7,7 @@ use Rattle.pli_world.specs.World.{World, Answer, Yields, Raises, Wrong, height, 
 use Rattle.pli_value.specs.Value.{Value}
 use Rattle.pli_program.specs.Program as op
 use Rattle.pli_program.specs.Program.{Instruction, UnitCode, Program}
+use Rattle.pli_machine_step.specs.Machine as machine
 use Rattle.pli_machine_step.specs.Machine.{Operand, OfValue, Locals, Frame, State, At, Over, Goes, given, calm, lands, returned, returned_with, act, act_in, resume, iterate}
 use Rattle.pli_meaning_tree.specs.Effects.{Label, Effect, Gives, Jumps, Fails, Spent, Lost, Short, Flow, Next, Returned, Doing, and_then, after_flow, followed, answered, as_statement}
 use Rattle.pli_meaning_simulation.specs.CodeStands.{Context, Is}
@@ -73,9 +74,13 @@ module _ (p : Program) where
   arrives_from c a = record { locals = a.locals; kept = a.kept; comes = from c a.comes }
 
 module _ (p : Program) (number : ℕ) (u : UnitCode) where
-  -- a frame of the unit
+  -- a frame of the unit that waits, and behind an ON-unit executes an instruction again or not
+  abbrev pub waiting : (next : ℕ) → List Operand → Locals → (again : Bool) → Frame
+  waiting next ops l again = record { unit = number; next = next; operands = ops; locals = l; again = again }
+
+  -- one that runs
   abbrev pub frame : (next : ℕ) → List Operand → Locals → Frame
-  frame next ops l = record { unit = number; next = next; operands = ops; locals = l }
+  frame next ops l = waiting next ops l false
 
   -- to the next place, with the result as an operand
   abbrev pub pushes : {A : Type 0} → (A → Operand) → (place : ℕ) (ops : List Operand) (frames : List Frame) → Target A
@@ -96,10 +101,14 @@ module _ (p : Program) (number : ℕ) (u : UnitCode) where
   tested a b fs l true w left = At (frame a [] l) fs w left
   tested a b fs l false w left = At (frame b [] l) fs w left
 
-  -- to the place behind a call, with the value of a function
+  -- to a frame that waits, with the value of a function
+  abbrev pub resumes : (place : ℕ) (ops : List Operand) (again : Bool) (frames : List Frame) → Target (Option Value)
+  resumes b ops again fs l None w left = resume (machine.goes_on again (waiting b ops l again) fs w) left
+  resumes b ops again fs l (Some v) w left = resume (machine.goes_on again (waiting b (OfValue v ∷ ops) l again) fs w) left
+
+  -- to the place behind a call
   abbrev pub returns : (place : ℕ) (ops : List Operand) (frames : List Frame) → Target (Option Value)
-  returns b ops fs l None w left = At (frame b ops l) fs w left
-  returns b ops fs l (Some v) w left = At (frame b (OfValue v ∷ ops) l) fs w left
+  returns b ops fs = resumes b ops false fs
 
   module _ (at : Label → ℕ) where
     -- a jump to a label of the newest activation, or of one that waits

@@ -2,17 +2,18 @@
 use Rattle.std.specs.Prelude.{◌≡◌, ℕ, nat_eq, true, Option, Some, None, List, [], slice_get, refl}
 use Rattle.std.proofs.Common.{ap, ◌∙◌, sym, subst}
 use Rattle.std.proofs.lemmas.Bool.{and_parts, eqb-true}
+use Rattle.pli_world.specs.Conditions.{reverted}
 use Rattle.pli_world.specs.World.{World}
 use Rattle.pli_program.specs.Program.{UnitCode, Program}
 use Rattle.pli_machine_step.specs.Machine.{Locals, Frame, At, calm}
-use Rattle.pli_type_tree.specs.TypedTree.{TypedExpression, TypedStatement, Statement, Form, Null, Assign, AssignAggregate, AssignArea, EmptyArea, Put, Allocate, Free, If, Begin, Group, While, Iterate, Call, Goto, Return, ReturnValue, Stop, OtherWise, NoElse, Else, TypedStatements, NoStatement, StatementThen}
-use Rattle.pli_meaning_tree.specs.Effects.{Label, Returned, and_then, followed, chosen}
+use Rattle.pli_type_tree.specs.TypedTree.{TypedExpression, TypedStatement, Statement, Form, Null, Assign, AssignAggregate, AssignArea, EmptyArea, Put, Allocate, Free, If, Begin, Group, While, Iterate, Call, Goto, Return, ReturnValue, Stop, On, Revert, Signal, OtherWise, NoElse, Else, TypedStatements, NoStatement, StatementThen}
+use Rattle.pli_meaning_tree.specs.Effects.{Label, Next, Returned, and_then, followed, chosen}
 use Rattle.pli_meaning_tree.specs.TreeMeaning.{Calls, condition, number_of, bears, as_list, does, does_form, does_else, does_from}
 use Rattle.pli_meaning_simulation.specs.CodeStands.{Context, deeper, ConditionStands, StatementStands, FormStands, IfStands, ListStands}
 use Rattle.pli_meaning_simulation.proofs.ReachesLemmas.{Fine, calm_kept, frame, flows, Reaches, gives, passes, goes_on, goes, begins}
 use Rattle.pli_meaning_simulation.proofs.ExpressionsReach.{CallsRun}
 use Rattle.pli_meaning_simulation.proofs.ControlReaches.{start_of, goto_run}
-use Rattle.pli_meaning_simulation.proofs.FormsReach.{either, Runs, RunsCalm, begin_run, assign_run, copy_run, area_run, empty_run, put_run, call_run, return_run, guarded_run, choice_run, list_run, while_run}
+use Rattle.pli_meaning_simulation.proofs.FormsReach.{either, Runs, RunsCalm, begin_run, assign_run, copy_run, area_run, empty_run, on_run, signal_run, put_run, call_run, return_run, guarded_run, choice_run, list_run, while_run}
 use Rattle.pli_meaning_simulation.proofs.IterationsReach.{iterate_run}
 use Rattle.pli_meaning_simulation.proofs.StorageReaches.{allocations_run, freeings_run}
 
@@ -37,8 +38,8 @@ module _ (p : Program) (number : ℕ) (u : UnitCode) (at : Label → ℕ) (there
     form_run (AssignArea target source) block n c a b is l fine none fs w left = area_run p number u at there call calls_run level target source is l fine fs w left
     form_run (EmptyArea target) block n c a b is l fine none fs w left = empty_run p number u at there call calls_run level target is l fine fs w left
     form_run (Put skip items) block n c a b is l fine none fs w left = put_run p number u at there call calls_run level skip items is l fine fs w left
-    form_run (Allocate items) block n c a b is l fine none fs w left = allocations_run p number u at there call calls_run items is l fine fs w left
-    form_run (Free items) block n c a b is l fine none fs w left = freeings_run p number u at there call calls_run items is l fine fs w left
+    form_run (Allocate items) block n c a b is l fine none fs w left = allocations_run p number u at there call calls_run level items is l fine fs w left
+    form_run (Free items) block n c a b is l fine none fs w left = freeings_run p number u at there call calls_run level items is l fine fs w left
     form_run (If e consequence alternative) block n c a b is l fine none fs w left =
         if_run alternative block c a b e consequence is
         (λ x y is l fine fs w left. does_run consequence block c x y is l fine fs w left) l fine fs w left
@@ -61,6 +62,9 @@ module _ (p : Program) (number : ℕ) (u : UnitCode) (at : Label → ℕ) (there
     form_run (Return outward) block n c a b is l fine none fs w left = gives p number u at (Returned outward None) w left fine (goes p number u at there is refl)
     form_run (ReturnValue outward e) block n c a b is l fine none fs w left = return_run p number u at there call calls_run level outward e is l fine fs w left
     form_run Stop block n c a b is l fine none fs w left = record { by = goes p number u at there is refl }
+    form_run (On k unit_block) block n c a b is l fine none fs w left = on_run p number u at there k unit_block block is l fine fs w left
+    form_run (Revert k) block n c a b is l fine none fs w left = gives p number u at Next (reverted k w) left fine (goes p number u at there is refl)
+    form_run (Signal k) block n c a b is l fine none fs w left = signal_run p number u at there call calls_run level k is l fine fs w left
 
     if_run : (alternative : OtherWise) (block : ℕ) (c : Context) (a b : ℕ) (e : TypedExpression) (first : TypedStatement)
         → IfStands u number at block (ConditionStands u e) (StatementStands u number at block first c) alternative c a b

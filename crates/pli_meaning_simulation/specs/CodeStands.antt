@@ -1,15 +1,18 @@
 -- The code of typed units, as a relation: which instructions stand from a place up to a place for each form.
 -- The inner places are parts of it.
-use Rattle.std.specs.Prelude.{◌≡◌, ℕ, suc, ◌+◌, ◌-◌, ◌≤◌, Bool, true, false, Option, Some, None}
+use Rattle.std.specs.Prelude.{◌≡◌, ℕ, suc, nat_eq, ◌+◌, ◌-◌, ◌≤◌, Bool, true, false, ◌&&◌, Option}
+use Rattle.std.specs.Prelude.{Some, None}
 use Rattle.std.specs.Prelude.{List, [], ◌∷◌, map, position, slice_get}
 use Rattle.pli_base.specs.Name.{Name}
+use Rattle.pli_base.specs.declared.statement.Condition.{Condition}
 use Rattle.pli_base.specs.Words.{same_name}
 use Rattle.pli_run.specs.declared.ending.RunError.TheVariants.{NoReturnedValue}
 use Rattle.pli_program.specs.Program as op
-use Rattle.pli_program.specs.Program.{Instruction, BlockKind, Procedure, BeginBlock, Block, UnitCode}
-use Rattle.pli_program.specs.Program.{Program}
+use Rattle.pli_program.specs.Program.{Instruction, BlockKind, BeginBlock, is_on_unit}
+use Rattle.pli_program.specs.Program.{Block, UnitCode, Program}
 use Rattle.pli_program.specs.declared.kind.VariableKind.{VariableKind}
 use Rattle.pli_operation.specs.declared.operation.Operation.TheVariants.{Add, Within}
+use Rattle.pli_type_tree.specs.Blocks.{kind_of_procedure}
 use Rattle.pli_type_tree.specs.Iterations.{kept_by, temporaries_of, limit_number, step_number, is_iterated}
 use Rattle.pli_type_tree.specs.Templates.{Template, variable_of}
 use Rattle.pli_type_tree.specs.TypedTree.{TypedOperation, Fit, Operate, Root, InSlot, OfProgram, NewestOf}
@@ -23,7 +26,8 @@ use Rattle.pli_type_tree.specs.TypedTree.{NoSubscript, SubscriptThen, TypedArgum
 use Rattle.pli_type_tree.specs.TypedTree.{ByDummy, BlockHead, TypedStatement, Statement, Form, Null, Assign}
 use Rattle.pli_type_tree.specs.TypedTree.{AssignAggregate, Put, If, Begin, Group, While, Iterate, TypedRange}
 use Rattle.pli_type_tree.specs.TypedTree.{Once, ToBy, ByTo, Repeated, Iteration, Call, Goto, Return}
-use Rattle.pli_type_tree.specs.TypedTree.{ReturnValue, Stop, OtherWise, NoElse, Else, TypedStatements}
+use Rattle.pli_type_tree.specs.TypedTree.{ReturnValue, Stop, On, Revert, Signal, OtherWise, NoElse, Else}
+use Rattle.pli_type_tree.specs.TypedTree.{TypedStatements}
 use Rattle.pli_type_tree.specs.TypedTree.{NoStatement, StatementThen, TypedProcedure, Callee, OfBlock}
 use Rattle.pli_type_tree.specs.TypedTree.{OfEntry, Global, OwnVariable, ExternalVariable, EntryPoint}
 use Rattle.pli_type_tree.specs.TypedTree.{TypedUnit}
@@ -328,6 +332,14 @@ module _ (u : UnitCode) where
     pub block : BlockStands
         (block_of BeginBlock (Some parent) 0 head) head.number head.temporaries list (Is (op.Return 0))
 
+  -- ON names a block of the code that is an ON-unit without parameters, in the block where it stands
+  pub record OnStands (condition : Condition) (number parent : ℕ) (p q : ℕ) : Type 0 where
+    pub establishes : Is (op.On condition number) p q
+    pub block : Block
+    pub there : slice_get u.blocks number ≡ Some block
+    pub suits : is_on_unit block.kind && nat_eq block.parameters 0 ≡ true
+    pub around : block.parent ≡ Some parent
+
   -- statements of the unit of a number, where labels stand at these places, each in the code of its unit
 
   module _ (unit : ℕ) (at : Label → ℕ) where
@@ -368,6 +380,9 @@ module _ (u : UnitCode) where
       FormStands block number (Return outward) c = Is (op.Return outward)
       FormStands block number (ReturnValue outward e) c = Then (ValueStands e) (Is (op.ReturnValue outward))
       FormStands block number Stop c = Is op.Stop
+      FormStands block number (On condition unit_block) c = OnStands condition unit_block block
+      FormStands block number (Revert condition) c = Is (op.Revert condition)
+      FormStands block number (Signal condition) c = Is (op.Signal condition)
 
       -- the test of an IF and its parts
       pub IfStands : (block : ℕ) → (test : (target : ℕ) → Span) → (part : Span) → OtherWise → Context → Span
@@ -390,7 +405,7 @@ module _ (u : UnitCode) where
     abbrev pub ProcedureStands : TypedProcedure → Type 0
     ProcedureStands f =
         BlockStands
-        (block_of Procedure f.parent f.parameters f.head)
+        (block_of (kind_of_procedure f) f.parent f.parameters f.head)
         f.head.number f.head.temporaries (ListStands f.head.number f.statements) (EndStands f.function_end)
 
     -- the blocks of all procedures

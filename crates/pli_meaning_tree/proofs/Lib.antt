@@ -1,2 +1,3 @@
 pub mod ExamplesHold
 pub mod AreasHold
+pub mod ConditionsHold

@@ -2,9 +2,12 @@
 -- recursion of a definition; the steps left are what the language counts, and go from one thing to the next.
 use Rattle.std.specs.Prelude.{ℕ, zero, suc, nat_eq, nat_lt, Bool, true, false, ◌&&◌, Option, Some, None}
 use Rattle.std.specs.Prelude.{if◌then◌else◌}
+use Rattle.pli_base.specs.declared.statement.Condition.{Condition}
+use Rattle.pli_run.specs.declared.ending.RunError.{RunError}
 use Rattle.pli_run.specs.declared.ending.RunError.TheVariants.{NoReturnedValue, TooManyActivations}
 use Rattle.pli_operation.specs.Operations.{is_true}
 use Rattle.pli_world.specs.Activations.{activation_limit}
+use Rattle.pli_world.specs.Conditions.{condition_of}
 use Rattle.pli_world.specs.Ends.{RunEnd}
 use Rattle.pli_world.specs.World.{World, Answer, Yields, Raises, Wrong, height, at_statement, stepped}
 use Rattle.pli_world.specs.World.{left_by, cleared, error_at}
@@ -58,12 +61,36 @@ after_flow go (Returned outward v) w left = Gives (Returned outward v) w left
 abbrev pub followed : Effect Flow → Doing Flow → Effect Flow
 followed o go = and_then o (after_flow go)
 
--- what an operation gives; to what is wrong the language gives no meaning; no unit takes a condition yet, so
--- each ends the run
+-- what an operation gives that raises no condition; to what is wrong the language gives no meaning
 abbrev pub answered : {A : Type 0} → Answer A → (left : ℕ) → Effect A
 answered (Yields x w) left = Gives x w left
 answered (Raises e w) left = Fails (error_at e w) w
 answered Wrong left = Lost
+
+-- conditions
+
+-- an ON-unit gives no value; behind its return this is done
+abbrev pub behind_unit : {A : Type 0} → (after : Doing A) → Option Value → Doing A
+behind_unit after None w left = after w left
+behind_unit after (Some v) w left = Lost
+
+-- an error ends the run, unless it is a condition, which is raised so; and behind that this is done
+abbrev pub erring : {A : Type 0} → (raise : Condition → Doing (Option Value)) → (after : Doing A) → RunError
+    → Option Condition → Doing A
+erring raise after e None w left = Fails (error_at e w) w
+erring raise after e (Some c) w left = and_then (raise c w left) (behind_unit after)
+
+-- what an operation gives that may raise a condition, behind which this is done
+abbrev pub handled : {A : Type 0} → (raise : Condition → Doing (Option Value)) → (after : Doing A) → Answer A
+    → (left : ℕ) → Effect A
+handled raise after (Yields x w) left = Gives x w left
+handled raise after (Raises e w) left = erring raise after e (condition_of e) w left
+handled raise after Wrong left = Lost
+
+-- the same, where behind a condition this result stands
+abbrev pub resolved : {A : Type 0} → (raise : Condition → Doing (Option Value)) → (result : A) → Answer A
+    → (left : ℕ) → Effect A
+resolved raise x o left = handled raise (λ w left. Gives x w left) o left
 
 -- takes a step, if one is left
 abbrev pub as_step : {A : Type 0} → Doing A → Doing A

@@ -1,8 +1,10 @@
 -- Meaning: what a program of typed units does, by recursion on its trees (own). No instruction is mentioned.
-use Rattle.std.specs.Prelude.{ℕ, ℤ, zero, suc, nat_eq, Bool, true, false, ◌||◌, ◌&&◌, Option, Some, None}
+use Rattle.std.specs.Prelude.{ℕ, ℤ, pos, zero, suc, nat_eq, Bool, true, false, not, ◌||◌, ◌&&◌, Option}
+use Rattle.std.specs.Prelude.{Some, None}
 use Rattle.std.specs.Prelude.{option_map}
 use Rattle.std.specs.Prelude.{List, [], ◌∷◌, ◌++◌, length, map, slice_get, if◌then◌else◌}
 use Rattle.pli_base.specs.Name.{Name}
+use Rattle.pli_base.specs.declared.statement.Condition.{Condition}
 use Rattle.pli_run.specs.declared.ending.Ending.{Ending}
 use Rattle.pli_run.specs.declared.ending.Ending.TheVariants as message
 use Rattle.pli_program.specs.Program.{is_external}
@@ -10,10 +12,11 @@ use Rattle.pli_machine_step.specs.Runs.{Outcome, outcome_of}
 use Rattle.pli_operation.specs.declared.operation.Operation.TheVariants.{Add, Within}
 use Rattle.pli_operation.specs.Operations.{calculated}
 use Rattle.pli_world.specs.Activations.{Head, nearest_of}
+use Rattle.pli_world.specs.Conditions.{Handler, error_of, handler, established, reverted, signalled}
 use Rattle.pli_world.specs.Ends.{RunEnd, Ended, OutOfSteps, told}
 use Rattle.pli_world.specs.Storage.{Place}
 use Rattle.pli_world.specs.World.{Standing, World, Answer, Yields, known, further, nothing, height, held}
-use Rattle.pli_world.specs.World.{stored, copied, led_on, subscripted, calculation, entered, height_of}
+use Rattle.pli_world.specs.World.{error_at, stored, copied, led_on, subscripted, calculation, entered, height_of}
 use Rattle.pli_world.specs.World.{slot_place, static_place, dummy_of, printed, line_ended, statics_made}
 use Rattle.pli_world.specs.Areas.{emptied, assigned}
 use Rattle.pli_world.specs.Locating.{place_by, freed_by, pointer_made, block_made, address_of, offset_made}
@@ -37,15 +40,18 @@ use Rattle.pli_type_tree.specs.TypedTree.{TypedStatement, Statement, Form, Null,
 use Rattle.pli_type_tree.specs.TypedTree.{AssignArea, EmptyArea, Put}
 use Rattle.pli_type_tree.specs.TypedTree.{Allocate, Free, If, Begin, Group, While, Iterate, TypedRange}
 use Rattle.pli_type_tree.specs.TypedTree.{Once, ToBy, ByTo}
-use Rattle.pli_type_tree.specs.TypedTree.{Repeated, Iteration, Call, Goto, Return, ReturnValue, Stop}
+use Rattle.pli_type_tree.specs.TypedTree.{Repeated, Iteration, Call, Goto, Return, ReturnValue, Stop, On}
+use Rattle.pli_type_tree.specs.TypedTree.{Revert, Signal}
 use Rattle.pli_type_tree.specs.TypedTree.{OtherWise, NoElse, Else, TypedStatements, NoStatement}
 use Rattle.pli_type_tree.specs.TypedTree.{StatementThen, TypedProcedure, Callee, OfBlock, OfEntry, Global}
 use Rattle.pli_type_tree.specs.TypedTree.{EntryPoint, TypedUnit}
 use Rattle.pli_value.specs.Conversions.{bit_constant}
+use Rattle.pli_map.specs.Variables.{Variable}
 use Rattle.pli_value.specs.Value.{Value, Number, Characters, Bits}
 use Rattle.pli_meaning_tree.specs.Effects.{Label, Effect, Gives, Jumps, Fails, Spent, Lost, Short, Flow}
 use Rattle.pli_meaning_tree.specs.Effects.{Next, Returned, Doing, and_then, nothing_done, followed}
-use Rattle.pli_meaning_tree.specs.Effects.{answered, as_step, as_statement, back_at, truth, chosen, turns}
+use Rattle.pli_meaning_tree.specs.Effects.{answered, handled, resolved, as_step, as_statement, back_at}
+use Rattle.pli_meaning_tree.specs.Effects.{truth, chosen, turns}
 use Rattle.pli_meaning_tree.specs.Effects.{caught, unless_full, leaving, block_end, procedure_end}
 
 -- a program: its units, and which of them is the main one; no number has more binary digits than the greatest
@@ -55,9 +61,11 @@ pub record TypedProgram : Type 0 where
   pub main : ℕ
   pub greatest : ℕ
 
--- what calls do: a procedure runs with its arguments, and gives a value if it is a function
+-- what runs elsewhere: a procedure that is called with its arguments, and gives a value if it is a function;
+-- and the ON-unit that takes a condition which is raised
 pub record Calls : Type 0 where
   pub procedure : Callee → List Place → Doing (Option Value)
+  pub condition : Condition → Doing (Option Value)
 
 -- the value that a function has given; to none there is no meaning
 abbrev pub a_value : Option Value → Doing Value
@@ -95,7 +103,8 @@ module _ (greatest : ℕ) (call : Calls) where
     value_of (Held r) w left = and_then (place_of r w left) (λ p w left. answered (held p w) left)
     value_of (Calculated operation operands) w left = operated operation operands [] w left
     value_of (Called callee arguments) w left = and_then (called_with callee arguments [] w left) a_value
-    value_of (Generations number) w left = answered (generations_counted number w) left
+    value_of (Generations number) w left =
+        resolved call.condition (Number (pos 0)) (generations_counted number w) left
     value_of (Address r) w left =
         and_then (place_of r w left) (λ p w left. answered (address_of p w) left)
     value_of (AsPointer area e) w left =
@@ -105,10 +114,12 @@ module _ (greatest : ℕ) (call : Calls) where
         and_then (value_of e w left)
         (λ v w left. and_then (place_of area w left) (λ p w left. answered (offset_made p v w) left))
 
-    -- an operation on its operands, which are evaluated from left to right; those before, the last first
+    -- an operation on its operands, which are evaluated from left to right; those before, the last first; it
+    -- gives 0 behind a condition
     pub operated : TypedOperation → Operands → (before : List Value) → Doing Value
     operated operation NoOperand before w left =
-        answered (calculation (comes_to greatest operation (in_order before [])) w) left
+        resolved call.condition (Number (pos 0))
+        (calculation (comes_to greatest operation (in_order before [])) w) left
     operated operation (OperandThen e more) before w left =
         and_then (value_of e w left) (λ v w left. operated operation more (v ∷ before) w left)
 
@@ -165,12 +176,14 @@ module _ (greatest : ℕ) (call : Calls) where
       (λ p w left. and_then (place_of source w left)
       (λ q w left. and_then (answered (copied q p w) left) (λ _ w left. Gives Next w left)))
 
-  -- of an area: the target's place, the source's, then the blocks of the source are put at the target
+  -- of an area: the target's place, the source's, then the blocks of the source are put at the target, which
+  -- stays as it is behind the condition that they have no room
   abbrev pub assigns_area : (target source : TypedReference) → Doing Flow
   assigns_area target source w left =
       and_then (place_of target w left)
       (λ p w left. and_then (place_of source w left)
-      (λ q w left. and_then (answered (assigned q p w) left) (λ _ w left. Gives Next w left)))
+      (λ q w left. and_then (resolved call.condition tt (assigned q p w) left)
+      (λ _ w left. Gives Next w left)))
 
   -- all blocks of an area end
   abbrev pub empties : TypedReference → Doing Flow
@@ -207,7 +220,9 @@ module _ (greatest : ℕ) (call : Calls) where
   abbrev pub operated_by : List TypedOperation → Value → Doing Value
   operated_by [] v w left = Gives v w left
   operated_by (operation ∷ more) v w left =
-      and_then (answered (calculation (comes_to greatest operation (v ∷ [])) w) left) (operated_by more)
+      and_then
+      (resolved call.condition (Number (pos 0)) (calculation (comes_to greatest operation (v ∷ [])) w) left)
+      (operated_by more)
 
   -- a value converted: by operations; or by an area, which is evaluated for that
   abbrev pub converted : Conversion → Value → Doing Value
@@ -231,7 +246,8 @@ module _ (greatest : ℕ) (call : Calls) where
       and_then (place_of i.control w left)
       (λ p w left. and_then (answered (held p w) left)
       (λ x w left. and_then (kept vs step w left)
-      (λ c w left. answered (calculation (calculated greatest Add (x ∷ c ∷ [])) w) left)))
+      (λ c w left. resolved call.condition (Number (pos 0))
+      (calculation (calculated greatest Add (x ∷ c ∷ [])) w) left)))
 
   -- it has not passed the limit, where there is one
   abbrev pub within_limit : Iteration → (limit : Option ℕ) → (step : ℕ) → List Value → Doing Bool
@@ -241,8 +257,9 @@ module _ (greatest : ℕ) (call : Calls) where
       (λ p w left. and_then (answered (held p w) left)
       (λ x w left. and_then (kept vs limit w left)
       (λ b w left. and_then (kept vs step w left)
-      (λ c w left. and_then (answered (calculation (calculated greatest Within (x ∷ b ∷ c ∷ [])) w) left)
-      truth))))
+      (λ c w left. and_then
+      (resolved call.condition (Number (pos 0))
+      (calculation (calculated greatest Within (x ∷ b ∷ c ∷ [])) w) left) truth))))
 
   -- WHILE holds, where it stands
   abbrev pub while_holds : Option TypedExpression → Doing Bool
@@ -278,27 +295,34 @@ module _ (greatest : ℕ) (call : Calls) where
       (turned (is_iterated i.range) level (may_turn i vs) (as_statement number list)
       (back_at number (advances i.range i vs)))) w left
 
+  -- a block of an area for a variable: the area is evaluated and has room for the block; behind the condition
+  -- that it has none this is done again, which is a step
+  abbrev pub block_allocated : (level : ℕ) → (area : TypedReference) → Variable → Doing Value
+  block_allocated zero area v w left = Short
+  block_allocated (suc level) area v w left =
+      and_then (place_of area w left)
+      (λ p w left. handled call.condition (as_step (block_allocated level area v)) (block_made p v w) left)
+
   -- an item of ALLOCATE: a generation more of a CONTROLLED variable; or one of a BASED variable, and then the
   -- pointer to it is put at the target's place; or a block of an area for one, and the pointer to that is put
   -- there, converted
-  abbrev pub allocates_item : AllocatedItem → Doing Flow
-  allocates_item (AllocatesControlled number) w left =
+  abbrev pub allocates_item : (level : ℕ) → AllocatedItem → Doing Flow
+  allocates_item level (AllocatesControlled number) w left =
       and_then (answered (generation_stacked number w) left) (λ _ w left. Gives Next w left)
-  allocates_item (AllocatesBased template temporary target) w left =
+  allocates_item level (AllocatesBased template temporary target) w left =
       and_then (answered (pointer_made (variable_of template) w) left)
       (λ v w left. and_then (place_of target w left)
       (λ p w left. and_then (answered (stored p v w) left) (λ _ w left. Gives Next w left)))
-  allocates_item (AllocatesInArea area template temporary target conversion) w left =
-      and_then (place_of area w left)
-      (λ a w left. and_then (answered (block_made a (variable_of template) w) left)
+  allocates_item level (AllocatesInArea area template temporary target conversion) w left =
+      and_then (block_allocated level area (variable_of template) w left)
       (λ v w left. and_then (place_of target w left)
       (λ p w left. and_then (converted conversion v w left)
-      (λ x w left. and_then (answered (stored p x w) left) (λ _ w left. Gives Next w left)))))
+      (λ x w left. and_then (answered (stored p x w) left) (λ _ w left. Gives Next w left))))
 
   -- its items, one after the other
-  abbrev pub allocates : List AllocatedItem → Doing Flow
-  allocates [] w left = Gives Next w left
-  allocates (item ∷ items) w left = followed (allocates_item item w left) (allocates items)
+  abbrev pub allocates : (level : ℕ) → List AllocatedItem → Doing Flow
+  allocates level [] w left = Gives Next w left
+  allocates level (item ∷ items) w left = followed (allocates_item level item w left) (allocates level items)
 
   -- an item of FREE: the newest generation of a CONTROLLED variable ends, or the one of a BASED variable to
   -- which a locator leads
@@ -314,10 +338,19 @@ module _ (greatest : ℕ) (call : Calls) where
   frees [] w left = Gives Next w left
   frees (item ∷ items) w left = followed (frees_item item w left) (frees items)
 
+  -- SIGNAL: the condition is raised, and behind its unit it goes on
+  abbrev pub signals : Condition → Doing Flow
+  signals c w left = and_then (resolved call.condition tt (signalled c w) left) (λ _ w left. Gives Next w left)
+
   -- RETURN with a value
   abbrev pub returns_value : (outward : ℕ) → TypedExpression → Doing Flow
   returns_value outward e w left =
       and_then (value_of e w left) (λ v w left. Gives (Returned outward (Some v)) w left)
+
+-- ON: the activation of the block of a unit in which it stands has this ON-unit from then on
+abbrev pub establishes : (unit block : ℕ) → Condition → (on_unit : ℕ) → Doing Flow
+establishes unit block c on_unit w left =
+    and_then (answered (established unit (Some block) c on_unit w) left) (λ _ w left. Gives Next w left)
 
 -- a jump to a label of the activation so many static links outward
 abbrev pub jumps_to : (outward : ℕ) → Label → Doing Flow
@@ -389,7 +422,7 @@ module _ (greatest : ℕ) (call : Calls) (unit level : ℕ) where
     does_form block number (EmptyArea target) w left = empties greatest call target w left
     does_form block number (Put skip items) w left =
         skips greatest call skip (puts greatest call items) w left
-    does_form block number (Allocate items) w left = allocates greatest call items w left
+    does_form block number (Allocate items) w left = allocates greatest call level items w left
     does_form block number (Free items) w left = frees greatest call items w left
     does_form block number (If e consequence alternative) w left =
         and_then (condition greatest call e w left)
@@ -412,6 +445,9 @@ module _ (greatest : ℕ) (call : Calls) (unit level : ℕ) where
     does_form block number (Return outward) w left = Gives (Returned outward None) w left
     does_form block number (ReturnValue outward e) w left = returns_value greatest call outward e w left
     does_form block number Stop w left = Fails Ended w
+    does_form block number (On c on_unit) w left = establishes unit block c on_unit w left
+    does_form block number (Revert c) w left = Gives Next (reverted c w) left
+    does_form block number (Signal c) w left = signals greatest call c w left
 
     -- an ELSE, if it stands
     pub does_else : (block : ℕ) → OtherWise → Doing Flow
@@ -442,12 +478,13 @@ procedure_run greatest call level unit f link places =
     (activation_of (head_in unit f.head) link places
     (does_list greatest call unit level f.head.number f.statements) (procedure_end f.function_end))
 
--- a call, with as many arguments as there are parameters; the limit of activations is tested before the step
+-- a call of what is no ON-unit, with as many arguments as there are parameters; the limit of activations is
+-- tested before the step
 abbrev pub activates_in : (greatest : ℕ) → Calls → (level unit : ℕ) → TypedProcedure → (link : Option ℕ)
     → List Place → Doing (Option Value)
 activates_in greatest call level unit f None places w left = Lost
 activates_in greatest call level unit f (Some link) places w left =
-    if nat_eq f.parameters (length places)
+    if not f.is_on_unit && nat_eq f.parameters (length places)
     then unless_full (procedure_run greatest call level unit f link places) w left else Lost
 
 -- a call of a procedure of the unit, if it is there, by its static link
@@ -502,11 +539,38 @@ called_in greatest us call level unit u (OfBlock block) places w left =
 called_in greatest us call level unit u (OfEntry number) places w left =
     activates_entry greatest us call level (entry_unit us (slice_get u.globals number)) places w left
 
--- the calls that stand in a unit, at a level: what is called inside may do is the level below
+-- an ON-unit, if it is there, runs as an activation of its own, within the one that established it
+abbrev pub runs_block : (greatest : ℕ) → Calls → (level : ℕ) → Handler → Option TypedProcedure
+    → Doing (Option Value)
+runs_block greatest call level h None w left = Lost
+runs_block greatest call level h (Some f) w left =
+    unless_full (procedure_run greatest call level h.unit f h.link []) w left
+
+-- that of a unit of the program
+abbrev pub runs_unit : (greatest : ℕ) → (call : (unit : ℕ) → TypedUnit → Calls) → (level : ℕ) → Handler
+    → Option TypedUnit → Doing (Option Value)
+runs_unit greatest call level h None w left = Lost
+runs_unit greatest call level h (Some u) w left =
+    runs_block greatest (call h.unit u) level h (procedure_in u.procedures h.block) w left
+
+-- a condition that is raised: the ON-unit that takes it runs; without one the run ends by its error
+abbrev pub raised_in : (greatest : ℕ) → List TypedUnit → (call : (unit : ℕ) → TypedUnit → Calls)
+    → (level : ℕ) → Condition → Option Handler → Doing (Option Value)
+raised_in greatest us call level c None w left = Fails (error_at (error_of c) w) w
+raised_in greatest us call level c (Some h) w left =
+    runs_unit greatest call level h (slice_get us h.unit) w left
+
+-- the calls and the conditions that stand in a unit, at a level: what is called inside may do is the level
+-- below
 abbrev pub calls : (greatest : ℕ) → List TypedUnit → (level unit : ℕ) → TypedUnit → Calls
-calls greatest us zero unit u = record { procedure = λ callee places w left. Short }
+calls greatest us zero unit u =
+    record { procedure = λ callee places w left. Short; condition = λ c w left. Short }
 calls greatest us (suc level) unit u =
-    record { procedure = called_in greatest us (calls greatest us level) level unit u }
+    record {
+      procedure = called_in greatest us (calls greatest us level) level unit u;
+      condition = λ c w left. raised_in greatest us (calls greatest us level) level c
+          (handler c w.activations) w left;
+    }
 
 -- programs
 
@@ -523,7 +587,7 @@ abbrev pub main_run : (greatest : ℕ) → Calls → (level unit : ℕ) → Opti
     → Doing (Option Value)
 main_run greatest call level unit None w left = Lost
 main_run greatest call level unit (Some f) w left =
-    if is_external f.parent && nat_eq f.parameters 0
+    if is_external f.parent && (not f.is_on_unit && nat_eq f.parameters 0)
     then procedure_run greatest call level unit f 0 [] w left else Lost
 
 -- the main unit runs, if it is there

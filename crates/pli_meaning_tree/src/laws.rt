@@ -2,6 +2,13 @@
 ghost use Rattle.pli_meaning_tree.specs.examples.AreaExamples.{OffsetCopied, DeadHeaderNamed, AreaFull};
 ghost use Rattle.pli_meaning_tree.specs.examples.AreaExamples.{OutsideAreaNamed, BlockFreed, ListInArea};
 ghost use Rattle.pli_meaning_tree.specs.examples.AreaExamples.{NoAreaIsError};
+ghost use Rattle.pli_meaning_tree.specs.examples.ConditionExamples.{RevertRemoves, UnitIsSteps, UnitStays};
+ghost use Rattle.pli_meaning_tree.specs.examples.ConditionExamples.{UnitsAreMany};
+ghost use Rattle.pli_meaning_tree.specs.examples.ConditionExamples.{SecondTakesPlace, NamesAreOfOn, ZeroStandsBehind};
+ghost use Rattle.pli_meaning_tree.specs.examples.ConditionExamples.{ZeroDivideUnit, NewestUnit, CounterOverflows};
+ghost use Rattle.pli_meaning_tree.specs.examples.ConditionExamples.{AllocateIsRepeated, ExtentExceeds, SignalGoesOn};
+ghost use Rattle.pli_meaning_tree.specs.examples.ConditionExamples.{AreaIsEvaluatedAnew, GroupAroundIsReached};
+ghost use Rattle.pli_meaning_tree.specs.examples.ConditionExamples.{GotoLeavesUnits};
 ghost use Rattle.pli_meaning_tree.specs.examples.TreeExamples.{LoopEnds, LoopStops, IfChooses, SubscriptIsTested};
 ghost use Rattle.pli_meaning_tree.specs.examples.TreeExamples.{AggregateIsCopied, BitsArePrinted, ItemBeforeIsWritten};
 ghost use Rattle.pli_meaning_tree.specs.examples.TreeExamples.{FunctionCallsItself, FunctionStops, ByReferenceChanges};
@@ -17,7 +24,8 @@ ghost use Rattle.pli_meaning_tree.specs.examples.TreeExamples.{ListIsLinked, Add
 /// printed, functions that call themselves, an argument changed by the procedure, GOTO out of blocks and calls, labels
 /// of units, RETURN, STOP, a call of another unit's procedure and a variable that both units have, the generations of a
 /// CONTROLLED variable, a list linked by pointers, and pointers that lead nowhere, offsets that are copied with their
-/// area, areas that are full or that are not there, and locators outside their area.
+/// area, areas that are full or that are not there, locators outside their area, and conditions: which ON-unit takes
+/// them, its steps, what stands behind its return or its GOTO, and the repeated ALLOCATE.
 pub fn worked_examples()
     ensures loop_ends { LoopEnds }
     ensures loop_stops { LoopStops }
@@ -57,4 +65,20 @@ pub fn worked_examples()
     ensures block_freed { BlockFreed }
     ensures list_in_area { ListInArea }
     ensures no_area_is_error { NoAreaIsError }
+    ensures revert_removes { RevertRemoves }
+    ensures unit_is_steps { UnitIsSteps }
+    ensures unit_stays { UnitStays }
+    ensures units_are_many { UnitsAreMany }
+    ensures second_takes_place { SecondTakesPlace }
+    ensures names_are_of_on { NamesAreOfOn }
+    ensures zero_stands_behind { ZeroStandsBehind }
+    ensures zero_divide_unit { ZeroDivideUnit }
+    ensures newest_unit { NewestUnit }
+    ensures counter_overflows { CounterOverflows }
+    ensures allocate_is_repeated { AllocateIsRepeated }
+    ensures extent_exceeds { ExtentExceeds }
+    ensures signal_goes_on { SignalGoesOn }
+    ensures area_is_evaluated_anew { AreaIsEvaluatedAnew }
+    ensures group_around_is_reached { GroupAroundIsReached }
+    ensures goto_leaves_units { GotoLeavesUnits }
 {}

@@ -14,29 +14,10 @@ use Rattle.pli_program.specs.declared.kind.VariableKind.{VariableKind}
 use Rattle.pli_program.specs.declared.kind.VariableKind.TheVariants.{Static, Controlled}
 use Rattle.pli_type_tree.specs.Globals.{described_as}
 use Rattle.pli_type_tree.specs.TypedTree.{Global, TypedUnit}
-use Rattle.pli_type_tree.specs.WellTyped.{BlockAround, AreAround, blocks_from, with_labels}
+use Rattle.pli_type_tree.specs.WellTyped.{BlockAround, AreAround, AreAroundUnit, blocks_from, with_labels}
 use Rattle.pli_meaning_tree.specs.Effects.{Label}
-use Rattle.pli_meaning_typed.specs.SoundWorlds.{IsWhole, IsVariable, IsPassed, AreSlots, Shape, AreShaped, EachGood, StandsGood, IsSound, IsLater, Answers}
+use Rattle.pli_meaning_typed.specs.SoundWorlds.{IsWhole, IsVariable, IsPassed, AreSlots, Known, AreKnown, Shape, AreShaped, Stand, EachGood, StandsGood, IsSound, IsLater, Answers}
 use Rattle.pli_meaning_typed.proofs.WorldLaws.{later_same, error_named}
-
--- which labels of which activations, by their height, a jump may lead to
-abbrev pub Known : Type 0
-Known = (activation : ℕ) → Label → Bool
-
--- the labels of a unit that have these numbers
-abbrev pub AreKnown : (unit : ℕ) → Known → (activation : ℕ) → List ℕ → Type 0
-AreKnown unit known h labels =
-    (number : ℕ) → IsTrue (list_any (nat_eq number) labels) → IsTrue (known h (record { unit = unit; number = number }))
-
--- from the activation of a height on, along static links, stand the blocks of a context, which are of a unit
-abbrev pub Stand : (unit : ℕ) → Known → List Shape → (height : ℕ) → List BlockAround → Type 0
-Stand unit known [] h [] = Unit {0}
-Stand unit known [] h (b ∷ bs) = ⊥
-Stand unit known (s ∷ older) h [] = Unit {0}
-Stand unit known (s ∷ older) h (b ∷ bs) =
-    ((h ≤ length older) × Stand unit known older h (b ∷ bs))
-    ⊎ ((h ≡ suc (length older)) × (s.block ≡ b.number) × ((s.parameters ≡ b.parameters) × (s.slots ≡ b.slots)) × AreKnown unit known h b.labels
-    × Stand unit known older s.link bs × (s.unit ≡ unit))
 
 none_some : {A : Type 0} {x : A} → None ≡ Some x → ⊥
 none_some e = absurd (cc)
@@ -134,7 +115,7 @@ module _ (unit : ℕ) (known : Known) (w : World) where
       (subst (λ l. Found unit known w older l n b) (sym shaped.2) (find ss older s.link cs n b shaped.4 stand.4 e))
 
 -- with an activation more
-raised : (unit : ℕ) (known : Known) (s : Shape) (ss : List Shape) (h : ℕ) (blocks : List BlockAround) → h ≤ length ss → Stand unit known ss h blocks
+pub raised : (unit : ℕ) (known : Known) (s : Shape) (ss : List Shape) (h : ℕ) (blocks : List BlockAround) → h ≤ length ss → Stand unit known ss h blocks
     → Stand unit known (s ∷ ss) h blocks
 raised unit known s ss h [] le stand = tt
 raised unit known s ss h (b ∷ bs) le stand = inl (le, stand)
@@ -218,7 +199,22 @@ stand_around unit known (s ∷ ss) h (b ∷ bs) [] same stand = absurd same
 stand_around unit known (s ∷ ss) h (b ∷ bs) (c ∷ cs) same (inl stand) =
     inl (stand.0, stand_around unit known ss h (b ∷ bs) (c ∷ cs) same stand.1)
 stand_around unit known (s ∷ ss) h (b ∷ bs) (c ∷ cs) same (inr stand) =
-    inr (stand.0, stand.1 ∙ same.0, (stand.2.0 ∙ same.1.0, stand.2.1 ∙ same.1.1), λ l k. stand.3 l (same.2 l k), stand_around unit known ss s.link bs cs same.3 stand.4, stand.5)
+    inr (stand.0, stand.1 ∙ same.0, (stand.2.0 ∙ same.1.0, stand.2.1 ∙ same.1.1), λ l k. stand.3 l (same.2 l k), stand_around unit known ss s.link bs cs same.4 stand.4, stand.5)
+
+-- the blocks of a context with the labels of the innermost that last, which are those that its ON-units know
+abbrev pub at_rest : List BlockAround → List BlockAround
+at_rest [] = []
+at_rest (b ∷ bs) = record b { labels = b.lasting } ∷ bs
+
+pub rest_in_group : (labels : List ℕ) (blocks : List BlockAround) → at_rest (with_labels labels blocks) ≡ at_rest blocks
+rest_in_group labels [] = refl
+rest_in_group labels (b ∷ bs) = refl
+
+pub around_unit : (here around : List BlockAround) → AreAroundUnit here around → AreAround (at_rest here) around
+around_unit [] [] h = absurd h
+around_unit [] (c ∷ cs) h = absurd h
+around_unit (b ∷ bs) [] h = absurd h
+around_unit (b ∷ bs) (c ∷ cs) h = h
 
 -- labels more
 abbrev pub Wider : Known → Known → Type 0

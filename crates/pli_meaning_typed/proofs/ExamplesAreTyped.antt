@@ -9,10 +9,10 @@ use Rattle.pli_program.specs.declared.kind.VariableKind.{VariableKind}
 use Rattle.pli_program.specs.declared.kind.VariableKind.TheVariants.{Static}
 use Rattle.pli_type_tree.specs.TypedTree.{Fit, TypedProcedure, TypedUnit, Held, AsPointer, Signature, Global, ExternalVariable, EntryPoint}
 use Rattle.pli_type_tree.specs.ValueTypes.{OfCharacters, OfBits, Numbers, Pointers, Offsets}
-use Rattle.pli_type_tree.specs.WellTyped.{KnownProcedure, TypingContext, IsTyped, IsAreaReference, IsPlaced, IsString, IsValueFor, Convert, AreTypedStatements}
+use Rattle.pli_type_tree.specs.WellTyped.{KnownProcedure, TypingContext, IsTyped, IsAreaReference, IsPlaced, IsString, IsValueFor, Convert, in_group, IsUnitHere, AreTypedStatements}
 use Rattle.pli_meaning_tree.specs.TreeMeaning.{procedure_in, unit_named}
 use Rattle.pli_meaning_typed.specs.TypedPrograms.{context_in, IsTypedProcedure, IsTypedUnit}
-use Rattle.pli_meaning_typed.specs.examples.TypedExamples.{number, counter, one_more, few, counting, returning, caller, successor, of_caller, of_successor, signatures, ExampleIsWellTyped, GroupsAreWellTyped, plain, StackIsWellTyped, pointing, pointer, pointed, PointersAreWellTyped, declared_area, declared_offset, area_used, offset_used, block_used, AreasAreWellTyped, shared, numeric, asker, answerer, asking_unit, answering_unit, UnitsAreWellTyped}
+use Rattle.pli_meaning_typed.specs.examples.TypedExamples.{number, counter, one_more, few, counting, returning, caller, successor, of_caller, of_successor, signatures, ExampleIsWellTyped, GroupsAreWellTyped, plain, StackIsWellTyped, pointing, pointer, pointed, PointersAreWellTyped, declared_area, declared_offset, area_used, offset_used, block_used, AreasAreWellTyped, of_jumping, with_unit, handling, ConditionsAreWellTyped, shared, numeric, asker, answerer, asking_unit, answering_unit, UnitsAreWellTyped}
 
 abbrev in_caller : TypingContext
 in_caller = context_in [] signatures of_caller caller
@@ -78,7 +78,7 @@ caller_typed = (
       (
         number ∷ [],
         number,
-        (of_successor, refl, (of_successor.around, refl, (refl, (refl, refl), λ l h. h, tt)), refl, refl),
+        (of_successor, refl, refl, (of_successor.around, refl, (refl, (refl, refl), λ l h. h, λ l h. h, tt)), refl, refl),
         (number, [], refl, refl, λ is. absurd (true≢false (sym is)), refl),
         refl,
       ),
@@ -99,10 +99,10 @@ caller_typed = (
 )
 
 caller_is : IsTypedProcedure 31 [] signatures of_caller caller
-caller_is = record { parent = refl; parameters = refl; end = tt; made = ((leb-true 4 1000000 refl, (refl, tt)), tt); statements = caller_typed }
+caller_is = record { kind = refl; parent = refl; parameters = refl; end = tt; made = ((leb-true 4 1000000 refl, (refl, tt)), tt); statements = caller_typed }
 
 successor_is : IsTypedProcedure 31 [] signatures of_successor successor
-successor_is = record { parent = refl; parameters = refl; end = tt; made = tt; statements = successor_typed }
+successor_is = record { kind = refl; parent = refl; parameters = refl; end = tt; made = tt; statements = successor_typed }
 
 none_some : {A : Type 0} {y : A} → None ≡ Some y → ⊥
 none_some e = absurd (cc)
@@ -226,12 +226,26 @@ areas_are = (
   ),
 )
 
+-- an ON-unit, which knows the labels of its block's own list, in that and in a group
+unit_there : IsUnitHere (context_in [] with_unit of_caller caller) 1
+unit_there = (of_jumping, refl, refl, refl, (refl, (refl, refl), λ l h. h, λ l h. h, tt), refl, refl)
+
+unit_in_group : IsUnitHere (in_group handling (context_in [] with_unit of_caller caller)) 1
+unit_in_group = (of_jumping, refl, refl, refl, (refl, (refl, refl), λ l h. h, λ l h. h, tt), refl, refl)
+
+pub conditions_are : ConditionsAreWellTyped
+conditions_are = (
+  (unit_there, (tt, (tt, tt))),
+  (unit_in_group, (tt, (tt, tt))),
+  record { kind = refl; parent = refl; parameters = refl; end = tt; made = tt; statements = (refl, tt) },
+)
+
 -- a program of two units
 abbrev known_asker : KnownProcedure
-known_asker = record { parent = None; around = []; parameters = []; value = None }
+known_asker = record { is_on_unit = false; parent = None; around = []; parameters = []; value = None }
 
 abbrev known_answerer : KnownProcedure
-known_answerer = record { parent = None; around = []; parameters = number ∷ []; value = Some number }
+known_answerer = record { is_on_unit = false; parent = None; around = []; parameters = number ∷ []; value = Some number }
 
 abbrev alone : KnownProcedure → ℕ → Option KnownProcedure
 alone p n = if nat_eq n 0 then Some p else None
@@ -252,6 +266,7 @@ asking_typed = record {
   outer = refl;
   made = ((leb-true 4 1000000 refl, (refl, tt)), tt);
   typed = λ n q e. lone known_asker asker asking_unit.globals refl refl (record {
+    kind = refl;
     parent = refl;
     parameters = refl;
     end = tt;
@@ -277,6 +292,7 @@ answering_typed = record {
   outer = refl;
   made = ((leb-true 4 1000000 refl, (refl, tt)), tt);
   typed = λ n q e. lone known_answerer answerer answering_unit.globals refl refl (record {
+    kind = refl;
     parent = refl;
     parameters = refl;
     end = tt;

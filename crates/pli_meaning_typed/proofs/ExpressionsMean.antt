@@ -1,10 +1,11 @@
 -- What well-typed expressions and references mean.
 use Rattle.std.specs.Prelude.{◌≡◌, ℕ, suc, ◌+◌, ◌*◌, ◌≤◌, ◌<◌, ◌^◌, Bool, true, false, ◌&&◌, IsTrue, ℤ, ◌-ℤ◌, int_le, unsigned_abs, Option, Some, None}
-use Rattle.std.specs.Prelude.{List, [], ◌∷◌, length, slice_get, ◌==◌, if◌then◌else◌, refl}
+use Rattle.std.specs.Prelude.{pos, List, [], ◌∷◌, length, slice_get, ◌==◌, if◌then◌else◌, refl}
 use Rattle.std.proofs.Common.{arith, sym, ap, ◌∙◌, subst, add_assoc, ltb-true, lt-ltb, leb-true, le-leb}
 use Rattle.std.proofs.lemmas.Bool.{eqb-true, eq-eqb}
 use Rattle.std.proofs.lemmas.Int.{ints}
 use Rattle.std.proofs.Common.{pow_mono, lt_of_lt_of_le}
+use Rattle.pli_base.specs.declared.statement.Condition.{Condition}
 use Rattle.pli_run.specs.declared.ending.RunError.TheVariants.{SubscriptRange, FixedOverflow, ZeroDivide, StringRange}
 use Rattle.pli_map.specs.Description.{Description, FixedBinary, Character, Varying, Bit, Pointer, Offset}
 use Rattle.pli_map.specs.Scalars.{first_scalar, is_area, is_scalar}
@@ -12,6 +13,7 @@ use Rattle.pli_operation.specs.Operations.{Calculation, Calculates, RaisesCondit
 use Rattle.pli_world.specs.Storage.{Place, field_of, offset_limit}
 use Rattle.pli_map.specs.Values.{holds}
 use Rattle.pli_world.specs.World.{World, Answer, Yields, Raises, Wrong, held, led_on, slot_place, static_place, calculation, dummy_of}
+use Rattle.pli_world.specs.Conditions.{condition_of}
 use Rattle.pli_world.specs.Locating.{place_by, address_of, offset_made, pointer_within}
 use Rattle.pli_world.specs.Stacks.{generations_counted}
 use Rattle.pli_world.specs.laws.OperationLaws.{led_near}
@@ -26,16 +28,18 @@ use Rattle.pli_type_tree.specs.ValueTypes.{OfCharacters, OfBits, ValueType, Numb
 use Rattle.pli_type_tree.specs.WellTyped.{BlockAround, KnownProcedure, TypingContext, slot_of, parameters_in, BeginsWhole, IsUnlocated, LeadTo, IsCallee, IsTyped, IsRooted, IsAddressed, IsAreaReference, IsPlaced, AreTyped}
 use Rattle.pli_map.specs.Scalars.{scalars_of}
 use Rattle.pli_type_tree.specs.WellTyped.{AreSubscripts, ArePassed}
-use Rattle.pli_meaning_tree.specs.Effects.{Effect, Doing, and_then, answered}
+use Rattle.pli_meaning_tree.specs.Effects.{Effect, Gives as Results, Doing, and_then, answered, behind_unit, erring, handled, resolved}
 use Rattle.pli_meaning_tree.specs.TreeMeaning.{Calls, a_value, in_order, root_place, element_of, value_of, operated, place_of, element_at, called_with}
-use Rattle.pli_meaning_typed.specs.SoundWorlds.{IsPartAt, IsNear, HasPart, IsGood, IsWhole, IsOwn, IsVariable, IsPassed, AreGood, Shape, IsSound, IsLater, Answers}
+use Rattle.pli_meaning_typed.specs.SoundWorlds.{IsPartAt, IsNear, HasPart, IsGood, IsWhole, IsOwn, IsVariable, IsPassed, AreGood, Known, Shape, Stand, IsSound, IsLater, Answers}
 use Rattle.pli_meaning_typed.proofs.AreaLaws.{offset_answers, within_answers}
-use Rattle.pli_meaning_typed.proofs.MeansLemmas.{IsBelow, Means, means_as, then_means, answer_means}
+use Rattle.pli_meaning_typed.proofs.MeansLemmas.{Means, means_as, then_means, answer_means, lower_means}
+use Rattle.pli_meaning_typed.proofs.OnUnits.{Holds}
 use Rattle.pli_meaning_typed.proofs.OperationsFit.{IsCalculated, operated_fits}
 use Rattle.pli_meaning_typed.proofs.PartsWithin.{parts_within}
-use Rattle.pli_meaning_typed.proofs.ContextLaws.{IsUnit, Known, Stand, slot_there, static_answers}
+use Rattle.pli_meaning_typed.proofs.ContextLaws.{IsUnit, slot_there, static_answers}
 use Rattle.pli_meaning_typed.proofs.PointerLaws.{place_answers, address_answers}
-use Rattle.pli_meaning_typed.proofs.StackLaws.{counted_answers}
+use Rattle.pli_meaning_typed.proofs.RaisesLaws.{RaisesIn}
+use Rattle.pli_meaning_typed.proofs.StackLaws.{counted_answers, counted_raises}
 use Rattle.pli_meaning_typed.proofs.WorldLaws.{later_same, later_then, part_later, goods_later, error_named, held_answers, dummy_answers}
 
 some_same : {A : Type 0} {x y : A} → Some x ≡ Some y → x ≡ y
@@ -156,19 +160,23 @@ AreaPlace p w = (d : Description) × IsVariable w d p × (is_area d ≡ true)
 abbrev pub Gives : Option Description → Option Value → World → Type 0
 Gives d v w = IsReturned d v
 
--- what is called means something
-pub record CallsMean (units : List TypedUnit) (unit : ℕ) (globals : List Global) (procedures : ℕ → Option KnownProcedure) (level : ℕ) (call : Calls) : Type 0 where
+-- what is called means something, and so does a condition that is raised
+pub record CallsMean (greatest : ℕ) (units : List TypedUnit) (unit : ℕ) (globals : List Global) (procedures : ℕ → Option KnownProcedure) (level : ℕ) (call : Calls) : Type 0 where
   pub procedure :
       (callee : Callee) (parameters : List Description) (value : Option Description) (known : Known) (x : Shape) (ss : List Shape) (blocks : List BlockAround)
       → IsCallee globals procedures blocks callee parameters value
-      → Stand unit known (x ∷ ss) (suc (length ss)) blocks → IsBelow known (suc (length ss))
+      → Stand unit known (x ∷ ss) (suc (length ss)) blocks → Holds greatest units known (x ∷ ss)
       → (places : List Place) (w : World) (left : ℕ) → IsSound units (x ∷ ss) w → AreGood w parameters places
       → Means units level left known (x ∷ ss) w (Gives value) (call.procedure callee places w left)
+  pub condition :
+      (c : Condition) (known : Known) (x : Shape) (ss : List Shape) → Holds greatest units known (x ∷ ss)
+      → (w : World) (left : ℕ) → IsSound units (x ∷ ss) w → Means units level left known (x ∷ ss) w (Gives None) (call.condition c w left)
 
 -- a part of a unit's text, which the newest activation runs
-pub record IsInside (units : List TypedUnit) (unit : ℕ) (globals : List Global) (x : Shape) : Type 0 where
+pub record IsInside (units : List TypedUnit) (unit : ℕ) (globals : List Global) (procedures : ℕ → Option KnownProcedure) (x : Shape) : Type 0 where
   pub own : IsUnit units unit globals
   pub top : x.unit ≡ unit
+  pub knows : x.procedures ≡ procedures
 
 -- values and places in their order
 ordered_of : (done ts : List ValueType) (before vs : List Value) → AreOf done before → AreOf ts vs → AreOf (in_order done ts) (in_order before vs)
@@ -258,8 +266,8 @@ reached (SubscriptThen stride e more) whole offset d lead =
     (subst (λ n. LeadTo whole n more d) (none_passed stride.low offset stride.multiplier) (lead.1 stride.low (lowest stride.low) lead.0))
 
 module _ (units : List TypedUnit) (greatest level : ℕ) (call : Calls) (unit : ℕ) (s : TypingContext) (known : Known) (x : Shape) (ss : List Shape)
-    (inside : IsInside units unit s.globals x) (stand : Stand unit known (x ∷ ss) (suc (length ss)) s.blocks) (below : IsBelow known (suc (length ss)))
-    (calls : CallsMean units unit s.globals s.procedures level call) where
+    (inside : IsInside units unit s.globals s.procedures x) (stand : Stand unit known (x ∷ ss) (suc (length ss)) s.blocks) (outlasts : Holds greatest units known (x ∷ ss))
+    (calls : CallsMean greatest units unit s.globals s.procedures level call) where
   abbrev Sound : World → Type 0
   Sound w = IsSound units (x ∷ ss) w
 
@@ -270,6 +278,34 @@ module _ (units : List TypedUnit) (greatest level : ℕ) (call : Calls) (unit : 
       → Here left u P o → ((x : A) (w : World) (l : ℕ) → P x w → Sound w → IsLater u w → Here l w Q (go x w l)) → Here left u Q (and_then o go)
   then_here P Q left u o go h f =
       then_means units P Q level left known (x ∷ ss) u o go h (λ y w l le is sound later. f y w l is sound later)
+
+  -- an operation that may raise a condition, and what is done behind it
+  behind_means : {A : Type 0} (P : A → World → Type 0) (n left : ℕ) (after : Doing A) (v : Option Value) (w : World) → IsReturned None v
+      → Means units n left known (x ∷ ss) w P (after w left) → Means units n left known (x ∷ ss) w P (behind_unit after v w left)
+  behind_means P n left after None w is h = h
+  behind_means P n left after (Some v) w is h = absurd is
+
+  pub handled_means : {A : Type 0} (P : A → World → Type 0) (n left : ℕ) → n ≤ level → (after : Doing A) (w : World) (o : Answer A) → Sound w
+      → Answers units (λ y v. P y v × Sound v × IsLater w v) o → RaisesIn w o
+      → ((v : World) (l : ℕ) → Sound v → Means units n l known (x ∷ ss) v P (after v l))
+      → Means units n left known (x ∷ ss) w P (handled call.condition after o left)
+  handled_means P n left le after w (Yields y v) sound is same f = (omega arith, is.0, is.1, is.2)
+  handled_means P n left le after w (Raises e v) sound is same f =
+      subst (λ v. Means units n left known (x ∷ ss) w P (erring call.condition after e (condition_of e) v left)) (sym same) (by (condition_of e))
+    where
+      by : (o : Option Condition) → Means units n left known (x ∷ ss) w P (erring call.condition after e o w left)
+      by None = error_named units x ss w e sound
+      by (Some c) =
+          then_means units (Gives None) P n left known (x ∷ ss) w (call.condition c w left) (behind_unit after)
+          (lower_means units (Gives None) level n left known (x ∷ ss) w (call.condition c w left) le (calls.condition c known x ss outlasts w left sound))
+          (λ v u l le is sound later. behind_means P n l after v u is (f u l sound))
+  handled_means P n left le after w Wrong sound is same f = absurd is
+
+  -- or what it comes to there
+  pub resolved_means : {A : Type 0} (P : A → World → Type 0) (result : A) (left : ℕ) (w : World) (o : Answer A) → Sound w → ((v : World) → P result v)
+      → Answers units (λ y v. P y v × Sound v × IsLater w v) o → RaisesIn w o → Here left w P (resolved call.condition result o left)
+  resolved_means P result left w o sound is answers same =
+      handled_means P level left (omega arith) (λ w left. Results result w left) w o sound answers same (λ v l sound. (omega arith, is v, sound, later_same v))
 
   -- where a reference begins: at the place of a whole, but where it is a parameter; and at that of a whole generation where it is an area
   abbrev AtRoot : Root → Description → Place → World → Type 0
@@ -297,20 +333,21 @@ module _ (units : List TypedUnit) (greatest level : ℕ) (call : Calls) (unit : 
       means_as units (OwnPlace d) (AtRoot (Located locator whole) d) level left known (x ∷ ss) w o (λ p v own. (own.0, λ is. own.1, λ free. absurd free)) h
 
   -- what an operation comes to
-  calculation_answers : (t : ValueType) (c : Calculation) (w : World) → Sound w → IsCalculated t c
-      → Answers units (λ v u. IsOf t v × Sound u × IsLater w u) (calculation c w)
-  calculation_answers t (Calculates v) w sound h = (h, sound, later_same w)
-  calculation_answers t (RaisesCondition raised.Overflow) w sound h = error_named units x ss w FixedOverflow sound
-  calculation_answers t (RaisesCondition raised.ZeroDivide) w sound h = error_named units x ss w ZeroDivide sound
-  calculation_answers t OutOfString w sound h = error_named units x ss w StringRange sound
-  calculation_answers t Misfits w sound h = absurd h
+  calculation_means : (t : ValueType) (c : Calculation) (w : World) (left : ℕ) → Sound w → IsCalculated t c
+      → Here left w (OfType t) (resolved call.condition (Number (pos 0)) (calculation c w) left)
+  calculation_means t (Calculates v) w left sound h = (omega arith, h, sound, later_same w)
+  calculation_means t (RaisesCondition raised.Overflow) w left sound h =
+      resolved_means (OfType t) (Number (pos 0)) left w (Raises FixedOverflow w) sound (λ v. h) (error_named units x ss w FixedOverflow sound) refl
+  calculation_means t (RaisesCondition raised.ZeroDivide) w left sound h =
+      resolved_means (OfType t) (Number (pos 0)) left w (Raises ZeroDivide w) sound (λ v. h) (error_named units x ss w ZeroDivide sound) refl
+  calculation_means t OutOfString w left sound h = error_named units x ss w StringRange sound
+  calculation_means t Misfits w left sound h = absurd h
 
   pub calculated_means : (operation : TypedOperation) (ts : List ValueType) (t : ValueType) (vs : List Value)
       → Operates greatest operation ts t → AreOf ts vs → (w : World) (left : ℕ) → Sound w
-      → Here left w (OfType t) (answered (calculation (comes_to greatest operation vs) w) left)
+      → Here left w (OfType t) (resolved call.condition (Number (pos 0)) (calculation (comes_to greatest operation vs) w) left)
   calculated_means operation ts t vs fits are w left sound =
-      answer_means units (OfType t) level left known (x ∷ ss) w (calculation (comes_to greatest operation vs) w)
-      (calculation_answers t (comes_to greatest operation vs) w sound (operated_fits greatest operation ts t vs fits are))
+      calculation_means t (comes_to greatest operation vs) w left sound (operated_fits greatest operation ts t vs fits are)
 
   -- a subscript
   abbrev OnWay : Description → ℕ → Description → Place → World → Type 0
@@ -409,9 +446,10 @@ module _ (units : List TypedUnit) (greatest level : ℕ) (call : Calls) (unit : 
         (called_means arguments typed.0 callee typed.0 (Some typed.1) [] [] typed.3 refl typed.2 w left sound tt)
         (λ v w l is sound later. returned_means t typed.1 (Some typed.1) v w l refl typed.4 sound is)
     value_means (Generations number) t typed w left sound =
-        subst (λ t. Here left w (OfType t) (answered (generations_counted number w) left)) (sym typed.1)
-        (answer_means units (OfType (Numbers count_precision)) level left known (x ∷ ss) w (generations_counted number w)
-        (counted_answers units x ss unit s.globals number inside.own inside.top typed.0 w sound))
+        subst (λ t. Here left w (OfType t) (resolved call.condition (Number (pos 0)) (generations_counted number w) left)) (sym typed.1)
+        (resolved_means (OfType (Numbers count_precision)) (Number (pos 0)) left w (generations_counted number w) sound (λ v. (pos 0, refl, omega arith))
+        (counted_answers units x ss unit s.globals number inside.own inside.top typed.0 w sound)
+        (counted_raises units x ss unit s.globals number inside.own inside.top typed.0 w sound))
     value_means (Address r) t typed w left sound =
         subst (λ t. Here left w (OfType t) (value_of greatest call (Address r) w left)) (sym typed.1)
         (then_here WholePlace (OfType Pointers) left w (place_of greatest call r w left) _ (address_means r typed.0 w left sound)
@@ -473,7 +511,7 @@ module _ (units : List TypedUnit) (greatest level : ℕ) (call : Calls) (unit : 
         → (w : World) (left : ℕ) → Sound w → AreGood w done before
         → Here left w (Gives value) (called_with greatest call callee arguments before w left)
     called_means NoArgument parameters callee all value before done passed same found w left sound good =
-        calls.procedure callee all value known x ss s.blocks found stand below (in_order before []) w left sound
+        calls.procedure callee all value known x ss s.blocks found stand outlasts (in_order before []) w left sound
         (subst (λ ds. AreGood w ds (in_order before [])) (ap (λ ds. in_order done ds) (sym passed) ∙ same) (ordered_good w done [] before [] good tt))
     called_means (ByPlace r more) parameters callee all value before done passed same found w left sound good =
         then_here (AtReference r passed.0) (Gives value) left w (place_of greatest call r w left) _ (place_means r passed.0 passed.3 w left sound)

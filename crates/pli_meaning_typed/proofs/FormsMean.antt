@@ -1,37 +1,42 @@
 -- What each form of a statement means, without those that hold statements.
-use Rattle.std.specs.Prelude.{◌≡◌, ℕ, suc, Bool, true, false, IsTrue, Option, Some, None}
+use Rattle.std.specs.Prelude.{◌≡◌, ℕ, zero, suc, ◌≤◌, pos, Bool, true, false, IsTrue, Option, Some, None}
 use Rattle.std.specs.Prelude.{List, [], ◌∷◌, length, slice_get, refl}
-use Rattle.std.proofs.Common.{arith, sym, subst}
+use Rattle.std.proofs.Common.{arith, sym, ap, ◌∙◌, subst}
+use Rattle.pli_base.specs.declared.statement.Condition.{Condition}
 use Rattle.pli_map.specs.Description.{Description, Pointer}
-use Rattle.pli_map.specs.Scalars.{scalars_of}
+use Rattle.pli_map.specs.Scalars.{is_area, scalars_of}
 use Rattle.pli_map.specs.Values.{holds}
+use Rattle.pli_map.specs.Variables.{Variable}
 use Rattle.pli_world.specs.Areas.{emptied, assigned}
+use Rattle.pli_world.specs.Conditions.{error_of, established, reverted, signalled}
 use Rattle.pli_world.specs.Locating.{freed_by, pointer_made, block_made, offset_made, pointer_within}
 use Rattle.pli_world.specs.Stacks.{generation_stacked, generation_unstacked}
 use Rattle.pli_world.specs.Storage.{Place}
-use Rattle.pli_world.specs.World.{World, stored, copied, calculation, line_ended}
+use Rattle.pli_world.specs.World.{World, Answer, stored, copied, calculation, line_ended}
 use Rattle.pli_value.specs.Conversions.{bit_constant}
-use Rattle.pli_value.specs.Value.{Value}
+use Rattle.pli_value.specs.Value.{Value, Number}
 use Rattle.pli_type_tree.specs.TypedTree.{Callee, TypedOperation, TypedUnit, TypedExpression, TypedReference, TypedArguments, Assign}
 use Rattle.pli_type_tree.specs.TypedTree.{Conversion, ByOperations, AsPointerIn, AsOffsetIn}
 use Rattle.pli_type_tree.specs.TypedTree.{AssignAggregate, AssignArea, AllocatedItem, AllocatesControlled, AllocatesBased, AllocatesInArea, FreedItem, FreesControlled, FreesBased, Call, ReturnValue}
 use Rattle.pli_type_tree.specs.Templates.{variable_of}
 use Rattle.pli_type_tree.specs.TypedOperations.{comes_to}
 use Rattle.pli_type_tree.specs.ValueTypes.{StringKind, OfCharacters, OfBits, ValueType, Strings, Pointers, Offsets, IsOf, IsHeldBy}
-use Rattle.pli_type_tree.specs.WellTyped.{BlockAround, TypingContext, IsTyped, IsPlaced, IsAreaReference, IsString, AreItems, Convert, IsConversion, IsAllocated, AreAllocated, IsFreed, AreFreed}
-use Rattle.pli_type_tree.specs.WellTyped.{knows_label, IsTypedForm}
-use Rattle.pli_meaning_tree.specs.Effects.{Effect, Gives, Jumps, Flow, Next, Returned, Doing, and_then, answered, truth}
+use Rattle.pli_type_tree.specs.WellTyped.{BlockAround, TypingContext, IsTyped, IsPlaced, IsAreaReference, IsString, IsMade, AreItems, Convert, IsConversion, IsAllocated, AreAllocated, IsFreed, AreFreed}
+use Rattle.pli_type_tree.specs.WellTyped.{knows_label, IsUnitHere, IsTypedForm}
+use Rattle.pli_meaning_tree.specs.Effects.{Effect, Gives, Jumps, Flow, Next, Returned, Doing, and_then, answered, resolved, as_step, truth}
 use Rattle.pli_meaning_tree.specs.TreeMeaning.{Calls, no_value, printed_item, value_of, place_of, called_with, condition, assigns, assigns_aggregate, assigns_area, empties, puts, skips}
-use Rattle.pli_meaning_tree.specs.TreeMeaning.{operated_by, converted, allocates_item, allocates, frees_item, frees, does_call, returns_value, jumps_to}
-use Rattle.pli_meaning_typed.specs.SoundWorlds.{IsGood, Shape, IsSound, IsLater}
+use Rattle.pli_meaning_tree.specs.TreeMeaning.{operated_by, converted, block_allocated, allocates_item, allocates, frees_item, frees, signals, establishes, does_call, returns_value, jumps_to}
+use Rattle.pli_meaning_typed.specs.SoundWorlds.{IsGood, Known, Shape, Stand, IsSound, IsLater, Answers}
 use Rattle.pli_meaning_typed.proofs.AreaLaws.{emptied_answers, assigned_answers, offset_answers, within_answers, block_answers}
-use Rattle.pli_meaning_typed.proofs.MeansLemmas.{IsBelow, Means, Anything, means_as, means_from, then_means, answer_means, answer_kept}
-use Rattle.pli_meaning_typed.proofs.MeansLemmas.{followed_means}
-use Rattle.pli_meaning_typed.proofs.ExpressionsMean.{IsReturned, Gives as GivesBack, OfType, AtPlace, AreaPlace, CallsMean, IsInside, narrow_held, one_scalar, calculated_means, value_means, area_means, good_means, called_means}
-use Rattle.pli_meaning_typed.proofs.ContextLaws.{Known, Stand, height_there}
+use Rattle.pli_meaning_typed.proofs.MeansLemmas.{Means, Anything, means_as, means_from, then_means, answer_means, answer_kept, kept_answers}
+use Rattle.pli_meaning_typed.proofs.MeansLemmas.{step_means, followed_means, lower_means, behind_step}
+use Rattle.pli_meaning_typed.proofs.OnUnits.{Holds, established_answers, reverted_sound}
+use Rattle.pli_meaning_typed.proofs.ExpressionsMean.{IsReturned, Gives as GivesBack, OfType, AtPlace, AreaPlace, CallsMean, IsInside, narrow_held, one_scalar, handled_means, resolved_means, calculated_means, value_means, area_means, good_means, called_means}
+use Rattle.pli_meaning_typed.proofs.ContextLaws.{stand_around, at_rest, around_unit, height_there}
 use Rattle.pli_meaning_typed.proofs.PointerLaws.{free_answers, pointer_answers}
+use Rattle.pli_meaning_typed.proofs.RaisesLaws.{RaisesIn, block_raises, assigned_raises}
 use Rattle.pli_meaning_typed.proofs.StackLaws.{allocated_answers, freed_answers}
-use Rattle.pli_meaning_typed.proofs.WorldLaws.{later_same, good_later, variable_later, stored_answers, copied_answers, printed_sound, line_sound}
+use Rattle.pli_meaning_typed.proofs.WorldLaws.{later_same, good_later, variable_later, error_named, stored_answers, copied_answers, printed_sound, line_sound}
 
 none_some : {A : Type 0} {x : A} → None ≡ Some x → ⊥
 none_some e = absurd (cc)
@@ -55,11 +60,13 @@ abbrev pub FlowIs : (begins : ℕ) → Option Description → Flow → World →
 FlowIs begins value Next w = Unit {0}
 FlowIs begins value (Returned outward v) w = (outward ≡ begins) × IsReturned value v
 
--- what a typing context knows is there, in a block
-pub record Fits (units : List TypedUnit) (unit : ℕ) (known : Known) (x : Shape) (ss : List Shape) (s : TypingContext) (block : ℕ) : Type 0 where
-  pub inside : IsInside units unit s.globals x
+-- what a typing context knows is there, in a block; with the labels that last too
+pub record Fits (greatest : ℕ) (units : List TypedUnit) (unit : ℕ) (known : Known) (x : Shape) (ss : List Shape) (s : TypingContext) (block : ℕ) : Type 0 where
+  pub inside : IsInside units unit s.globals s.procedures x
   pub stand : Stand unit known (x ∷ ss) (suc (length ss)) s.blocks
-  pub below : IsBelow known (suc (length ss))
+  pub lasts : Stand unit x.lasting (x ∷ ss) (suc (length ss)) (at_rest s.blocks)
+  pub outlasts : Holds greatest units known (x ∷ ss)
+  pub running : x.block ≡ block
   pub first : BlockAround
   pub others : List BlockAround
   pub blocks : s.blocks ≡ first ∷ others
@@ -73,10 +80,10 @@ module _ (units : List TypedUnit) (greatest level : ℕ) (call : Calls) (unit : 
   Flows s = FlowIs s.begins s.value
 
   abbrev pub CallsIn : TypingContext → Type 0
-  CallsIn s = CallsMean units unit s.globals s.procedures level call
+  CallsIn s = CallsMean greatest units unit s.globals s.procedures level call
 
   -- straight statements, in a context
-  module _ (s : TypingContext) (known : Known) (x : Shape) (ss : List Shape) (block : ℕ) (fits : Fits units unit known x ss s block) (calls : CallsIn s) where
+  module _ (s : TypingContext) (known : Known) (x : Shape) (ss : List Shape) (block : ℕ) (fits : Fits greatest units unit known x ss s block) (calls : CallsIn s) where
     abbrev pub Sound : World → Type 0
     Sound w = IsSound units (x ∷ ss) w
 
@@ -87,15 +94,20 @@ module _ (units : List TypedUnit) (greatest level : ℕ) (call : Calls) (unit : 
 
     pub value : (e : TypedExpression) (t : ValueType) → IsTyped greatest s e t → (w : World) (left : ℕ) → Sound w
         → Here s known x ss left w (OfType t) (value_of greatest call e w left)
-    value = value_means units greatest level call unit s known x ss fits.inside fits.stand fits.below calls
+    value = value_means units greatest level call unit s known x ss fits.inside fits.stand fits.outlasts calls
 
     pub place : (r : TypedReference) (d : Description) → IsPlaced greatest s r d → (w : World) (left : ℕ) → Sound w
         → Here s known x ss left w (AtPlace d) (place_of greatest call r w left)
-    place = good_means units greatest level call unit s known x ss fits.inside fits.stand fits.below calls
+    place = good_means units greatest level call unit s known x ss fits.inside fits.stand fits.outlasts calls
 
     area_place : (r : TypedReference) → IsAreaReference greatest s r → (w : World) (left : ℕ) → Sound w
         → Here s known x ss left w AreaPlace (place_of greatest call r w left)
-    area_place = area_means units greatest level call unit s known x ss fits.inside fits.stand fits.below calls
+    area_place = area_means units greatest level call unit s known x ss fits.inside fits.stand fits.outlasts calls
+
+    resolves : {A : Type 0} (P : A → World → Type 0) (result : A) (left : ℕ) (w : World) (o : Answer A) → Sound w → ((v : World) → P result v)
+        → Answers units (λ y v. P y v × Sound v × IsLater w v) o → RaisesIn w o → Here s known x ss left w P (resolved call.condition result o left)
+    resolves P result left w o sound is answers same =
+        resolved_means units greatest level call unit s known x ss fits.inside fits.stand fits.outlasts calls P result left w o sound is answers same
 
     pub ends : (w : World) (left : ℕ) → Sound w → Here s known x ss left w (Flows s) (Gives Next w left)
     ends w left sound = (omega arith, tt, sound, later_same w)
@@ -126,8 +138,8 @@ module _ (units : List TypedUnit) (greatest level : ℕ) (call : Calls) (unit : 
         → Here s known x ss left w (HeldBy d) (operated_by greatest call operations v w left)
     operated_means [] t d c v is w left sound = (omega arith, narrow_held d t v c is, sound, later_same w)
     operated_means (operation ∷ more) t d c v is w left sound =
-        then_here (OfType c.0) (HeldBy d) left w (answered (calculation (comes_to greatest operation (v ∷ [])) w) left) _
-        (calculated_means units greatest level call unit s known x ss fits.inside fits.stand fits.below calls operation (t ∷ []) c.0 (v ∷ []) c.1 (is, tt) w left sound)
+        then_here (OfType c.0) (HeldBy d) left w (resolved call.condition (Number (pos 0)) (calculation (comes_to greatest operation (v ∷ [])) w) left) _
+        (calculated_means units greatest level call unit s known x ss fits.inside fits.stand fits.outlasts calls operation (t ∷ []) c.0 (v ∷ []) c.1 (is, tt) w left sound)
         (λ y w l is sound later. operated_means more c.0 d c.2 y is w l sound)
 
     pub converted_means : (conversion : Conversion) (t : ValueType) (d : Description) → IsConversion greatest s conversion t d → (v : Value) → IsOf t v → (w : World) (left : ℕ) → Sound w
@@ -169,9 +181,10 @@ module _ (units : List TypedUnit) (greatest level : ℕ) (call : Calls) (unit : 
     area_assigned target source typed w left sound =
         then_here AreaPlace (Flows s) left w (place_of greatest call target w left) _ (area_place target typed.0 w left sound)
         (λ p v l own sound later. then_here AreaPlace (Flows s) l v (place_of greatest call source v l) _ (area_place source typed.1 v l sound)
-        (λ q u l from sound later. then_here Anything (Flows s) l u (answered (assigned q p u) l) _
-        (answer_kept units level l known (x ∷ ss) u (assigned q p u)
-        (assigned_answers units x ss from.0 own.0 q p u sound from.1 from.2 (variable_later v u own.0 p later own.1) own.2))
+        (λ q u l from sound later. then_here Anything (Flows s) l u (resolved call.condition tt (assigned q p u) l) _
+        (resolves Anything tt l u (assigned q p u) sound (λ v. tt)
+        (kept_answers units (x ∷ ss) u (assigned q p u) (assigned_answers units x ss from.0 own.0 q p u sound from.1 from.2 (variable_later v u own.0 p later own.1) own.2))
+        (assigned_raises q p u))
         (λ _ w l any sound later. ends w l sound)))
 
     pub area_emptied : (target : TypedReference) → IsAreaReference greatest s target → (w : World) (left : ℕ) → Sound w
@@ -210,8 +223,21 @@ module _ (units : List TypedUnit) (greatest level : ℕ) (call : Calls) (unit : 
         means_from units (Flows s) level left left known (x ∷ ss) w (line_ended w) (puts greatest call items (line_ended w) left) (omega arith) l.1
         (puts_means items typed (line_ended w) left l.0)
 
+    -- a block of an area, as often as it has no room, each time a step later
+    block_means : (area : TypedReference) (v : Variable) → IsAreaReference greatest s area → IsMade v → is_area v.description ≡ false → (m : ℕ) → m ≤ level
+        → (w : World) (left : ℕ) → Sound w → Means units m left known (x ∷ ss) w (OfType Pointers) (block_allocated greatest call m area v w left)
+    block_means area v typed made none zero le w left sound = omega arith
+    block_means area v typed made none (suc m) le w left sound =
+        then_means units AreaPlace (OfType Pointers) (suc m) left known (x ∷ ss) w (place_of greatest call area w left) _
+        (lower_means units AreaPlace level (suc m) left known (x ∷ ss) w (place_of greatest call area w left) le (area_place area typed w left sound))
+        (λ p u l fewer own sound later. handled_means units greatest level call unit s known x ss fits.inside fits.stand fits.outlasts calls (OfType Pointers) (suc m) l le
+        (as_step (block_allocated greatest call m area v)) u (block_made p v u) sound (block_answers units x ss own.0 p v u made sound own.1 own.2 none) (block_raises p v u)
+        (λ a k sound. step_means units (OfType Pointers) (suc m) known (x ∷ ss) (block_allocated greatest call m area v) a k sound
+        (λ b j e sound. behind_step units (OfType Pointers) m j known (x ∷ ss) b b (block_allocated greatest call m area v b j) (later_same b)
+        (block_means area v typed made none m (omega (arith, le)) b j sound))))
+
     allocated_means : (item : AllocatedItem) → IsAllocated greatest s item → (w : World) (left : ℕ) → Sound w
-        → Here s known x ss left w (Flows s) (allocates_item greatest call item w left)
+        → Here s known x ss left w (Flows s) (allocates_item greatest call level item w left)
     allocated_means (AllocatesControlled number) typed w left sound =
         then_here Anything (Flows s) left w (answered (generation_stacked number w) left) _
         (answer_kept units level left known (x ∷ ss) w (generation_stacked number w)
@@ -226,18 +252,17 @@ module _ (units : List TypedUnit) (greatest level : ℕ) (call : Calls) (unit : 
     allocated_means (AllocatesInArea area template temporary target conversion) typed w left sound =
         let v = variable_of template in
         let d = typed.2.0 in
-        then_here AreaPlace (Flows s) left w (place_of greatest call area w left) _ (area_place area typed.0 w left sound)
-        (λ r u l own sound later. then_here (OfType Pointers) (Flows s) l u (answered (block_made r v u) l) _
-        (answer_means units (OfType Pointers) level l known (x ∷ ss) u (block_made r v u) (block_answers units x ss own.0 r v u typed.1.0 sound own.1 own.2 typed.1.1))
+        then_here (OfType Pointers) (Flows s) left w (block_allocated greatest call level area v w left) _
+        (block_means area v typed.0 typed.1.0 typed.1.1 level (omega arith) w left sound)
         (λ y z l is sound later. then_here (AtPlace d) (Flows s) l z (place_of greatest call target z l) _ (place target d typed.2.1 z l sound)
         (λ p a l good sound later. then_here (HeldBy d) (Flows s) l a (converted greatest call conversion y a l) _ (converted_means conversion Pointers d typed.2.2 y is a l sound)
-        (λ q b l held sound later. keeps_means d p q held (converts_scalar greatest s conversion Pointers d typed.2.2) b l sound (good_later a b d p later good)))))
+        (λ q b l held sound later. keeps_means d p q held (converts_scalar greatest s conversion Pointers d typed.2.2) b l sound (good_later a b d p later good))))
 
     pub allocates_mean : (items : List AllocatedItem) → AreAllocated greatest s items → (w : World) (left : ℕ) → Sound w
-        → Here s known x ss left w (Flows s) (allocates greatest call items w left)
+        → Here s known x ss left w (Flows s) (allocates greatest call level items w left)
     allocates_mean [] typed w left sound = ends w left sound
     allocates_mean (item ∷ items) typed w left sound =
-        followed_means units (Flows s) level left known (x ∷ ss) w (allocates_item greatest call item w left) (allocates greatest call items)
+        followed_means units (Flows s) level left known (x ∷ ss) w (allocates_item greatest call level item w left) (allocates greatest call level items)
         (allocated_means item typed.0 w left sound) (λ w l le sound. allocates_mean items typed.1 w l sound)
 
     freed_means : (item : FreedItem) → IsFreed greatest s item → (w : World) (left : ℕ) → Sound w
@@ -270,7 +295,7 @@ module _ (units : List TypedUnit) (greatest level : ℕ) (call : Calls) (unit : 
         → Here s known x ss left w (Flows s) (does_call greatest call callee arguments w left)
     call_means callee arguments typed w left sound =
         then_here (GivesBack None) (Flows s) left w (called_with greatest call callee arguments [] w left) no_value
-        (called_means units greatest level call unit s known x ss fits.inside fits.stand fits.below calls arguments typed.0 callee typed.0 None [] [] typed.2 refl typed.1 w left sound tt)
+        (called_means units greatest level call unit s known x ss fits.inside fits.stand fits.outlasts calls arguments typed.0 callee typed.0 None [] [] typed.2 refl typed.1 w left sound tt)
         (λ v w l is sound later. no_value_means None v w l refl is sound)
 
     pub jump_means : (outward label : ℕ) → knows_label (slice_get s.blocks outward) label → (w : World) (left : ℕ) → Sound w
@@ -284,6 +309,30 @@ module _ (units : List TypedUnit) (greatest level : ℕ) (call : Calls) (unit : 
             let h = height_there unit units known (x ∷ ss) s.blocks w outward b sound fits.stand e in
             subst (λ a. Means units level (suc left) known (x ∷ ss) w (Flows s) (and_then (answered a left) (λ h w left. Jumps h (record { unit = unit; number = label }) w left))) (sym h.1)
             (omega arith, h.2 label k, sound, later_same w)
+
+    -- ON, REVERT and SIGNAL
+    pub on_means : (c : Condition) (on_unit : ℕ) → IsUnitHere s on_unit → (w : World) (left : ℕ) → Sound w
+        → Here s known x ss left w (Flows s) (establishes unit block c on_unit w left)
+    on_means c on_unit here w left sound =
+        then_here Anything (Flows s) left w (answered (established unit (Some block) c on_unit w) left) _
+        (answer_kept units level left known (x ∷ ss) w (established unit (Some block) c on_unit w)
+        (established_answers units x ss w sound c unit block on_unit fits.inside.top fits.running (record {
+          procedure = here.0;
+          found = ap (λ f. f on_unit) fits.inside.knows ∙ here.1;
+          parameters = here.5;
+          value = here.6;
+          stand = subst (λ n. Stand n x.lasting (x ∷ ss) (suc (length ss)) here.0.around) (sym fits.inside.top)
+              (stand_around unit x.lasting (x ∷ ss) (suc (length ss)) (at_rest s.blocks) here.0.around (around_unit s.blocks here.0.around here.4) fits.lasts);
+        })))
+        (λ _ w l any sound later. ends w l sound)
+
+    pub revert_means : (c : Condition) (w : World) (left : ℕ) → Sound w → Here s known x ss left w (Flows s) (Gives Next (reverted c w) left)
+    revert_means c w left sound = let r = reverted_sound units x ss w sound c in (omega arith, tt, r.0, r.1)
+
+    pub signal_means : (c : Condition) (w : World) (left : ℕ) → Sound w → Here s known x ss left w (Flows s) (signals greatest call c w left)
+    signal_means c w left sound =
+        then_here Anything (Flows s) left w (resolved call.condition tt (signalled c w) left) _
+        (resolves Anything tt left w (signalled c w) sound (λ v. tt) (error_named units x ss w (error_of c) sound) refl) (λ _ w l any sound later. ends w l sound)
 
     pub return_means : (outward : ℕ) → outward ≡ s.begins → s.value ≡ None → (w : World) (left : ℕ) → Sound w
         → Here s known x ss left w (Flows s) (Gives (Returned outward None) w left)

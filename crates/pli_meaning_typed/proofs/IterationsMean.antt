@@ -6,19 +6,18 @@ use Rattle.pli_map.specs.Description.{Description}
 use Rattle.pli_operation.specs.declared.operation.Operation.TheVariants.{Add, Within}
 use Rattle.pli_operation.specs.Operations.{calculated}
 use Rattle.pli_world.specs.World.{World, known as looked_up, held, stored, calculation, at_statement}
-use Rattle.pli_value.specs.Value.{Value}
+use Rattle.pli_value.specs.Value.{Value, Number}
 use Rattle.pli_type_tree.specs.Iterations.{kept_by, limit_number, step_number, is_iterated}
 use Rattle.pli_type_tree.specs.TypedOperations.{comes_to}
 use Rattle.pli_type_tree.specs.TypedTree.{TypedOperation, Operate, TypedUnit, TypedExpression, Conversion, TypedRange, Once, ToBy, ByTo, Repeated, Iteration}
 use Rattle.pli_type_tree.specs.ValueTypes.{ValueType, Numbers, Strings, OfBits, type_held, IsOf, AreOf, Operates}
 use Rattle.pli_type_tree.specs.WellTyped.{TypingContext, IsTyped, IsPlaced, IsValueFor, IsConversion, Counts, IsRange, IsPossibleCondition, IsIteration}
-use Rattle.pli_meaning_tree.specs.Effects.{Effect, Gives, Flow, Doing, and_then, nothing_done, answered, as_statement, back_at, truth}
+use Rattle.pli_meaning_tree.specs.Effects.{Effect, Gives, Flow, Doing, and_then, nothing_done, answered, resolved, as_statement, back_at, truth}
 use Rattle.pli_meaning_tree.specs.TreeMeaning.{Calls, value_of, place_of, keeps, kept, converted, sets, advanced, within_limit, while_holds, may_turn}
 use Rattle.pli_meaning_tree.specs.TreeMeaning.{advances, turned, iterates}
-use Rattle.pli_meaning_typed.specs.SoundWorlds.{Shape, IsSound, IsLater}
+use Rattle.pli_meaning_typed.specs.SoundWorlds.{Known, Shape, IsSound, IsLater}
 use Rattle.pli_meaning_typed.proofs.MeansLemmas.{Means, Anything, means_from, answer_kept, statement_means, chosen_means, followed_means, turns_means}
 use Rattle.pli_meaning_typed.proofs.ExpressionsMean.{OfType, AtPlace, CallsMean, calculated_means, held_means}
-use Rattle.pli_meaning_typed.proofs.ContextLaws.{Known}
 use Rattle.pli_meaning_typed.proofs.WorldLaws.{later_same, good_later, stored_answers, statement_sound}
 use Rattle.pli_meaning_typed.proofs.FormsMean.{converts_scalar, HeldBy, FlowIs, Fits, then_here, value, place, ends, truth_means, condition_means, converted_means, assigns_means}
 
@@ -97,7 +96,7 @@ module _ (greatest : ℕ) (s : TypingContext) where
   is_kept conversion d first (Repeated next) h = record { types = []; valued = tt; limit = tt; step = h }
 
 module _ (units : List TypedUnit) (greatest level : ℕ) (call : Calls) (unit : ℕ) (s : TypingContext) (known : Known) (x : Shape) (ss : List Shape) (block : ℕ)
-    (fits : Fits units unit known x ss s block) (calls : CallsMean units unit s.globals s.procedures level call) where
+    (fits : Fits greatest units unit known x ss s block) (calls : CallsMean greatest units unit s.globals s.procedures level call) where
   abbrev Sound : World → Type 0
   Sound w = IsSound units (x ∷ ss) w
 
@@ -122,9 +121,9 @@ module _ (units : List TypedUnit) (greatest level : ℕ) (call : Calls) (unit : 
   place_here i d placed w left sound = place units greatest level call unit s known x ss block fits calls i.control d placed w left sound
 
   operation_here : (operation : TypedOperation) (ts : List ValueType) (t : ValueType) (vs : List Value)
-      → Operates greatest operation ts t → AreOf ts vs → Does (OfType t) (λ w left. answered (calculation (comes_to greatest operation vs) w) left)
+      → Operates greatest operation ts t → AreOf ts vs → Does (OfType t) (λ w left. resolved call.condition (Number (pos 0)) (calculation (comes_to greatest operation vs) w) left)
   operation_here operation ts t vs operates are w left sound =
-      calculated_means units greatest level call unit s known x ss fits.inside fits.stand fits.below calls operation ts t vs operates are w left sound
+      calculated_means units greatest level call unit s known x ss fits.inside fits.stand fits.outlasts calls operation ts t vs operates are w left sound
 
   -- a value that is kept
   kept_means : (ts : List ValueType) (vs : List Value) → AreOf ts vs → (k : ℕ) (t : ValueType) → slice_get ts k ≡ Some t
@@ -155,7 +154,7 @@ module _ (units : List TypedUnit) (greatest level : ℕ) (call : Calls) (unit : 
   advanced_means i d placed q e ts vs are step r f w left sound =
       next_here (AtPlace d) (OfType (sum_type q r)) left w (place_of greatest call i.control w left) _ (place_here i d placed w left sound)
       (λ p v l good sound later. next_here (OfType (Numbers q)) (OfType (sum_type q r)) l v (answered (held p v) l) _
-      (held_means units greatest level call unit s known x ss fits.inside fits.stand fits.below calls d (Numbers q) p e v l sound good)
+      (held_means units greatest level call unit s known x ss fits.inside fits.stand fits.outlasts calls d (Numbers q) p e v l sound good)
       (λ y u l is sound later. next_here (OfType (Numbers r)) (OfType (sum_type q r)) l u (kept greatest call vs step u l) _
       (kept_means ts vs are step (Numbers r) f u l sound)
       (λ z o l is2 sound later. operation_here (Operate Add) (Numbers q ∷ Numbers r ∷ []) (sum_type q r) (y ∷ z ∷ []) (q, r, refl, refl) (is, (is2, tt)) o l sound)))
@@ -170,12 +169,12 @@ module _ (units : List TypedUnit) (greatest level : ℕ) (call : Calls) (unit : 
       let c = h.2.0 in
       next_here (AtPlace d) Anything left w (place_of greatest call i.control w left) _ (place_here i d placed w left sound)
       (λ p v l good sound later. next_here (OfType (Numbers q)) Anything l v (answered (held p v) l) _
-      (held_means units greatest level call unit s known x ss fits.inside fits.stand fits.below calls d (Numbers q) p h.0.1 v l sound good)
+      (held_means units greatest level call unit s known x ss fits.inside fits.stand fits.outlasts calls d (Numbers q) p h.0.1 v l sound good)
       (λ y u l is sound later. next_here (OfType (Numbers b)) Anything l u (kept greatest call vs limit u l) _
       (kept_means ts vs are limit (Numbers b) h.1.1 u l sound)
       (λ z o l is2 sound later. next_here (OfType (Numbers c)) Anything l o (kept greatest call vs step o l) _
       (kept_means ts vs are step (Numbers c) h.2.1 o l sound)
-      (λ a r l is3 sound later. next_here (OfType (Strings OfBits 1 1)) Anything l r (answered (calculation (calculated greatest Within (y ∷ z ∷ a ∷ [])) r) l) truth
+      (λ a r l is3 sound later. next_here (OfType (Strings OfBits 1 1)) Anything l r (resolved call.condition (Number (pos 0)) (calculation (calculated greatest Within (y ∷ z ∷ a ∷ [])) r) l) truth
       (operation_here (Operate Within) (Numbers q ∷ Numbers b ∷ Numbers c ∷ []) (Strings OfBits 1 1) (y ∷ z ∷ a ∷ []) ((q, b, c, refl), refl) (is, (is2, (is3, tt))) r l sound)
       (λ v w l is sound later. truth_means units greatest level call unit s known x ss block fits calls 1 1 v w l is sound)))))
 

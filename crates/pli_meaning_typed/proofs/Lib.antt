@@ -6,13 +6,16 @@ pub mod ExpressionsMean
 pub mod FormsMean
 pub mod IterationsMean
 pub mod MeansLemmas
+pub mod OnUnits
 pub mod OperationsFit
 pub mod Parts
 pub mod PartsWithin
 pub mod PointerLaws
 pub mod ProgramsMean
+pub mod RaisesLaws
 pub mod StackLaws
 pub mod StatementsMean
 pub mod StaticsMade
 pub mod StorageLemmas
+pub mod UnitLemmas
 pub mod WorldLaws

@@ -10,8 +10,8 @@ use Rattle.pli_type_tree.specs.TypedTree.{TypedUnit}
 use Rattle.pli_meaning_tree.specs.Effects.{Label, Effect, Gives, Jumps, Fails, Spent, Lost, Short, Flow, Next, Returned, Doing, and_then}
 use Rattle.pli_meaning_tree.specs.Effects.{after_flow, followed, answered, as_step, as_statement, chosen, turns, on_jump, caught}
 use Rattle.pli_meaning_tree.specs.Effects.{unless_full, leaving, nothing_done}
-use Rattle.pli_meaning_typed.specs.SoundWorlds.{Shape, IsSound, IsLater, IsTold, Answers}
-use Rattle.pli_meaning_typed.proofs.ContextLaws.{Known, shaped_length}
+use Rattle.pli_meaning_typed.specs.SoundWorlds.{Known, Shape, IsSound, IsLater, IsTold, Answers}
+use Rattle.pli_meaning_typed.proofs.ContextLaws.{shaped_length}
 use Rattle.pli_meaning_typed.proofs.WorldLaws.{later_same, later_then, error_named, statement_sound, stepped_sound, cleared_sound, cleared_later, left_sound, left_later}
 
 -- no jump leads further in than the newest activation
@@ -82,6 +82,12 @@ module _ (units : List TypedUnit) where
   answer_kept n left known ss u (Yields x w) h = (omega arith, tt, h.0, h.1)
   answer_kept n left known ss u (Raises e w) h = h
   answer_kept n left known ss u Wrong h = h
+
+  pub kept_answers : (ss : List Shape) (u : World) (o : Answer (Unit {0})) → Answers units (λ x w. IsSound units ss w × IsLater u w) o
+      → Answers units (λ x w. Anything x w × IsSound units ss w × IsLater u w) o
+  kept_answers ss u (Yields x w) h = (tt, h.0, h.1)
+  kept_answers ss u (Raises e w) h = h
+  kept_answers ss u Wrong h = h
 
   -- steps
   pub step_means : {A : Type 0} (P : A → World → Type 0) (n : ℕ) (known : Known) (ss : List Shape) (go : Doing A) (w : World) (left : ℕ)

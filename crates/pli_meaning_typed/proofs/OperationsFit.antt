@@ -35,10 +35,10 @@ use Rattle.pli_type_tree.specs.TypedOperations.{comes_to}
 use Rattle.pli_type_tree.specs.TypedTree.{TypedOperation, Fit, Operate}
 use Rattle.pli_type_tree.specs.ValueTypes.{StringKind, OfCharacters, OfBits, ValueType, Numbers, Strings, Pointers, Offsets, IsPointer, IsOffset, IsEquality, IsOf, AreOf, Computes, Operates, longest, length_precision, HaveColumns, type_held, IsFitted, OnNumbers, OnStrings, OnLocators}
 
--- what an operation comes to is of a type
+-- what an operation comes to is of a type; behind a condition that is 0
 abbrev pub IsCalculated : ValueType → Calculation → Type 0
 IsCalculated t (Calculates v) = IsOf t v
-IsCalculated t (RaisesCondition c) = Unit {0}
+IsCalculated t (RaisesCondition c) = IsOf t (Number (pos 0))
 IsCalculated t OutOfString = Unit {0}
 IsCalculated t Misfits = ⊥
 
@@ -116,12 +116,16 @@ module _ (n : ℕ) where
       (λ v w h k. number (λ v. IsCalculated t (calculated n op (v ∷ w ∷ []))) p v h
       (λ x hx. number (λ w. IsCalculated t (calculated n op (Number x ∷ w ∷ []))) q w k (λ y hy. f x y hx hy)))
 
+-- 0 has no digit
+zero_is : (p : ℕ) → IsOf (Numbers p) (Number (pos 0))
+zero_is p = let least : 1 ≤ 2 ^ p = pow_pos p in (pos 0, refl, omega (arith, least))
+
 within_is : (p : ℕ) (x : ℤ) → IsCalculated (Numbers p) (as_number (within p x))
 within_is p x = by (has_digits p x) refl
   where
     by : (b : Bool) → has_digits p x ≡ b → IsCalculated (Numbers p) (as_number (if b then Ok x else Err raised.Overflow))
     by true e = (x, refl, ltb-true (unsigned_abs x) (2 ^ p) e)
-    by false e = tt
+    by false e = zero_is p
 
 -- a number that has so few digits, within any bound
 kept_is : (n p : ℕ) (x : ℤ) → unsigned_abs x < 2 ^ p → IsCalculated (Numbers p) (as_number (within n x))
@@ -129,7 +133,7 @@ kept_is n p x small = by (has_digits n x)
   where
     by : (b : Bool) → IsCalculated (Numbers p) (as_number (if b then Ok x else Err raised.Overflow))
     by true = (x, refl, small)
-    by false = tt
+    by false = zero_is p
 
 -- a number within the lesser of two bounds
 narrow_is : (p n : ℕ) (x : ℤ) → IsCalculated (Numbers p) (as_number (within (min p n) x))
@@ -140,7 +144,7 @@ narrow_is p n x = by (has_digits (min p n) x) refl
 
     by : (b : Bool) → has_digits (min p n) x ≡ b → IsCalculated (Numbers p) (as_number (if b then Ok x else Err raised.Overflow))
     by true e = (x, refl, lt_of_lt_of_le (ltb-true (unsigned_abs x) (2 ^ min p n) e) (pow_mono below))
-    by false e = tt
+    by false e = zero_is p
 
 -- a number within both bounds
 both_small : (m n k : ℕ) → m < 2 ^ n → m < 2 ^ k → m < 2 ^ min n k
@@ -155,7 +159,7 @@ within_both n k x small = by (has_digits n x) refl
   where
     by : (b : Bool) → has_digits n x ≡ b → IsCalculated (Numbers (min n k)) (as_number (if b then Ok x else Err raised.Overflow))
     by true e = (x, refl, both_small (unsigned_abs x) n k (ltb-true (unsigned_abs x) (2 ^ n) e) small)
-    by false e = tt
+    by false e = zero_is (min n k)
 
 difference_le : (a b : ℕ) → unsigned_abs (sub_ℕ a b) ≤ a + b
 difference_le a b =
@@ -211,12 +215,12 @@ remainder_small (pos a) y q k e h = let m = within_divisor a (unsigned_abs y) k 
 remainder_small (negsuc a) y q k e h = let m = within_divisor a (unsigned_abs y) k e in omega (arith, m, h, e)
 
 remainder_is : (x y : ℤ) (q : ℕ) → unsigned_abs y < 2 ^ q → IsCalculated (Numbers q) (as_number (remainder x y))
-remainder_is x (pos zero) q h = tt
+remainder_is x (pos zero) q h = zero_is q
 remainder_is x (pos (suc n)) q h = (int_rem_euclid x (pos (suc n)), refl, remainder_small x (pos (suc n)) q n refl h)
 remainder_is x (negsuc n) q h = (int_rem_euclid x (negsuc n), refl, remainder_small x (negsuc n) q n refl h)
 
 quotient_is : (p : ℕ) (x y : ℤ) → IsCalculated (Numbers p) (as_number (quotient (min p widest) x y))
-quotient_is p x (pos zero) = tt
+quotient_is p x (pos zero) = zero_is p
 quotient_is p x (pos (suc n)) = narrow_is p widest (int_div x (pos (suc n)))
 quotient_is p x (negsuc n) = narrow_is p widest (int_div x (negsuc n))
 

@@ -17,6 +17,7 @@ use Rattle.pli_world.specs.Storage.{Controlled, Place}
 use Rattle.pli_world.specs.World.{Standing, Lies, Stacked, Stack, World, Yields, Raises, further, known, made_of, generation_ended, static_in}
 use Rattle.pli_meaning_typed.specs.SoundWorlds.{EachGood, Shape, StandsGood, IsSound, IsLater, Answers}
 use Rattle.pli_meaning_typed.proofs.ContextLaws.{IsUnit, first_unit, static_there}
+use Rattle.pli_meaning_typed.proofs.RaisesLaws.{RaisesIn}
 use Rattle.pli_meaning_typed.proofs.StorageLemmas.{lived_before}
 use Rattle.pli_meaning_typed.proofs.WorldLaws.{later_same, later_then, eaches_later, statics_later, shaped_later, same_stack, error_named, further_answers, small_near, MadeWhole, made_answers, ended_later}
 
@@ -80,6 +81,7 @@ module _ (units : List TypedUnit) (ss : List Shape) where
         stacks = λ n r h. each n r (changed_found w.stacks number changed n r h);
         stack = shaped_later units w after ss w.activations places_later sound.stack;
         of_units = sound.of_units;
+        on_units = sound.on_units;
         made = statics_later units w after places_later refl sound.made;
       },
       places_later,
@@ -188,3 +190,15 @@ module _ (units : List TypedUnit) (x : Shape) (ss : List Shape) where
         let n = stack_there w sound in
         subst (λ o. Answers units (Counted w) (further o (λ stack w. further (counted stack w) (λ count w. Yields (Number (pos count)) w)))) (sym n.1)
         (counted_is n.0 n.2.0 w sound n.2.1)
+
+    pub counted_raises : (w : World) → Sound w → RaisesIn w (generations_counted number w)
+    unfolding generations_counted counted
+    counted_raises w sound =
+        let n = stack_there w sound in
+        subst (λ o. RaisesIn w (further o (λ stack w. further (counted stack w) (λ count w. Yields (Number (pos count)) w)))) (sym n.1)
+        (subst (λ o. RaisesIn w (further (further (known o w) (λ s w. counted_in s.places w)) (λ count w. Yields (Number (pos count)) w))) (sym n.2.1)
+        (by n.2.0 (nat_le (length n.2.0.places) count_limit)))
+      where
+        by : (t : Stack) (b : Bool) → RaisesIn w (further (if b then Yields (length t.places) w else Raises FixedOverflow w) (λ count w. Yields (Number (pos count)) w))
+        by t true = tt
+        by t false = refl

@@ -7,30 +7,32 @@ use Rattle.std.proofs.lemmas.Bool.{eqb-true, eq-eqb}
 use Rattle.pli_run.specs.declared.ending.Ending.TheVariants as message
 use Rattle.pli_map.specs.Description.{Description}
 use Rattle.pli_world.specs.Activations.{nearest_of}
+use Rattle.pli_world.specs.Conditions.{reverted}
 use Rattle.pli_world.specs.Storage.{Place}
-use Rattle.pli_world.specs.World.{World, Answer, Yields, Raises, Wrong, entered, held, height, at_statement}
+use Rattle.pli_world.specs.World.{World, Answer, Yields, Raises, Wrong, entered, height, at_statement}
 use Rattle.pli_world.specs.Activations.{Head}
 use Rattle.pli_type_tree.specs.Templates.{Template, variable_of}
 use Rattle.pli_type_tree.specs.TypedTree.{TypedExpression, BlockHead, TypedStatement, Statement, Form, Null, Assign}
-use Rattle.pli_type_tree.specs.TypedTree.{AssignAggregate, AssignArea, EmptyArea, Put, Allocate, Free, If, Begin, Group, While, Iterate, Call, Goto, Return, ReturnValue, Stop, OtherWise, NoElse, Else}
+use Rattle.pli_type_tree.specs.TypedTree.{AssignAggregate, AssignArea, EmptyArea, Put, Allocate, Free, If, Begin, Group, While, Iterate, Call, Goto, Return, ReturnValue, Stop, On, Revert, Signal, OtherWise, NoElse, Else}
 use Rattle.pli_type_tree.specs.TypedTree.{TypedStatements, NoStatement, StatementThen, TypedUnit}
 use Rattle.pli_type_tree.specs.ValueTypes.{OfBits}
-use Rattle.pli_type_tree.specs.WellTyped.{AreMade, BlockAround, TypingContext, blocks_from, IsString, labels_of, with_labels}
+use Rattle.pli_type_tree.specs.WellTyped.{AreMade, BlockAround, KnownProcedure, TypingContext, blocks_from, IsString, labels_of, with_labels}
 use Rattle.pli_type_tree.specs.WellTyped.{in_group, block_of, in_begin, IsTypedStatement, IsTypedForm, IsTypedElse, AreTypedStatements}
 use Rattle.pli_meaning_tree.specs.Effects.{Label, Effect, Gives, Flow, Next, Returned, Doing, and_then, nothing_done, followed, answered, back_at}
 use Rattle.pli_meaning_tree.specs.Effects.{leaving, block_end}
-use Rattle.pli_meaning_tree.specs.TreeMeaning.{Calls, condition, assigns, assigns_aggregate, assigns_area, empties, puts, skips, allocates, frees}
+use Rattle.pli_meaning_tree.specs.TreeMeaning.{Calls, condition, assigns, assigns_aggregate, assigns_area, empties, puts, skips, allocates, frees, signals, establishes}
 use Rattle.pli_meaning_tree.specs.TreeMeaning.{does_call, returns_value, bears, labels_in, head_in, static_link, activation_of, in_block, does, does_form, does_else}
 use Rattle.pli_meaning_tree.specs.TreeMeaning.{does_list, does_from}
-use Rattle.pli_meaning_typed.specs.SoundWorlds.{AreGood, Shape, IsSound, IsLater, Answers}
+use Rattle.pli_meaning_typed.specs.SoundWorlds.{AreGood, Known, AreKnown, Shape, Stand, IsSound, IsLater, Answers}
+use Rattle.pli_meaning_typed.proofs.OnUnits.{also_wide, IsOfTyped, Holds, holds_more, holds_entered}
 use Rattle.pli_meaning_typed.proofs.MeansLemmas.{IsBelow, also, Means, Anything, means_from, then_means, statement_means, chosen_means}
 use Rattle.pli_meaning_typed.proofs.MeansLemmas.{caught_means, leaving_means, full_means, followed_means, turns_means}
 use Rattle.pli_meaning_typed.proofs.ExpressionsMean.{CallsMean}
 use Rattle.pli_meaning_typed.proofs.FormsMean.{FlowIs, Fits, condition_means, assigns_means, aggregate_means, area_assigned, area_emptied, skips_means, allocates_mean, frees_mean, call_means}
-use Rattle.pli_meaning_typed.proofs.FormsMean.{jump_means, return_means, value_returned}
+use Rattle.pli_meaning_typed.proofs.FormsMean.{jump_means, on_means, revert_means, signal_means, return_means, value_returned}
 use Rattle.pli_meaning_typed.proofs.IterationsMean.{iterates_means}
-use Rattle.pli_meaning_typed.proofs.ContextLaws.{IsUnit, Known, Wider, AreKnown, Stand, near, stand_wider, stand_labels, shaped_length}
-use Rattle.pli_meaning_typed.proofs.WorldLaws.{later_same, entered_answers, left_sound, left_later, statement_sound}
+use Rattle.pli_meaning_typed.proofs.ContextLaws.{IsUnit, near, stand_wider, stand_labels, at_rest, rest_in_group, shaped_length}
+use Rattle.pli_meaning_typed.proofs.WorldLaws.{later_same, shape_of, entered_answers, left_sound, left_later, statement_sound}
 
 ended_other : message.Ended ≢ message.MachineFault
 ended_other e = absurd (cc)
@@ -50,40 +52,29 @@ held_labels unit (StatementThen (Statement number form) more) label h =
     by true false e f h rest = absurd (true≢false (sym (eq-eqb number label (sym (eqb-true label number e))) ∙ f))
     by false false e f h rest = rest h
 
-also_wide : (held : Label → Bool) (height : ℕ) (known : Known) → Wider known (also held height known)
-also_wide held height known h k t = by (nat_eq h height && held k)
-  where
-    by : (b : Bool) → (if b then true else known h k) ≡ true
-    by true = refl
-    by false = t
-
 also_new : (unit : ℕ) (statements : TypedStatements) (height : ℕ) (known : Known) → AreKnown unit (also (labels_in unit statements) height known) height (labels_of statements)
 also_new unit statements height known n h =
     let label : Label = record { unit = unit; number = n } in
     ap (λ b. if b && labels_in unit statements label then true else known height label) (eq-eqb height height refl)
     ∙ ap (λ b. if b then true else known height label) (held_labels unit statements n h)
 
-also_below : (held : Label → Bool) (height : ℕ) (known : Known) → IsBelow known height → IsBelow (also held height known) height
-also_below held height known below h k lt = by (nat_eq h height) refl
-  where
-    by : (b : Bool) → nat_eq h height ≡ b → (if b && held k then true else known h k) ≡ false
-    by true e = absurd (omega (arith, eqb-true h height e, lt))
-    by false e = below h k lt
-
 -- a list begins at its front or at a label of its own
 abbrev Starts : (unit : ℕ) → TypedStatements → Option Label → Type 0
 Starts unit statements None = Unit {0}
 Starts unit statements (Some label) = labels_in unit statements label ≡ true
 
-in_own_group : (units : List TypedUnit) (unit : ℕ) (known : Known) (x : Shape) (ss : List Shape) (s : TypingContext) (block : ℕ) (statements : TypedStatements) → Fits units unit known x ss s block
-    → Fits units unit (also (labels_in unit statements) (suc (length ss)) known) x ss (in_group statements s) block
-in_own_group units unit known x ss s block statements f =
+in_own_group : (greatest : ℕ) (units : List TypedUnit) (unit : ℕ) (known : Known) (x : Shape) (ss : List Shape) (s : TypingContext) (block : ℕ) (statements : TypedStatements)
+    → Fits greatest units unit known x ss s block
+    → Fits greatest units unit (also (labels_in unit statements) (suc (length ss)) known) x ss (in_group statements s) block
+in_own_group greatest units unit known x ss s block statements f =
     let more = also (labels_in unit statements) (suc (length ss)) known in record {
-      inside = record { own = f.inside.own; top = f.inside.top };
+      inside = record { own = f.inside.own; top = f.inside.top; knows = f.inside.knows };
       stand =
           stand_labels unit known more (labels_of statements) (x ∷ ss) (suc (length ss)) s.blocks (also_wide (labels_in unit statements) (suc (length ss)) known)
           (also_new unit statements (suc (length ss)) known) f.stand;
-      below = also_below (labels_in unit statements) (suc (length ss)) known f.below;
+      lasts = subst (λ bs. Stand unit x.lasting (x ∷ ss) (suc (length ss)) bs) (sym (rest_in_group (labels_of statements) s.blocks)) f.lasts;
+      outlasts = holds_more greatest units known (x ∷ ss) (labels_in unit statements) f.outlasts;
+      running = f.running;
       first = record f.first { labels = labels_of statements ++ f.first.labels };
       others = f.others;
       blocks = ap (λ bs. with_labels (labels_of statements) bs) f.blocks;
@@ -96,25 +87,28 @@ variables_described [] = refl
 variables_described (t ∷ ts) = ap (λ ds. t.description ∷ ds) (variables_described ts)
 
 -- a block's own statements
-pub in_own_block : (units : List TypedUnit) (unit : ℕ) (known : Known) (head : BlockHead) (parameters : List Description) (statements : TypedStatements) (link : ℕ) (ss : List Shape)
-    (s : TypingContext) (around : List BlockAround) → s.blocks ≡ block_of head parameters statements ∷ around → IsUnit units unit s.globals → Stand unit known ss link around → IsBelow known (length ss)
-    → Fits units unit (also (labels_in unit statements) (suc (length ss)) known)
-    (record { unit = unit; block = head.number; link = link; parameters = length parameters; slots = parameters ++ map (λ v. v.description) (map variable_of head.variables) }) ss s head.number
-in_own_block units unit known head parameters statements link ss s around e own stand below =
+pub in_own_block : (greatest : ℕ) (units : List TypedUnit) (unit : ℕ) (known : Known) (head : BlockHead) (parameters : List Description) (statements : TypedStatements) (link : ℕ) (ss : List Shape)
+    (s : TypingContext) (around : List BlockAround) → s.blocks ≡ block_of head parameters statements ∷ around → IsUnit units unit s.globals → IsOfTyped greatest units unit s.procedures
+    → Stand unit known ss link around → Holds greatest units known ss
+    → Fits greatest units unit (also (labels_in unit statements) (suc (length ss)) known)
+    (shape_of (head_in unit head) link parameters s.procedures (also (labels_in unit statements) (suc (length ss)) known)) ss s head.number
+in_own_block greatest units unit known head parameters statements link ss s around e own typed stand outlasts =
     let h = suc (length ss) in
     let more = also (labels_in unit statements) h known in
-    let y : Shape = record { unit = unit; block = head.number; link = link; parameters = length parameters; slots = parameters ++ map (λ v. v.description) (map variable_of head.variables) } in record {
-      inside = record { own = own; top = refl };
-      stand = subst (λ bs. Stand unit more (y ∷ ss) h bs) (sym e)
-          (inr (
-            refl,
-            refl,
-            (refl, ap (λ ds. parameters ++ ds) (variables_described head.variables)),
-            also_new unit statements h known,
-            stand_wider unit known more ss link around (also_wide (labels_in unit statements) h known) stand,
-            refl,
-          ));
-      below = also_below (labels_in unit statements) h known (λ i k lt. below i k (omega (arith, lt)));
+    let y : Shape = shape_of (head_in unit head) link parameters s.procedures more in
+    let there : Stand unit more (y ∷ ss) h (block_of head parameters statements ∷ around) = inr (
+      refl,
+      refl,
+      (refl, ap (λ ds. parameters ++ ds) (variables_described head.variables)),
+      also_new unit statements h known,
+      stand_wider unit known more ss link around (also_wide (labels_in unit statements) h known) stand,
+      refl,
+    ) in record {
+      inside = record { own = own; top = refl; knows = refl };
+      stand = subst (λ bs. Stand unit more (y ∷ ss) h bs) (sym e) there;
+      lasts = subst (λ bs. Stand unit more (y ∷ ss) h (at_rest bs)) (sym e) there;
+      outlasts = holds_entered greatest units known y ss (labels_in unit statements) outlasts refl typed;
+      running = refl;
       first = block_of head parameters statements;
       others = around;
       blocks = e;
@@ -123,19 +117,19 @@ in_own_block units unit known head parameters statements link ss s around e own 
 
 -- an activation: it is entered, runs and is left
 pub activation_means : {A : Type 0} (units : List TypedUnit) (P : Flow → World → Type 0) (Q : A → World → Type 0) (n : ℕ) (known : Known)
-    (ss : List Shape) (head : Head) (link : ℕ) (places : List Place) (parameters : List Description) (run : Doing Flow) (end : Flow → Doing A)
+    (ss : List Shape) (head : Head) (link : ℕ) (places : List Place) (parameters : List Description) (procedures : ℕ → Option KnownProcedure) (lasting : Known) (run : Doing Flow) (end : Flow → Doing A)
     (w : World) (left : ℕ) → IsBelow known (length ss) → IsSound units ss w → ((u : TypedUnit) × (slice_get units head.unit ≡ Some u)) → AreGood w parameters places
     → AreMade head.variables
-    → ((v : World) (l : ℕ) → IsSound units (record { unit = head.unit; block = head.block; link = link; parameters = length parameters; slots = parameters ++ map (λ v. v.description) head.variables } ∷ ss) v
-    → Means units n l known (record { unit = head.unit; block = head.block; link = link; parameters = length parameters; slots = parameters ++ map (λ v. v.description) head.variables } ∷ ss) v P (run v l))
-    → ((x : Flow) (v : World) (l : ℕ) → P x v → IsSound units (record { unit = head.unit; block = head.block; link = link; parameters = length parameters; slots = parameters ++ map (λ v. v.description) head.variables } ∷ ss) v
+    → ((v : World) (l : ℕ) → IsSound units (shape_of head link parameters procedures lasting ∷ ss) v
+    → Means units n l known (shape_of head link parameters procedures lasting ∷ ss) v P (run v l))
+    → ((x : Flow) (v : World) (l : ℕ) → P x v → IsSound units (shape_of head link parameters procedures lasting ∷ ss) v
     → Means units n l known ss v Q (end x v l))
     → Means units n left known ss w Q (activation_of head link places run end w left)
-activation_means units P Q n known ss head link places parameters run end w left below sound own good made f g =
-    by (entered head link places w) (entered_answers units head link places parameters ss w sound own good made)
+activation_means units P Q n known ss head link places parameters procedures lasting run end w left below sound own good made f g =
+    by (entered head link places w) (entered_answers units head link places parameters procedures lasting ss w sound own good made)
   where
     y : Shape
-    y = record { unit = head.unit; block = head.block; link = link; parameters = length parameters; slots = parameters ++ map (λ v. v.description) head.variables }
+    y = shape_of head link parameters procedures lasting
 
     by : (o : Answer (Unit {0})) → Answers units (λ _ v. IsSound units (y ∷ ss) v × IsLater w v) o
         → Means units n left known ss w Q (and_then (answered o left) (λ _ w left. leaving (run w left) end))
@@ -153,7 +147,7 @@ module _ (units : List TypedUnit) (greatest level : ℕ) (call : Calls) (unit : 
   Flows s = FlowIs s.begins s.value
 
   abbrev CallsIn : TypingContext → Type 0
-  CallsIn s = CallsMean units unit s.globals s.procedures level call
+  CallsIn s = CallsMean greatest units unit s.globals s.procedures level call
 
   -- what a list does from a label
   picked : (s : TypingContext) (known : Known) (x : Shape) (ss : List Shape) (w : World) (left : ℕ) (b c : Bool) (o other : Effect Flow) → b || c ≡ true
@@ -177,9 +171,9 @@ module _ (units : List TypedUnit) (greatest level : ℕ) (call : Calls) (unit : 
       (Starts unit statements) (λ k e. e) f level (omega arith) None tt w left sound
 
   -- a BEGIN block
-  begun : (s : TypingContext) (known : Known) (x : Shape) (ss : List Shape) (block : ℕ) (head : BlockHead) (statements : TypedStatements) → Fits units unit known x ss s block
+  begun : (s : TypingContext) (known : Known) (x : Shape) (ss : List Shape) (block : ℕ) (head : BlockHead) (statements : TypedStatements) → Fits greatest units unit known x ss s block
       → AreMade (map variable_of head.variables)
-      → ((y : Shape) → Fits units unit (also (labels_in unit statements) (suc (length (x ∷ ss))) known) y (x ∷ ss) (in_begin head statements s) head.number
+      → ((y : Shape) → Fits greatest units unit (also (labels_in unit statements) (suc (length (x ∷ ss))) known) y (x ∷ ss) (in_begin head statements s) head.number
       → (w : World) (left : ℕ) → IsSound units (y ∷ x ∷ ss) w
       → Here (in_begin head statements s) known y (x ∷ ss) left w (Flows (in_begin head statements s)) (does_list greatest call unit level head.number statements w left))
       → (w : World) (left : ℕ) → IsSound units (x ∷ ss) w
@@ -194,12 +188,20 @@ module _ (units : List TypedUnit) (greatest level : ℕ) (call : Calls) (unit : 
       (full_means units (Flows s) level left known x ss
       (activation_of (head_in unit head) n.link [] (does_list greatest call unit level head.number statements) block_end) w sound
       (activation_means units (Flows (in_begin head statements s)) (Flows s) level known (x ∷ ss) (head_in unit head) n.link [] []
-      (does_list greatest call unit level head.number statements) block_end w left fits.below sound (fits.inside.own.unit, fits.inside.own.there) tt made
-      (λ v l sound. f (inner n.link) (in_own_block units unit known head [] statements n.link (x ∷ ss) (in_begin head statements s) s.blocks refl fits.inside.own n.stand fits.below) v l sound)
+      s.procedures lasting (does_list greatest call unit level head.number statements) block_end w left fits.outlasts.below sound (fits.inside.own.unit, fits.inside.own.there) tt made
+      (λ v l sound. f (inner n.link) (in_own_block greatest units unit known head [] statements n.link (x ∷ ss) (in_begin head statements s) s.blocks refl fits.inside.own typed n.stand fits.outlasts) v l sound)
       (λ y v l is sound. ended (inner n.link) y v l is sound)))
     where
+      lasting : Known
+      lasting = also (labels_in unit statements) (suc (length (x ∷ ss))) known
+
       inner : ℕ → Shape
-      inner link = record { unit = unit; block = head.number; link = link; parameters = 0; slots = [] ++ map (λ v. v.description) (map variable_of head.variables) }
+      inner link = shape_of (head_in unit head) link [] s.procedures (also (labels_in unit statements) (suc (length (x ∷ ss))) known)
+
+      typed : IsOfTyped greatest units unit s.procedures
+      typed =
+          subst (λ procedures. IsOfTyped greatest units unit procedures) fits.inside.knows
+          (subst (λ n. IsOfTyped greatest units n x.procedures) fits.inside.top fits.outlasts.typed.0)
 
       first_block : (blocks : List BlockAround) (b : BlockAround) (bs : List BlockAround) → blocks ≡ b ∷ bs → b.number ≡ block
           → blocks_from block blocks ≡ Some blocks
@@ -220,7 +222,7 @@ module _ (units : List TypedUnit) (greatest level : ℕ) (call : Calls) (unit : 
 
   -- a condition, with the statement as it was
   test_means : (s : TypingContext) (known : Known) (x : Shape) (ss : List Shape) (block number : ℕ) (e : TypedExpression) → IsString greatest s OfBits e
-      → Fits units unit known x ss s block → CallsIn s → (w : World) (left : ℕ) → IsSound units (x ∷ ss) w
+      → Fits greatest units unit known x ss s block → CallsIn s → (w : World) (left : ℕ) → IsSound units (x ∷ ss) w
       → Here s known x ss left w Anything (back_at number (condition greatest call e) w left)
   test_means s known x ss block number e typed fits calls w left sound =
       let t = statement_sound units (x ∷ ss) number w sound in
@@ -229,14 +231,14 @@ module _ (units : List TypedUnit) (greatest level : ℕ) (call : Calls) (unit : 
 
   mutual
     pub does_means : (st : TypedStatement) (s : TypingContext) (known : Known) (x : Shape) (ss : List Shape) (block : ℕ) → IsTypedStatement greatest s st
-        → Fits units unit known x ss s block → CallsIn s → (w : World) (left : ℕ) → IsSound units (x ∷ ss) w
+        → Fits greatest units unit known x ss s block → CallsIn s → (w : World) (left : ℕ) → IsSound units (x ∷ ss) w
         → Here s known x ss left w (Flows s) (does greatest call unit level block st w left)
     does_means (Statement number form) s known x ss block typed fits calls w left sound =
         statement_means units (Flows s) level known (x ∷ ss) number (does_form greatest call unit level block number form) w left sound
         (λ v l e sound. form_means form s known x ss block number typed fits calls v l sound)
 
     form_means : (form : Form) (s : TypingContext) (known : Known) (x : Shape) (ss : List Shape) (block number : ℕ) → IsTypedForm greatest s form
-        → Fits units unit known x ss s block → CallsIn s → (w : World) (left : ℕ) → IsSound units (x ∷ ss) w
+        → Fits greatest units unit known x ss s block → CallsIn s → (w : World) (left : ℕ) → IsSound units (x ∷ ss) w
         → Means units level (suc left) known (x ∷ ss) w (Flows s) (does_form greatest call unit level block number form w left)
     form_means Null s known x ss block number typed fits calls w left sound = (omega arith, tt, sound, later_same w)
     form_means (Assign target e) s known x ss block number typed fits calls w left sound =
@@ -252,7 +254,7 @@ module _ (units : List TypedUnit) (greatest level : ℕ) (call : Calls) (unit : 
         grown s known x ss w left (skips greatest call skip (puts greatest call items) w left)
         (skips_means units greatest level call unit s known x ss block fits calls skip items typed w left sound)
     form_means (Allocate items) s known x ss block number typed fits calls w left sound =
-        grown s known x ss w left (allocates greatest call items w left) (allocates_mean units greatest level call unit s known x ss block fits calls items typed w left sound)
+        grown s known x ss w left (allocates greatest call level items w left) (allocates_mean units greatest level call unit s known x ss block fits calls items typed w left sound)
     form_means (Free items) s known x ss block number typed fits calls w left sound =
         grown s known x ss w left (frees greatest call items w left) (frees_mean units greatest level call unit s known x ss block fits calls items typed w left sound)
     form_means (If e consequence alternative) s known x ss block number typed fits calls w left sound =
@@ -272,7 +274,7 @@ module _ (units : List TypedUnit) (greatest level : ℕ) (call : Calls) (unit : 
     form_means (Group statements) s known x ss block number typed fits calls w left sound =
         grown s known x ss w left (does_list greatest call unit level block statements w left)
         (list_run (in_group statements s) known x ss block statements
-        (λ from starts u m sound. from_means statements from (in_group statements s) (also (labels_in unit statements) (suc (length ss)) known) x ss block typed (in_own_group units unit known x ss s block statements fits) calls starts u m sound)
+        (λ from starts u m sound. from_means statements from (in_group statements s) (also (labels_in unit statements) (suc (length ss)) known) x ss block typed (in_own_group greatest units unit known x ss s block statements fits) calls starts u m sound)
         w left sound)
     form_means (While e statements) s known x ss block number typed fits calls w left sound =
         grown s known x ss w left (does_form greatest call unit level block number (While e statements) w left)
@@ -280,7 +282,7 @@ module _ (units : List TypedUnit) (greatest level : ℕ) (call : Calls) (unit : 
         (does_list greatest call unit level block statements) nothing_done (λ w. tt)
         (λ v l sound. test_means s known x ss block number e typed.0 fits calls v l sound)
         (λ v l sound. list_run (in_group statements s) known x ss block statements
-        (λ from starts u m sound. from_means statements from (in_group statements s) (also (labels_in unit statements) (suc (length ss)) known) x ss block typed.1 (in_own_group units unit known x ss s block statements fits) calls starts u m sound)
+        (λ from starts u m sound. from_means statements from (in_group statements s) (also (labels_in unit statements) (suc (length ss)) known) x ss block typed.1 (in_own_group greatest units unit known x ss s block statements fits) calls starts u m sound)
         v l sound)
         (λ v l sound. (omega arith, tt, sound, later_same v))
         level (omega arith) w left sound)
@@ -288,7 +290,7 @@ module _ (units : List TypedUnit) (greatest level : ℕ) (call : Calls) (unit : 
         grown s known x ss w left (does_form greatest call unit level block number (Iterate iteration statements) w left)
         (iterates_means units greatest level call unit s known x ss block fits calls number iteration (does_list greatest call unit level block statements) typed.0
         (λ v l sound. list_run (in_group statements s) known x ss block statements
-        (λ from starts u m sound. from_means statements from (in_group statements s) (also (labels_in unit statements) (suc (length ss)) known) x ss block typed.1 (in_own_group units unit known x ss s block statements fits) calls starts u m sound)
+        (λ from starts u m sound. from_means statements from (in_group statements s) (also (labels_in unit statements) (suc (length ss)) known) x ss block typed.1 (in_own_group greatest units unit known x ss s block statements fits) calls starts u m sound)
         v l sound)
         w left sound)
     form_means (Call callee arguments) s known x ss block number typed fits calls w left sound =
@@ -303,15 +305,21 @@ module _ (units : List TypedUnit) (greatest level : ℕ) (call : Calls) (unit : 
         grown s known x ss w left (returns_value greatest call outward e w left)
         (value_returned units greatest level call unit s known x ss block fits calls outward e typed w left sound)
     form_means Stop s known x ss block number typed fits calls w left sound = ended_other
+    form_means (On c on_unit) s known x ss block number typed fits calls w left sound =
+        grown s known x ss w left (establishes unit block c on_unit w left) (on_means units greatest level call unit s known x ss block fits calls c on_unit typed w left sound)
+    form_means (Revert c) s known x ss block number typed fits calls w left sound =
+        grown s known x ss w left (Gives Next (reverted c w) left) (revert_means units greatest level call unit s known x ss block fits calls c w left sound)
+    form_means (Signal c) s known x ss block number typed fits calls w left sound =
+        grown s known x ss w left (signals greatest call c w left) (signal_means units greatest level call unit s known x ss block fits calls c w left sound)
 
     else_means : (alternative : OtherWise) (s : TypingContext) (known : Known) (x : Shape) (ss : List Shape) (block : ℕ) → IsTypedElse greatest s alternative
-        → Fits units unit known x ss s block → CallsIn s → (w : World) (left : ℕ) → IsSound units (x ∷ ss) w
+        → Fits greatest units unit known x ss s block → CallsIn s → (w : World) (left : ℕ) → IsSound units (x ∷ ss) w
         → Here s known x ss left w (Flows s) (does_else greatest call unit level block alternative w left)
     else_means NoElse s known x ss block typed fits calls w left sound = (omega arith, tt, sound, later_same w)
     else_means (Else st) s known x ss block typed fits calls w left sound = does_means st s known x ss block typed fits calls w left sound
 
     from_means : (statements : TypedStatements) (from : Option Label) (s : TypingContext) (known : Known) (x : Shape) (ss : List Shape) (block : ℕ)
-        → AreTypedStatements greatest s statements → Fits units unit known x ss s block → CallsIn s → Starts unit statements from
+        → AreTypedStatements greatest s statements → Fits greatest units unit known x ss s block → CallsIn s → Starts unit statements from
         → (w : World) (left : ℕ) → IsSound units (x ∷ ss) w
         → Here s known x ss left w (Flows s) (does_from greatest call unit level block statements from w left)
     from_means NoStatement None s known x ss block typed fits calls starts w left sound = (omega arith, tt, sound, later_same w)
@@ -330,7 +338,7 @@ module _ (units : List TypedUnit) (greatest level : ℕ) (call : Calls) (unit : 
         (λ there. from_means more (Some label) s known x ss block typed.1 fits calls there w left sound)
 
   pub list_means : (statements : TypedStatements) (s : TypingContext) (known : Known) (x : Shape) (ss : List Shape) (block : ℕ)
-      → AreTypedStatements greatest s statements → Fits units unit (also (labels_in unit statements) (suc (length ss)) known) x ss s block → CallsIn s
+      → AreTypedStatements greatest s statements → Fits greatest units unit (also (labels_in unit statements) (suc (length ss)) known) x ss s block → CallsIn s
       → (w : World) (left : ℕ) → IsSound units (x ∷ ss) w
       → Here s known x ss left w (Flows s) (does_list greatest call unit level block statements w left)
   list_means statements s known x ss block typed fits calls w left sound =

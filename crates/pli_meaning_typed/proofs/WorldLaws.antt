@@ -31,13 +31,14 @@ use Rattle.pli_world.specs.World.{without_handed, begun_in, entered, ended_with,
 use Rattle.pli_world.specs.World.{static_in, printed, line_ended, error_in, error_at}
 use Rattle.pli_value.specs.Value.{Value}
 use Rattle.pli_type_tree.specs.TypedTree.{TypedUnit}
-use Rattle.pli_type_tree.specs.WellTyped.{AreHeld, AreMade}
-use Rattle.pli_meaning_typed.specs.SoundWorlds.{IsPartAt, IsNear, HasPart, IsGood, IsWhole, IsOwn, IsVariable, IsPassed, AreGood, AreSlots, AreSoundBlocks, IsHolding, HoldsValues, Shape, AreShaped, AreOfUnits, EachGood, AreStacksGood, StandsGood, AreStatics}
+use Rattle.pli_type_tree.specs.WellTyped.{AreHeld, AreMade, KnownProcedure}
+use Rattle.pli_meaning_typed.specs.SoundWorlds.{IsPartAt, IsNear, HasPart, IsGood, IsWhole, IsOwn, IsVariable, IsPassed, AreGood, AreSlots, AreSoundBlocks, IsHolding, HoldsValues, Known, Shape, AreShaped, HaveUnits, AreOfUnits, EachGood, AreStacksGood, StandsGood, AreStatics}
 use Rattle.pli_meaning_typed.specs.SoundWorlds.{IsSound, IsLater, IsTold, Answers}
 use Rattle.pli_meaning_tree.specs.TreeMeaning.{unit_names}
 use Rattle.pli_meaning_typed.proofs.BlockLemmas.{block_found, values_put}
 use Rattle.pli_meaning_typed.proofs.Parts.{part_held, part_stored}
 use Rattle.pli_meaning_typed.proofs.PartsWithin.{scalar_first}
+use Rattle.pli_meaning_typed.proofs.UnitLemmas.{units_kept, older_units, HasNone, none_kept, none_there, reshaped}
 use Rattle.pli_meaning_typed.proofs.StorageLemmas.{appended, holding, reblocked, still_described, values_replaced, blocks_replaced, lived_before}
 
 some_same : {A : Type 0} {x y : A} → Some x ≡ Some y → x ≡ y
@@ -146,6 +147,7 @@ module _ (units : List TypedUnit) where
     stacks = stacks_later v w later g s.stacks;
     stack = subst (λ stack. AreShaped w ss stack) (sym e) (shaped_later v w ss v.activations later s.stack);
     of_units = s.of_units;
+    on_units = subst (λ stack. HaveUnits ss stack) (sym e) s.on_units;
     made = statics_later v w later f s.made;
   }
 
@@ -154,11 +156,12 @@ module _ (units : List TypedUnit) where
   newest_later change w = record { more = omega arith; lived = λ n g lt h. (g, h, refl); stacks = λ n s h. (s, h, refl) }
 
   pub newest_sound : (change : Activation → Activation) (ss ts : List Shape) (w : World) → IsSound units ss w → AreOfUnits units ts
-      → AreShaped w ts (with_newest change w.activations) → IsSound units ts (in_newest change w)
-  newest_sound change ss ts w sound own h = record {
+      → AreShaped w ts (with_newest change w.activations) → HaveUnits ts (with_newest change w.activations) → IsSound units ts (in_newest change w)
+  newest_sound change ss ts w sound own h on = record {
     values = sound.values;
     stacks = stacks_later w (in_newest change w) (newest_later change w) refl sound.stacks;
     of_units = own;
+    on_units = on;
     stack = shaped_later w (in_newest change w) ts (with_newest change w.activations) (newest_later change w) h;
     made = statics_later w (in_newest change w) (newest_later change w) refl sound.made;
   }
@@ -331,12 +334,12 @@ module _ (units : List TypedUnit) (s : Shape) (ss : List Shape) where
         stacks = λ n s h. (s, h, refl);
       }
 
-  -- a place that may be handed over, and one of a whole generation, which the limit of generations leaves a number to
+  -- a place that may be handed over, and one of a whole generation, which the limit of generations leaves a number to; the activations stay
   abbrev pub MadeAt : World → Description → Place → World → Type 0
   MadeAt w d p v = IsPassed v d p × Sound v × IsLater w v
 
   abbrev pub MadeWhole : World → Description → Place → World → Type 0
-  MadeWhole w d p v = IsVariable v d p × Sound v × IsLater w v × (p.generation < generation_limit)
+  MadeWhole w d p v = IsVariable v d p × Sound v × IsLater w v × (p.generation < generation_limit) × (v.activations ≡ w.activations)
 
   pub made_answers : (d : Description) (how : Made) (vs : List Value) (w : World) → Sound w → IsNear 0 d → AreHeld (scalars_of d) vs
       → Answers units (MadeWhole w d) (made_of d how vs w)
@@ -355,6 +358,7 @@ module _ (units : List TypedUnit) (s : Shape) (ss : List Shape) where
             same_stack units (s ∷ ss) w (with_new d how vs w) sound later (new_values d how vs w sound.values h near room (omega (arith, small))) refl refl refl,
             later,
             room,
+            refl,
           )
       by true false few bytes = error_named units s ss w StorageLimit sound
       by false c few bytes = error_named units s ss w StorageLimit sound
@@ -547,11 +551,27 @@ module _ (units : List TypedUnit) (s : Shape) (ss : List Shape) where
       pending p v own sound later =
           let after : IsLater v (in_newest (change p) v) = newest_later units (change p) v in (
             passed_later v (in_newest (change p) v) d p after (own.0.0, λ is. own),
-            newest_sound units (change p) (s ∷ ss) (s ∷ ss) v sound sound.of_units (shaped p v v.activations sound.stack),
+            newest_sound units (change p) (s ∷ ss) (s ∷ ss) v sound sound.of_units (shaped p v v.activations sound.stack)
+                (units_kept (change p) (λ a. refl) (s ∷ ss) v.activations sound.on_units),
             later_then w v (in_newest (change p) v) later after,
           )
 
 -- activations
+
+abbrev with_slots : Shape → List Description → Shape
+with_slots y slots = record y { slots = slots }
+
+-- the shape of an activation that begins so
+abbrev pub shape_of : Head → (link : ℕ) → (parameters : List Description) → (procedures : ℕ → Option KnownProcedure) → (lasting : Known) → Shape
+shape_of head link parameters procedures lasting = record {
+  unit = head.unit;
+  block = head.block;
+  link = link;
+  parameters = length parameters;
+  slots = parameters ++ map (λ v. v.description) head.variables;
+  procedures = procedures;
+  lasting = lasting;
+}
 
 module _ (units : List TypedUnit) where
   -- a slot more, behind the parameters
@@ -571,15 +591,11 @@ module _ (units : List TypedUnit) where
   slots_passed w (d ∷ ds) [] h = absurd h
   slots_passed w (d ∷ ds) (p ∷ ps) h = (h.0, slots_passed w ds ps h.1)
 
-  abbrev shape : (unit block link parameters : ℕ) → List Description → Shape
-  shape unit block link parameters slots =
-      record { unit = unit; block = block; link = link; parameters = parameters; slots = slots }
-
-  slotted : (unit block link n : ℕ) (slots : List Description) (ss : List Shape) (w : World) (d : Description) (p : Place) (stack : List Activation)
-      → AreShaped w (shape unit block link n slots ∷ ss) stack → IsVariable w d p
-      → AreShaped w (shape unit block link n (slots ++ d ∷ []) ∷ ss) (with_newest (with_slot p) stack)
-  slotted unit block link n slots ss w d p [] h g = absurd h
-  slotted unit block link n slots ss w d p (a ∷ older) h g = (h.0, h.1, h.2, slots_more w slots a.slots n d p h.3 g, h.4)
+  slotted : (y : Shape) (slots : List Description) (ss : List Shape) (w : World) (d : Description) (p : Place) (stack : List Activation)
+      → AreShaped w (with_slots y slots ∷ ss) stack → IsVariable w d p
+      → AreShaped w (with_slots y (slots ++ d ∷ []) ∷ ss) (with_newest (with_slot p) stack)
+  slotted y slots ss w d p [] h g = absurd h
+  slotted y slots ss w d p (a ∷ older) h g = (h.0, h.1, h.2, slots_more w slots a.slots y.parameters d p h.3 g, h.4)
 
   abbrev Entered : World → List Shape → Unit {0} → World → Type 0
   Entered w ss _ v = IsSound units ss v × IsLater w v
@@ -589,25 +605,28 @@ module _ (units : List TypedUnit) where
   weaken ss w v (Raises e u) later h = h
   weaken ss w v Wrong later h = h
 
-  made_all_answers : (vs : List Variable) (unit block link n : ℕ) (slots : List Description) (ss : List Shape) (w : World)
-      → IsSound units (shape unit block link n slots ∷ ss) w → AreMade vs
-      → Answers units (Entered w (shape unit block link n (slots ++ map (λ v. v.description) vs) ∷ ss)) (made_all vs w)
-  made_all_answers [] unit block link n slots ss w sound h =
-      (subst (λ ds. IsSound units (shape unit block link n ds ∷ ss) w) (sym (append-nil slots)) sound, later_same w)
-  made_all_answers (x ∷ vs) unit block link n slots ss w sound h =
-      let top = shape unit block link n slots in
+  made_all_answers : (vs : List Variable) (y : Shape) (slots : List Description) (ss : List Shape) (w : World)
+      → IsSound units (with_slots y slots ∷ ss) w → HasNone w.activations → AreMade vs
+      → Answers units (Entered w (with_slots y (slots ++ map (λ v. v.description) vs) ∷ ss)) (made_all vs w)
+  made_all_answers [] y slots ss w sound none h =
+      (subst (λ ds. IsSound units (with_slots y ds ∷ ss) w) (sym (append-nil slots)) sound, later_same w)
+  made_all_answers (x ∷ vs) y slots ss w sound none h =
+      let top = with_slots y slots in
+      let more = with_slots y (slots ++ x.description ∷ []) in
       let rest = map (λ v. v.description) vs in
       further_answers units (MadeWhole units top ss w x.description)
-      (Entered w (shape unit block link n (slots ++ map (λ v. v.description) (x ∷ vs)) ∷ ss))
+      (Entered w (with_slots y (slots ++ map (λ v. v.description) (x ∷ vs)) ∷ ss))
       (made_of x.description Automatic x.initial w) (λ p w. made_all vs (in_newest (with_slot p) w))
       (made_answers units top ss x.description Automatic x.initial w sound (small_near x.description h.0.0) h.0.1)
       (λ p v m. let u = in_newest (with_slot p) v in
-      subst (λ ds. Answers units (Entered w (shape unit block link n ds ∷ ss)) (made_all vs u)) (append_assoc slots (x.description ∷ []) rest)
-      (weaken (shape unit block link n ((slots ++ x.description ∷ []) ++ rest) ∷ ss) w u (made_all vs u)
+      let bare : HasNone v.activations = subst (λ stack. HasNone stack) (sym m.4) none in
+      subst (λ ds. Answers units (Entered w (with_slots y ds ∷ ss)) (made_all vs u)) (append_assoc slots (x.description ∷ []) rest)
+      (weaken (with_slots y ((slots ++ x.description ∷ []) ++ rest) ∷ ss) w u (made_all vs u)
       (later_then w v u m.2 (newest_later units (with_slot p) v))
-      (made_all_answers vs unit block link n (slots ++ x.description ∷ []) ss u
-      (newest_sound units (with_slot p) (top ∷ ss) (shape unit block link n (slots ++ x.description ∷ []) ∷ ss) v m.1 m.1.of_units
-      (slotted unit block link n slots ss v x.description p v.activations m.1.stack m.0)) h.1)))
+      (made_all_answers vs y (slots ++ x.description ∷ []) ss u
+      (newest_sound units (with_slot p) (top ∷ ss) (more ∷ ss) v m.1 m.1.of_units (slotted y slots ss v x.description p v.activations m.1.stack m.0)
+      (units_kept (with_slot p) (λ a. refl) (more ∷ ss) v.activations (reshaped top more ss v.activations bare m.1.on_units)))
+      (none_kept (with_slot p) (λ a. refl) v.activations bare) h.1)))
 
   handed_shaped : (ss : List Shape) (w : World) (given : List Place) (stack : List Activation) → AreShaped w ss stack
       → AreShaped w ss (with_newest (without_handed given) stack)
@@ -616,15 +635,16 @@ module _ (units : List TypedUnit) where
   handed_shaped (s ∷ ss) w given [] h = absurd h
   handed_shaped (s ∷ ss) w given (a ∷ older) h = h
 
-  pub entered_answers : (head : Head) (link : ℕ) (given : List Place) (parameters : List Description) (ss : List Shape) (w : World)
+  pub entered_answers : (head : Head) (link : ℕ) (given : List Place) (parameters : List Description) (procedures : ℕ → Option KnownProcedure) (lasting : Known) (ss : List Shape) (w : World)
       → IsSound units ss w → ((u : TypedUnit) × (slice_get units head.unit ≡ Some u)) → AreGood w parameters given → AreMade head.variables
-      → Answers units (Entered w (shape head.unit head.block link (length parameters) (parameters ++ map (λ v. v.description) head.variables) ∷ ss)) (entered head link given w)
+      → Answers units (Entered w (shape_of head link parameters procedures lasting ∷ ss)) (entered head link given w)
   unfolding entered
-  entered_answers head link given parameters ss w sound own good h =
+  entered_answers head link given parameters procedures lasting ss w sound own good h =
+      let y = shape_of head link parameters procedures lasting in
       let u = begun_in head link given w in
       let later : IsLater w u = record { more = omega arith; lived = λ n g lt h. (g, h, refl); stacks = λ n s h. (s, h, refl) } in
-      weaken (shape head.unit head.block link (length parameters) (parameters ++ map (λ v. v.description) head.variables) ∷ ss) w u (made_all head.variables u) later
-      (made_all_answers head.variables head.unit head.block link (length parameters) parameters ss u (record {
+      weaken (y ∷ ss) w u (made_all head.variables u) later
+      (made_all_answers head.variables y parameters ss u (record {
         values = sound.values;
         stacks = stacks_later w u later refl sound.stacks;
         stack = (
@@ -635,8 +655,9 @@ module _ (units : List TypedUnit) where
           shaped_later units w u ss _ later (handed_shaped ss w given w.activations sound.stack),
         );
         of_units = (own, sound.of_units);
+        on_units = (λ c k e. absurd (none_there c k e), units_kept (without_handed given) (λ a. refl) ss w.activations sound.on_units);
         made = statics_later units w u later refl sound.made;
-      }) h)
+      }) refl h)
 
   -- the newest ends
   pub ended_later : (numbers : List ℕ) (w v : World) → v.storage ≡ without numbers w.storage → v.made ≡ w.made → v.stacks ≡ w.stacks → IsLater w v
@@ -663,6 +684,7 @@ module _ (units : List TypedUnit) where
         stacks = stacks_later w (left_by w) later refl sound.stacks;
         stack = shaped_later units w (left_by w) ss (without_newest w.activations) later (older_shaped s ss w w.activations sound.stack);
         of_units = sound.of_units.1;
+        on_units = older_units s ss w.activations sound.on_units;
         made = statics_later units w (left_by w) later refl sound.made;
       }
 
@@ -686,6 +708,7 @@ module _ (units : List TypedUnit) where
         stacks = stacks_later w (cleared w) later refl sound.stacks;
         stack = shaped_later units w (cleared w) ss _ later (cleared_shaped ss w w.activations sound.stack);
         of_units = sound.of_units;
+        on_units = units_kept (λ a. record a { pending = [] }) (λ a. refl) ss w.activations sound.on_units;
         made = statics_later units w (cleared w) later refl sound.made;
       }
 
@@ -701,7 +724,8 @@ module _ (units : List TypedUnit) where
       → IsSound units ss (at_statement n w) × IsLater w (at_statement n w)
   unfolding at_statement
   statement_sound ss n w sound = (
-    newest_sound units (λ a. record a { statement = n }) ss ss w sound sound.of_units (statement_shaped ss w n w.activations sound.stack),
+    newest_sound units (λ a. record a { statement = n }) ss ss w sound sound.of_units (statement_shaped ss w n w.activations sound.stack)
+        (units_kept (λ a. record a { statement = n }) (λ a. refl) ss w.activations sound.on_units),
     newest_later units (λ a. record a { statement = n }) w,
   )
 

@@ -1,12 +1,14 @@
 -- Sound worlds (own): what the operations keep, and what they need so that none asks for what is not there.
-use Rattle.std.specs.Prelude.{◌≡◌, ◌≢◌, ℕ, zero, suc, ◌+◌, ◌^◌, ◌≤◌, ◌<◌, true, Some, List, [], ◌∷◌}
-use Rattle.std.specs.Prelude.{slice_get}
+use Rattle.std.specs.Prelude.{◌≡◌, ◌≢◌, ℕ, zero, suc, ◌+◌, ◌^◌, ◌≤◌, ◌<◌, nat_eq, Bool, true, IsTrue}
+use Rattle.std.specs.Prelude.{Option, Some, None, List, [], ◌∷◌, ◌⊎◌, length, slice_get}
+use Rattle.std.specs.List.{list_any}
+use Rattle.pli_base.specs.declared.statement.Condition.{Condition}
 use Rattle.pli_run.specs.declared.ending.Ending.TheVariants as message
 use Rattle.pli_map.specs.Description.{Description}
 use Rattle.pli_map.specs.Scalars.{first_scalar, is_area, scalars_of}
 use Rattle.pli_map.specs.Sizes.{size_of}
 use Rattle.pli_map.specs.Variables.{byte_limit}
-use Rattle.pli_world.specs.Activations.{Activation}
+use Rattle.pli_world.specs.Activations.{Activation, on_unit_for}
 use Rattle.pli_world.specs.Ends.{RunEnd, told}
 use Rattle.pli_world.specs.Storage.{Block, Generation, Place, generation_in, generation_limit, offset_limit}
 use Rattle.pli_program.specs.declared.kind.VariableKind.{VariableKind}
@@ -15,7 +17,8 @@ use Rattle.pli_world.specs.World.{Standing, Lies, Stacked, Stack, World, Answer,
 use Rattle.pli_world.specs.World.{static_in, error_at}
 use Rattle.pli_type_tree.specs.Globals.{described_as}
 use Rattle.pli_type_tree.specs.TypedTree.{Global, TypedUnit}
-use Rattle.pli_type_tree.specs.WellTyped.{AreHeld, IsMade}
+use Rattle.pli_type_tree.specs.WellTyped.{AreHeld, BlockAround, IsMade, KnownProcedure}
+use Rattle.pli_meaning_tree.specs.Effects.{Label}
 use Rattle.pli_meaning_tree.specs.TreeMeaning.{unit_names}
 
 -- each part of one description is a part of another, so many bytes further
@@ -104,14 +107,27 @@ abbrev pub HoldsValues : World → Type 0
 HoldsValues w =
     (number : ℕ) (g : Generation) → generation_in w.storage number ≡ Some g → IsHolding w number g
 
+-- which labels of which activations, by their height, a jump may lead to
+abbrev pub Known : Type 0
+Known = (activation : ℕ) → Label → Bool
+
+-- the labels of a unit that have these numbers
+abbrev pub AreKnown : (unit : ℕ) → Known → (activation : ℕ) → List ℕ → Type 0
+AreKnown unit known h labels =
+    (number : ℕ) → IsTrue (list_any (nat_eq number) labels)
+    → IsTrue (known h (record { unit = unit; number = number }))
+
 -- what stays of an activation while it runs: its unit and block, its static link, how many parameters it has,
--- and the descriptions of its slots
+-- and the descriptions of its slots; what is known of the procedures of its unit; and which labels last as
+-- long as it runs: those that were known when it began, and those of its block's own list
 pub record Shape : Type 0 where
   pub unit : ℕ
   pub block : ℕ
   pub link : ℕ
   pub parameters : ℕ
   pub slots : List Description
+  pub procedures : (number : ℕ) → Option KnownProcedure
+  pub lasting : Known
 
 -- activations are of these shapes
 abbrev pub AreShaped : World → List Shape → List Activation → Type 0
@@ -120,6 +136,34 @@ AreShaped w (s ∷ ss) (a ∷ older) =
     (a.unit ≡ s.unit) × (a.block ≡ s.block) × (a.link ≡ s.link) × AreSlots w s.slots a.slots s.parameters
     × AreShaped w ss older
 AreShaped w ss stack = ⊥
+
+-- from the activation of a height on, along static links, stand the blocks of a context, which are of a unit
+abbrev pub Stand : (unit : ℕ) → Known → List Shape → (height : ℕ) → List BlockAround → Type 0
+Stand unit known [] h [] = Unit {0}
+Stand unit known [] h (b ∷ bs) = ⊥
+Stand unit known (s ∷ older) h [] = Unit {0}
+Stand unit known (s ∷ older) h (b ∷ bs) =
+    ((h ≤ length older) × Stand unit known older h (b ∷ bs))
+    ⊎ ((h ≡ suc (length older)) × (s.block ≡ b.number)
+    × ((s.parameters ≡ b.parameters) × (s.slots ≡ b.slots)) × AreKnown unit known h b.labels
+    × Stand unit known older s.link bs × (s.unit ≡ unit))
+
+-- a block is an ON-unit that an activation may have: it is known to take nothing and to give nothing, and
+-- from the activation on stand the blocks around it, with labels that last
+pub record StandsAsUnit (s : Shape) (older : List Shape) (block : ℕ) : Type 0 where
+  pub procedure : KnownProcedure
+  pub found : s.procedures block ≡ Some procedure
+  pub parameters : procedure.parameters ≡ []
+  pub value : procedure.value ≡ None
+  pub stand : Stand s.unit s.lasting (s ∷ older) (suc (length older)) procedure.around
+
+-- so are all ON-units of activations of these shapes
+abbrev pub HaveUnits : List Shape → List Activation → Type 0
+HaveUnits [] [] = Unit {0}
+HaveUnits (s ∷ ss) (a ∷ older) =
+    ((c : Condition) (block : ℕ) → on_unit_for c a.on_units ≡ Some block → StandsAsUnit s ss block)
+    × HaveUnits ss older
+HaveUnits ss stack = ⊥
 
 -- they are of units of a program
 abbrev pub AreOfUnits : List TypedUnit → List Shape → Type 0
@@ -159,6 +203,7 @@ pub record IsSound (units : List TypedUnit) (shapes : List Shape) (w : World) : 
   pub stacks : AreStacksGood w
   pub stack : AreShaped w shapes w.activations
   pub of_units : AreOfUnits units shapes
+  pub on_units : HaveUnits shapes w.activations
   pub made : (i : ℕ) (u : TypedUnit) → slice_get units i ≡ Some u → AreStatics i u.globals w
 
 -- a later world: what lives there and was made before lived before, and is of the same description; each

@@ -40,6 +40,7 @@ HasEnd (Some s) value = Unit {0}
 -- a procedure is as it is known
 pub record IsTypedProcedure (greatest : ℕ) (globals : List Global) (procedures : ℕ → Option KnownProcedure)
     (p : KnownProcedure) (f : TypedProcedure) : Type 0 where
+  pub kind : f.is_on_unit ≡ p.is_on_unit
   pub parent : f.parent ≡ p.parent
   pub parameters : f.parameters ≡ length p.parameters
   pub end : HasEnd f.function_end p.value
@@ -49,7 +50,14 @@ pub record IsTypedProcedure (greatest : ℕ) (globals : List Global) (procedures
 -- the external procedure is known as one that stands in no block, takes the parameters of a signature and
 -- gives its result
 abbrev pub IsOuter : Option KnownProcedure → Signature → Type 0
-IsOuter o s = o ≡ Some (record { parent = None; around = []; parameters = s.parameters; value = s.result })
+IsOuter o s =
+    o ≡ Some (record {
+      is_on_unit = false;
+      parent = None;
+      around = [];
+      parameters = s.parameters;
+      value = s.result;
+    })
 
 -- a unit: each procedure that is known is there; the external one is block 0
 pub record IsTypedUnit (greatest : ℕ) (u : TypedUnit) : Type 0 where

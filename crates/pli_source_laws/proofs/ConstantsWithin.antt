@@ -154,6 +154,7 @@ module _ (n : Compiled) (limit : n.greatest ≡ 31) where
         nothing_else (token_if (later_expression n condition) at) (or_else (later_statement n consequence) (later_alternative n alternative)) l in
         let three = nothing_else (later_statement n consequence) (later_alternative n alternative) two.1 in
         (source condition (not_so (later_expression n condition) at two.0), stated consequence three.0, stated_else alternative three.1)
+    stated_body at (tree.On condition unit) l = stated unit l
     stated_body at (tree.Allocate items) l = each_allocation items (not_so (list_any (later_allocation n) items) at l)
     stated_body at (tree.Free references) l = each_reference references (not_so (list_any (later_reference n) references) at l)
     stated_body at (tree.Call name arguments) l = source_arguments arguments (not_so (later_arguments n arguments) at l)

@@ -78,6 +78,7 @@ abbrev mutual
       IfThere IsSourceControl control × AreSourceStatements statements
   IsSourceBody (tree.If condition consequence alternative) =
       IsSource condition × IsSourceStatement consequence × IsSourceElse alternative
+  IsSourceBody (tree.On condition unit) = IsSourceStatement unit
   IsSourceBody (tree.Allocate allocations) = AllByRecursion IsSourceAllocation allocations
   IsSourceBody (tree.Free references) = AllByRecursion IsSourceReference references
   IsSourceBody (tree.Call name arguments) = AreSourceArguments arguments

@@ -36,7 +36,7 @@ use Rattle.pli_type.specs.declared.beginning.Beginning.{Beginning}
 use Rattle.pli_type.specs.declared.expression_type.ExpressionType.{ExpressionType}
 use Rattle.pli_type.specs.laws.Laws.{is_of_types, AreOfTypes, IsFault, IsToldOfTypes, FaultsAreOfTypes}
 use Rattle.pli_type_tree.specs.TypedTree.{Callee, TypedExpression, TypedArguments, TypedRange, TypedStatements}
-use Rattle.pli_type_tree.specs.TypedTree.{TypedProcedure, TypedUnit}
+use Rattle.pli_type_tree.specs.TypedTree.{Form, TypedProcedure, TypedUnit}
 
 -- a fault, where there is one, is of types
 Only : {A : Type 0} → Result A Fault → Type 0
@@ -392,11 +392,11 @@ told_together make (Err fs) (Ok y) p q = p
 told_together make (Err fs) (Err gs) p q =
     (still_fault fs gs p.0, both_of_types fs gs p.1 q.1)
 
-told_procedure : (make : TypedStatements → TypedProcedure) (r : Result (WithProcedures TypedStatements) (List Fault))
-    → Told r → Told (statements.as_procedure make r)
+told_procedure : (form : Form) (make : TypedStatements → TypedProcedure)
+    (r : Result (WithProcedures TypedStatements) (List Fault)) → Told r → Told (statements.as_procedure form make r)
 unfolding Told
-told_procedure make (Ok x) p = tt
-told_procedure make (Err fs) p = p
+told_procedure form make (Ok x) p = tt
+told_procedure form make (Err fs) p = p
 
 -- units
 
@@ -412,7 +412,7 @@ mutual
       told_own _
       (only_then _ _ (only_referred (statements.naming_at u s) AsTarget target) (λ d. only_assigned (statements.naming_at u s) at equals d value))
   told_body u s x number at (tree.Declare declared) = passed _
-  told_body u s x number at (tree.Procedure heading list end) = told_procedure _ _ (told_statements u _ _ list)
+  told_body u s x number at (tree.Procedure heading list end) = told_procedure _ _ _ (told_statements u _ _ list)
   told_body u s x number at (tree.Begin list end) = told_made _ _ (told_statements u _ _ list)
   told_body u s x number at (tree.Do None list end) = told_made _ _ (told_statements u _ _ list)
   told_body u s x number at (tree.Do (Some (tree.While tested)) list end) =
@@ -431,7 +431,10 @@ mutual
   told_body u s x number at (tree.Return value) = told_own _ (only_return (statements.naming_at u s) s at value)
   told_body u s x number at (tree.Put skip printed_items) =
       told_made _ _ (told_own _ (only_items (statements.naming_at u s) printed_items))
-  told_body u s x number at other = told_own _ (told _ _ refl)
+  told_body u s x number at (tree.On c unit) =
+      told_procedure _ _ _ (told_together _ _ _ (told_statement u _ _ unit) (passed _))
+  told_body u s x number at (tree.Revert c) = passed _
+  told_body u s x number at (tree.Signal c) = passed _
 
   told_alternative : (u : NamedUnit) (s : statements.Surroundings) (x : Next) (a : Alternative)
       → Told (statements.alternative_typed u s x a)

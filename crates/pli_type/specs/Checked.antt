@@ -1,5 +1,5 @@
 -- The typed unit, or all its faults of types (X3.74, Z1 own): one for each statement, in the order of the
--- text. A unit with a form that is not compiled yet has Z1 in their place.
+-- text. A unit with a constant over the limits has Z1 in their place.
 use Rattle.std.specs.Prelude.{ℕ, Bool, true, false, ◌&&◌, Option, Some, None, List, [], ◌∷◌, length}
 use Rattle.std.specs.Prelude.{Result, Ok, Err}
 use Rattle.pli_base.specs.Statements.{ExternalProcedure, Statements}
@@ -24,6 +24,7 @@ first_inside = record { block = 1; temporary = 0 }
 -- the external procedure as a typed one, with its statements
 abbrev pub external_of : NamedUnit → TypedStatements → TypedProcedure
 external_of u list = record {
+  is_on_unit = false;
   head = record {
     number = 0;
     statement = u.tree.heading.number;
@@ -71,7 +72,7 @@ abbrev pub typed_as : NamedUnit → Result (WithProcedures TypedStatements) (Lis
 typed_as u (Ok list) = Ok (unit_of u list)
 typed_as u (Err faults) = Err faults
 
--- Z1 at the first form that is not compiled yet, in place of all else
+-- Z1 at the first statement with a constant over the limits, in place of all else
 abbrev pub unless_unbuilt : Option ℕ → Result TypedUnit (List Fault) → Result TypedUnit (List Fault)
 unless_unbuilt None typed = typed
 unless_unbuilt (Some at) typed = Err (record { code = NotYetBuilt; at = at } ∷ [])

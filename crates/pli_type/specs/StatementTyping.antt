@@ -1,5 +1,6 @@
 -- Typed statements: a statement gives a typed one, or its first fault of types and those of the statements in
--- it. An IF and a DO have a fault of their own, and so has each statement in them (own).
+-- it. An IF and a DO have a fault of their own, and so has each statement in them (own). An ON-unit is typed
+-- as a procedure without parameters and value, whose list is its statement.
 use Rattle.std.specs.Prelude.{ℕ, suc, ◌+◌, nat_eq, Bool, true, false, not, ◌&&◌, Option, Some, None}
 use Rattle.std.specs.Prelude.{is_none, option_map, option_and_then}
 use Rattle.std.specs.Prelude.{List, [], ◌∷◌, ◌++◌, length, map, slice_get, Result, Ok, Err, if◌then◌else◌}
@@ -123,10 +124,12 @@ items n (e ∷ es) = do
 
 -- where statements stand
 
--- a block around: its number, and the labels of its lists in which the statement stands
+-- a block around: its number; the labels of its lists in which the statement stands; and those among them
+-- that last while the block runs, of its own list and of none of its groups
 pub record Enclosing : Type 0 where
   pub number : ℕ
   pub labels : List ℕ
+  pub lasting : List ℕ
 
 -- where a statement stands: the blocks around, the innermost first; how many of them are BEGIN blocks of its
 -- procedure; and what its procedure gives, if it is a function
@@ -166,7 +169,8 @@ labels_of (Before first more) = label_of first ++ labels_of more
 -- the innermost block knows these labels too
 abbrev pub with_labels : List ℕ → List Enclosing → List Enclosing
 with_labels labels [] = []
-with_labels labels (b ∷ bs) = record { number = b.number; labels = labels ++ b.labels } ∷ bs
+with_labels labels (b ∷ bs) =
+    record { number = b.number; labels = labels ++ b.labels; lasting = b.lasting } ∷ bs
 
 -- in a group: the labels of its list are known too
 abbrev pub in_group : Statements → Surroundings → Surroundings
@@ -178,7 +182,8 @@ in_group statements s = record {
 
 -- a block of this number, whose list this is
 abbrev pub enclosing : (number : ℕ) → Statements → Enclosing
-enclosing number statements = record { number = number; labels = labels_of statements }
+enclosing number statements =
+    record { number = number; labels = labels_of statements; lasting = labels_of statements }
 
 -- in a BEGIN block of this number
 abbrev pub in_begin : (number : ℕ) → Statements → Surroundings → Surroundings
@@ -195,6 +200,23 @@ in_procedure number value statements s = record {
   blocks = enclosing number statements ∷ s.blocks;
   begins = 0;
   value = value;
+}
+
+-- of the innermost block the labels that last are known alone
+abbrev pub lasting_alone : List Enclosing → List Enclosing
+lasting_alone [] = []
+lasting_alone (b ∷ bs) = record { number = b.number; labels = b.lasting; lasting = b.lasting } ∷ bs
+
+-- the list of an ON-unit is its statement
+abbrev pub only : Statement → Statements
+only unit = Before unit Ended
+
+-- in an ON-unit whose block has this number; it may run while no group of the block around does (own)
+abbrev pub in_on_unit : (number : ℕ) → (unit : Statement) → Surroundings → Surroundings
+in_on_unit number unit s = record {
+  blocks = enclosing number (only unit) ∷ lasting_alone s.blocks;
+  begins = 0;
+  value = None;
 }
 
 -- jumps, calls and returns
@@ -451,6 +473,7 @@ function_end (Some d) end = Some end
 abbrev pub procedure_of : NamedUnit → (parent : Option ℕ) → (number statement end : ℕ) → Statements
     → TypedStatements → TypedProcedure
 procedure_of u parent number statement end statements list = record {
+  is_on_unit = false;
   head = head_of u number statement statements;
   parent = parent;
   parameters = length (u.parameters number);
@@ -458,12 +481,23 @@ procedure_of u parent number statement end statements list = record {
   statements = list;
 }
 
--- a procedure leaves nothing where it stands
-abbrev pub as_procedure : (TypedStatements → TypedProcedure)
+-- an ON-unit with its typed statement as a list
+abbrev pub on_unit_of : NamedUnit → (parent : Option ℕ) → (number statement : ℕ) → (unit : Statement)
+    → TypedStatements → TypedProcedure
+on_unit_of u parent number statement unit list = record {
+  is_on_unit = true;
+  head = head_of u number statement (only unit);
+  parent = parent;
+  parameters = 0;
+  function_end = None;
+  statements = list;
+}
+
+-- a procedure or an ON-unit stands behind those in it, and leaves this form in its place
+abbrev pub as_procedure : Form → (TypedStatements → TypedProcedure)
     → Result (WithProcedures TypedStatements) (List Fault) → Result (WithProcedures Form) (List Fault)
-as_procedure make (Ok x) =
-    Ok (record { part = typed.Null; procedures = x.procedures ++ make x.part ∷ [] })
-as_procedure make (Err fs) = Err fs
+as_procedure form make (Ok x) = Ok (record { part = form; procedures = x.procedures ++ make x.part ∷ [] })
+as_procedure form make (Err fs) = Err fs
 
 -- a statement before others, unless it leaves nothing
 abbrev pub put_before : (nothing : Bool) → TypedStatement → TypedStatements → TypedStatements
@@ -488,8 +522,7 @@ inside x = record { block = suc x.block; temporary = 0 }
 abbrev pub behind_limits : Option Range → Next → Next
 behind_limits range x = record { block = x.block; temporary = x.temporary + suc (limits_kept range) }
 
--- a statement, with the procedures in it. Forms that are not compiled yet are Z1, which is found before types
--- are asked for
+-- a statement, with the procedures in it
 abbrev mutual
   pub statement_typed : NamedUnit → Surroundings → Next → Statement
       → Result (WithProcedures TypedStatement) (List Fault)
@@ -504,7 +537,7 @@ abbrev mutual
       of_own (assignment (naming_at u s) at target equals value)
   body_typed u s x number at (Declare declared) = Ok (alone typed.Null)
   body_typed u s x number at (tree.Procedure heading statements end) =
-      as_procedure
+      as_procedure typed.Null
       (procedure_of u (Some (block_at s)) x.block number end statements)
       (statements_typed u (in_procedure x.block (u.returned x.block) statements s) (inside x) statements)
   body_typed u s x number at (tree.Begin statements end) =
@@ -532,7 +565,11 @@ abbrev mutual
   body_typed u s x number at (tree.Return value) = of_own (return_typed (naming_at u s) s at value)
   body_typed u s x number at (tree.Put skip printed_items) =
       put_form skip (items (naming_at u s) printed_items)
-  body_typed u s x number at other = of_own (at_fault NotYetBuilt at)
+  body_typed u s x number at (tree.On c unit) =
+      as_procedure (typed.On c x.block) (on_unit_of u (Some (block_at s)) x.block number unit)
+      (listed unit (statement_typed u (in_on_unit x.block unit s) (inside x) unit) (Ok (alone NoStatement)))
+  body_typed u s x number at (tree.Revert c) = Ok (alone (typed.Revert c))
+  body_typed u s x number at (tree.Signal c) = Ok (alone (typed.Signal c))
 
   -- an ELSE
   pub alternative_typed : NamedUnit → Surroundings → Next → Alternative

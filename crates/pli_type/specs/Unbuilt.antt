@@ -1,5 +1,6 @@
--- Z1: the first statement of a form that is not compiled yet, at its first token, which is its label where it
--- has one: ON, REVERT and SIGNAL. What stands behind THEN and ELSE is a statement (own).
+-- Z1: the first statement with a constant over the language's limits, which is not compiled, at its first
+-- token, which is its label where it has one. No text has such a constant. What stands behind THEN, ELSE and
+-- ON is a statement (own).
 use Rattle.std.specs.Prelude.{ℕ, ◌^◌, nat_lt, nat_le, length, Bool, true, false, not, ◌||◌, ◌&&◌, Option}
 use Rattle.std.specs.Prelude.{Some, None}
 use Rattle.std.specs.Prelude.{if◌then◌else◌}
@@ -117,9 +118,11 @@ abbrev mutual
   later_body n at (tree.Free references) = token_if (list_any (later_reference n) references) at
   later_body n at (tree.Call name arguments) = token_if (later_arguments n arguments) at
   later_body n at (tree.Goto label) = None
+  later_body n at (tree.On condition unit) = later_statement n unit
+  later_body n at (tree.Revert condition) = None
+  later_body n at (tree.Signal condition) = None
   later_body n at (tree.Return value) = token_if (later_part (later_expression n) value) at
   later_body n at (tree.Put skip items) = token_if (list_any (later_expression n) items) at
-  later_body n at other = Some at
 
   -- the statement of an ELSE
   pub later_alternative : Compiled → Alternative → Option ℕ
@@ -143,6 +146,6 @@ is_main_option option = false
 abbrev pub is_main : ExternalProcedure → Bool
 is_main u = list_any is_main_option u.heading.options
 
--- the token at which Z1 stands, if a form of the unit is not compiled yet
+-- the token at which Z1 stands, if a unit has such a constant
 abbrev pub first_unbuilt : Compiled → ExternalProcedure → Option ℕ
 first_unbuilt n u = later_statements n u.statements

@@ -1,5 +1,6 @@
 pub mod AllocationExamples
 pub mod AreaExamples
+pub mod ConditionExamples
 pub mod ControlExamples
 pub mod ExampleTrees
 pub mod FaultExamples

@@ -4,6 +4,7 @@ ghost use Rattle.pli_type.specs.laws.TextSorting.{TokensAreSorted};
 ghost use Rattle.pli_type.specs.examples.AllocationExamples.{WhatIsAllocated, WhatIsFreed, WhatIsCounted};
 ghost use Rattle.pli_type.specs.examples.AreaExamples.{LocatorsConvert, AreasAssigned, LocatorsWithin, BlocksOfAreas};
 ghost use Rattle.pli_type.specs.examples.FaultExamples.{OneFaultToAStatement, OperatorsTakeTheirTypes, AssignmentsConvert, AggregatesStandAlone, SubscriptsAreCounted, LocatorsAreNotAllowed, NamesOfNoVariable, FunctionsConvertNothing, BareConstants};
+ghost use Rattle.pli_type.specs.examples.ConditionExamples.{UnitsAreTyped};
 ghost use Rattle.pli_type.specs.examples.ControlExamples.{ControlVariables, CallsAreTyped, BlocksAreTyped};
 ghost use Rattle.pli_type.specs.examples.PointerExamples.{PointersAndNull, BasedReferences, Addresses, GenerationsByPointers};
 ghost use Rattle.pli_type.specs.examples.TypeExamples.{ConstantsAreDecimal, PrecisionsOfOperations, PrecisionsOfFunctions, KindsOfStrings, ColumnsOfNumbers};
@@ -25,11 +26,12 @@ pub fn fault_examples()
     ensures constants { BareConstants }
 {}
 
-/// Worked examples of groups, calls and blocks.
+/// Worked examples of groups, calls, blocks and ON-units.
 pub fn control_examples()
     ensures groups { ControlVariables }
     ensures calls { CallsAreTyped }
     ensures blocks { BlocksAreTyped }
+    ensures units { UnitsAreTyped }
 {}
 
 /// Worked examples of ALLOCATE, FREE and ALLOCATION.

@@ -17,14 +17,14 @@ use Rattle.pli_type.specs.Checked.{external_of, unit_of}
 use Rattle.pli_type.specs.Names.{NamedUnit, NamedAs}
 use Rattle.pli_type.specs.declared.beginning.Beginning.{Beginning}
 use Rattle.pli_type.specs.StatementTyping.{Surroundings, naming_at, block_at, leaves_nothing, condition, iteration, WithProcedures, of_own, together}
-use Rattle.pli_type.specs.StatementTyping.{made, head_of, procedure_of, as_procedure, put_before, inside, behind_limits, in_begin, in_group, in_procedure}
+use Rattle.pli_type.specs.StatementTyping.{alone, made, head_of, procedure_of, on_unit_of, as_procedure, put_before, inside, behind_limits, in_begin, in_group, in_on_unit, in_procedure, only}
 use Rattle.pli_type.specs.StatementTyping.{statement_typed, body_typed, alternative_typed, statements_typed}
 use Rattle.pli_type.specs.Temporaries.{Next, behind}
-use Rattle.pli_type_laws.proofs.BlocksKnown.{Sits, sits_parts, begun_count}
+use Rattle.pli_type_laws.proofs.BlocksKnown.{Sits, sits_parts, begun_count, begin_no_procedure, unit_no_procedure}
 use Rattle.pli_type_name_laws.specs.SourceBlocks.{SourceBlock, unit_blocks, begun_in, begun_by, begun_among, begun_behind}
 use Rattle.pli_type_tree.specs.Templates.{Template}
 use Rattle.pli_type_tree.specs.TypedTree as typed
-use Rattle.pli_type_tree.specs.TypedTree.{Form, TypedStatement, TypedStatements, OtherWise, NoElse, Else, BlockHead, Global, TypedProcedure, TypedUnit}
+use Rattle.pli_type_tree.specs.TypedTree.{Form, TypedStatement, TypedStatements, NoStatement, OtherWise, NoElse, Else, BlockHead, Global, TypedProcedure, TypedUnit}
 use Rattle.pli_type_laws.proofs.NumberedUnits.{nothing_left}
 use Rattle.pli_type_laws.proofs.TypedParts.{OnTyped}
 use Rattle.pli_type_laws.specs.TypedUnits.{unit_with}
@@ -166,10 +166,12 @@ module _ (sizes : ℕ → ℕ) where
       (it_is from from (begin_block parent head y.part) number (omega (arith, slots))) (λ k low high. h head.number k low high)
   begin_here head from to (Err fs) number slots h = tt
 
-  procedure_here : (make : TypedStatements → TypedProcedure) (from to : ℕ) (r : Result (WithProcedures TypedStatements) (List Fault))
+  procedure_here : (left : Form) (make : TypedStatements → TypedProcedure) (from to : ℕ) (r : Result (WithProcedures TypedStatements) (List Fault))
+      → ((parent : ℕ) → blocks_of_form parent left ≡ [])
       → ((list : TypedStatements) → ((make list).head.number ≡ from) × (slots_of (procedure_block (make list)) ≡ sizes from) × ((make list).statements ≡ list))
-      → OnTyped (AreHere blocks_among (suc from) to) r → OnTyped (AreHere blocks_of_form from to) (as_procedure make r)
-  procedure_here make from to (Ok y) known h = λ parent k low high. each k low high
+      → OnTyped (AreHere blocks_among (suc from) to) r → OnTyped (AreHere blocks_of_form from to) (as_procedure left make r)
+  procedure_here left make from to (Ok y) none known h =
+      λ parent k low high. subst (λ xs. Here (xs ++ within (y.procedures ++ make y.part ∷ [])) k) (sym (none parent)) (each k low high)
     where
       turned : (k : ℕ) → Here (blocks_of_procedure (make y.part) ++ within y.procedures) k → Here (within (y.procedures ++ make y.part ∷ [])) k
       turned k e =
@@ -194,7 +196,7 @@ module _ (sizes : ℕ → ℕ) where
           (it_is from from (procedure_block (make y.part)) it.0 it.1)
           (λ k low high. subst (λ list. Here (blocks_among (make y.part).head.number list ++ within y.procedures) k) (sym it.2)
           (h (make y.part).head.number k low high)))
-  procedure_here make from to (Err fs) known h = tt
+  procedure_here left make from to (Err fs) none known h = tt
 
   -- ---- lists
 
@@ -216,7 +218,8 @@ module _ (sizes : ℕ → ℕ) where
 module _ (program : ExternalProcedure) (is_based : ℕ → Bool) (based : List ℕ → ℕ → List Template) (areas : List ℕ → ℕ → Option Beginning)
     (meaning : List ℕ → ℕ → NamedAs) (parameters : ℕ → List Description) (returned : ℕ → Option Description) (automatic : ℕ → List Template)
     (globals : List Global)
-    (begins : (number : ℕ) (b : SourceBlock) → slice_get (unit_blocks program) number ≡ Some b → b.kind ≡ kinds.Begin → parameters number ≡ []) where
+    (without_parameters : (number : ℕ) (b : SourceBlock) → slice_get (unit_blocks program) number ≡ Some b → (b.kind ≡ kinds.Procedure → ⊥)
+    → parameters number ≡ []) where
   abbrev U : NamedUnit
   U = unit_with program is_based based areas meaning parameters returned automatic globals
 
@@ -226,9 +229,10 @@ module _ (program : ExternalProcedure) (is_based : ℕ → Bool) (based : List �
   abbrev pub sizes_of : ℕ → ℕ
   sizes_of k = length (parameters k) + length (automatic k)
 
-  begin_slots : (number : ℕ) (b : SourceBlock) → slice_get All number ≡ Some b → b.kind ≡ kinds.Begin → length (automatic number) ≡ sizes_of number
-  begin_slots number b there kind =
-      let none : length (parameters number) ≡ 0 = ap (λ (ds : List Description). length ds) (begins number b there kind) in
+  own_slots : (number : ℕ) (b : SourceBlock) → slice_get All number ≡ Some b → (b.kind ≡ kinds.Procedure → ⊥)
+      → length (automatic number) ≡ sizes_of number
+  own_slots number b there other =
+      let none : length (parameters number) ≡ 0 = ap (λ (ds : List Description). length ds) (without_parameters number b there other) in
       omega (arith, none)
 
   at_end : {A : Type 0} (blocks : (parent : ℕ) → A → List BlockTree) (from one other : ℕ) (r : Result (WithProcedures A) (List Fault)) → one ≡ other
@@ -245,14 +249,14 @@ module _ (program : ExternalProcedure) (is_based : ℕ → Bool) (based : List �
     body_here : (s : Surroundings) (x : Next) (number at : ℕ) (body : Body) → Sits All x.block (begun_by s.blocks x.block number body)
         → OnTyped (AreHere sizes_of blocks_of_form x.block (x.block + source.blocks_of body)) (body_typed U s x number at body)
     body_here s x number at (tree.Procedure heading ss end) sits =
-        procedure_here sizes_of (procedure_of U (Some (block_at s)) x.block number end ss) x.block (x.block + source.blocks_of (tree.Procedure heading ss end))
-        (statements_typed U (in_procedure x.block (returned x.block) ss s) (inside x) ss) (λ list. (refl, refl, refl))
+        procedure_here sizes_of typed.Null (procedure_of U (Some (block_at s)) x.block number end ss) x.block (x.block + source.blocks_of (tree.Procedure heading ss end))
+        (statements_typed U (in_procedure x.block (returned x.block) ss s) (inside x) ss) (λ parent. refl) (λ list. (refl, refl, refl))
         (at_end blocks_among (suc x.block) (suc x.block + source.blocks_among ss) _
         (statements_typed U (in_procedure x.block (returned x.block) ss s) (inside x) ss) (omega arith)
         (list_here (in_procedure x.block (returned x.block) ss s) (inside x) ss sits.1))
     body_here s x number at (tree.Begin ss end) sits =
         begin_here sizes_of (head_of U x.block number ss) x.block (x.block + source.blocks_of (tree.Begin ss end))
-        (statements_typed U (in_begin x.block ss s) (inside x) ss) refl (begin_slots x.block _ sits.0 refl)
+        (statements_typed U (in_begin x.block ss s) (inside x) ss) refl (own_slots x.block _ sits.0 begin_no_procedure)
         (at_end blocks_among (suc x.block) (suc x.block + source.blocks_among ss) _
         (statements_typed U (in_begin x.block ss s) (inside x) ss) (omega arith) (list_here (in_begin x.block ss s) (inside x) ss sits.1))
     body_here s x number at (tree.Do None ss end) sits =
@@ -296,7 +300,23 @@ module _ (program : ExternalProcedure) (is_based : ℕ → Bool) (based : List �
         none_here sizes_of blocks_of_form x.block (x.block + 0) (body_typed U s x number at (tree.Return value)) (omega arith)
     body_here s x number at (tree.Put skip list) sits =
         none_here sizes_of blocks_of_form x.block (x.block + 0) (body_typed U s x number at (tree.Put skip list)) (omega arith)
-    body_here s x number at other sits = tt
+    body_here s x number at (tree.On c (Numbered own label first inner)) sits =
+        let unit : Statement = Numbered own label first inner in
+        let there : Surroundings = in_on_unit x.block (Numbered own label first inner) s in
+        let slots : length (automatic x.block) ≡ sizes_of x.block = own_slots x.block _ sits.0 unit_no_procedure in
+        procedure_here sizes_of (typed.On c x.block) (on_unit_of U (Some (block_at s)) x.block number (Numbered own label first inner)) x.block
+        (x.block + source.blocks_of (tree.On c (Numbered own label first inner)))
+        (statements_typed U there (inside x) (only (Numbered own label first inner))) (λ parent. refl)
+        (λ list. (refl, omega (arith, slots), refl))
+        (at_end blocks_among (suc x.block) (suc x.block + source.blocks_of inner) _ (statements_typed U there (inside x) (only unit)) (omega arith)
+        (put_here sizes_of (leaves_nothing inner) own (suc x.block) (suc x.block + source.blocks_of inner) (suc x.block + source.blocks_of inner)
+        (body_typed U there (inside x) own first inner) (Ok (alone NoStatement)) (λ e. nothing_left U there (inside x) own first inner e)
+        (body_here there (inside x) own first inner sits.1)
+        (none_here sizes_of blocks_among (suc x.block + source.blocks_of inner) (suc x.block + source.blocks_of inner) (Ok (alone NoStatement)) (omega arith))))
+    body_here s x number at (tree.Revert c) sits =
+        none_here sizes_of blocks_of_form x.block (x.block + 0) (body_typed U s x number at (tree.Revert c)) (omega arith)
+    body_here s x number at (tree.Signal c) sits =
+        none_here sizes_of blocks_of_form x.block (x.block + 0) (body_typed U s x number at (tree.Signal c)) (omega arith)
 
     alternative_here : (s : Surroundings) (x : Next) (e : Alternative) → Sits All x.block (begun_behind s.blocks x.block e)
         → OnTyped (AreHere sizes_of blocks_of_else x.block (x.block + source.blocks_behind e)) (alternative_typed U s x e)

@@ -15,7 +15,7 @@ use Rattle.pli_type.specs.Names.{NamedUnit, NamedAs}
 use Rattle.pli_type.specs.declared.beginning.Beginning.{Beginning}
 use Rattle.pli_type.specs.StatementTyping.{Enclosing, Surroundings, naming_at, block_at, leaves_nothing, assignment, items}
 use Rattle.pli_type.specs.StatementTyping.{condition, iteration, allocate_typed, free_typed, call_typed, goto_typed, return_typed, WithProcedures, of_own, together}
-use Rattle.pli_type.specs.StatementTyping.{made, head_of, function_end, procedure_of, as_procedure, put_before, inside, behind_limits, in_begin, in_group, in_procedure, with_labels, labels_of}
+use Rattle.pli_type.specs.StatementTyping.{alone, made, head_of, function_end, procedure_of, on_unit_of, as_procedure, put_before, inside, behind_limits, in_begin, in_group, in_on_unit, in_procedure, lasting_alone, only, with_labels, labels_of}
 use Rattle.pli_type.specs.StatementTyping.{statement_typed, body_typed, alternative_typed, statements_typed}
 use Rattle.pli_type.specs.Temporaries.{Next, behind, based_among, temporaries_in, temporaries_of, temporaries_among, temporaries_behind}
 use Rattle.pli_type_laws.specs.TypedUnits.{unit_with}
@@ -24,7 +24,7 @@ use Rattle.pli_type_name_laws.specs.Nesting.{NestsWithin, BodyNests, ListNests, 
 use Rattle.pli_type_name_laws.specs.Numbering.{IsNumbered, IsNumberedBody, AreNumbered, IsNumberedElse}
 use Rattle.pli_type_tree.specs.Templates.{Template}
 use Rattle.pli_type_tree.specs.TypedTree as typed
-use Rattle.pli_type_tree.specs.TypedTree.{Form, TypedStatement, TypedStatements, OtherWise, NoElse, Else}
+use Rattle.pli_type_tree.specs.TypedTree.{Form, TypedStatement, TypedStatements, NoStatement, OtherWise, NoElse, Else}
 use Rattle.pli_type_tree.specs.TypedTree.{Global, TypedProcedure, TypedUnit}
 use Rattle.pli_type_bounds.proofs.AllocationsFit.{allocate_fits, free_fits}
 use Rattle.pli_type_bounds.proofs.FormsFit.{condition_fits, items_fit, assignment_fits, call_fits, return_fits, goto_fits, iteration_fits}
@@ -65,6 +65,15 @@ Fit t P y = P y.part × AllByRecursion (IsProcedure t) y.procedures
 labels_length : (labels : List ℕ) (bs : List Enclosing) → length (with_labels labels bs) ≡ length bs
 labels_length labels [] = refl
 labels_length labels (b ∷ bs) = refl
+
+lasting_length : (bs : List Enclosing) → length (lasting_alone bs) ≡ length bs
+lasting_length [] = refl
+lasting_length (b ∷ bs) = refl
+
+lasting_around : (size : ℕ) (bs : List Enclosing) → AllByRecursion (λ b. b < size) (map (λ (b : Enclosing). b.number) bs)
+    → AllByRecursion (λ b. b < size) (map (λ (b : Enclosing). b.number) (lasting_alone bs))
+lasting_around size [] h = h
+lasting_around size (b ∷ bs) h = h
 
 labels_block : (labels : List ℕ) (bs : List Enclosing) (begins other : ℕ) (value some : Option Description)
     → block_at (record { blocks = with_labels labels bs; begins = begins; value = value })
@@ -188,6 +197,16 @@ module _ (t : TypedUnit) (program : ExternalProcedure) (is_based : ℕ → Bool)
     value = fits.returned_fits number;
   }
 
+  in_a_unit : (m number : ℕ) (s : Surroundings) (unit : Statement) → number < size → Sits size (suc m) s
+      → Sits size m (in_on_unit number unit s)
+  in_a_unit m number s unit lt sits = record {
+    deep = omega (arith, sits.deep, lasting_length s.blocks);
+    begins = omega arith;
+    block = lt;
+    around = (lt, lasting_around size s.blocks sits.around);
+    value = tt;
+  }
+
   fewer : (m : ℕ) (s : Surroundings) → Sits size (suc m) s → Sits size m s
   fewer m s sits = record {
     deep = omega (arith, sits.deep);
@@ -219,11 +238,18 @@ module _ (t : TypedUnit) (program : ExternalProcedure) (is_based : ℕ → Bool)
   procedure_fits s number statement end ss list inside lt last h =
       (head_fits number statement ss list lt h.1, fits.blocks (block_at s) inside, fits.few number, end_fits (returned number) end last, h.0)
 
-  procedures_fit : (n : ℕ) (make : TypedStatements → TypedProcedure) (r : Result (WithProcedures TypedStatements) (List Fault))
-      → ((list : TypedStatements) → ListFits t n list → IsProcedure t (make list)) → OnTyped (Fit t (ListFits t n)) r
-      → OnTyped (Fit t (FormFits t 0)) (as_procedure make r)
-  procedures_fit n make (Ok y) g h = ((tt, omega arith), all_behind (IsProcedure t) y.procedures (make y.part ∷ []) h.1 (g y.part h.0, tt))
-  procedures_fit n make (Err fs) g h = tt
+  on_unit_fits : (s : Surroundings) (number statement : ℕ) (unit : Statement) (list : TypedStatements) → block_at s < size
+      → statement < word_limit → ListFits t (temporaries_among is_based (only unit)) list
+      → IsProcedure t (on_unit_of U (Some (block_at s)) number statement unit list)
+  on_unit_fits s number statement unit list inside lt h =
+      (head_fits number statement (only unit) list lt h.1, fits.blocks (block_at s) inside, omega arith, tt, h.0)
+
+  procedures_fit : (n : ℕ) (left : Form) (make : TypedStatements → TypedProcedure) (r : Result (WithProcedures TypedStatements) (List Fault))
+      → IsForm t left → ((list : TypedStatements) → ListFits t n list → IsProcedure t (make list)) → OnTyped (Fit t (ListFits t n)) r
+      → OnTyped (Fit t (FormFits t 0)) (as_procedure left make r)
+  procedures_fit n left make (Ok y) form g h =
+      ((form, omega arith), all_behind (IsProcedure t) y.procedures (make y.part ∷ []) h.1 (g y.part h.0, tt))
+  procedures_fit n left make (Err fs) form g h = tt
 
   -- ---- statements
 
@@ -246,8 +272,8 @@ module _ (t : TypedUnit) (program : ExternalProcedure) (is_based : ℕ → Bool)
     body_fits d m s x number at a (tree.Declare declared) sits n h lt low room l = ((tt, omega arith), tt)
     body_fits d m s x number at a (tree.Procedure heading ss end) sits n h lt low room l =
         deeper_in m (λ m. ListNests true m ss) _ n.1
-        (λ i e g. procedures_fit (temporaries_among is_based ss) (procedure_of U (Some (block_at s)) x.block number end ss)
-        (statements_typed U (in_procedure x.block (returned x.block) ss s) (inside x) ss)
+        (λ i e g. procedures_fit (temporaries_among is_based ss) typed.Null (procedure_of U (Some (block_at s)) x.block number end ss)
+        (statements_typed U (in_procedure x.block (returned x.block) ss s) (inside x) ss) tt
         (λ list k. procedure_fits s x.block number end ss list sits.block lt (omega (arith, h.1, low)) k)
         (list_fits true i (in_procedure x.block (returned x.block) ss s) (inside x) a ss
         (in_a_procedure i x.block s ss (omega (arith, room)) (subst (λ k. Sits size k s) e sits)) g h.0 (omega (arith, low))
@@ -320,7 +346,23 @@ module _ (t : TypedUnit) (program : ExternalProcedure) (is_based : ℕ → Bool)
     body_fits d m s x number at a (tree.Put skip list) sits n h lt low room l =
         made_fits t (AllByRecursion (IsExpression t)) (FormFits t 0) (typed.Put skip) (of_own (items (naming_at U s) list)) (λ xs k. (k, omega arith))
         (own_fits t (AllByRecursion (IsExpression t)) (items (naming_at U s) list) (items_fit t (based (numbers s)) (areas (numbers s)) (meaning (numbers s)) (known m s sits) list l))
-    body_fits d m s x number at a other sits n h lt low room l = tt
+    body_fits d m s x number at a (tree.On c (Numbered own label first inner)) sits n h lt low room l =
+        let unit : Statement = Numbered own label first inner in
+        let there : Surroundings = in_on_unit x.block (Numbered own label first inner) s in
+        deeper_in m (λ m. NestsWithin false m (Numbered own label first inner)) _ n
+        (λ i e g. procedures_fit (temporaries_among is_based (only (Numbered own label first inner))) (typed.On c x.block)
+        (on_unit_of U (Some (block_at s)) x.block number (Numbered own label first inner))
+        (statements_typed U there (inside x) (only (Numbered own label first inner))) (fits.blocks x.block (omega (arith, room)))
+        (λ list k. on_unit_fits s x.block number (Numbered own label first inner) list sits.block lt k)
+        (both_fit t (StatementFits t (temporaries_of is_based inner)) (ListFits t 0) (ListFits t (temporaries_of is_based inner + 0))
+        (put_before (leaves_nothing inner)) (statement_typed U there (inside x) unit) (Ok (alone NoStatement))
+        (λ y z j k. put_fits t (leaves_nothing inner) y z (temporaries_of is_based inner) 0 (nothing_kept is_based inner) j k)
+        (statement_fits false i there (inside x) a (Numbered own label first inner)
+        (in_a_unit i x.block s (Numbered own label first inner) (omega (arith, room)) (subst (λ k. Sits size k s) e sits)) g h
+        (omega (arith, low)) (omega (arith, room)) l)
+        ((tt, omega arith), tt)))
+    body_fits d m s x number at a (tree.Revert c) sits n h lt low room l = ((tt, omega arith), tt)
+    body_fits d m s x number at a (tree.Signal c) sits n h lt low room l = ((tt, omega arith), tt)
 
     alternative_fits : (m : ℕ) (s : Surroundings) (x : Next) (a : ℕ) (e : Alternative) → Sits size m s → ElseNests m e
         → IsNumberedElse a e → a + alternative_count e ≤ word_limit → x.block + blocks.blocks_behind e ≤ size → IsSourceElse e

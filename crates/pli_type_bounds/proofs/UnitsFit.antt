@@ -133,7 +133,7 @@ module _ (texts : Tokens) (u : ExternalProcedure) (read : unit_of texts ≡ Ok u
   blocks_here : OnTyped (AreHere (λ k. length (parameters_of R k) + length (Automatic u none k)) blocks_among 1 (1 + source.blocks_among u.statements)) Given
   blocks_here =
       list_here u named based areas meaning (parameters_of R) (returned_of R)
-      (λ block. templates_of (is_automatic 31) (block_symbols R block)) (all_globals 31 (all_symbols R)) facts.begins
+      (λ block. templates_of (is_automatic 31) (block_symbols R block)) (all_globals 31 (all_symbols R)) facts.without_parameters
       (in_unit (returned_of R 0) u.statements) first_inside u.statements all_sit.1
 
   module _ (y : WithProcedures TypedStatements) (is : Given ≡ Ok y) where
@@ -147,9 +147,9 @@ module _ (texts : Tokens) (u : ExternalProcedure) (read : unit_of texts ≡ Ok u
     has = record {
       globals = refl;
       blocks = λ block lt. has_block u named based areas meaning (parameters_of R) (returned_of R)
-          (λ block. templates_of (is_automatic 31) (block_symbols R block)) (all_globals 31 (all_symbols R)) facts.begins y here block (omega (arith, lt, size_is));
+          (λ block. templates_of (is_automatic 31) (block_symbols R block)) (all_globals 31 (all_symbols R)) facts.without_parameters y here block (omega (arith, lt, size_is));
       slots = λ block slot lt within. has_slot u named based areas meaning (parameters_of R) (returned_of R)
-          (λ block. templates_of (is_automatic 31) (block_symbols R block)) (all_globals 31 (all_symbols R)) facts.begins y here block slot (omega (arith, lt, size_is)) within;
+          (λ block. templates_of (is_automatic 31) (block_symbols R block)) (all_globals 31 (all_symbols R)) facts.without_parameters y here block slot (omega (arith, lt, size_is)) within;
     }
 
     fits : UnitFits T named based areas meaning (parameters_of R) (returned_of R) (λ block. templates_of (is_automatic 31) (block_symbols R block)) (length R.blocks)

@@ -8,10 +8,10 @@ use Rattle.pli_base.specs.Statements as tree
 use Rattle.pli_base.specs.Statements.{Statement, Numbered, Body, Statements, Ended, Before, Alternative, NoElse, Else}
 use Rattle.pli_parse_expression.specs.Expressions.{Deeper}
 use Rattle.pli_resolve.specs.declared.block_numbers.ResolvedBlockKind.TheVariants as kinds
-use Rattle.pli_type.specs.StatementTyping.{Enclosing, enclosing, labels_of, with_labels}
+use Rattle.pli_type.specs.StatementTyping.{Enclosing, enclosing, labels_of, lasting_alone, only, with_labels}
 use Rattle.pli_resolve.specs.TreeBlocks as blocks
 use Rattle.pli_type_name_laws.specs.Nesting.{NestsWithin, BodyNests, ListNests, ElseNests}
-use Rattle.pli_type_name_laws.specs.SourceBlocks.{SourceBlock, of_unit, begun_in, begun_by, begun_among, begun_behind}
+use Rattle.pli_type_name_laws.specs.SourceBlocks.{SourceBlock, begun_in, begun_by, begun_among, begun_behind}
 
 -- ---- labels
 
@@ -59,7 +59,8 @@ mutual
         begun_count around x consequence,
         else_count around (x + blocks.blocks_in consequence) alternative,
       )
-  body_count around x number (tree.On condition unit) = ap suc (begun_count (of_unit x ∷ around) (suc x) unit)
+  body_count around x number (tree.On condition unit) =
+      ap suc (begun_count (enclosing x (only unit) ∷ lasting_alone around) (suc x) unit)
   body_count around x number body = refl
 
   pub list_count : (around : List Enclosing) (x : ℕ) (ss : Statements)
@@ -77,6 +78,14 @@ mutual
       → length (begun_behind around x a) ≡ blocks.blocks_behind a
   else_count around x NoElse = refl
   else_count around x (Else s) = begun_count around x s
+
+-- ---- kinds of blocks
+
+pub begin_no_procedure : kinds.Begin ≡ kinds.Procedure → ⊥
+begin_no_procedure e = absurd (cc)
+
+pub unit_no_procedure : kinds.OnUnit ≡ kinds.Procedure → ⊥
+unit_no_procedure e = absurd (cc)
 
 -- ---- a unit's blocks
 
@@ -102,22 +111,28 @@ module _ (all : List SourceBlock) where
       next : (i : ℕ) → suc n + i ≡ n + suc i
       next i = omega arith
 
-  -- blocks around that stand where they say, with at least the labels of their lists
+  -- blocks around that stand where they say, with at least the labels of their lists, which last
   abbrev pub AreHome : List Enclosing → Type 0
   AreHome [] = Unit {0}
   AreHome (e ∷ rest) =
-      ((b : SourceBlock) × (slice_get all e.number ≡ Some b) × (b.around ≡ rest) × Within b.labels e.labels) × AreHome rest
+      ((b : SourceBlock) × (slice_get all e.number ≡ Some b) × (b.around ≡ rest) × Within b.labels e.labels
+      × Within b.labels e.lasting) × AreHome rest
 
   -- directly in the list of a block
   abbrev pub StandsDirectly : List Enclosing → Type 0
   StandsDirectly [] = Unit {0}
   StandsDirectly (e ∷ rest) =
       (b : SourceBlock) × (slice_get all e.number ≡ Some b) × (b.around ≡ rest) × Within e.labels b.labels
+      × Within e.lasting b.labels
 
   pub home_labels : (labels : List ℕ) (around : List Enclosing) → AreHome around → AreHome (with_labels labels around)
   home_labels labels [] h = tt
   home_labels labels (e ∷ rest) h =
-      ((h.0.0, h.0.1, h.0.2, within_behind h.0.0.labels labels e.labels h.0.3), h.1)
+      ((h.0.0, h.0.1, h.0.2, within_behind h.0.0.labels labels e.labels h.0.3, h.0.4), h.1)
+
+  pub home_lasting : (around : List Enclosing) → AreHome around → AreHome (lasting_alone around)
+  home_lasting [] h = tt
+  home_lasting (e ∷ rest) h = ((h.0.0, h.0.1, h.0.2, h.0.4, h.0.4), h.1)
 
   abbrev pub AreDirect : List SourceBlock → Type 0
   AreDirect [] = Unit {0}
@@ -126,12 +141,6 @@ module _ (all : List SourceBlock) where
   direct_both : (bs cs : List SourceBlock) → AreDirect bs → AreDirect cs → AreDirect (bs ++ cs)
   direct_both [] cs h k = k
   direct_both (b ∷ bs) cs h k = (h.0, direct_both bs cs h.1 k)
-
-  begin_no_procedure : kinds.Begin ≡ kinds.Procedure → ⊥
-  begin_no_procedure e = absurd (cc)
-
-  unit_no_procedure : kinds.OnUnit ≡ kinds.Procedure → ⊥
-  unit_no_procedure e = absurd (cc)
 
   inside : (levels : ℕ) (F : ℕ → Type 0) (X : Type 0) → Deeper F levels → ((m : ℕ) → F m → X) → X
   inside zero F X h g = absurd h
@@ -148,13 +157,13 @@ module _ (all : List SourceBlock) where
       λ e. k n.0,
       inside levels (λ m. ListNests true m statements) _ n.1
           (λ m g. direct_among true m (enclosing x statements ∷ around) (suc x) statements g
-          (λ e. (_, h.0, refl, within_self (labels_of statements))) h.1),
+          (λ e. (_, h.0, refl, within_self (labels_of statements), within_self (labels_of statements))) h.1),
     )
     direct_by d levels around x number (tree.Begin statements end) n k h = (
       λ e. absurd (begin_no_procedure e),
       inside levels (λ m. ListNests true m statements) _ n
           (λ m g. direct_among true m (enclosing x statements ∷ around) (suc x) statements g
-          (λ e. (_, h.0, refl, within_self (labels_of statements))) h.1),
+          (λ e. (_, h.0, refl, within_self (labels_of statements), within_self (labels_of statements))) h.1),
     )
     direct_by d levels around x number (tree.Do control statements end) n k h =
         inside levels (λ m. ListNests false m statements) _ n
@@ -170,7 +179,7 @@ module _ (all : List SourceBlock) where
     direct_by d levels around x number (tree.On condition unit) n k h = (
       λ e. absurd (unit_no_procedure e),
       inside levels (λ m. NestsWithin false m unit) _ n
-          (λ m g. direct_in false m (of_unit x ∷ around) (suc x) unit g (λ e. absurd (cc)) h.1),
+          (λ m g. direct_in false m (enclosing x (only unit) ∷ lasting_alone around) (suc x) unit g (λ e. absurd (cc)) h.1),
     )
     direct_by d levels around x number body n k h = tt
 

@@ -9,13 +9,13 @@ use Rattle.pli_resolve.specs.declared.block_numbers.ResolvedBlockKind.TheVariant
 use Rattle.pli_type.specs.NamedUnits.{outward_to}
 use Rattle.pli_type.specs.Names.{NamedUnit, NamedAs, AVariable, AFunction, AProcedure, ALabel, Untyped, NamedProcedure}
 use Rattle.pli_type.specs.StatementTyping as source
-use Rattle.pli_type.specs.StatementTyping.{Enclosing, Surroundings, label_found}
+use Rattle.pli_type.specs.StatementTyping.{Enclosing, Surroundings, label_found, lasting_alone}
 use Rattle.pli_type_laws.proofs.BlocksKnown.{Within, within_both, AreHome, StandsDirectly}
 use Rattle.pli_type_laws.proofs.Calls.{IsCallable}
 use Rattle.pli_type_laws.proofs.Expressions.{IsMeaning}
 use Rattle.pli_type_name_laws.specs.NameFacts.{HaveSlots, IsAreaNamed, VariableFacts, IsCalled, ProcedureFacts, NameFacts, StandsAround}
 use Rattle.pli_type_name_laws.specs.SourceBlocks.{SourceBlock, unit_blocks, innermost, slots_in, known_blocks, known_procedures}
-use Rattle.pli_type_tree.specs.WellTyped.{BlockAround, KnownProcedure, TypingContext, AreAround, IsCallee, IsReached, blocks_from, knows_label}
+use Rattle.pli_type_tree.specs.WellTyped.{BlockAround, KnownProcedure, TypingContext, AreAround, AreAroundUnit, IsCallee, IsReached, IsUnitHere, blocks_from, knows_label}
 use Rattle.pli_type_tree.specs.WellTyped as trees
 use Rattle.pli_type_tree.specs.Globals.{signature_of}
 use Rattle.pli_type_tree.specs.TypedTree.{Callee, OfBlock, OfEntry}
@@ -25,7 +25,12 @@ use Rattle.pli_type_tree.specs.TypedTree.{Callee, OfBlock, OfEntry}
 -- the same blocks are around themselves
 pub around_self : (bs : List BlockAround) → AreAround bs bs
 around_self [] = tt
-around_self (b ∷ bs) = (refl, (refl, refl), (λ label e. e), around_self bs)
+around_self (b ∷ bs) = (refl, (refl, refl), (λ label e. e), (λ label e. e), around_self bs)
+
+-- a place stands in a block
+abbrev pub IsInside : List Enclosing → Type 0
+IsInside [] = ⊥
+IsInside (b ∷ bs) = Unit {0}
 
 module _ (u : NamedUnit) where
   abbrev All : List SourceBlock
@@ -44,7 +49,7 @@ module _ (u : NamedUnit) where
   slots_known [] [] h = tt
   slots_known [] (b ∷ bs) h = h
   slots_known (e ∷ es) [] h = h
-  slots_known (e ∷ es) (b ∷ bs) h = (h.0, h.1, slots_known es bs h.3)
+  slots_known (e ∷ es) (b ∷ bs) h = (h.0, h.1, slots_known es bs h.4)
 
   -- in a group
   pub group_known : (labels names : List ℕ) (es : List Enclosing) (bs : List BlockAround) → Within labels names
@@ -54,7 +59,7 @@ module _ (u : NamedUnit) where
   group_known labels names [] (b ∷ bs) f h = absurd h
   group_known labels names (e ∷ es) [] f h = absurd h
   group_known labels names (e ∷ es) (b ∷ bs) f h =
-      (h.0, h.1, within_both labels e.labels names b.labels f h.2, h.3)
+      (h.0, h.1, within_both labels e.labels names b.labels f h.2, h.3, h.4)
 
   -- the label that a GOTO leads to
   pub label_known : (es : List Enclosing) (bs : List BlockAround) (label outward : ℕ) → AreAround bs (known_blocks u es)
@@ -62,7 +67,7 @@ module _ (u : NamedUnit) where
   label_known [] bs label outward h e = absurd (none-some outward e)
   label_known (e ∷ es) [] label outward h f = absurd h
   label_known (e ∷ es) (b ∷ bs) label outward h f =
-      by (list_any (nat_eq label) e.labels) refl f (λ k g. label_known es bs label k h.3 g)
+      by (list_any (nat_eq label) e.labels) refl f (λ k g. label_known es bs label k h.4 g)
     where
       next : (o : Option ℕ) → label_found es label ≡ o → option_map suc o ≡ Some outward
           → ((k : ℕ) → label_found es label ≡ Some k → knows_label (slice_get bs k) label)
@@ -81,6 +86,7 @@ module _ (u : NamedUnit) where
 
   abbrev pub own_procedure : (number : ℕ) → SourceBlock → KnownProcedure
   own_procedure number b = record {
+    is_on_unit = false;
     parent = innermost b.around;
     around = known_blocks u b.around;
     parameters = u.parameters number;
@@ -90,6 +96,47 @@ module _ (u : NamedUnit) where
   pub procedure_there : (number : ℕ) (b : SourceBlock) → slice_get All number ≡ Some b → b.kind ≡ kinds.Procedure
       → known_procedures u number ≡ Some (own_procedure number b)
   procedure_there number b there kind = rw (there, kind) refl
+
+  -- ---- ON-units
+
+  abbrev pub own_unit : SourceBlock → KnownProcedure
+  own_unit b = record {
+    is_on_unit = true;
+    parent = innermost b.around;
+    around = known_blocks u b.around;
+    parameters = [];
+    value = None;
+  }
+
+  pub unit_there : (number : ℕ) (b : SourceBlock) → slice_get All number ≡ Some b → b.kind ≡ kinds.OnUnit
+      → known_procedures u number ≡ Some (own_unit b)
+  unit_there number b there kind = rw (there, kind) refl
+
+  unit_parent : (es : List Enclosing) (bs : List BlockAround) → AreAround bs (known_blocks u es)
+      → innermost (lasting_alone es) ≡ trees.innermost bs
+  unit_parent [] [] h = refl
+  unit_parent [] (b ∷ bs) h = absurd h
+  unit_parent (e ∷ es) [] h = absurd h
+  unit_parent (e ∷ es) (b ∷ bs) h = ap Some (sym h.0)
+
+  unit_around : (es : List Enclosing) (bs : List BlockAround) → IsInside es → AreAround bs (known_blocks u es)
+      → AreAroundUnit bs (known_blocks u (lasting_alone es))
+  unit_around [] bs inside h = absurd inside
+  unit_around (e ∷ es) [] inside h = absurd h
+  unit_around (e ∷ es) (b ∷ bs) inside h = (h.0, h.1, h.3, h.3, h.4)
+
+  -- an ON-unit of a place
+  pub unit_known : (s : TypingContext) (here : Surroundings) → Knows s here → IsInside here.blocks → (number : ℕ) (b : SourceBlock)
+      → slice_get All number ≡ Some b → b.kind ≡ kinds.OnUnit → b.around ≡ lasting_alone here.blocks → IsUnitHere s number
+  unit_known s here knows inside number b there kind stands = (
+    own_unit b,
+    ap (λ (g : ℕ → Option KnownProcedure). g number) knows.procedures ∙ unit_there number b there kind,
+    refl,
+    ap innermost stands ∙ unit_parent here.blocks s.blocks knows.blocks,
+    subst (λ es. AreAroundUnit s.blocks (known_blocks u es)) (sym stands) (unit_around here.blocks s.blocks inside knows.blocks),
+    refl,
+    refl,
+  )
 
   -- the place from which the blocks around a procedure are known
   abbrev Found : (number : ℕ) (bs around : List BlockAround) → Type 0
@@ -102,7 +149,7 @@ module _ (u : NamedUnit) where
   reach e rest [] bs outward home around direct at = absurd (none-some outward at)
   reach e rest (x ∷ es) [] outward home around direct at = absurd around
   reach e rest (x ∷ es) (b ∷ bs) outward home around direct at =
-      by (nat_eq x.number e.number) refl at (λ k is. reach e rest es bs k home.1 around.3 direct is)
+      by (nat_eq x.number e.number) refl at (λ k is. reach e rest es bs k home.1 around.4 direct is)
     where
       same_number : nat_eq x.number e.number ≡ true → nat_eq b.number e.number ≡ true
       same_number is = ap (λ n. nat_eq n e.number) around.0 ∙ is
@@ -125,8 +172,9 @@ module _ (u : NamedUnit) where
         around.0 ∙ is,
         (around.1.0 ∙ ap (λ k. length (u.parameters k)) is, around.1.1 ∙ ap (slots_in u) is),
         (λ label f. around.2 label (home.0.3 label (subst (λ (c : SourceBlock). IsTrue (list_any (nat_eq label) c.labels)) (sym one) (direct.3 label f)))),
+        (λ label f. around.3 label (home.0.4 label (subst (λ (c : SourceBlock). IsTrue (list_any (nat_eq label) c.labels)) (sym one) (direct.4 label f)))),
         subst (λ xs. AreAround bs (known_blocks u xs))
-            (sym home.0.2 ∙ ap (λ (c : SourceBlock). c.around) one ∙ direct.2) around.3,
+            (sym home.0.2 ∙ ap (λ (c : SourceBlock). c.around) one ∙ direct.2) around.4,
       )
 
       next : (o : Option ℕ) → outward_to (map (λ x. x.number) es) e.number ≡ o → option_map suc o ≡ Some outward
@@ -164,6 +212,7 @@ module _ (u : NamedUnit) where
     callee_known p (OfBlock number) f = (
       own_procedure number f.block,
       ap (λ (g : ℕ → Option KnownProcedure). g number) knows.procedures ∙ procedure_there number f.block f.there f.kind,
+      refl,
       reached f.block.around here.blocks s.blocks home knows.blocks (direct number f.block f.there f.kind) f.reached,
       sym f.parameters,
       sym f.returned,

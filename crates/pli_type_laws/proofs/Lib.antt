@@ -19,4 +19,5 @@ pub mod Shapes
 pub mod Statements
 pub mod TypedParts
 pub mod Units
+pub mod UnitsNamed
 pub mod Widths

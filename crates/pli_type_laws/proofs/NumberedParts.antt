@@ -195,14 +195,17 @@ good_begin m j t a b c k l head y few le is g = (
   ((λ i lt. tt), (λ used size u s. tt)),
 )
 
--- a procedure
-pub good_procedure : (m j t a b c k l : ℕ) (f : TypedProcedure) (fs : List TypedProcedure) → m < 64 → b ≤ c → f.head.number ≡ k
+-- a procedure or an ON-unit, and the form that it leaves in its place
+pub good_procedure : (m j t a b c k l : ℕ) (left : Form) (f : TypedProcedure) (fs : List TypedProcedure) → numbers_in_form left ≡ []
+    → ((parent : ℕ) → blocks_of_form parent left ≡ []) → HereForm j t t left → m < 64 → b ≤ c → f.head.number ≡ k
     → GoodList m 0 f.head.temporaries a b (suc k) l (record { part = f.statements; procedures = fs })
-    → GoodForm j t t a c k l (record { part = typed.Null; procedures = fs ++ f ∷ [] })
-good_procedure m j t a b c k l f fs few le is g = (
+    → GoodForm j t t a c k l (record { part = left; procedures = fs ++ f ∷ [] })
+good_procedure m j t a b c k l left f fs none no_blocks here few le is g = (
   (λ parent n. omega (
     arith,
     g.0 f.head.number n,
+    ap (times n) none,
+    ap (in_blocks n) (no_blocks parent),
     below_more n b c le,
     within_in n fs (f ∷ []),
     in_both n (blocks_of_procedure f) [],
@@ -210,15 +213,22 @@ good_procedure m j t a b c k l f fs few le is g = (
   (λ parent n. omega (
     arith,
     g.1 f.head.number n,
+    ap (of_blocks n) (no_blocks parent),
     below_next n k,
     ap (same n) is,
     within_of n fs (f ∷ []),
     of_both n (blocks_of_procedure f) [],
   )),
-  (λ parent. omega (arith, g.2 f.head.number, within_length fs (f ∷ []), length-append (blocks_of_procedure f) [])),
-  (λ parent. tt),
+  (λ parent. omega (
+    arith,
+    g.2 f.head.number,
+    ap (λ (bs : List BlockTree). length bs) (no_blocks parent),
+    within_length fs (f ∷ []),
+    length-append (blocks_of_procedure f) [],
+  )),
+  (λ parent. subst AreRoomy (sym (no_blocks parent)) tt),
   within_roomy fs (f ∷ []) g.4
       (roomy_both (blocks_of_procedure f) []
       ((g.5.0 64 few, g.5.1 0 f.head.temporaries (omega arith) (omega arith)), g.3 f.head.number) tt),
-  ((λ i lt. tt), (λ used size u s. tt)),
+  here,
 )

@@ -7,8 +7,9 @@ use Rattle.std.proofs.lemmas.Bool.{false≢true}
 use Rattle.pli_base.specs.Statements as tree
 use Rattle.pli_base.specs.Statements.{Statement, Numbered, Body, Range, Statements, Ended, Before, Alternative, count, body_count}
 use Rattle.pli_base.specs.Statements.{list_count, alternative_count}
+use Rattle.pli_base.specs.declared.statement.Condition.{Condition}
 use Rattle.pli_base.specs.declared.token.Fault.{Fault}
-use Rattle.pli_gen_emit.specs.TreeTranslation.{BlockTree, blocks_of_procedure, blocks_in, blocks_of_form, blocks_of_else, blocks_among}
+use Rattle.pli_gen_emit.specs.TreeTranslation.{BlockTree, blocks_of_procedure, blocks_in, blocks_of_form, blocks_of_else, blocks_among, by_number}
 use Rattle.pli_gen.specs.WellNumbered.{numbers_in, numbers_in_form, numbers_in_else, numbers_among, HasTurns, HaveRoom}
 use Rattle.pli_gen.specs.WellNumbered.{KeepApart, next_temporary, IsWellNumbered}
 use Rattle.pli_parse_expression.specs.Expressions.{Deeper}
@@ -16,7 +17,7 @@ use Rattle.pli_type.specs.Checked.{in_unit, first_inside, external_of, unit_of, 
 use Rattle.pli_type.specs.Names.{NamedUnit}
 use Rattle.pli_type.specs.StatementTyping.{Surroundings, naming_at, block_at, leaves_nothing, assignment, items, condition, iteration}
 use Rattle.pli_type.specs.StatementTyping.{allocate_typed, free_typed, call_typed, goto_typed, return_typed, WithProcedures, alone, of_own, together, made, head_of}
-use Rattle.pli_type.specs.StatementTyping.{procedure_of, as_procedure, put_before, inside, behind_limits, in_group, in_begin, in_procedure}
+use Rattle.pli_type.specs.StatementTyping.{procedure_of, on_unit_of, as_procedure, put_before, inside, behind_limits, in_group, in_begin, in_on_unit, in_procedure, only}
 use Rattle.pli_type.specs.StatementTyping.{statement_typed, body_typed, alternative_typed, statements_typed}
 use Rattle.pli_resolve.specs.TreeBlocks as blocks
 use Rattle.pli_type.specs.Temporaries.{Next, behind, limits_kept, based_among, temporaries_in, temporaries_of, temporaries_among, temporaries_behind}
@@ -29,6 +30,7 @@ use Rattle.pli_type_laws.proofs.NumberedParts.{HereForm, HereStatement, HereElse
 use Rattle.pli_type_laws.proofs.NumberedParts.{good_numbered, good_begin, good_procedure}
 use Rattle.pli_type_laws.proofs.Shapes.{IsSimple, simple_assignment, simple_goto, simple_call, simple_return, simple_free, IsAllocation, allocate_keeps, HasOwn, iteration_keeps}
 use Rattle.pli_type_laws.proofs.TypedParts.{OnTyped}
+use Rattle.pli_type_laws.proofs.UnitsNamed.{Given, ListNamed, Named, Placed, all_joined, all_parts, gives_all, list_named}
 use Rattle.pli_type_laws.specs.TypedUnits.{TypedUnitsAreNumbered}
 use Rattle.pli_type_name_laws.specs.NameFacts.{KnowsBased}
 use Rattle.pli_type_name_laws.specs.Nesting.{NestsWithin, BodyNests, ListNests, ElseNests}
@@ -47,6 +49,7 @@ simple_good m t z a b k (typed.Group ss) le h = absurd h
 simple_good m t z a b k (typed.While c ss) le h = absurd h
 simple_good m t z a b k (typed.Iterate i ss) le h = absurd h
 simple_good m t z a b k (typed.Allocate items) le h = absurd h
+simple_good m t z a b k (typed.On c block) le h = absurd h
 simple_good m t z a b k f le h =
     good_alone numbers_in_form blocks_of_form (HereForm m t z) a b k f le refl (λ parent. refl)
     ((λ j lt. tt), (λ used size u s. tt))
@@ -121,10 +124,20 @@ begin_good m i t a b c k l head (Err fs) few le e g = tt
 procedure_good : (u : NamedUnit) (parent : Option ℕ) (statement end : ℕ) (ss : Statements) (m i t a b c k l : ℕ)
     (r : Result (WithProcedures TypedStatements) (List Fault)) → i < 64 → b ≤ c
     → OnTyped (GoodList i 0 (temporaries_among u.compiled.is_based ss) a b (suc k) l) r
-    → OnTyped (GoodForm m t t a c k l) (as_procedure (procedure_of u parent k statement end ss) r)
+    → OnTyped (GoodForm m t t a c k l) (as_procedure typed.Null (procedure_of u parent k statement end ss) r)
 procedure_good u parent statement end ss m i t a b c k l (Ok y) few le g =
-    good_procedure i m t a b c k l (procedure_of u parent k statement end ss y.part) y.procedures few le refl g
+    good_procedure i m t a b c k l typed.Null (procedure_of u parent k statement end ss y.part) y.procedures refl (λ parent. refl)
+    ((λ j lt. tt), (λ used size u s. tt)) few le refl g
 procedure_good u parent statement end ss m i t a b c k l (Err fs) few le g = tt
+
+unit_good : (u : NamedUnit) (condition : Condition) (parent : Option ℕ) (statement : ℕ) (unit : Statement) (m i t a b c k l : ℕ)
+    (r : Result (WithProcedures TypedStatements) (List Fault)) → i < 64 → b ≤ c
+    → OnTyped (GoodList i 0 (temporaries_among u.compiled.is_based (only unit)) a b (suc k) l) r
+    → OnTyped (GoodForm m t t a c k l) (as_procedure (typed.On condition k) (on_unit_of u parent k statement unit) r)
+unit_good u condition parent statement unit m i t a b c k l (Ok y) few le g =
+    good_procedure i m t a b c k l (typed.On condition k) (on_unit_of u parent k statement unit y.part) y.procedures refl (λ parent. refl)
+    ((λ j lt. tt), (λ used size u s. tt)) few le refl g
+unit_good u condition parent statement unit m i t a b c k l (Err fs) few le g = tt
 
 -- IF
 if_good : (m i t w z a b c k l n : ℕ) (q : Result TypedExpression Fault) (r : Result (WithProcedures TypedStatement) (List Fault))
@@ -198,7 +211,7 @@ put_good m t w z a b c k l n number nothing (Err fs) (Ok y) low high null g h = 
 put_good m t w z a b c k l n number nothing (Err fs) (Err gs) low high null g h = tt
 
 procedure_null : (make : TypedStatements → TypedProcedure) (r : Result (WithProcedures TypedStatements) (List Fault))
-    → OnTyped (λ y. y.part ≡ typed.Null) (as_procedure make r)
+    → OnTyped (λ y. y.part ≡ typed.Null) (as_procedure typed.Null make r)
 procedure_null make (Ok y) = refl
 procedure_null make (Err fs) = tt
 
@@ -323,7 +336,27 @@ module _ (u : NamedUnit) (knows : KnowsBased u) where
         (omega arith) (simple_return (naming_at u s) s at value)
     body_good d m s x number at a (tree.Put skip list) few n h =
         put_form_good m x.temporary _ a (a + 0) x.block (x.block + 0) skip (items (naming_at u s) list) (omega arith) (omega arith)
-    body_good d m s x number at a other few n h = tt
+    body_good d m s x number at a (tree.On c (Numbered own label first inner)) few n h =
+        let unit : Statement = Numbered own label first inner in
+        let there : Surroundings = in_on_unit x.block (Numbered own label first inner) s in
+        let z : ℕ = 0 + temporaries_in u.compiled.is_based (Numbered own label first inner) in
+        let b : ℕ = a + count (Numbered own label first inner) in
+        let l : ℕ = suc x.block + blocks.blocks_in (Numbered own label first inner) in
+        deeper_in m (λ m. NestsWithin false m unit) _ n
+        (λ i e g. form_at m x.temporary x.temporary _ a _ _ x.block _ _
+        (body_typed u s x number at (tree.On c unit)) (omega arith) refl (omega arith)
+        (unit_good u c (Some (block_at s)) number unit m i x.temporary a b b x.block l
+        (statements_typed u there (inside x) (only unit)) (omega (arith, few, e)) (omega arith)
+        (list_at i 0 z _ a b b (suc x.block) l l (statements_typed u there (inside x) (only unit)) (omega arith) refl refl
+        (put_good i 0 z z a b b (suc x.block) l l own (leaves_nothing inner) (body_typed u there (inside x) own first inner)
+        (Ok (alone NoStatement)) (omega arith) (omega arith) (λ says. nothing_left u there (inside x) own first inner says)
+        (statement_good false i there (inside x) a (Numbered own label first inner) (omega (arith, few, e)) g h)
+        (good_alone numbers_among blocks_among (HereList i z z) b b l NoStatement (omega arith) refl (λ parent. refl)
+        ((λ j lt. tt), (λ used size u s. tt)))))))
+    body_good d m s x number at a (tree.Revert c) few n h =
+        own_good m x.temporary _ a (a + 0) x.block (x.block + 0) (Ok (typed.Revert c)) (omega arith) (omega arith) tt
+    body_good d m s x number at a (tree.Signal c) few n h =
+        own_good m x.temporary _ a (a + 0) x.block (x.block + 0) (Ok (typed.Signal c)) (omega arith) (omega arith) tt
 
     alternative_good : (m : ℕ) (s : Surroundings) (x : Next) (a : ℕ) (e : Alternative) → m < 64 → ElseNests m e
         → IsNumberedElse a e
@@ -360,7 +393,8 @@ module _ (u : NamedUnit) (knows : KnowsBased u) where
 
   -- ---- the unit
 
-  module _ (a b l : ℕ) (y : WithProcedures TypedStatements) (g : GoodList 63 0 (temporaries_among u.compiled.is_based u.tree.statements) a b 1 l y) where
+  module _ (a b l : ℕ) (y : WithProcedures TypedStatements) (g : GoodList 63 0 (temporaries_among u.compiled.is_based u.tree.statements) a b 1 l y)
+      (names : (bs : List BlockTree) → Given bs (ListNamed bs 0) y) where
     abbrev Own : TypedProcedure
     Own = external_of u y.part
 
@@ -395,12 +429,19 @@ module _ (u : NamedUnit) (knows : KnowsBased u) where
     all_apart [] h = tt
     all_apart (b ∷ bs) h = (h.0.1, all_apart bs h.1)
 
+    all_named : AllByRecursion (Named (by_number All)) All
+    all_named =
+        let placed = all_parts (Placed (by_number All)) (blocks_of_procedure Own) (blocks_within y.procedures) (blocks_placed All each) in
+        let named = names (by_number All) (gives_all (by_number All) y.procedures placed.1) in
+        all_joined (Named (by_number All)) (blocks_of_procedure Own) (blocks_within y.procedures) (named.0.here, named.0.blocks 0) named.1
+
     well_numbered : IsWellNumbered (unit_of u y)
     well_numbered = record {
       blocks = blocks_placed All each;
       statements = ordered_distinct All most;
       loops = all_loops All roomy;
       temporaries = all_apart All roomy;
+      units = all_named;
     }
 
   error_given : {A B : Type 0} {x : A} {y : B} (r : Result A B) → r ≡ Err y → r ≡ Ok x → ⊥
@@ -410,11 +451,12 @@ module _ (u : NamedUnit) (knows : KnowsBased u) where
   given_same r e f = cc
 
   numbered_unit : (t : TypedUnit) (a b l : ℕ) (o : Option ℕ) (r : Result (WithProcedures TypedStatements) (List Fault))
-      → OnTyped (GoodList 63 0 (temporaries_among u.compiled.is_based u.tree.statements) a b 1 l) r → unless_unbuilt o (typed_as u r) ≡ Ok t
+      → OnTyped (GoodList 63 0 (temporaries_among u.compiled.is_based u.tree.statements) a b 1 l) r
+      → ((bs : List BlockTree) → OnTyped (Given bs (ListNamed bs 0)) r) → unless_unbuilt o (typed_as u r) ≡ Ok t
       → IsWellNumbered t
-  numbered_unit t a b l None (Ok y) g e = subst IsWellNumbered (given_same (Ok (unit_of u y)) refl e) (well_numbered a b l y g)
-  numbered_unit t a b l None (Err fs) g e = absurd (error_given _ refl e)
-  numbered_unit t a b l (Some at) r g e = absurd (error_given _ refl e)
+  numbered_unit t a b l None (Ok y) g names e = subst IsWellNumbered (given_same (Ok (unit_of u y)) refl e) (well_numbered a b l y g names)
+  numbered_unit t a b l None (Err fs) g names e = absurd (error_given _ refl e)
+  numbered_unit t a b l (Some at) r g names e = absurd (error_given _ refl e)
 
   pub unit_numbered : (t : TypedUnit) (from : ℕ) → AreNumbered from u.tree.statements → ListNests true 63 u.tree.statements
       → checked u ≡ Ok t → IsWellNumbered t
@@ -424,7 +466,8 @@ module _ (u : NamedUnit) (knows : KnowsBased u) where
       (statements_typed u (in_unit (u.returned 0) u.tree.statements) first_inside u.tree.statements)
       (list_at 63 0 (0 + temporaries_among u.compiled.is_based u.tree.statements) _ from _ _ 1 _ _
       (statements_typed u (in_unit (u.returned 0) u.tree.statements) first_inside u.tree.statements) (omega arith) refl refl
-      (list_good true 63 (in_unit (u.returned 0) u.tree.statements) first_inside from u.tree.statements (omega arith) n h)) e
+      (list_good true 63 (in_unit (u.returned 0) u.tree.statements) first_inside from u.tree.statements (omega arith) n h))
+      (λ bs. list_named bs u (in_unit (u.returned 0) u.tree.statements) first_inside u.tree.statements) e
 
 pub units_are_numbered : TypedUnitsAreNumbered
 units_are_numbered u t from h nests knows e = unit_numbered u knows t from h nests e

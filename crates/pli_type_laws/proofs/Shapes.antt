@@ -54,7 +54,7 @@ option_any : {A : Type 0} (P : A → Type 0) (code : Code) (at : ℕ) (o : Optio
 option_any P code at (Some x) h = h x
 option_any P code at None h = tt
 
--- no statements are in a form, and no temporaries
+-- no statements are in a form, no temporaries, and no ON-unit
 abbrev pub IsSimple : Form → Type 0
 IsSimple (typed.If c s e) = ⊥
 IsSimple (typed.Begin head ss) = ⊥
@@ -62,6 +62,7 @@ IsSimple (typed.Group ss) = ⊥
 IsSimple (typed.While c ss) = ⊥
 IsSimple (typed.Iterate i ss) = ⊥
 IsSimple (typed.Allocate items) = ⊥
+IsSimple (typed.On c block) = ⊥
 IsSimple f = Unit {0}
 
 -- a form is an ALLOCATE, whose items have so many temporaries from this one on

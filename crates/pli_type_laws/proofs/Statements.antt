@@ -13,7 +13,8 @@ use Rattle.pli_type.specs.declared.beginning.Beginning.{Beginning}
 use Rattle.pli_type.specs.StatementTyping as source
 use Rattle.pli_type.specs.StatementTyping.{Enclosing, Surroundings, naming_at, block_at, leaves_nothing, assignment, items}
 use Rattle.pli_type.specs.StatementTyping.{condition, iteration, allocate_typed, free_typed, call_typed, goto_typed, return_typed, WithProcedures, of_own, together}
-use Rattle.pli_type.specs.StatementTyping.{made, head_of, function_end, procedure_of, as_procedure, put_before, inside, behind_limits}
+use Rattle.pli_type.specs.StatementTyping.{made, head_of, function_end, procedure_of, on_unit_of, as_procedure, put_before, inside, behind_limits}
+use Rattle.pli_type.specs.StatementTyping.{alone, lasting_alone, listed, only, says_nothing}
 use Rattle.pli_type.specs.StatementTyping.{statement_typed, body_typed, alternative_typed, statements_typed}
 use Rattle.pli_resolve.specs.TreeBlocks as blocks
 use Rattle.pli_type.specs.Temporaries.{Next, behind}
@@ -21,20 +22,22 @@ use Rattle.pli_type.specs.Unbuilt.{later_expression, later_control, or_else, tok
 use Rattle.pli_type.specs.Unbuilt.{later_body, later_alternative, later_statements}
 use Rattle.pli_type_laws.proofs.Allocations.{allocate_is_typed, free_is_typed}
 use Rattle.pli_type_laws.proofs.BlocksKnown.{Within, within_self, within_both, within_behind, begun_count, Sits, sits_parts}
-use Rattle.pli_type_laws.proofs.BlocksKnown.{AreHome, home_labels, StandsDirectly}
-use Rattle.pli_type_laws.proofs.Contexts.{Knows, around_self, group_known, label_known, known_as, areas_known, own_procedure, procedure_there}
+use Rattle.pli_type_laws.proofs.BlocksKnown.{AreHome, home_labels, home_lasting, StandsDirectly, begin_no_procedure, unit_no_procedure}
+use Rattle.pli_type_laws.proofs.Contexts.{IsInside, Knows, around_self, group_known, label_known, known_as, areas_known, own_procedure, procedure_there}
+use Rattle.pli_type_laws.proofs.Contexts.{own_unit, unit_there, unit_known}
 use Rattle.pli_type_laws.proofs.Expressions.{IsMeaning, or_parts}
 use Rattle.pli_type_laws.proofs.Forms.{condition_typed, items_typed, assignment_typed, call_is_typed, return_is_typed, goto_is_typed}
 use Rattle.pli_type_laws.proofs.Forms.{iteration_typed}
 use Rattle.pli_type_laws.proofs.TypedParts.{OnTyped, typed_map, has_front, has_back, covers_more, IsOurs, ours_both}
 use Rattle.pli_type_laws.proofs.TypedParts.{Typed, typed_made, typed_own, typed_with, typed_both, with_list}
 use Rattle.pli_type_laws.specs.TypedUnits.{unit_with}
+use Rattle.pli_type_name_laws.proofs.BlocksOfUnits.{innermost_lasting}
 use Rattle.pli_type_name_laws.specs.NameFacts.{IsAreaNamed, NameFacts}
 use Rattle.pli_type_name_laws.specs.SourceBlocks.{SourceBlock, unit_blocks, innermost, known_blocks, known_procedures, begun_in, begun_by}
 use Rattle.pli_type_name_laws.specs.SourceBlocks.{begun_among, begun_behind}
 use Rattle.pli_type_tree.specs.Templates.{Template}
 use Rattle.pli_type_tree.specs.TypedTree as typed
-use Rattle.pli_type_tree.specs.TypedTree.{Form, TypedStatement, TypedStatements, NoElse, Else}
+use Rattle.pli_type_tree.specs.TypedTree.{Form, TypedStatement, TypedStatements, NoStatement, NoElse, Else}
 use Rattle.pli_type_tree.specs.TypedTree.{Global, TypedProcedure}
 use Rattle.pli_type_tree.specs.ValueTypes.{OfBits}
 use Rattle.pli_type_tree.specs.WellTyped as trees
@@ -89,10 +92,6 @@ labels_kept u s x (Before (Numbered number (Some label) at body) more) =
 
 -- ---- where statements stand
 
-abbrev pub IsInside : List Enclosing → Type 0
-IsInside [] = ⊥
-IsInside (b ∷ bs) = Unit {0}
-
 inside_group : (labels : List ℕ) (bs : List Enclosing) → IsInside bs → IsInside (source.with_labels labels bs)
 inside_group labels [] h = h
 inside_group labels (b ∷ bs) h = tt
@@ -110,9 +109,6 @@ put_typed : (t : TypingContext) (b : Bool) (x : TypedStatement) (y : TypedStatem
     → AreTypedStatements 31 t y → AreTypedStatements 31 t (put_before b x y)
 put_typed t true x y h k = k
 put_typed t false x y h k = (h, k)
-
-begin_no_procedure : kinds.Begin ≡ kinds.Procedure → ⊥
-begin_no_procedure e = absurd (cc)
 
 module _ (program : ExternalProcedure) (is_based : ℕ → Bool) (based : List ℕ → ℕ → List Template) (areas : List ℕ → ℕ → Option Beginning)
     (meaning : List ℕ → ℕ → NamedAs) (parameters : ℕ → List Description) (returned : ℕ → Option Description) (automatic : ℕ → List Template)
@@ -150,6 +146,9 @@ module _ (program : ExternalProcedure) (is_based : ℕ → Bool) (based : List �
       }
 
       module _ (number statement : ℕ) (ss : Statements) (b : SourceBlock) (there : slice_get All number ≡ Some b) where
+        none : b.kind ≡ kinds.Begin → parameters number ≡ []
+        none kind = facts.without_parameters number b there (λ e. begin_no_procedure (sym kind ∙ e))
+
         begun : b.kind ≡ kinds.Begin → (list : TypedStatements) → Within (source.labels_of ss) (trees.labels_of list)
             → Knows U (trees.in_begin (head_of U number statement ss) list t) (source.in_begin number ss s)
         begun kind list f = record {
@@ -158,9 +157,10 @@ module _ (program : ExternalProcedure) (is_based : ℕ → Bool) (based : List �
           blocks = (
             refl,
             (
-              ap length (sym (facts.begins number b there kind)),
-              ap (λ ds. ds ++ map (λ v. v.description) (automatic number)) (sym (facts.begins number b there kind)),
+              ap length (sym (none kind)),
+              ap (λ ds. ds ++ map (λ v. v.description) (automatic number)) (sym (none kind)),
             ),
+            f,
             f,
             knows.blocks,
           );
@@ -186,6 +186,7 @@ module _ (program : ExternalProcedure) (is_based : ℕ → Bool) (based : List �
           refl,
           (refl, refl),
           f,
+          f,
           subst (λ bs. AreAround (known_blocks U b.around) (known_blocks U bs)) same (around_self (known_blocks U b.around)),
         );
         begins = refl;
@@ -197,6 +198,7 @@ module _ (program : ExternalProcedure) (is_based : ℕ → Bool) (based : List �
         own_procedure U number b,
         procedure_there U number b there kind,
         record {
+          kind = refl;
           parent = parent_is s.blocks s.begins s.value within ∙ ap innermost (sym same);
           parameters = refl;
           end = has_end end (returned number);
@@ -205,20 +207,82 @@ module _ (program : ExternalProcedure) (is_based : ℕ → Bool) (based : List �
         },
       )
 
-      procedure_typed : IsInside s.blocks → (t : TypingContext) (bs : List SourceBlock)
-          (r : Result (WithProcedures TypedStatements) (List Fault))
-          → OnTyped (Typed U (λ list. AreTypedStatements 31 (Within_it list) list) (suc number) bs) r
-          → OnTyped (Typed U (IsTypedForm 31 t) number (b ∷ bs)) (as_procedure Made r)
-      procedure_typed within t bs (Ok y) h = (
-        tt,
-        ours_both U y.procedures (Made y.part ∷ []) h.1 (is_ours within y.part h.0, tt),
-        (
-          λ e. has_back number y.procedures (Made y.part ∷ []) (ap (λ b. b || false) (eq-eqb number number refl)),
-          covers_more y.procedures (y.procedures ++ Made y.part ∷ []) (suc number) bs
-              (λ i a. has_front i y.procedures (Made y.part ∷ []) a) h.2,
-        ),
+    -- an ON-unit's own statement
+    module _ (s : Surroundings) (number statement : ℕ) (unit : Statement) (b : SourceBlock)
+        (there : slice_get All number ≡ Some b) (kind : b.kind ≡ kinds.OnUnit) (same : b.around ≡ lasting_alone s.blocks) where
+      abbrev MadeUnit : TypedStatements → TypedProcedure
+      MadeUnit list = on_unit_of U (Some (block_at s)) number statement unit list
+
+      abbrev Within_unit : TypedStatements → TypingContext
+      Within_unit list = context_in globals (known_procedures U) (own_unit U b) (MadeUnit list)
+
+      takes_nothing : parameters number ≡ []
+      takes_nothing = facts.without_parameters number b there (λ e. unit_no_procedure (sym kind ∙ e))
+
+      unit_entered : (list : TypedStatements) → Within (source.labels_of (only unit)) (trees.labels_of list)
+          → Knows U (Within_unit list) (source.in_on_unit number unit s)
+      unit_entered list f = record {
+        globals = refl;
+        procedures = refl;
+        blocks = (
+          refl,
+          (
+            ap length (sym takes_nothing),
+            ap (λ ds. ds ++ map (λ v. v.description) (automatic number)) (sym takes_nothing),
+          ),
+          f,
+          f,
+          subst (λ bs. AreAround (known_blocks U b.around) (known_blocks U bs)) same (around_self (known_blocks U b.around)),
+        );
+        begins = refl;
+        value = refl;
+      }
+
+      unit_ours : IsInside s.blocks → (list : TypedStatements) → AreTypedStatements 31 (Within_unit list) list
+          → IsOurs U (MadeUnit list)
+      unit_ours within list h = (
+        own_unit U b,
+        unit_there U number b there kind,
+        record {
+          kind = refl;
+          parent =
+              parent_is s.blocks s.begins s.value within ∙ innermost_lasting s.blocks ∙ ap innermost (sym same);
+          parameters = refl;
+          end = tt;
+          made = facts.automatic number;
+          statements = h;
+        },
       )
-      procedure_typed within t bs (Err fs) h = tt
+
+    -- a procedure or an ON-unit of a list, and what it leaves in its place
+    block_ended : (left : Form) (make : TypedStatements → TypedProcedure) (S : TypedStatements → TypingContext) (number : ℕ)
+        (t : TypingContext) (b : SourceBlock) (bs : List SourceBlock) (r : Result (WithProcedures TypedStatements) (List Fault))
+        → IsTypedForm 31 t left → ((list : TypedStatements) → (make list).head.number ≡ number)
+        → ((list : TypedStatements) → AreTypedStatements 31 (S list) list → IsOurs U (make list))
+        → OnTyped (Typed U (λ list. AreTypedStatements 31 (S list) list) (suc number) bs) r
+        → OnTyped (Typed U (IsTypedForm 31 t) number (b ∷ bs)) (as_procedure left make r)
+    block_ended left make S number t b bs (Ok y) form numbered ours h = (
+      form,
+      ours_both U y.procedures (make y.part ∷ []) h.1 (ours y.part h.0, tt),
+      (
+        λ e. has_back number y.procedures (make y.part ∷ [])
+            (ap (λ b. b || false) (eq-eqb (make y.part).head.number number (numbered y.part))),
+        covers_more y.procedures (y.procedures ++ make y.part ∷ []) (suc number) bs
+            (λ i a. has_front i y.procedures (make y.part ∷ []) a) h.2,
+      ),
+    )
+    block_ended left make S number t b bs (Err fs) form numbered ours h = tt
+
+    -- an ON-unit's statement as its list
+    only_typed : (t : TypingContext) (number : ℕ) (bs : List SourceBlock) (unit : Statement)
+        (r : Result (WithProcedures TypedStatement) (List Fault)) → OnTyped (Typed U (IsTypedStatement 31 t) number bs) r
+        → OnTyped (Typed U (AreTypedStatements 31 t) number bs) (listed unit r (Ok (alone NoStatement)))
+    only_typed t number bs unit (Ok y) h = (
+      put_typed t (says_nothing unit) y.part NoStatement h.0 tt,
+      ours_both U y.procedures [] h.1 tt,
+      covers_more y.procedures (y.procedures ++ []) number bs (λ i a. has_front i y.procedures [] a) h.2,
+    )
+    only_typed t number bs unit (Err fs) h = tt
 
     begin_typed : (s : Surroundings) (x : Next) (number : ℕ) (ss : Statements) (t : TypingContext) (bs : List SourceBlock)
         → slice_get All x.block ≡ Some (record { kind = kinds.Begin; statement = number; around = s.blocks; labels = source.labels_of ss })
@@ -228,7 +292,7 @@ module _ (program : ExternalProcedure) (is_based : ℕ → Bool) (based : List �
         (record { kind = kinds.Begin; statement = number; around = s.blocks; labels = source.labels_of ss } ∷ bs))
         (made (typed.Begin (head_of U x.block number ss)) r)
     begin_typed s x number ss t bs there (Ok y) h =
-        ((facts.automatic x.block, h.0), h.1, ((λ e. absurd (begin_no_procedure e)), h.2))
+        ((facts.automatic x.block, h.0), h.1, ((λ e. absurd (e refl)), h.2))
     begin_typed s x number ss t bs there (Err fs) h = tt
 
     group_typed : (s : Surroundings) (home : AreHome All s.blocks) (t : TypingContext) (knows : Knows U t s) (x : Next)
@@ -266,13 +330,15 @@ module _ (program : ExternalProcedure) (is_based : ℕ → Bool) (based : List �
           (assignment_typed is_based (based (numbers s)) (areas (numbers s)) (meaning (numbers s)) t (known s home t knows) at target equals value parts.0 parts.1)
       body_is_typed s x number first at (tree.Declare declared) l home within sits t knows = (tt, tt, tt)
       body_is_typed s x number first at (tree.Procedure heading ss end) l home within sits t knows =
-          procedure_typed s x.block number end ss _ sits.0 refl refl within t _
-          (statements_typed U (source.in_procedure x.block (returned x.block) ss s) (inside x) ss)
+          block_ended typed.Null (Made s x.block number end ss _ sits.0 refl refl) (Within_it s x.block number end ss _ sits.0 refl refl)
+          x.block t (record { kind = kinds.Procedure; statement = number; around = s.blocks; labels = source.labels_of ss }) _
+          (statements_typed U (source.in_procedure x.block (returned x.block) ss s) (inside x) ss) tt (λ list. refl)
+          (λ list h. is_ours s x.block number end ss _ sits.0 refl refl within list h)
           (with_list U (statements_typed U (source.in_procedure x.block (returned x.block) ss s) (inside x) ss)
           (Within_it s x.block number end ss _ sits.0 refl refl)
           (λ t. Knows U t (source.in_procedure x.block (returned x.block) ss s)) (suc x.block) _
           (list_is_typed (source.in_procedure x.block (returned x.block) ss s) (inside x) ss l
-          ((_, sits.0, refl, within_self (source.labels_of ss)), home) tt sits.1)
+          ((_, sits.0, refl, within_self (source.labels_of ss), within_self (source.labels_of ss)), home) tt sits.1)
           (typed_map _ _ (statements_typed U (source.in_procedure x.block (returned x.block) ss s) (inside x) ss)
           (λ y f. entered s x.block number end ss _ sits.0 refl refl y.part f)
           (labels_kept U (source.in_procedure x.block (returned x.block) ss s) (inside x) ss)))
@@ -281,7 +347,7 @@ module _ (program : ExternalProcedure) (is_based : ℕ → Bool) (based : List �
           (with_list U (statements_typed U (source.in_begin x.block ss s) (inside x) ss)
           (λ list. trees.in_begin (head_of U x.block number ss) list t) (λ t. Knows U t (source.in_begin x.block ss s)) (suc x.block) _
           (list_is_typed (source.in_begin x.block ss s) (inside x) ss l
-          ((_, sits.0, refl, within_self (source.labels_of ss)), home) tt sits.1)
+          ((_, sits.0, refl, within_self (source.labels_of ss), within_self (source.labels_of ss)), home) tt sits.1)
           (typed_map _ _ (statements_typed U (source.in_begin x.block ss s) (inside x) ss)
           (λ y f. begun s home t knows x.block number ss _ sits.0 refl y.part f)
           (labels_kept U (source.in_begin x.block ss s) (inside x) ss)))
@@ -355,7 +421,27 @@ module _ (program : ExternalProcedure) (is_based : ℕ → Bool) (based : List �
           (λ xs h. h)
           (typed_own U (AreItems 31 t) x.block (items (naming_at U s) list)
           (items_typed is_based (based (numbers s)) (areas (numbers s)) (meaning (numbers s)) t (known s home t knows) list (no_token _ first l)))
-      body_is_typed s x number first at other l home within sits t knows = absurd (some_none l)
+      body_is_typed s x number first at (tree.On c unit) l home within sits t knows =
+          let inner : Surroundings = source.in_on_unit x.block unit s in
+          let r : Result (WithProcedures TypedStatements) (List Fault) = statements_typed U inner (inside x) (only unit) in
+          block_ended (typed.On c x.block) (MadeUnit s x.block number unit _ sits.0 refl refl) (Within_unit s x.block number unit _ sits.0 refl refl)
+          x.block t (record {
+            kind = kinds.OnUnit;
+            statement = number;
+            around = lasting_alone s.blocks;
+            labels = source.labels_of (only unit);
+          }) _ r (unit_known U t s knows within x.block _ sits.0 refl refl) (λ list. refl)
+          (λ list h. unit_ours s x.block number unit _ sits.0 refl refl within list h)
+          (with_list U r (Within_unit s x.block number unit _ sits.0 refl refl) (λ t. Knows U t inner) (suc x.block) _
+          (λ t knows. only_typed t (suc x.block) _ unit (statement_typed U inner (inside x) unit)
+          (statement_is_typed inner (inside x) unit l (
+            (_, sits.0, refl, within_self (source.labels_of (only unit)), within_self (source.labels_of (only unit))),
+            home_lasting All s.blocks home,
+          ) tt sits.1 t knows))
+          (typed_map _ _ r (λ y f. unit_entered s x.block number unit _ sits.0 refl refl y.part f)
+          (labels_kept U inner (inside x) (only unit))))
+      body_is_typed s x number first at (tree.Revert c) l home within sits t knows = (tt, tt, tt)
+      body_is_typed s x number first at (tree.Signal c) l home within sits t knows = (tt, tt, tt)
 
       alternative_is_typed : (s : Surroundings) (x : Next) (a : Alternative) → later_alternative L a ≡ None
           → AreHome All s.blocks → IsInside s.blocks → Sits All x.block (begun_behind s.blocks x.block a)

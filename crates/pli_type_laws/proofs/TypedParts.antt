@@ -3,7 +3,7 @@
 use Rattle.std.specs.Prelude.{◌≡◌, ℕ, zero, suc, ◌+◌, nat_eq, Bool, true, false, ◌||◌, IsTrue, Some, List, [], ◌∷◌, ◌++◌}
 use Rattle.std.specs.Prelude.{length, slice_get, Result, Ok, Err, refl, if◌then◌else◌}
 use Rattle.std.specs.List.{list_any}
-use Rattle.std.proofs.Common.{arith, ap, ◌∙◌, subst}
+use Rattle.std.proofs.Common.{arith, sym, ap, ◌∙◌, subst}
 use Rattle.std.proofs.lemmas.Bool.{eqb-true}
 use Rattle.std.proofs.lemmas.Option.{same_Some, none-some}
 use Rattle.pli_base.specs.declared.token.Fault.{Fault}
@@ -51,10 +51,10 @@ pub has_back : (k : ℕ) (fs gs : List TypedProcedure) → Has k gs → Has k (f
 has_back k [] gs h = h
 has_back k (f ∷ fs) gs h = or_right (nat_eq f.head.number k) (list_any (λ f. nat_eq f.head.number k) (fs ++ gs)) (has_back k fs gs h)
 
--- each procedure among blocks, the first of which has this number
+-- each procedure and each ON-unit among blocks, the first of which has this number
 abbrev pub Covers : List TypedProcedure → (number : ℕ) → List SourceBlock → Type 0
 Covers fs n [] = Unit {0}
-Covers fs n (b ∷ bs) = (b.kind ≡ kinds.Procedure → Has n fs) × Covers fs (suc n) bs
+Covers fs n (b ∷ bs) = ((b.kind ≡ kinds.Begin → ⊥) → Has n fs) × Covers fs (suc n) bs
 
 pub covers_more : (fs gs : List TypedProcedure) (n : ℕ) (bs : List SourceBlock) → ((k : ℕ) → Has k fs → Has k gs)
     → Covers fs n bs → Covers gs n bs
@@ -69,11 +69,11 @@ covers_both fs n (suc k) (b ∷ bs) cs e h g =
     (h.0, covers_both fs (suc n) k bs cs (omega (arith, e)) h.1 (subst (λ m. Covers fs m cs) (omega arith) g))
 
 pub covered : (fs : List TypedProcedure) (n i : ℕ) (bs : List SourceBlock) (b : SourceBlock) → Covers fs n bs
-    → slice_get bs i ≡ Some b → b.kind ≡ kinds.Procedure → Has (n + i) fs
+    → slice_get bs i ≡ Some b → (b.kind ≡ kinds.Begin → ⊥) → Has (n + i) fs
 covered fs n i [] b h e k = absurd (none-some b e)
 covered fs n zero (c ∷ bs) b h e k =
     let same : c ≡ b = same_Some c b e in
-    subst (λ m. Has m fs) (omega arith) (h.0 (ap (λ (x : SourceBlock). x.kind) same ∙ k))
+    subst (λ m. Has m fs) (omega arith) (h.0 (λ e. k (sym (ap (λ (x : SourceBlock). x.kind) same) ∙ e)))
 covered fs n (suc i) (c ∷ bs) b h e k =
     subst (λ m. Has m fs) (omega arith) (covered fs (suc n) i bs b h.1 e k)
 

@@ -33,6 +33,12 @@ use Rattle.pli_type_tree.specs.WellTyped.{KnownProcedure, TypingContext, AreType
 given_same : {A B : Type 0} {x y : A} (r : Result A B) → r ≡ Ok x → r ≡ Ok y → x ≡ y
 given_same r e f = cc
 
+procedure_no_begin : kinds.Procedure ≡ kinds.Begin → ⊥
+procedure_no_begin e = absurd (cc)
+
+unit_no_begin : kinds.OnUnit ≡ kinds.Begin → ⊥
+unit_no_begin e = absurd (cc)
+
 error_given : {A B : Type 0} {x : A} {y : B} (r : Result A B) → r ≡ Err y → r ≡ Ok x → ⊥
 error_given r f e = absurd (cc)
 
@@ -67,14 +73,14 @@ module _ (program : ExternalProcedure) (is_based : ℕ → Bool) (based : List �
     all_direct = (
       (λ e. tt),
       direct_among All true 63 (enclosing 0 program.statements ∷ []) 1 program.statements nests
-          (λ e. (Outer, refl, refl, within_self (source.labels_of program.statements))) all_sit.1,
+          (λ e. (Outer, refl, refl, within_self (source.labels_of program.statements), within_self (source.labels_of program.statements))) all_sit.1,
     )
 
     direct : (number : ℕ) (b : SourceBlock) → slice_get All number ≡ Some b → b.kind ≡ kinds.Procedure → StandsDirectly All b.around
     direct number b there kind = direct_at All All number b all_direct there kind
 
     home : AreHome All (in_unit (returned 0) program.statements).blocks
-    home = ((Outer, refl, refl, within_self (source.labels_of program.statements)), tt)
+    home = ((Outer, refl, refl, within_self (source.labels_of program.statements), within_self (source.labels_of program.statements)), tt)
 
     -- the statements of the external procedure
     abbrev Context : TypedStatements → TypingContext
@@ -85,7 +91,7 @@ module _ (program : ExternalProcedure) (is_based : ℕ → Bool) (based : List �
     entered list f = record {
       globals = refl;
       procedures = refl;
-      blocks = (refl, (refl, refl), f, tt);
+      blocks = (refl, (refl, refl), f, f, tt);
       begins = refl;
       value = refl;
     }
@@ -114,6 +120,7 @@ module _ (program : ExternalProcedure) (is_based : ℕ → Bool) (based : List �
           own_procedure V 0 Outer,
           refl,
           record {
+            kind = refl;
             parent = refl;
             parameters = refl;
             end = has_end program.end (returned 0);
@@ -153,19 +160,20 @@ module _ (program : ExternalProcedure) (is_based : ℕ → Bool) (based : List �
       no_procedure number p b there none signed =
           none-some p (sym none ∙ sym (ap (option_and_then (procedure_known V number)) there) ∙ signed)
 
+      not_begun : (number : ℕ) (p : KnownProcedure) (b : SourceBlock) → slice_get All number ≡ Some b → known_procedures V number ≡ Some p
+          → (b.kind ≡ kinds.Begin → ⊥) → IsThere number p
+      not_begun number p b there signed other =
+          as_signed number p signed
+          (found_among number Procedures (subst (λ k. Has k Procedures) (omega arith) (covered Procedures 0 number All b covers there other)))
+
       of_kind : (number : ℕ) (p : KnownProcedure) (b : SourceBlock) → slice_get All number ≡ Some b → known_procedures V number ≡ Some p
           → (kind : ResolvedBlockKind) → b.kind ≡ kind → IsThere number p
-      of_kind number p b there signed kinds.Procedure is =
-          as_signed number p signed
-          (found_among number Procedures (subst (λ k. Has k Procedures) (omega arith) (covered Procedures 0 number All b covers there is)))
+      of_kind number p b there signed kinds.Procedure is = not_begun number p b there signed (λ e. procedure_no_begin (sym is ∙ e))
       of_kind number p b there signed kinds.Begin is = absurd (no_procedure number p b there (none is) signed)
         where
           none : b.kind ≡ kinds.Begin → procedure_known V number b ≡ None
           none is = rw is refl
-      of_kind number p b there signed kinds.OnUnit is = absurd (no_procedure number p b there (none is) signed)
-        where
-          none : b.kind ≡ kinds.OnUnit → procedure_known V number b ≡ None
-          none is = rw is refl
+      of_kind number p b there signed kinds.OnUnit is = not_begun number p b there signed (λ e. unit_no_begin (sym is ∙ e))
 
       each_procedure : (number : ℕ) (p : KnownProcedure) → known_procedures V number ≡ Some p → IsThere number p
       each_procedure number p signed = by (slice_get All number) refl

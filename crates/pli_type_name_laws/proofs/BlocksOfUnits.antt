@@ -11,8 +11,8 @@ use Rattle.pli_resolve.specs.declared.block_numbers.ResolvedBlockKind.{ResolvedB
 use Rattle.pli_resolve.specs.declared.block_numbers.ResolvedBlockKind.TheVariants as kinds
 use Rattle.pli_resolve.specs.laws.BlockLaws as laws
 use Rattle.pli_resolve.proofs.BlocksOfTrees.{blocks_of_the_tree}
-use Rattle.pli_type.specs.StatementTyping.{Enclosing, enclosing, labels_of, with_labels}
-use Rattle.pli_type_name_laws.specs.SourceBlocks.{SourceBlock, of_unit, innermost, begun_in, begun_by, begun_among, begun_behind}
+use Rattle.pli_type.specs.StatementTyping.{Enclosing, enclosing, labels_of, lasting_alone, only, with_labels}
+use Rattle.pli_type_name_laws.specs.SourceBlocks.{SourceBlock, innermost, begun_in, begun_by, begun_among, begun_behind}
 use Rattle.pli_type_name_laws.specs.SourceBlocks.{unit_blocks}
 use Rattle.pli_type_name_laws.specs.UnitBlocks.{in_unit, in_tree, BlocksAreOfTree}
 
@@ -31,6 +31,10 @@ innermost_kept : (labels : List ℕ) (around : List Enclosing) (outer : ℕ) →
     → innermost (with_labels labels around) ≡ Some outer
 innermost_kept labels [] outer e = e
 innermost_kept labels (b ∷ bs) outer e = e
+
+pub innermost_lasting : (around : List Enclosing) → innermost around ≡ innermost (lasting_alone around)
+innermost_lasting [] = refl
+innermost_lasting (b ∷ bs) = refl
 
 mutual
   walk_in : (around : List Enclosing) (outer x : ℕ) (s : Statement) → innermost around ≡ Some outer
@@ -55,8 +59,9 @@ mutual
       (begun_in around x consequence) (begun_behind around (x + walked.blocks_in consequence) alternative)
       (walk_in around outer x consequence e) (walk_behind around outer (x + walked.blocks_in consequence) alternative e)
   walk_by around outer x number (tree.On condition unit) e =
-      ap (λ (o : Option ℕ). (kinds.OnUnit, o) ∷ map in_walk (walked.statement_blocks x (suc x) unit)) (sym e)
-      ∙ ap (λ bs. (kinds.OnUnit, innermost around) ∷ bs) (walk_in (of_unit x ∷ around) x (suc x) unit refl)
+      ap (λ (o : Option ℕ). (kinds.OnUnit, o) ∷ map in_walk (walked.statement_blocks x (suc x) unit)) (sym e ∙ innermost_lasting around)
+      ∙ ap (λ bs. (kinds.OnUnit, innermost (lasting_alone around)) ∷ bs)
+      (walk_in (enclosing x (only unit) ∷ lasting_alone around) x (suc x) unit refl)
   walk_by around outer x number body e = refl
 
   walk_among : (around : List Enclosing) (outer x : ℕ) (ss : Statements) → innermost around ≡ Some outer

@@ -116,14 +116,16 @@ module _ (r : ResolvedUnit) where
 
     -- ---- blocks
 
-    begin_numbers : (number : ℕ) (c : SourceBlock) → slice_get (unit_blocks r.tree) number ≡ Some c → c.kind ≡ kinds.Begin
+    no_numbers : (number : ℕ) (c : SourceBlock) → slice_get (unit_blocks r.tree) number ≡ Some c → (c.kind ≡ kinds.Procedure → ⊥)
         → (o : Option ResolvedBlock) → slice_get r.blocks number ≡ o → parameter_numbers r number ≡ []
-    begin_numbers number c there kind None is = rw is refl
-    begin_numbers number c there kind (Some b) is =
+    no_numbers number c there other None is = rw is refl
+    no_numbers number c there other (Some b) is =
         of_place (same_place r.blocks (unit_blocks r.tree) number b law is)
       where
-        no_procedure : b.kind ≡ kinds.Begin → is_procedure b.kind ≡ false
-        no_procedure k = ap is_procedure k
+        no_procedure : (kind : ResolvedBlockKind) → (kind ≡ kinds.Procedure → ⊥) → is_procedure kind ≡ false
+        no_procedure kinds.Procedure f = absurd (f refl)
+        no_procedure kinds.Begin f = refl
+        no_procedure kinds.OnUnit f = refl
 
         none : is_procedure b.kind ≡ false → parameter_numbers r number ≡ []
         none e = rw (is, e) refl
@@ -131,8 +133,8 @@ module _ (r : ResolvedUnit) where
         of_place : (d : SourceBlock) × (slice_get (unit_blocks r.tree) number ≡ Some d) × (in_unit b ≡ in_tree d)
             → parameter_numbers r number ≡ []
         of_place (d, at, same) =
-            none (no_procedure (ap (λ (x : ResolvedBlockKind × Option ℕ). x.0) same
-            ∙ ap (λ (x : SourceBlock). x.kind) (same_Some d c (sym at ∙ there)) ∙ kind))
+            none (no_procedure b.kind (λ e. other (sym (ap (λ (x : ResolvedBlockKind × Option ℕ). x.0) same
+            ∙ ap (λ (x : SourceBlock). x.kind) (same_Some d c (sym at ∙ there))) ∙ e)))
 
     without : (block : ℕ) → parameter_numbers r block ≡ [] → parameters_of r block ≡ []
     without block e = rw e refl
@@ -141,7 +143,7 @@ module _ (r : ResolvedUnit) where
     facts_hold = record {
       variables = λ blocks at v h. variable_facts blocks v (variable_begins 31 r blocks v (meaning_at r at) h);
       procedures = λ blocks at p h. procedure_facts blocks p (procedure_named_so 31 r blocks p (meaning_at r at) h);
-      begins = λ number b there kind. without number (begin_numbers number b there kind (slice_get r.blocks number) refl);
+      without_parameters = λ number b there other. without number (no_numbers number b there other (slice_get r.blocks number) refl);
       automatic = λ block.
           all_made 31 (is_automatic 31) (automatic_stored 31) (block_symbols r block) 0
           (block_symbols r block);

@@ -107,7 +107,7 @@ abbrev pub IsBasedTemplate : Template → Type 0
 IsBasedTemplate t = IsMade (variable_of t) × (is_area t.description ≡ false)
 
 -- what names mean is there, in all blocks; variables take no more bytes than they may, and begin with values
--- of their scalars; and BEGIN blocks have no parameters
+-- of their scalars; and procedures alone have parameters
 pub record NameFacts (u : NamedUnit) : Type 0 where
   pub variables :
       (blocks : List ℕ) (at : ℕ) (v : NamedVariable) → (u.naming blocks).meaning at ≡ AVariable v
@@ -115,10 +115,10 @@ pub record NameFacts (u : NamedUnit) : Type 0 where
   pub procedures :
       (blocks : List ℕ) (at : ℕ) (p : NamedProcedure) → (u.naming blocks).meaning at ≡ AProcedure p
       → ProcedureFacts u blocks p
-  -- a BEGIN block has no parameters
-  pub begins :
-      (number : ℕ) (b : SourceBlock) → slice_get (unit_blocks u.tree) number ≡ Some b → b.kind ≡ kinds.Begin
-      → u.parameters number ≡ []
+  -- a BEGIN block and an ON-unit have no parameters
+  pub without_parameters :
+      (number : ℕ) (b : SourceBlock) → slice_get (unit_blocks u.tree) number ≡ Some b
+      → (b.kind ≡ kinds.Procedure → ⊥) → u.parameters number ≡ []
   pub automatic : (block : ℕ) → AreMade (map variable_of (u.automatic block))
   pub globals : AreMade (map variable_of (templates_in u.globals))
   pub based : (blocks : List ℕ) (block : ℕ) → AllByRecursion IsBasedTemplate ((u.naming blocks).based block)

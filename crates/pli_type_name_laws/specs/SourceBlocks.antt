@@ -1,6 +1,6 @@
 -- The blocks of a source tree, as its statements know them: which lists they stand in, and which labels these
 -- have.
-use Rattle.std.specs.Prelude.{ℕ, suc, ◌+◌, Option, Some, None, option_and_then}
+use Rattle.std.specs.Prelude.{ℕ, suc, ◌+◌, true, false, Option, Some, None, option_and_then}
 use Rattle.std.specs.Prelude.{List, [], ◌∷◌, ◌++◌, length, map, slice_get}
 use Rattle.pli_base.specs.Statements as tree
 use Rattle.pli_base.specs.Statements.{Statement, Numbered, Body, Statements, Ended, Before, Alternative}
@@ -9,21 +9,17 @@ use Rattle.pli_map.specs.Description.{Description}
 use Rattle.pli_resolve.specs.declared.block_numbers.ResolvedBlockKind.{ResolvedBlockKind}
 use Rattle.pli_resolve.specs.declared.block_numbers.ResolvedBlockKind.TheVariants as kinds
 use Rattle.pli_type.specs.Names.{NamedUnit}
-use Rattle.pli_type.specs.StatementTyping.{Enclosing, enclosing, labels_of, with_labels}
+use Rattle.pli_type.specs.StatementTyping.{Enclosing, enclosing, labels_of, lasting_alone, only, with_labels}
 use Rattle.pli_resolve.specs.TreeBlocks as blocks
 use Rattle.pli_type_tree.specs.WellTyped.{BlockAround, KnownProcedure}
 
 -- a block: its PROCEDURE, BEGIN or ON; the blocks around it, the innermost first, each with the labels of its
--- lists in which the block stands; and the labels of its own list
+-- lists that are known in the block; and the labels of its own list
 pub record SourceBlock : Type 0 where
   pub kind : ResolvedBlockKind
   pub statement : ℕ
   pub around : List Enclosing
   pub labels : List ℕ
-
--- an ON-unit has no list
-abbrev pub of_unit : (number : ℕ) → Enclosing
-of_unit number = record { number = number; labels = [] }
 
 -- the blocks that begin in a statement, in the order of the text; the first of them has the next number
 abbrev mutual
@@ -43,8 +39,12 @@ abbrev mutual
   begun_by around x number (tree.If condition consequence alternative) =
       begun_in around x consequence ++ begun_behind around (x + blocks.blocks_in consequence) alternative
   begun_by around x number (tree.On condition unit) =
-      record { kind = kinds.OnUnit; statement = number; around = around; labels = [] }
-      ∷ begun_in (of_unit x ∷ around) (suc x) unit
+      record {
+        kind = kinds.OnUnit;
+        statement = number;
+        around = lasting_alone around;
+        labels = labels_of (only unit);
+      } ∷ begun_in (enclosing x (only unit) ∷ lasting_alone around) (suc x) unit
   begun_by around x number body = []
 
   -- those of the statements of a list
@@ -86,21 +86,30 @@ known_blocks u (b ∷ bs) =
       parameters = length (u.parameters b.number);
       slots = slots_in u b.number;
       labels = b.labels;
+      lasting = b.lasting;
     } ∷ known_blocks u bs
 
--- a procedure of a unit, by its block
+-- a procedure or an ON-unit of a unit, by its block
 abbrev pub procedure_known : NamedUnit → (number : ℕ) → SourceBlock → Option KnownProcedure
 procedure_known u number b = of_kind b.kind
   where
     of_kind : ResolvedBlockKind → Option KnownProcedure
     of_kind kinds.Procedure = Some (record {
+      is_on_unit = false;
       parent = innermost b.around;
       around = known_blocks u b.around;
       parameters = u.parameters number;
       value = u.returned number;
     })
-    of_kind other = None
+    of_kind kinds.OnUnit = Some (record {
+      is_on_unit = true;
+      parent = innermost b.around;
+      around = known_blocks u b.around;
+      parameters = [];
+      value = None;
+    })
+    of_kind kinds.Begin = None
 
--- the procedures of a unit, each by the number of its block
+-- the procedures and the ON-units of a unit, each by the number of its block
 abbrev pub known_procedures : NamedUnit → (number : ℕ) → Option KnownProcedure
 known_procedures u number = option_and_then (procedure_known u number) (slice_get (unit_blocks u.tree) number)

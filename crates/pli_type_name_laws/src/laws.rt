@@ -22,7 +22,7 @@ pub fn names_mean_variables()
     ensures { (r : ResolvedUnit) → BlocksAreOfTree r → NameFacts (named_unit 31 r) }
 {}
 
-/// A law: the blocks of a resolved unit are those of its tree, where procedures and BEGIN blocks begin.
+/// A law: the blocks of a resolved unit are those of its tree, where procedures, BEGIN blocks and ON-units begin.
 #[tactic(auto, using(crate::proofs::BlocksOfUnits::blocks_are_of_tree))]
 pub fn blocks_are_of_tree()
     ensures { (u : ExternalProcedure) → BlocksAreOfTree (resolved_unit_of u) }

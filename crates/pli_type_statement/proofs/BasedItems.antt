@@ -5,7 +5,7 @@ use Rattle.std.specs.Prelude.{if◌then◌else◌}
 use Rattle.pli_base.specs.declared.statement.Allocation.{Allocation}
 use Rattle.pli_base.specs.views.StatementView.{allocation_view}
 use Rattle.pli_type.specs.Temporaries.{based_among}
-use Rattle.pli_type_statement.proofs.ItemLists.{front}
+use Rattle.pli_type_statement.proofs.SearchLemmas.{front}
 
 module _ (f : ℕ → Bool) (xs : List Allocation) (i : ℕ) (x : Allocation) (is : x ≡ get_or xs i x) (within : i < length xs) (count : ℕ) where
   abbrev left : ℕ

@@ -1,6 +1,5 @@
 -- Lists of items, one after another.
 use Rattle.std.proofs.Common.{◌≡◌, ◌++◌, ◌+◌, ◌<◌, ◌≤◌, ℕ, [], ◌∷◌, List, Result, Ok, Err, map, drop, get_or, length, false, refl, ap, sym, ◌∙◌, append-nil, append_assoc}
-use Rattle.std.proofs.lemmas.List.{at_drop_more}
 use Rattle.std.specs.List.{list_any}
 use Rattle.pli_base.specs.Results.{◌>>=◌}
 use Rattle.pli_base.specs.Syntax as tree
@@ -15,7 +14,7 @@ use Rattle.pli_base.specs.declared.failure.Failure.{Failure}
 use Rattle.pli_base.specs.declared.failure.Failure.TheVariants as errors
 use Rattle.pli_type_tree.specs.TypedTree.{TypedExpression}
 use Rattle.pli_type_statement.proofs.NothingLater.{both_false}
-use Rattle.pli_type_statement.proofs.SearchLemmas.{past_lists}
+use Rattle.pli_type_statement.proofs.SearchLemmas.{front, past_lists}
 
 -- items in front of those that are left, unless one of these has a fault
 abbrev pub behind : List TypedExpression → Result (List TypedExpression) Fault → Result (List TypedExpression) Fault
@@ -39,11 +38,6 @@ item_faulty n xs f e es h = ap (λ r. behind xs (r >>= λ y. items n es >>= λ y
 pub none_behind : (r : Result (List TypedExpression) Fault) → behind [] r ≡ r
 none_behind (Ok ys) = refl
 none_behind (Err f) = refl
-
--- what is left of a list begins with the element of this turn
-pub front : {A B : Type 0} (P : List A → B) (xs : List A) (i : ℕ) (x : A) → x ≡ get_or xs i x → i < length xs
-    → P (drop i xs) ≡ P (x ∷ drop (i + 1) xs)
-front P xs i x is lt = at_drop_more P xs i x lt ∙ ap (λ y. P (y ∷ drop (i + 1) xs)) (sym is)
 
 pub item_built : (n : Compiled) (es : List Expression) (i : ℕ) (e : Expression) → e ≡ get_or es i e → i < length es
     → list_any (later_expression n) (map syntax.expression_view (drop i es)) ≡ false

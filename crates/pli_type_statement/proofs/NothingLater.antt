@@ -1,11 +1,12 @@
 -- Where nothing comes later in a statement, nothing does in its parts.
-use Rattle.std.proofs.Common.{◌≡◌, ℕ, Bool, true, false, ◌||◌, List, Option, Some, None, refl}
+use Rattle.std.proofs.Common.{◌≡◌, ℕ, Bool, true, false, ◌||◌, List, Option, Some, None, refl, ap}
 use Rattle.std.specs.List.{list_any}
 use Rattle.pli_base.specs.Statements as tree
 use Rattle.pli_base.specs.Statements.{Allocation, Control, Range, Statement, Numbered, Alternative, Statements, Before}
 use Rattle.pli_base.specs.Syntax.{Arguments, Expression, Reference}
 use Rattle.pli_base.specs.declared.syntax.Identifier.{Identifier}
 use Rattle.pli_type.specs.Names.{Compiled}
+use Rattle.pli_type.specs.StatementTyping.{only}
 use Rattle.pli_type.specs.Unbuilt.{or_else, token_if, later_expression, later_reference, later_statement, later_body}
 use Rattle.pli_type.specs.Unbuilt.{later_allocation, later_alternative, later_statements, later_arguments, later_control, later_part, later_range, first_of}
 
@@ -29,6 +30,10 @@ statement_built n number label at body h = (first_of label at, h)
 pub list_built : (n : Compiled) (first : Statement) (more : Statements) → later_statements n (Before first more) ≡ None
     → (later_statement n first ≡ None) × (later_statements n more ≡ None)
 list_built n first more h = neither (later_statement n first) (later_statements n more) h
+
+-- where nothing comes later in an ON-unit, nothing does in its list
+pub only_built : (n : Compiled) (s : Statement) → later_statement n s ≡ None → later_statements n (only s) ≡ None
+only_built n s h = ap (λ o. or_else o None) h
 
 pub assignment_built : (n : Compiled) (at : ℕ) (t : Reference) (equals : ℕ) (e : Expression)
     → later_body n at (tree.Assign t equals e) ≡ None

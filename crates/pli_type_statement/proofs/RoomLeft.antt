@@ -3,6 +3,7 @@ use Rattle.std.proofs.Common.{◌≡◌, ◌≤◌, ◌<◌, ◌+◌, ℕ, suc, 
 use Rattle.pli_base.specs.Statements as tree
 use Rattle.pli_base.specs.Statements.{Statement, Numbered, Body, Alternative, Statements, Ended, Before, Control}
 use Rattle.pli_base.specs.Syntax.{Expression}
+use Rattle.pli_base.specs.declared.statement.Condition.{Condition}
 use Rattle.pli_base.specs.declared.statement.Procedure.{Procedure, out-Procedure}
 use Rattle.pli_base.specs.declared.statement.Statement as program
 use Rattle.pli_base.specs.laws.StatementLaws.{unit_statements}
@@ -10,10 +11,11 @@ use Rattle.pli_base.specs.views.StatementView as source
 use Rattle.pli_declare_outline.specs.Outlines.{outline_of, regions_in, regions_of, regions_among, regions_else, statements_regions}
 use Rattle.pli_resolve.proofs.RegionWalks.{list_regions_counted}
 use Rattle.pli_resolve.specs.TreeBlocks.{blocks_in, blocks_of, blocks_among, blocks_behind}
+use Rattle.pli_type.specs.StatementTyping.{only}
 use Rattle.pli_type.specs.Temporaries.{Next, behind, kept_by}
 use Rattle.pli_type_templates.specs.ItemNames.{HasFewRegions}
 use Rattle.pli_type_statement.specs.Walking.{HasRoom}
-use Rattle.pli_type_statement.proofs.ItemLists.{front}
+use Rattle.pli_type_statement.proofs.SearchLemmas.{front}
 
 -- ---- blocks in regions
 
@@ -50,6 +52,11 @@ room_behind is_based x s more room = omega (arith, room, few_in s)
 -- inside a block
 pub room_inside : (x : Next) (regions : ℕ) → HasRoom x (1 + regions) → HasRoom (record { block = suc x.block; temporary = 0 }) regions
 room_inside x regions room = omega (arith, room)
+
+-- inside an ON-unit, whose list is its statement
+pub room_unit : (x : Next) (b : Body) (c : Condition) (s : Statement) → b ≡ tree.On c s → HasRoom x (regions_of b)
+    → HasRoom x (1 + regions_among (only s))
+room_unit x b c s is room = omega (arith, subst (λ b. HasRoom x (regions_of b)) is room)
 
 -- behind what controls a group
 pub room_controlled : (x : Next) (control : Option Control) (regions : ℕ) → HasRoom x (1 + regions)

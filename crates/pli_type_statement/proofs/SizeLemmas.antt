@@ -14,6 +14,7 @@ abbrev mutual
   body_size (tree.Begin statements end) = 2 + list_size statements
   body_size (tree.Do control statements end) = 2 + list_size statements
   body_size (tree.If condition consequence alternative) = 1 + (statement_size consequence + alternative_size alternative)
+  body_size (tree.On condition unit) = 3 + statement_size unit
   body_size other = 0
 
   pub list_size : Statements → ℕ

@@ -2,7 +2,7 @@
 use Rattle.std.proofs.Common.{◌≡◌, IfOk, ◌++◌, ◌+◌, ◌<◌, ◌≤◌, ◌&&◌, ℕ, zero, suc, Bool, true, false, [], ◌∷◌, List, Option, Some, None, option_map, Result, Ok, Err, map, drop, get_or, length, is_some, refl, ap, sym, ◌∙◌, subst, arith}
 use Rattle.pli_base.specs.Results.{◌>>=◌}
 use Rattle.pli_base.specs.Statements as tree
-use Rattle.pli_base.specs.Statements.{Control, Numbered}
+use Rattle.pli_base.specs.Statements.{Control}
 use Rattle.pli_base.specs.Syntax.{Expression}
 use Rattle.pli_base.specs.declared.statement.Statement.{Statement}
 use Rattle.pli_base.specs.declared.token.Fault.{Fault}
@@ -11,7 +11,7 @@ use Rattle.pli_type.specs.Names.{Compiled, NamedUnit}
 use Rattle.pli_type.specs.StatementTyping as spec
 use Rattle.pli_type.specs.StatementTyping.{Surroundings, WithProcedures, alone, of_own, together, made, put_before, leaves_nothing, body_typed, statement_typed, statements_typed, naming_at, items, put_form, condition, iteration}
 use Rattle.pli_type.specs.Temporaries.{Next, behind, kept_by, temporaries_of}
-use Rattle.pli_type.specs.Unbuilt.{later_body, later_statement, later_statements}
+use Rattle.pli_type.specs.Unbuilt.{later_statement, later_statements}
 use Rattle.pli_type_tree.specs.TypedTree as typed
 use Rattle.pli_type_tree.specs.TypedTree.{Form, TypedExpression, TypedStatement, TypedStatements, StatementThen, NoStatement}
 use Rattle.pli_type_tree.specs.declared.statement.TypedStatement as program
@@ -23,7 +23,7 @@ use Rattle.pli_type_statement.specs.Simple.{is_compound, simple_typed}
 use Rattle.pli_type_statement.specs.Walking.{IsPlaced, Walks, WalksBody, WalksList, unit_at, around, based_names, next_at}
 use Rattle.pli_type_statement.specs.declared.walk.TypingWalk.{TypingWalk}
 use Rattle.pli_type_statement.proofs.NothingLater.{list_built}
-use Rattle.pli_type_statement.proofs.ItemLists.{front}
+use Rattle.pli_type_statement.proofs.SearchLemmas.{front}
 use Rattle.pli_type_statement.proofs.WalkLemmas.{as_typed, moved, then_walked, nothing_walked}
 
 -- statements without statements in them
@@ -46,6 +46,7 @@ simple_body u s x number at (tree.Procedure heading ss end) h = impossible _ h
 simple_body u s x number at (tree.Begin ss end) h = impossible _ h
 simple_body u s x number at (tree.Do control ss end) h = impossible _ h
 simple_body u s x number at (tree.If e c a) h = impossible _ h
+simple_body u s x number at (tree.On c unit) h = impossible _ h
 simple_body u s x number at (tree.Put skip printed) h = own_put skip (items (naming_at u s) printed)
 simple_body u s x number at other h = refl
 
@@ -55,31 +56,30 @@ next_of block temporary = record { block = block; temporary = temporary }
 pub same_next : (x y x' y' : ℕ) → x ≡ x' → y ≡ y' → next_of (x) (y) ≡ next_of x' y'
 same_next x y x' y' e f = ap (λ b. record { block = b; temporary = y }) e ∙ ap (λ t. record { block = x'; temporary = t }) f
 
-simple_next : (n : Compiled) (first : ℕ) (f : ℕ → Bool) (x : Next) (b : tree.Body) → is_compound b ≡ false
-    → later_body n first b ≡ None → next_of (x.block) (x.temporary + temporaries_of f b) ≡ behind_body f x b
-simple_next n first f x (tree.Procedure heading ss end) h built = impossible _ h
-simple_next n first f x (tree.Begin ss end) h built = impossible _ h
-simple_next n first f x (tree.Do control ss end) h built = impossible _ h
-simple_next n first f x (tree.If e c a) h built = impossible _ h
-simple_next n first f x (tree.On tested unit) h built = impossible _ (ap is_some built)
-simple_next n first f x other h built = same_next _ _ _ _ (omega arith) refl
+simple_next : (f : ℕ → Bool) (x : Next) (b : tree.Body) → is_compound b ≡ false
+    → next_of (x.block) (x.temporary + temporaries_of f b) ≡ behind_body f x b
+simple_next f x (tree.Procedure heading ss end) h = impossible _ h
+simple_next f x (tree.Begin ss end) h = impossible _ h
+simple_next f x (tree.Do control ss end) h = impossible _ h
+simple_next f x (tree.If e c a) h = impossible _ h
+simple_next f x (tree.On c unit) h = impossible _ h
+simple_next f x other h = same_next _ _ _ _ (omega arith) refl
 
-pub simple_walked : (old new : TypingWalk) (n : Compiled) (first number at : ℕ) (b : tree.Body) (form : Option Form)
-    → is_compound b ≡ false → later_body n first b ≡ None
+simple_walked : (old new : TypingWalk) (number at : ℕ) (b : tree.Body) (form : Option Form) → is_compound b ≡ false
     → Walks Form old new (next_of old.next.block (old.next.temporary + temporaries_of (based_names old) b))
     (of_own (simple_typed (naming_at (unit_at old) (around old)) (around old) old.next.temporary at b)) form
     → WalksBody old new number at b form
-simple_walked old new n first number at b form h built w =
-    as_typed old new _ _ _ _ _ _ (simple_next n first (based_names old) (next_at old) b h built)
+simple_walked old new number at b form h w =
+    as_typed old new _ _ _ _ _ _ (simple_next (based_names old) (next_at old) b h)
     (simple_body (unit_at old) (around old) (next_at old) number at b h) refl w
 
-pub simple_answer : {X E : Type 0} (view : X → Form) (result : Result (Option X) E) (old new : TypingWalk) (n : Compiled) (first number at : ℕ) (b : tree.Body)
-    → is_compound b ≡ false → later_body n first b ≡ None
+pub simple_answer : {X E : Type 0} (view : X → Form) (result : Result (Option X) E) (old new : TypingWalk) (number at : ℕ) (b : tree.Body)
+    → is_compound b ≡ false
     → IfOk result (λ form. Walks Form old new (next_of old.next.block (old.next.temporary + temporaries_of (based_names old) b))
     (of_own (simple_typed (naming_at (unit_at old) (around old)) (around old) old.next.temporary at b)) (option_map view form))
     → IfOk result (λ form. WalksBody old new number at b (option_map view form))
-simple_answer view (Ok form) old new n first number at b h built w = simple_walked old new n first number at b (option_map view form) h built w
-simple_answer view (Err e) old new n first number at b h built w = tt
+simple_answer view (Ok form) old new number at b h w = simple_walked old new number at b (option_map view form) h w
+simple_answer view (Err e) old new number at b h w = tt
 
 -- an IF
 

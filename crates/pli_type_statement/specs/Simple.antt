@@ -18,7 +18,7 @@ put_typed n skip printed = do
   xs ← items n printed
   Ok (typed.Put skip xs)
 
--- such a statement, whose temporaries begin with this one; any other is not compiled yet
+-- such a statement, whose temporaries begin with this one; any other has statements in it
 abbrev pub simple_typed : Naming → Surroundings → (temporary at : ℕ) → tree.Body → Result Form Fault
 simple_typed n s temporary at tree.Null = Ok typed.Null
 simple_typed n s temporary at (tree.Declare declared) = Ok typed.Null
@@ -30,12 +30,15 @@ simple_typed n s temporary at (tree.Call name arguments) = call_typed n name arg
 simple_typed n s temporary at (tree.Goto label) = goto_typed n s label
 simple_typed n s temporary at (tree.Return value) = return_typed n s at value
 simple_typed n s temporary at (tree.Put skip printed) = put_typed n skip printed
+simple_typed n s temporary at (tree.Revert c) = Ok (typed.Revert c)
+simple_typed n s temporary at (tree.Signal c) = Ok (typed.Signal c)
 simple_typed n s temporary at other = at_fault NotYetBuilt at
 
--- a statement with statements in it; ON is not compiled yet
+-- a statement with statements in it
 abbrev pub is_compound : tree.Body → Bool
 is_compound (tree.Procedure heading statements end) = true
 is_compound (tree.Begin statements end) = true
 is_compound (tree.Do control statements end) = true
 is_compound (tree.If condition consequence alternative) = true
+is_compound (tree.On condition unit) = true
 is_compound other = false

@@ -1,5 +1,5 @@
 -- What the walk over a unit's statements does at a part of them.
-use Rattle.std.specs.Prelude.{◌≡◌, ◌≤◌, ◌+◌, ◌-◌, ℕ, suc, Bool, Option, Some, None, Result}
+use Rattle.std.specs.Prelude.{◌≡◌, ◌≤◌, ◌+◌, ◌-◌, ℕ, suc, Bool, true, false, Option, Some, None, Result}
 use Rattle.std.specs.Prelude.{List, [], ◌∷◌, ◌++◌, length, map, take}
 use Rattle.pli_base.specs.Statements.{Body, ExternalProcedure, Statements}
 use Rattle.pli_base.specs.declared.token.Fault.{Fault}
@@ -13,7 +13,6 @@ use Rattle.pli_type.specs.Temporaries.{Next}
 use Rattle.pli_type_names.specs.UnitNaming.{inside, outside}
 use Rattle.pli_type_templates.specs.views.UnitView.{automatic_at, based_at}
 use Rattle.pli_type_tree.specs.Templates.{Template}
-use Rattle.pli_type_tree.specs.TypedTree as typed
 use Rattle.pli_type_tree.specs.TypedTree.{Form, Signature, Global, TypedProcedure, TypedStatements, TypedUnit}
 use Rattle.pli_type_tree.specs.declared.statement.BlockHead.{BlockHead}
 use Rattle.pli_type_tree.specs.views.TemplateView.{groups_view}
@@ -95,12 +94,12 @@ abbrev pub in_list : Around → Listing → (begins : ℕ) → Option Descriptio
 in_list a l begins value = record { lists = a.lists ++ l ∷ []; begins = begins; value = value }
 
 -- it has gone into the next block
-pub record Enters (old new : TypingWalk) (block : OpenBlock) (inner : ℕ) (gives : Option Description)
-    (labels : List ℕ) : Type 0 where
+pub record Enters (old new : TypingWalk) (block : OpenBlock) (is_on_unit : Bool) (inner : ℕ)
+    (gives : Option Description) (labels : List ℕ) : Type 0 where
   pub naming : new.naming ≡ inside old.naming old.next.block
   pub around : around_view new.surroundings
       ≡ in_list (around_view old.surroundings)
-      (record { block = Some old.next.block; labels = labels }) inner gives
+      (record { block = Some old.next.block; is_on_unit = is_on_unit; labels = labels }) inner gives
   pub next : next_at new ≡ record { block = suc old.next.block; temporary = 0 }
   pub templates : (k : ℕ) → (k ≡ old.next.block → ⊥)
       → automatic_at new.templates k ≡ automatic_at old.templates k
@@ -143,14 +142,16 @@ pub record WalksBlock (old new : TypingWalk) (s : Surroundings) (statement : ℕ
   pub head : head_view made ≡ head_of (unit_at old) old.next.block statement ss
 
 -- where the statements of the next block stand
-abbrev pub in_block : TypingWalk → (begins : ℕ) → Option Description → Statements → Surroundings
-in_block w begins value ss =
+abbrev pub in_block : TypingWalk → (is_on_unit : Bool) → (begins : ℕ) → Option Description → Statements
+    → Surroundings
+in_block w is_on_unit begins value ss =
     surroundings_of (in_list (around_view w.surroundings)
-    (record { block = Some w.next.block; labels = spec.labels_of ss }) begins value)
+    (record { block = Some w.next.block; is_on_unit = is_on_unit; labels = spec.labels_of ss }) begins value)
 
 -- a procedure of this list
 abbrev pub ended_as : TypingWalk → (end : ℕ) → BlockHead → TypedStatements → TypedProcedure
 ended_as w end head list = record {
+  is_on_unit = false;
   head = head_view head;
   parent = Some (spec.block_at (around w));
   parameters = length ((unit_at w).parameters head.number);
@@ -158,27 +159,38 @@ ended_as w end head list = record {
   statements = list;
 }
 
--- it is put behind the others, if the list has no fault
-abbrev pub Ends : TypingWalk → (end : ℕ) → BlockHead → Option TypedStatements → (new : List TypedProcedure)
-    → Option Form → Type 0
-Ends w end head None new form = form ≡ None
-Ends w end head (Some list) new form =
-    (form ≡ Some typed.Null) × (new ≡ finished w ++ ended_as w end head list ∷ [])
+-- an ON-unit of this list
+abbrev pub unit_ended : TypingWalk → BlockHead → TypedStatements → TypedProcedure
+unit_ended w head list = record {
+  is_on_unit = true;
+  head = head_view head;
+  parent = Some (spec.block_at (around w));
+  parameters = 0;
+  function_end = None;
+  statements = list;
+}
 
--- it has walked over a procedure, whose list it has left: nothing else has changed
-pub record Finishes (old new : TypingWalk) (end : ℕ) (head : BlockHead) (list : Option TypedStatements)
-    (form : Option Form) : Type 0 where
+-- what is made of a list is put behind the others and leaves a form, if the list has no fault
+abbrev pub Ends : (left : Form) → (make : TypedStatements → TypedProcedure) → (old : List TypedProcedure)
+    → Option TypedStatements → (new : List TypedProcedure) → Option Form → Type 0
+Ends left make old None new form = form ≡ None
+Ends left make old (Some list) new form = (form ≡ Some left) × (new ≡ old ++ make list ∷ [])
+
+-- it has walked over a procedure or an ON-unit, whose list it has left: nothing else has changed
+pub record Finishes (old new : TypingWalk) (left : Form) (make : TypedStatements → TypedProcedure)
+    (list : Option TypedStatements) (form : Option Form) : Type 0 where
   pub naming : new.naming ≡ old.naming
   pub surroundings : new.surroundings ≡ old.surroundings
   pub next : new.next ≡ old.next
   pub templates : new.templates ≡ old.templates
   pub faults : new.faults ≡ old.faults
-  pub ends : Ends old end head list (finished new) form
+  pub ends : Ends left make (finished old) list (finished new) form
 
 -- an external procedure of its parts
 abbrev pub external_with : ExternalProcedure → Signature → (automatic : List Template) → (temporaries : ℕ)
     → TypedStatements → TypedProcedure
 external_with u signature automatic temporaries list = record {
+  is_on_unit = false;
   head = record {
     number = 0;
     statement = u.heading.number;

@@ -36,8 +36,8 @@ use pli_type_unbuilt::{first_unbuilt, is_main};
 use std::alloc::{AllocError, Global};
 
 /// Why a unit has no typed tree: all its faults of types, in the order of the text, one for each statement, and of an IF
-/// and a group one for what stands in front of the statements in them; or Z1 alone, at the first form that is not
-/// compiled yet; or want of memory.
+/// and a group one for what stands in front of the statements in them; or Z1 alone, at the first statement with a
+/// constant over the language's limits, which no text has; or want of memory.
 pub type CheckError = Failure<Vec<Fault>>;
 
 /// Z1 at a token, alone.
@@ -65,6 +65,7 @@ fn in_unit<'a>(
     let mut lists = Vec::new(alloc);
     lists.push(ListLabels {
         block: Some(0),
+        is_on_unit: false,
         labels,
     })?;
     Ok(Surroundings {
@@ -105,6 +106,7 @@ fn external_procedure(
         (typed.statements_view statements.items) }
 {
     TypedProcedure {
+        is_on_unit: false,
         head: BlockHead {
             number: 0,
             statement: tree.number,
@@ -151,7 +153,7 @@ fn typed_unit(
     })
 }
 
-/// The typed tree of a unit all of which is compiled, or its faults of types.
+/// The typed tree of a unit without constants over the limits, or its faults of types.
 fn built<'a>(
     alloc: Global,
     unit: &'a ResolvedUnit<'a>,
@@ -192,8 +194,8 @@ fn built<'a>(
     }
 }
 
-/// The typed tree of a resolved unit, or its faults of types. A unit with a form that is not compiled yet has Z1 in
-/// their place (own).
+/// The typed tree of a resolved unit, or its faults of types. A unit with a constant over the limits has Z1 in their place
+/// (own).
 pub fn check(alloc: Global, unit: &ResolvedUnit<'_>) -> Result<TypedUnit, CheckError>
     ensures { Checks result (checked_unit (resolved_unit_of (unit_view unit.now))) }
 {

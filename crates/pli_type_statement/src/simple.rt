@@ -43,7 +43,7 @@ fn put(
 }
 
 /// A statement without statements in it, which begins at the token `at`, and the first of whose temporaries is this
-/// one. What is not compiled yet is Z1 there.
+/// one. One with statements in it is Z1 there.
 #[tactic(auto, using(crate::proofs::NothingLater::assignment_built, crate::proofs::NothingLater::call_built, crate::proofs::NothingLater::return_built, crate::proofs::NothingLater::put_built, crate::proofs::NothingLater::allocate_built, crate::proofs::NothingLater::free_built))]
 pub(crate) fn simple(
     alloc: Global,
@@ -63,6 +63,8 @@ pub(crate) fn simple(
     match body {
         Body::Null | Body::Declare(_) => Ok(Form::Null),
         Body::Stop => Ok(Form::Stop),
+        Body::Revert(condition) => Ok(Form::Revert(*condition)),
+        Body::Signal(condition) => Ok(Form::Signal(*condition)),
         Body::Allocate(items) => allocate(alloc, naming, templates, temporary, items.as_slice()),
         Body::Free(references) => free(alloc, naming, references.as_slice()),
         Body::Assign {

@@ -11,7 +11,7 @@ ghost use Rattle.pli_type_names.specs.UnitNaming.{compiled_in};
 ghost use Rattle.pli_type_statement.specs.Around.{surroundings_of};
 ghost use Rattle.pli_type_statement.specs.Headers.{Header as PlainHeader, header_typed};
 ghost use Rattle.pli_type_statement.specs.Simple.{is_compound, simple_typed};
-ghost use Rattle.pli_type_statement.specs.Walking.{Finishes, HasRoom, IsPlaced, in_block, Walks, WalksBlock, WalksBody, WalksList, around, based_names, next_at, unit_at};
+ghost use Rattle.pli_type_statement.specs.Walking.{Finishes, HasRoom, IsPlaced, ended_as, in_block, unit_ended, Walks, WalksBlock, WalksBody, WalksList, around, based_names, next_at, unit_at};
 ghost use Rattle.pli_type_statement.specs.views.AroundView.{around_view};
 ghost use Rattle.pli_type_statement.specs.views.HeaderView.{header_view};
 ghost use Rattle.pli_type_tree.specs.TypedTree as plain;
@@ -26,12 +26,13 @@ use crate::simple::simple;
 use crate::surroundings::innermost;
 use crate::temporaries::kept_in;
 use crate::walk::{TypingWalk, enter_block, leave_block};
-use pli_base::statement::{Body, Control, Statement};
+use pli_base::statement::{Body, Condition, Control, Statement};
 use pli_base::syntax::Expression;
 use pli_map::Description;
 use pli_type_allocation::counted;
 use pli_type_tree::{BlockHead, Form, TypedExpression, TypedProcedure, TypedStatement};
 use std::alloc::{AllocError, Global};
+use std::slice;
 
 /// What a block begins with, and its list, if that has no fault.
 #[derive(Drop)]
@@ -123,7 +124,7 @@ fn finish(
     head: BlockHead,
     list: Option<Vec<TypedStatement>>,
 ) -> Result<Option<Form>, AllocError>
-    ensures { IfOk result (λ form. Finishes walk.old walk.new end head
+    ensures { IfOk result (λ form. Finishes walk.old walk.new plain.Null (ended_as walk.old end head)
         (option_map (λ list. statements_view list.items) list) (option_map form_view form)) }
 {
     let Some(statements) = list else {
@@ -134,6 +135,7 @@ fn finish(
     let parameters = procedure.parameters.len();
     let function_end = end_of(procedure.returned, end);
     walk.procedures.push(TypedProcedure {
+        is_on_unit: false,
         head,
         parent: Some(parent),
         parameters,
@@ -141,6 +143,32 @@ fn finish(
         statements,
     })?;
     Ok(Some(Form::Null))
+}
+
+/// Puts an ON-unit for a condition behind the procedures that have ended, if its statement has no fault.
+fn finish_unit(
+    walk: &mut TypingWalk<'_>,
+    condition: Condition,
+    head: BlockHead,
+    list: Option<Vec<TypedStatement>>,
+) -> Result<Option<Form>, AllocError>
+    ensures { IfOk result (λ form. Finishes walk.old walk.new (plain.On condition head.number) (unit_ended walk.old head)
+        (option_map (λ list. statements_view list.items) list) (option_map form_view form)) }
+{
+    let Some(statements) = list else {
+        return Ok(None);
+    };
+    let block = head.number;
+    let parent = innermost(walk.surroundings.lists.as_slice());
+    walk.procedures.push(TypedProcedure {
+        is_on_unit: true,
+        head,
+        parent: Some(parent),
+        parameters: 0,
+        function_end: None,
+        statements,
+    })?;
+    Ok(Some(Form::On { condition, block }))
 }
 
 /// A statement, if it has no fault. Its faults, and those of the statements in it, are put behind the others, in the
@@ -181,13 +209,21 @@ fn type_body<'a>(
         Body::Procedure(procedure) => {
             let value = walk.naming.procedure(walk.next.block).returned;
             let statements = procedure.statements.as_slice();
-            let block = type_block(alloc, walk, 0, value, number, statements)?;
+            let block = type_block(alloc, walk, false, 0, value, number, statements)?;
             finish(walk, procedure.end, block.head, block.list)
         }
         Body::Begin { statements, .. } => {
             let begins = walk.surroundings.begins + 1;
             let value = walk.surroundings.value;
-            let block = type_block(alloc, walk, begins, value, number, statements.as_slice())?;
+            let block = type_block(
+                alloc,
+                walk,
+                false,
+                begins,
+                value,
+                number,
+                statements.as_slice(),
+            )?;
             Ok(begin_form(block.head, block.list))
         }
         Body::Do {
@@ -216,16 +252,22 @@ fn type_body<'a>(
                 }
             }
         }
+        Body::On { condition, unit } => {
+            let list = slice::from_ref(&**unit);
+            let block = type_block(alloc, walk, true, 0, None, number, list)?;
+            finish_unit(walk, *condition, block.head, block.list)
+        }
         _ => type_simple(alloc, walk, at, body),
     }
 }
 
-/// The list of a block, which stands in so many BEGIN blocks of a procedure that gives this; its PROCEDURE or BEGIN is
-/// the statement of this number.
+/// The list of a block, which stands in so many BEGIN blocks of a procedure that gives this, or of an ON-unit; its
+/// PROCEDURE, BEGIN or ON is the statement of this number. That of an ON-unit is its statement.
 #[cycle(typed)]
 fn type_block<'a>(
     alloc: Global,
     walk: &mut TypingWalk<'a>,
+    is_on_unit: bool,
     begins: usize,
     value: Option<&'a Description>,
     number: u32,
@@ -236,10 +278,10 @@ fn type_block<'a>(
     requires room { HasRoom (next_at walk.old) (1 + regions_among (source.statements_view statements.now)) }
     requires deep { begins ≤ 1 + length (around_view walk.old.surroundings).lists }
     ensures { IfOk result (λ block. WalksBlock walk.old walk.new
-        (in_block walk.old begins (option_map (λ d. description_view d.now) value.entry) (source.statements_view statements.now))
+        (in_block walk.old is_on_unit begins (option_map (λ d. description_view d.now) value.entry) (source.statements_view statements.now))
         number (source.statements_view statements.now) block.head (option_map (λ list. statements_view list.items) block.list)) }
 {
-    let block = enter_block(alloc, walk, begins, value, statements)?;
+    let block = enter_block(alloc, walk, is_on_unit, begins, value, statements)?;
     let list = type_statements(alloc, walk, statements)?;
     let head = leave_block(walk, block, number);
     Ok(TypedBlock { head, list })
@@ -260,7 +302,7 @@ fn type_group(
         (option_map (λ list. statements_view list.items) typed)) }
 {
     let labels = labels_of(alloc, statements)?;
-    walk.surroundings.enter(None, labels)?;
+    walk.surroundings.enter(None, false, labels)?;
     let list = type_statements(alloc, walk, statements)?;
     walk.surroundings.leave();
     Ok(list)

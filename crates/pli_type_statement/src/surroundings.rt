@@ -17,14 +17,24 @@ pub(crate) struct Surroundings<'a> {
 }
 
 impl<'a> Surroundings<'a> {
-    /// Goes into a list with these labels, which is that of a block of this number or of a group.
-    pub fn enter(&mut self, block: Option<usize>, labels: Vec<u32>) -> Result<(), AllocError>
+    /// Goes into a list with these labels, which is that of a block of this number, of an ON-unit or not, or of a
+    /// group.
+    pub fn enter(
+        &mut self,
+        block: Option<usize>,
+        is_on_unit: bool,
+        labels: Vec<u32>,
+    ) -> Result<(), AllocError>
         ensures lists { OnOk result (lists_view self.new.lists.items
-            ≡ lists_view self.old.lists.items ++ record { block = block; labels = labels.items } ∷ []) }
+            ≡ lists_view self.old.lists.items ++ record { block = block; is_on_unit = is_on_unit; labels = labels.items } ∷ []) }
         ensures begins { self.new.begins ≡ self.old.begins }
         ensures value { self.new.value ≡ self.old.value }
     {
-        self.lists.push(ListLabels { block, labels })?;
+        self.lists.push(ListLabels {
+            block,
+            is_on_unit,
+            labels,
+        })?;
         Ok(())
     }
 

@@ -46,16 +46,17 @@ pub(crate) struct OpenBlock<'a> {
 }
 
 /// Goes into the next block, which has these statements, and stands in so many BEGIN blocks of a procedure that gives
-/// this.
+/// this, or of an ON-unit.
 pub(crate) fn enter_block<'a>(
     alloc: Global,
     walk: &mut TypingWalk<'a>,
+    is_on_unit: bool,
     begins: usize,
     value: Option<&'a Description>,
     statements: &[Statement],
 ) -> Result<OpenBlock<'a>, AllocError>
     requires { walk.old.next.block < 18446744073709551615 }
-    ensures { IfOk result (λ block. Enters walk.old walk.new block begins
+    ensures { IfOk result (λ block. Enters walk.old walk.new block is_on_unit begins
         (option_map (λ d. description_view d.now) value.entry) (labels_of (source.statements_view statements.now))) }
 {
     let labels = labels_of(alloc, statements)?;
@@ -68,7 +69,7 @@ pub(crate) fn enter_block<'a>(
         value: walk.surroundings.value,
         temporary: walk.next.temporary,
     };
-    walk.surroundings.enter(Some(number), labels)?;
+    walk.surroundings.enter(Some(number), is_on_unit, labels)?;
     walk.surroundings.begins = begins;
     walk.surroundings.value = value;
     walk.next = Next {
@@ -78,7 +79,7 @@ pub(crate) fn enter_block<'a>(
     Ok(open)
 }
 
-/// Goes out of a block, whose PROCEDURE or BEGIN is this statement; gives what its activations begin with.
+/// Goes out of a block, whose PROCEDURE, BEGIN or ON is this statement; gives what its activations begin with.
 pub(crate) fn leave_block<'a>(
     walk: &mut TypingWalk<'a>,
     block: OpenBlock<'a>,

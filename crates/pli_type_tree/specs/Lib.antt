@@ -1,4 +1,5 @@
 pub mod Allocations
+pub mod Blocks
 pub mod Conversions
 pub mod Globals
 pub mod Iterations

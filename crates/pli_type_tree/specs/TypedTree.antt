@@ -4,6 +4,7 @@
 -- is reached by how many static links outward it is.
 use Rattle.std.specs.Prelude.{ℕ, ℤ, Bool, Option, List}
 use Rattle.pli_base.specs.Name.{Name}
+use Rattle.pli_base.specs.declared.statement.Condition.{Condition}
 use Rattle.pli_map.specs.Description.{Description}
 use Rattle.pli_operation.specs.declared.operation.Operation.{Operation}
 use Rattle.pli_program.specs.declared.kind.VariableKind.{VariableKind}
@@ -127,7 +128,8 @@ mutual
     Statement : (number : ℕ) (form : Form) → TypedStatement
 
   -- values stand converted to what they are put into; outward is how many BEGIN blocks a RETURN leaves, and
-  -- how many links outward a GOTO's label is
+  -- how many links outward a GOTO's label is; ON names the block of its unit, which stands among the
+  -- procedures
   pub data Form : Type 0 where
     Null : Form
     Assign : (target : TypedReference) (value : TypedExpression) → Form
@@ -147,6 +149,9 @@ mutual
     Return : (outward : ℕ) → Form
     ReturnValue : (outward : ℕ) (value : TypedExpression) → Form
     Stop : Form
+    On : (condition : Condition) (block : ℕ) → Form
+    Revert : (condition : Condition) → Form
+    Signal : (condition : Condition) → Form
 
   -- the ELSE of an IF, if it has one
   pub data OtherWise : Type 0 where
@@ -158,9 +163,10 @@ mutual
     NoStatement : TypedStatements
     StatementThen : (first : TypedStatement) (more : TypedStatements) → TypedStatements
 
--- a procedure: its block; how many parameters it has; the number of its END if it is a function, which must
--- not be reached
+-- a procedure or an ON-unit: its block; how many parameters it has; the number of its END if it is a
+-- function, which must not be reached. An ON-unit has its one statement as a list
 pub record TypedProcedure : Type 0 where
+  pub is_on_unit : Bool
   pub head : BlockHead
   pub parent : Option ℕ
   pub parameters : ℕ
@@ -180,7 +186,7 @@ pub data Global : Type 0 where
   EntryPoint : (name : Name) (signature : Signature) → Global
 
 -- a unit: the name of its external procedure, and what that takes and gives; its globals in the order of the
--- text; and its procedures, the external one first
+-- text; and its procedures and ON-units, the external procedure first
 pub record TypedUnit : Type 0 where
   pub name : Name
   pub procedure : Name

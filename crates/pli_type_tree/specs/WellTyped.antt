@@ -1,7 +1,7 @@
 -- Well-typed trees: what a type checker promises, so that a run never asks for what is not there. A typing
 -- context says what is known at a place of the text: the blocks around it, the innermost first, each with the
 -- descriptions of its slots and the labels that a GOTO may lead to.
-use Rattle.std.specs.Prelude.{◌≡◌, ℕ, suc, ◌+◌, ◌*◌, nat_eq, true, false, ℤ, ◌-ℤ◌, int_le, unsigned_abs}
+use Rattle.std.specs.Prelude.{◌≡◌, ℕ, suc, ◌+◌, ◌*◌, nat_eq, Bool, true, false, ℤ, ◌-ℤ◌, int_le, unsigned_abs}
 use Rattle.std.specs.Prelude.{◌≤◌, IsTrue, Option, Some, None}
 use Rattle.std.specs.Prelude.{List, [], ◌∷◌, ◌++◌, length, map, slice_get, if◌then◌else◌}
 use Rattle.std.specs.List.{list_any}
@@ -28,7 +28,8 @@ use Rattle.pli_type_tree.specs.TypedTree.{AllocatesBased, AllocatesInArea, Freed
 use Rattle.pli_type_tree.specs.TypedTree.{FreesBased, AssignAggregate, AssignArea, EmptyArea, Put, If, Begin}
 use Rattle.pli_type_tree.specs.TypedTree.{Group, While, Iterate, TypedRange}
 use Rattle.pli_type_tree.specs.TypedTree.{Once, ToBy, ByTo, Repeated, Iteration, Call, Goto, Return}
-use Rattle.pli_type_tree.specs.TypedTree.{ReturnValue, Stop, OtherWise, NoElse, Else, TypedStatements}
+use Rattle.pli_type_tree.specs.TypedTree.{ReturnValue, Stop, On, Revert, Signal, OtherWise, NoElse, Else}
+use Rattle.pli_type_tree.specs.TypedTree.{TypedStatements}
 use Rattle.pli_type_tree.specs.TypedTree.{NoStatement}
 use Rattle.pli_type_tree.specs.TypedTree.{StatementThen}
 use Rattle.pli_type_tree.specs.ValueTypes.{StringKind, OfBits, ValueType, Numbers, Strings, Pointers}
@@ -57,17 +58,20 @@ abbrev pub AreMade : List Variable → Type 0
 AreMade [] = Unit {0}
 AreMade (v ∷ vs) = IsMade v × AreMade vs
 
--- a block around: its number; its slots, the first ones, so many, those of its parameters; and the labels of
--- its lists
+-- a block around: its number; its slots, the first ones, so many, those of its parameters; the labels of its
+-- lists that are running; and those among them that last while it runs, of its own list and of none of its
+-- groups
 pub record BlockAround : Type 0 where
   pub number : ℕ
   pub parameters : ℕ
   pub slots : List Description
   pub labels : List ℕ
+  pub lasting : List ℕ
 
--- a procedure: the block around it and the blocks around it as its statements know them, its parameters, and
--- its value if it is a function
+-- a procedure or an ON-unit: the block around it and the blocks around it as its statements know them, its
+-- parameters, and its value if it is a function
 pub record KnownProcedure : Type 0 where
+  pub is_on_unit : Bool
   pub parent : Option ℕ
   pub around : List BlockAround
   pub parameters : List Description
@@ -120,14 +124,26 @@ LeadTo whole offset (SubscriptThen stride e more) part =
 
 -- calls
 
--- the same blocks, where at least these labels are known
+-- labels are among others
+abbrev pub AreAmong : (labels others : List ℕ) → Type 0
+AreAmong labels others =
+    (label : ℕ) → IsTrue (list_any (nat_eq label) labels) → IsTrue (list_any (nat_eq label) others)
+
+-- the same blocks, where at least these labels are known, and last
 abbrev pub AreAround : (here around : List BlockAround) → Type 0
 AreAround [] [] = Unit {0}
 AreAround (b ∷ bs) (c ∷ cs) =
     (b.number ≡ c.number) × ((b.parameters ≡ c.parameters) × (b.slots ≡ c.slots))
-    × ((label : ℕ) → IsTrue (list_any (nat_eq label) c.labels) → IsTrue (list_any (nat_eq label) b.labels))
-    × AreAround bs cs
+    × AreAmong c.labels b.labels × AreAmong c.lasting b.lasting × AreAround bs cs
 AreAround bs cs = ⊥
+
+-- the blocks around an ON-unit that stands here: of the innermost one it knows the labels that last, as it
+-- may run while no group there does
+abbrev pub AreAroundUnit : (here around : List BlockAround) → Type 0
+AreAroundUnit (b ∷ bs) (c ∷ cs) =
+    (b.number ≡ c.number) × ((b.parameters ≡ c.parameters) × (b.slots ≡ c.slots))
+    × AreAmong c.labels b.lasting × AreAmong c.lasting b.lasting × AreAround bs cs
+AreAroundUnit bs cs = ⊥
 
 -- the blocks around from the nearest of a number on
 abbrev pub blocks_from : (number : ℕ) → List BlockAround → Option (List BlockAround)
@@ -145,8 +161,8 @@ IsReached (Some parent) here around =
 abbrev pub IsCallee : List Global → (procedures : ℕ → Option KnownProcedure) → (here : List BlockAround)
     → Callee → (parameters : List Description) → (value : Option Description) → Type 0
 IsCallee globals procedures here (OfBlock block) parameters value =
-    (p : KnownProcedure) × (procedures block ≡ Some p) × IsReached p.parent here p.around
-    × (p.parameters ≡ parameters) × (p.value ≡ value)
+    (p : KnownProcedure) × (procedures block ≡ Some p) × (p.is_on_unit ≡ false)
+    × IsReached p.parent here p.around × (p.parameters ≡ parameters) × (p.value ≡ value)
 IsCallee globals procedures here (OfEntry number) parameters value =
     signature_of (slice_get globals number) ≡ Some (record { parameters = parameters; result = value })
 
@@ -329,6 +345,7 @@ block_of head parameters statements = record {
   parameters = length parameters;
   slots = parameters ++ map (λ v. v.description) head.variables;
   labels = labels_of statements;
+  lasting = labels_of statements;
 }
 
 -- in a BEGIN block
@@ -340,6 +357,18 @@ in_begin head statements s =
 abbrev pub knows_label : Option BlockAround → (label : ℕ) → Type 0
 knows_label None label = ⊥
 knows_label (Some b) label = IsTrue (list_any (nat_eq label) b.labels)
+
+-- the number of the innermost block
+abbrev pub innermost : List BlockAround → Option ℕ
+innermost [] = None
+innermost (b ∷ bs) = Some b.number
+
+-- a block is an ON-unit that stands here; it takes nothing and gives nothing
+abbrev pub IsUnitHere : TypingContext → (block : ℕ) → Type 0
+IsUnitHere s block =
+    (p : KnownProcedure) × (s.procedures block ≡ Some p) × (p.is_on_unit ≡ true)
+    × (p.parent ≡ innermost s.blocks) × AreAroundUnit s.blocks p.around × (p.parameters ≡ [])
+    × (p.value ≡ None)
 
 abbrev mutual
   -- a statement is well typed
@@ -374,6 +403,9 @@ abbrev mutual
   IsTypedForm n s (ReturnValue outward e) =
       (outward ≡ s.begins) × ((d : Description) × (s.value ≡ Some d) × IsValueFor n s d e)
   IsTypedForm n s Stop = Unit {0}
+  IsTypedForm n s (On condition block) = IsUnitHere s block
+  IsTypedForm n s (Revert condition) = Unit {0}
+  IsTypedForm n s (Signal condition) = Unit {0}
 
   -- an ELSE is
   pub IsTypedElse : (greatest : ℕ) → TypingContext → OtherWise → Type 0

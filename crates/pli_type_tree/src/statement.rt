@@ -4,6 +4,7 @@ use crate::conversion::Conversion;
 use crate::expression::{Callee, TypedArgument, TypedExpression, TypedReference};
 use crate::iteration::Iteration;
 use crate::template::{Template, VariableGroup};
+use pli_base::statement::Condition;
 use pli_map::Description;
 
 /// What an activation of a block begins with.
@@ -11,7 +12,7 @@ use pli_map::Description;
 pub struct BlockHead {
     /// The block.
     pub number: usize,
-    /// Its PROCEDURE or BEGIN.
+    /// Its PROCEDURE, BEGIN or ON.
     pub statement: u32,
     /// Its AUTOMATIC variables in the order of the text.
     pub variables: Vec<VariableGroup>,
@@ -135,4 +136,13 @@ pub enum Form {
         value: TypedExpression,
     },
     Stop,
+    /// The activation has the ON-unit of this block for a condition from then on.
+    On {
+        condition: Condition,
+        block: usize,
+    },
+    /// The activation has none for the condition from then on.
+    Revert(Condition),
+    /// The condition is raised.
+    Signal(Condition),
 }

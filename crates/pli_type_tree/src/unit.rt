@@ -8,6 +8,8 @@ use pli_program::VariableKind;
 /// A procedure.
 #[derive(Drop)]
 pub struct TypedProcedure {
+    /// Whether it is an ON-unit, which takes nothing and gives nothing.
+    pub is_on_unit: bool,
     pub head: BlockHead,
     /// The block in which it stands; none for an external procedure.
     pub parent: Option<usize>,

@@ -1,4 +1,4 @@
-//! The first form of a unit that is not compiled yet.
+//! The first statement of a unit with a constant beyond the language's limits.
 #![tactic(auto)]
 
 mod allocations;

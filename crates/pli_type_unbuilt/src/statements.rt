@@ -1,4 +1,4 @@
-//! Statements that are not compiled yet.
+//! Statements with constants beyond the language's limits, which are not compiled.
 ghost use Rattle.std.specs.Prelude.{◌≡◌, map};
 ghost use Rattle.std.specs.List.{list_any};
 ghost use Rattle.pli_base.specs.views.StatementView.{body_view, option_view, statement_view, statements_view, unit_view};
@@ -60,8 +60,8 @@ fn first_token(label: &Option<Identifier>, at: u32) -> u32
     }
 }
 
-/// The token of the first form in a statement that is not compiled yet: the statement's first, which is its label where
-/// it has one (own).
+/// The token at which the first statement with such a constant begins, in this statement: its label where it has one
+/// (own).
 #[cycle(later_statement)]
 fn later_statement(naming: &Naming<'_>, statement: &Statement) -> Option<u32>
     ensures { result ≡ spec.later_statement (compiled_in naming.now) (statement_view statement.now) }
@@ -78,6 +78,8 @@ fn later_body(naming: &Naming<'_>, at: u32, body: &Body) -> Option<u32>
 {
     match body {
         Body::Null | Body::Stop | Body::Goto(_) | Body::Declare(_) => None,
+        Body::Revert(_) | Body::Signal(_) => None,
+        Body::On { unit, .. } => later_statement(naming, unit),
         Body::Assign { target, value, .. } => token_if(
             later_reference(naming, target) || later_expression(naming, value),
             at,
@@ -115,11 +117,10 @@ fn later_body(naming: &Naming<'_>, at: u32, body: &Body) -> Option<u32>
         Body::Put { items, .. } => token_if(later_printed(naming, items.as_slice()), at),
         Body::Allocate(items) => token_if(later_allocated(naming, items.as_slice()), at),
         Body::Free(references) => token_if(later_freed(naming, references.as_slice()), at),
-        Body::On { .. } | Body::Revert(_) | Body::Signal(_) => Some(at),
     }
 }
 
-/// The token of the first form among statements that is not compiled yet.
+/// The same among statements.
 #[cycle(later_statement)]
 fn later_statements(naming: &Naming<'_>, statements: &[Statement]) -> Option<u32>
     ensures { result ≡ spec.later_statements (compiled_in naming.now) (statements_view statements.now) }
@@ -132,8 +133,9 @@ fn later_statements(naming: &Naming<'_>, statements: &[Statement]) -> Option<u32
     None
 }
 
-/// The token of the first form of a unit that is not compiled yet, counted from 0, at which Z1 stands; none where all
-/// of it is compiled. It calls itself as deep as statements and parentheses nest and operators stand in a row (own).
+/// The token, counted from 0, at which the first statement of a unit with such a constant begins, where Z1 stands; none
+/// where there is none, as in each text. It calls itself as deep as statements and parentheses nest and operators stand
+/// in a row (own).
 #[tactic(auto, using(crate::proofs::PartLemmas::unit_later))]
 pub fn first_unbuilt(naming: &Naming<'_>) -> Option<u32>
     ensures { result ≡ spec.first_unbuilt (compiled_in naming.now) (unit_view naming.now.unit) }

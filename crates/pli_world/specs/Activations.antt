@@ -2,6 +2,8 @@
 -- when it is the newest.
 use Rattle.std.specs.Prelude.{ℕ, zero, suc, nat_eq, Bool, ◌&&◌, Option, Some, None, List, [], ◌∷◌, length}
 use Rattle.std.specs.Prelude.{if◌then◌else◌}
+use Rattle.pli_base.specs.declared.statement.Condition.{Condition}
+use Rattle.pli_base.specs.declared.statement.Condition.TheVariants.{FixedOverflow, ZeroDivide, Area}
 use Rattle.pli_map.specs.Variables.{Variable}
 use Rattle.pli_world.specs.Storage.{Place}
 
@@ -13,10 +15,32 @@ pub record Head : Type 0 where
   pub statement : ℕ
   pub variables : List Variable
 
+-- the ON-units of an activation: the number of the block of each, at most one for each condition
+pub record OnUnits : Type 0 where
+  pub overflow : Option ℕ
+  pub zero_divide : Option ℕ
+  pub area : Option ℕ
+
+-- none
+abbrev pub no_on_unit : OnUnits
+no_on_unit = record { overflow = None; zero_divide = None; area = None }
+
+-- the one for a condition
+abbrev pub on_unit_for : Condition → OnUnits → Option ℕ
+on_unit_for FixedOverflow units = units.overflow
+on_unit_for ZeroDivide units = units.zero_divide
+on_unit_for Area units = units.area
+
+-- with this one for a condition, or with none for it
+abbrev pub with_on_unit : Condition → Option ℕ → OnUnits → OnUnits
+with_on_unit FixedOverflow unit units = record units { overflow = unit }
+with_on_unit ZeroDivide unit units = record units { zero_divide = unit }
+with_on_unit Area unit units = record units { area = unit }
+
 -- an activation of a block of a unit, at a statement. Outer names mean the activation whose height is the
 -- static link, 0 for none. A slot is a parameter or an AUTOMATIC variable. Pending are the dummy arguments of
 -- calls that are being prepared; owned are the generations that end with it, those of its variables and the
--- dummy arguments that it received.
+-- dummy arguments that it received. Its ON-units stay while it runs, unless REVERT removes them.
 pub record Activation : Type 0 where
   pub unit : ℕ
   pub block : ℕ
@@ -25,6 +49,7 @@ pub record Activation : Type 0 where
   pub slots : List Place
   pub pending : List ℕ
   pub owned : List ℕ
+  pub on_units : OnUnits
 
 -- how many activations there may be (own)
 abbrev pub activation_limit : ℕ

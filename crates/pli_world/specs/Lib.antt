@@ -1,5 +1,6 @@
 pub mod Activations
 pub mod Areas
+pub mod Conditions
 pub mod Ends
 pub mod Locating
 pub mod Stacks

@@ -23,7 +23,7 @@ use Rattle.pli_program.specs.Program.{ProgramVariable}
 use Rattle.pli_program.specs.declared.kind.VariableKind.{VariableKind}
 use Rattle.pli_program.specs.declared.kind.VariableKind.TheVariants as kinds
 use Rattle.pli_world.specs.Activations.{Activation, outward_from, with_newest, without_newest}
-use Rattle.pli_world.specs.Activations.{activation_at, Head}
+use Rattle.pli_world.specs.Activations.{activation_at, Head, no_on_unit}
 use Rattle.pli_world.specs.Ends.{RunEnd, Error, MachineFault}
 use Rattle.pli_world.specs.Storage.{Block, Generation, Made, Automatic, Static as AsStatic, Dummy, Place}
 use Rattle.pli_world.specs.Storage.{Contents, contents_of, whole, field_of, generation_in, block_at}
@@ -255,6 +255,7 @@ begun_in head link given w = record w {
         slots = given;
         pending = [];
         owned = handed given w.activations;
+        on_units = no_on_unit;
       } ∷ with_newest (without_handed given) w.activations;
 }
 

@@ -9,6 +9,7 @@ ghost use Rattle.pli_world.specs.laws.Operations.{CalculatingKeeps, StaticKeeps,
 ghost use Rattle.pli_world.specs.laws.Operations.{StackingKeeps, UnstackingKeeps, CountingKeeps, BasedKeeps};
 ghost use Rattle.pli_world.specs.laws.Operations.{AllocatingKeeps, FreeingKeeps, AddressKeeps, BlockKeeps};
 ghost use Rattle.pli_world.specs.laws.Operations.{OffsetKeeps, PointerKeeps, AssigningKeeps, EmptyingKeeps};
+ghost use Rattle.pli_world.specs.laws.Operations.{EstablishingKeeps, SignallingKeeps, RevertingKeeps};
 ghost use Rattle.pli_world.specs.examples.StorageExamples.{OuterVariable, DummyNumber, DummyEnds, TooLong};
 ghost use Rattle.pli_world.specs.examples.StorageExamples.{DummyDead, PartStored, PartHeld, ElementCopied};
 ghost use Rattle.pli_world.specs.examples.StorageExamples.{AggregateHeld, NoElement, NoPart, StaticStays};
@@ -44,6 +45,9 @@ pub fn operations_keep()
     ensures pointer { PointerKeeps }
     ensures assigning { AssigningKeeps }
     ensures emptying { EmptyingKeeps }
+    ensures establishing { EstablishingKeeps }
+    ensures signalling { SignallingKeeps }
+    ensures reverting { RevertingKeeps }
     ensures dummy { DummyKeeps }
     ensures entering { EnteringAdds }
     ensures leaving { LeavingTakes }

@@ -51,6 +51,7 @@ counting =
 -- the external procedure, whose variable begins with 7
 abbrev pub external : TypedProcedure
 external = record {
+  is_on_unit = false;
   head = record {
     number = 0;
     statement = 1;
@@ -67,6 +68,7 @@ external = record {
 -- the procedure that is called, of two parameters
 abbrev pub inner : TypedProcedure
 inner = record {
+  is_on_unit = false;
   head = record { number = 1; statement = 6; variables = []; temporaries = 0 };
   parent = Some 0;
   parameters = 2;

@@ -1,12 +1,13 @@
 -- Worked examples of the translation.
-use Rattle.std.specs.Prelude.{replicate, ◌≡◌, ℕ, pos, true, false, Some, None, [], ◌∷◌, codes}
+use Rattle.std.specs.Prelude.{replicate, ◌≡◌, ℕ, pos, true, false, Some, None, [], ◌∷◌, codes, slice_get}
+use Rattle.pli_base.specs.declared.statement.Condition.TheVariants as conditions
 use Rattle.pli_run.specs.declared.ending.RunError.TheVariants.{NoReturnedValue}
 use Rattle.pli_map.specs.Description.{FixedBinary, Character, Bit, Pointer, Offset, Area}
 use Rattle.pli_operation.specs.declared.operation.Operation.TheVariants as calculate
 use Rattle.pli_value.specs.Value.{Number, Characters}
 use Rattle.pli_program.specs.Program.{Instruction, Step, Line, Jump, JumpUnless, Local, Field, Subscript}
 use Rattle.pli_program.specs.Program.{Constant, Load, Store, Copy, MakeDummy, Operate, Skip, Raise}
-use Rattle.pli_program.specs.Program.{Procedure, BeginBlock}
+use Rattle.pli_program.specs.Program.{Procedure, BeginBlock, OnUnit}
 use Rattle.pli_program.specs.Program as op
 use Rattle.pli_program.specs.declared.kind.VariableKind.TheVariants.{Static, Controlled}
 use Rattle.pli_type_tree.specs.TypedTree.{InSlot, TypedExpression, Literal, Held, Calculated, Called, Whole}
@@ -14,7 +15,8 @@ use Rattle.pli_type_tree.specs.TypedTree.{TypedReference, Part, NoOperand, Opera
 use Rattle.pli_type_tree.specs.TypedTree.{SubscriptThen, NoArgument, ByPlace, ByDummy, BlockHead, Statement}
 use Rattle.pli_type_tree.specs.TypedTree.{Null, Assign, AssignAggregate, Put, If, Begin, While, Call, Goto}
 use Rattle.pli_type_tree.specs.TypedTree.{Iterate, ToBy}
-use Rattle.pli_type_tree.specs.TypedTree.{Stop, Allocate, Free, NoElse, Else, NoStatement, StatementThen}
+use Rattle.pli_type_tree.specs.TypedTree.{Stop, On, Revert, Signal, Allocate, Free, NoElse, Else}
+use Rattle.pli_type_tree.specs.TypedTree.{NoStatement, StatementThen}
 use Rattle.pli_type_tree.specs.Templates.{Template}
 use Rattle.pli_type_tree.specs.TypedTree.{NewestOf, Generations, AllocatesControlled, FreesControlled}
 use Rattle.pli_type_tree.specs.TypedTree.{Located, Address, AllocatesBased, FreesBased}
@@ -131,6 +133,7 @@ call_of_f = Called (OfBlock 2) NoArgument
 -- END M; its BEGIN is block 1
 abbrev external : TypedProcedure
 external = record {
+  is_on_unit = false;
   head = head 0 1;
   parent = None;
   parameters = 0;
@@ -145,6 +148,7 @@ external = record {
 -- F: PROC RETURNS(BIT); END F; in M, which is block 2
 abbrev function : TypedProcedure
 function = record {
+  is_on_unit = false;
   head = head 2 5;
   parent = Some 0;
   parameters = 0;
@@ -218,6 +222,7 @@ absolute_of_5 = Calculated (tree.Operate calculate.Absolute) (OperandThen (numbe
 -- M: PROC OPTIONS(MAIN); DCL C CHAR(3); CALL S(5); PUT LIST(C, 5, ABS(+5)); END M;
 abbrev printing : TypedProcedure
 printing = record {
+  is_on_unit = false;
   head = record {
     number = 0;
     statement = 1;
@@ -244,6 +249,7 @@ printing = record {
 -- S: PROC(P); DCL P CHAR(2); END S; in M
 abbrev called : TypedProcedure
 called = record {
+  is_on_unit = false;
   head = head 1 5;
   parent = Some 0;
   parameters = 1;
@@ -300,6 +306,7 @@ of_p = ByPlace first NoArgument
 -- S: PROC(P); CALL G(P); IF F(P) THEN ; END S;
 abbrev calling : TypedProcedure
 calling = record {
+  is_on_unit = false;
   head = head 0 1;
   parent = None;
   parameters = 1;
@@ -357,6 +364,7 @@ EntriesLinked = (unit_code calling_unit (3 ∷ 4 ∷ 2 ∷ [])).globals
 -- Q = ALLOCATION(N); FREE Q; END M;
 abbrev stacking : TypedProcedure
 stacking = record {
+  is_on_unit = false;
   head = head 0 1;
   parent = None;
   parameters = 0;
@@ -416,6 +424,7 @@ from_seven = record {
 -- ALLOCATE B, B SET(Q); V = Q -> B; P = ADDR(V); FREE Q -> B; END M;
 abbrev pointing : TypedProcedure
 pointing = record {
+  is_on_unit = false;
   head = record {
     number = 0;
     statement = 1;
@@ -468,6 +477,7 @@ fourth = Whole (InSlot 0 3)
 -- ALLOCATE V IN(A) SET(O), V IN(B); P = O; O = P; B = A; A = EMPTY; END M;
 abbrev holding : TypedProcedure
 holding = record {
+  is_on_unit = false;
   head = record {
     number = 0;
     statement = 1;
@@ -520,3 +530,69 @@ AreasUsed =
     ∷ coded.Store ∷ coded.Step 5 ∷ coded.Local 0 2 ∷ coded.Local 0 3 ∷ coded.Load ∷ coded.Local 0 0
     ∷ coded.ToOffset ∷ coded.Store ∷ coded.Step 6 ∷ coded.Local 0 1 ∷ coded.Local 0 0 ∷ coded.AssignArea
     ∷ coded.Step 7 ∷ coded.Local 0 0 ∷ coded.EmptyArea ∷ coded.Return 0 ∷ [])
+
+-- M: PROC OPTIONS(MAIN); ON FOFL BEGIN; REVERT FOFL; GOTO L; END; SIGNAL FOFL; L: ; END M; where ON is statement
+-- 2, its unit's BEGIN statement 3, and L statement 7
+abbrev pub establishing : TypedProcedure
+establishing = record {
+  is_on_unit = false;
+  head = head 0 1;
+  parent = None;
+  parameters = 0;
+  function_end = None;
+  statements =
+      StatementThen (Statement 2 (On conditions.FixedOverflow 1))
+      (StatementThen (Statement 6 (Signal conditions.FixedOverflow))
+      (StatementThen (Statement 7 Null) NoStatement));
+}
+
+-- its ON-unit, which is block 1; the BEGIN in it is block 2
+abbrev pub taking : TypedProcedure
+taking = record {
+  is_on_unit = true;
+  head = head 1 2;
+  parent = Some 0;
+  parameters = 0;
+  function_end = None;
+  statements =
+      StatementThen
+      (Statement 3
+      (Begin (head 2 3)
+      (StatementThen (Statement 4 (Revert conditions.FixedOverflow))
+      (StatementThen (Statement 5 (Goto 2 7)) NoStatement)))) NoStatement;
+}
+
+-- the unit of both
+abbrev pub establishing_unit : TypedUnit
+establishing_unit = record {
+  name = codes "M";
+  procedure = codes "M";
+  is_main = true;
+  signature = record { parameters = []; result = None };
+  globals = [];
+  procedures = establishing ∷ taking ∷ [];
+}
+
+-- the code of an ON-unit is that of its statement, and then it returns; its block is one of its own kind
+abbrev pub UnitsEstablished : Type 0
+UnitsEstablished =
+    ((code_of establishing_unit).instructions
+    ≡ coded.Step 2 ∷ coded.On conditions.FixedOverflow 1 ∷ coded.Step 6 ∷ coded.Signal conditions.FixedOverflow
+    ∷ coded.Step 7 ∷ coded.Return 0
+    ∷ coded.Step 3 ∷ coded.Begin 2 ∷ coded.Return 0
+    ∷ coded.Step 4 ∷ coded.Revert conditions.FixedOverflow ∷ coded.Step 5 ∷ coded.Goto 2 4 ∷ coded.Return 0 ∷ [])
+    × (slice_get (unit_code establishing_unit []).blocks 1
+    ≡ Some
+    (record {
+      kind = OnUnit;
+      parent = Some 0;
+      parameters = 0;
+      variables = [];
+      temporaries = 0;
+      entry = 6;
+      statement = 2;
+    }))
+
+-- it is numbered well: its ON names the ON-unit
+abbrev pub UnitsNumbered : Type 0
+UnitsNumbered = IsWellNumbered establishing_unit

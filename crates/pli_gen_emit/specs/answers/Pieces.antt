@@ -3,7 +3,8 @@ use Rattle.std.specs.Prelude.{ℕ, ◌≡◌, List, [], ◌∷◌, ◌++◌, Opt
 use Rattle.pli_program.specs.Program.{Instruction, Store, Copy}
 use Rattle.pli_program.specs.Program as op
 use Rattle.pli_type_tree.specs.TypedTree.{Form, Assign, AssignAggregate, AssignArea, EmptyArea, Put, Begin}
-use Rattle.pli_type_tree.specs.TypedTree.{Call, Goto, Return, ReturnValue, Stop, Allocate, Free, Iteration}
+use Rattle.pli_type_tree.specs.TypedTree.{Call, Goto, Return, ReturnValue, Stop, On, Revert, Signal, Allocate}
+use Rattle.pli_type_tree.specs.TypedTree.{Free, Iteration}
 use Rattle.pli_gen_emit.specs.TreeTranslation.{BlockTree, behind, block_code, place_code, value_code}
 use Rattle.pli_gen_emit.specs.TreeTranslation.{skip_code, items_code, call_code}
 use Rattle.pli_gen_emit.specs.TreeTranslation.{allocations_code, freeings_code}
@@ -25,6 +26,9 @@ simple_code (Goto outward label) p = op.Goto outward label ∷ []
 simple_code (Return outward) p = op.Return outward ∷ []
 simple_code (ReturnValue outward value) p = value_code value ++ op.ReturnValue outward ∷ []
 simple_code Stop p = op.Stop ∷ []
+simple_code (On condition block) p = op.On condition block ∷ []
+simple_code (Revert condition) p = op.Revert condition ∷ []
+simple_code (Signal condition) p = op.Signal condition ∷ []
 simple_code (Allocate items) p = allocations_code items p
 simple_code (Free items) p = freeings_code items
 simple_code form p = []

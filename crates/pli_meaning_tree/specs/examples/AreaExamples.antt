@@ -88,28 +88,39 @@ DeadHeader n m =
 abbrev pub DeadHeaderNamed : Type 0
 DeadHeaderNamed = DeadHeader 1 16 × DeadHeader 0 8
 
--- `P(I)`, `P(5) PTR` in slot 1 and I in slot 2
-abbrev pub pointer_of : TypedReference
-pointer_of =
+-- `P(e)`, `P(5) PTR` in slot 1
+abbrev pub pointer_of : TypedExpression → TypedReference
+pointer_of e =
     Part (InSlot 0 1) 0 Pointer
-    (SubscriptThen (record { low = pos 1; high = pos 5; multiplier = 8 }) (held_in 0 2) NoSubscript)
+    (SubscriptThen (record { low = pos 1; high = pos 5; multiplier = 8 }) e NoSubscript)
+
+-- `A AREA(64), P(5) PTR, I FIXED BIN(15)`
+abbrev pub with_pointers : List Description
+with_pointers =
+    small ∷ Array (record { low = pos 1; high = pos 5 } ∷ []) Pointer ∷ FixedBinary 15 ∷ []
+
+-- `ALLOCATE K IN(A) SET(P(e));`, `K CHAR(8) BASED`
+abbrev pub allocates_block : TypedExpression → Form
+allocates_block e =
+    Allocate (AllocatesInArea area (of (Character 8)) 0 (pointer_of e) (ByOperations []) ∷ [])
+
+-- `DO I = 1 TO last; ALLOCATE K IN(A) SET(P(I)); ..`, statement 3
+abbrev pub allocates_blocks : (last : ℕ) → (more : List TypedStatement) → TypedStatement
+allocates_blocks last more = Statement 3 (Iterate (record {
+  control = slot 0 2;
+  conversion = ByOperations (Fit (FixedBinary 15) ∷ []);
+  start = number 1;
+  range = ToBy (number last) None;
+  condition = None;
+  temporary = 1;
+}) (listed (Statement 4 (allocates_block (held_in 0 2)) ∷ more)))
 
 -- `DCL A AREA(64), P(5) PTR, K CHAR(8) BASED, I FIXED BIN(15); DO I = 1 TO 5; ALLOCATE K IN(A) SET(P(I));
 -- PUT LIST(I); END;`: 64 bytes have room for four such blocks with their headers
 abbrev pub AreaFull : Type 0
 AreaFull =
-    FailBy
-    (small ∷ Array (record { low = pos 1; high = pos 5 } ∷ []) Pointer ∷ FixedBinary 15 ∷ [])
-    (Statement 3 (Iterate (record {
-      control = slot 0 2;
-      conversion = ByOperations (Fit (FixedBinary 15) ∷ []);
-      start = number 1;
-      range = ToBy (number 5) None;
-      condition = None;
-      temporary = 1;
-    }) (listed
-    (Statement 4 (Allocate (AllocatesInArea area (of (Character 8)) 0 pointer_of (ByOperations []) ∷ []))
-    ∷ Statement 5 (Put false (shown (held_in 0 2) ∷ [])) ∷ []))) ∷ [])
+    FailBy with_pointers
+    (allocates_blocks 5 (Statement 5 (Put false (shown (held_in 0 2) ∷ [])) ∷ []) ∷ [])
     (codes "   1                       2                       3                       4 ") 78 error.Area 4
 
 -- with `O OFFSET(A)`, `X FIXED BIN(31)` and `P PTR`: `O = ADDR(X);`, `O = ADDR(A);`, and a block of B with

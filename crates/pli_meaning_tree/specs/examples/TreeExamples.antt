@@ -44,6 +44,7 @@ listed (s ∷ ss) = StatementThen s (listed ss)
 abbrev pub main_of : List Template → TypedStatements → TypedProcedure
 main_of variables statements =
     record {
+      is_on_unit = false;
       head = record { number = 0; statement = 1; variables = variables; temporaries = 0 };
       parent = None;
       parameters = 0;
@@ -56,6 +57,7 @@ abbrev pub inner_of : (number statement parameters : ℕ) → Option ℕ → Lis
     → TypedProcedure
 inner_of number statement parameters function_end variables statements =
     record {
+      is_on_unit = false;
       head =
           record { number = number; statement = statement; variables = variables; temporaries = 0 };
       parent = Some 0;
@@ -382,6 +384,7 @@ two_units statements = record {
       ∷ [])) ∷ [])) ∷ [])
       ∷ unit_of (codes "N") numeric (ExternalVariable (codes "X") Static (of (FixedBinary 31)) ∷ [])
       (record {
+        is_on_unit = false;
         head = record { number = 0; statement = 1; variables = []; temporaries = 0 };
         parent = None;
         parameters = 1;

@@ -1,5 +1,6 @@
 -- Worked examples of well-typed programs.
 use Rattle.std.specs.Prelude.{ℕ, nat_eq, true, false, pos, Option, Some, None, [], ◌∷◌, codes, if◌then◌else◌}
+use Rattle.pli_base.specs.declared.statement.Condition.TheVariants.{FixedOverflow}
 use Rattle.pli_map.specs.Description.{Description, FixedBinary, Pointer, Offset, Area}
 use Rattle.pli_operation.specs.declared.operation.Operation.TheVariants.{Add, Compare, ToCharacters}
 use Rattle.pli_operation.specs.declared.operation.Relation.TheVariants.{Less}
@@ -15,12 +16,13 @@ use Rattle.pli_type_tree.specs.TypedTree.{AllocatesInArea, FreesControlled, Free
 use Rattle.pli_type_tree.specs.TypedTree.{AssignArea, EmptyArea}
 use Rattle.pli_type_tree.specs.TypedTree.{Literal, Held, Calculated, Called, TypedReference, Whole, NoOperand}
 use Rattle.pli_type_tree.specs.TypedTree.{OperandThen, NoArgument, ByPlace, BlockHead, Statement, Assign, Put}
-use Rattle.pli_type_tree.specs.TypedTree.{If, Goto, ReturnValue, NoElse, TypedStatements, Form, Iterate}
+use Rattle.pli_type_tree.specs.TypedTree.{If, Goto, ReturnValue, On, Revert, Signal, NoElse}
+use Rattle.pli_type_tree.specs.TypedTree.{TypedStatements, Form, Group, Iterate}
 use Rattle.pli_type_tree.specs.TypedTree.{TypedRange, ByTo, Repeated, NoStatement, StatementThen}
 use Rattle.pli_type_tree.specs.TypedTree.{TypedProcedure}
 use Rattle.pli_type_tree.specs.WellTyped.{KnownProcedure, block_of, IsTypedForm, AreTypedStatements}
 use Rattle.pli_meaning_tree.specs.TreeMeaning.{TypedProgram}
-use Rattle.pli_meaning_typed.specs.TypedPrograms.{WellTyped, context_in}
+use Rattle.pli_meaning_typed.specs.TypedPrograms.{WellTyped, IsTypedProcedure, context_in}
 
 -- FIXED BINARY(31), in P: PROCEDURE; DECLARE X FIXED BINARY(31); L: X = F(X); PUT LIST(X); IF X < 9 THEN GOTO
 -- L; F: PROCEDURE(A) RETURNS(FIXED BINARY(31)); DECLARE A FIXED BINARY(31); RETURN(A + 1); END; END;
@@ -74,11 +76,19 @@ inner = record { number = 1; statement = 6; variables = []; temporaries = 0 }
 
 -- P
 abbrev pub caller : TypedProcedure
-caller = record { head = outer; parent = None; parameters = 0; function_end = None; statements = counting }
+caller = record {
+  is_on_unit = false;
+  head = outer;
+  parent = None;
+  parameters = 0;
+  function_end = None;
+  statements = counting;
+}
 
 -- F
 abbrev pub successor : TypedProcedure
 successor = record {
+  is_on_unit = false;
   head = inner;
   parent = Some 0;
   parameters = 1;
@@ -104,11 +114,12 @@ example = record {
 
 -- what P takes and gives
 abbrev pub of_caller : KnownProcedure
-of_caller = record { parent = None; around = []; parameters = []; value = None }
+of_caller = record { is_on_unit = false; parent = None; around = []; parameters = []; value = None }
 
 -- what F takes and gives, and where it stands
 abbrev pub of_successor : KnownProcedure
 of_successor = record {
+  is_on_unit = false;
   parent = Some 0;
   around = block_of outer [] counting ∷ [];
   parameters = number ∷ [];
@@ -223,6 +234,45 @@ AreasAreWellTyped =
     AreTypedStatements 31 (context_in (declared_area ∷ declared_offset ∷ []) signatures of_caller caller)
     placing
 
+-- GOTO L; as an ON-unit in P
+abbrev pub jumping : TypedProcedure
+jumping = record {
+  is_on_unit = true;
+  head = record { number = 1; statement = 6; variables = []; temporaries = 0 };
+  parent = Some 0;
+  parameters = 0;
+  function_end = None;
+  statements = StatementThen (Statement 6 (Goto 1 2)) NoStatement;
+}
+
+-- where it stands
+abbrev pub of_jumping : KnownProcedure
+of_jumping = record {
+  is_on_unit = true;
+  parent = Some 0;
+  around = block_of outer [] counting ∷ [];
+  parameters = [];
+  value = None;
+}
+
+-- P and the ON-unit, by their blocks
+abbrev pub with_unit : (number : ℕ) → Option KnownProcedure
+with_unit n = if nat_eq n 0 then Some of_caller else if nat_eq n 1 then Some of_jumping else None
+
+-- ON FIXEDOVERFLOW GOTO L; SIGNAL FIXEDOVERFLOW; REVERT FIXEDOVERFLOW;
+abbrev pub handling : TypedStatements
+handling =
+    StatementThen (Statement 6 (On FixedOverflow 1))
+    (StatementThen (Statement 7 (Signal FixedOverflow))
+    (StatementThen (Statement 8 (Revert FixedOverflow)) NoStatement))
+
+-- they are well typed in P, also in a group, and so is the ON-unit
+abbrev pub ConditionsAreWellTyped : Type 0
+ConditionsAreWellTyped =
+    AreTypedStatements 31 (context_in [] with_unit of_caller caller) handling
+    × IsTypedForm 31 (context_in [] with_unit of_caller caller) (Group handling)
+    × IsTypedProcedure 31 [] with_unit of_jumping jumping
+
 -- X, EXTERNAL
 abbrev pub shared : Global
 shared = ExternalVariable (codes "X") Static plain
@@ -252,6 +302,7 @@ external_head = record { number = 0; statement = 1; variables = []; temporaries 
 -- M: PROCEDURE; X = N(X); END;
 abbrev pub asker : TypedProcedure
 asker = record {
+  is_on_unit = false;
   head = external_head;
   parent = None;
   parameters = 0;
@@ -262,6 +313,7 @@ asker = record {
 -- N: PROCEDURE(A) RETURNS(FIXED BINARY(31)); RETURN(X); END;
 abbrev pub answerer : TypedProcedure
 answerer = record {
+  is_on_unit = false;
   head = external_head;
   parent = None;
   parameters = 1;

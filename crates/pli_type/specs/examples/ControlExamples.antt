@@ -1,5 +1,5 @@
 -- Worked examples of groups, calls, returns and blocks: their faults, and their typed forms.
-use Rattle.std.specs.Prelude.{◌≡◌, ℕ, Option, Some, None, List, [], ◌∷◌, codes}
+use Rattle.std.specs.Prelude.{◌≡◌, ℕ, false, Option, Some, None, List, [], ◌∷◌, codes}
 use Rattle.std.specs.Prelude.{Ok}
 use Rattle.pli_base.specs.Statements.{Range, To, Repeat, Iterate, Statement, Numbered, Do}
 use Rattle.pli_base.specs.Statements.{Call, Goto, Return, Begin, Procedure, Statements, Ended, Before}
@@ -141,6 +141,7 @@ BlocksAreTyped =
           (StatementThen (typed.Statement 6 (typed.Begin (head 2 6 0) NoStatement)) NoStatement))))
           NoStatement;
       procedures = record {
+        is_on_unit = false;
         head = head 3 9 0;
         parent = Some 0;
         parameters = 0;

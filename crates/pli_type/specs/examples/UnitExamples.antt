@@ -2,8 +2,8 @@
 use Rattle.std.specs.Prelude.{◌+◌, Bool, map, ◌≡◌, ℕ, true, false, pos, Some, None, Ok, Err, List, [], ◌∷◌}
 use Rattle.std.specs.Prelude.{codes}
 use Rattle.pli_base.specs.Declarations.{Simple, SimpleAttribute, Bit, Area}
-use Rattle.pli_base.specs.Statements.{Main, Statement, Numbered, Statements, Ended, Before}
-use Rattle.pli_base.specs.Statements.{Declare, Stop, Begin, Signal, Revert, If, NoElse, ExternalProcedure}
+use Rattle.pli_base.specs.Statements.{Main, Statement, Numbered, Body, Statements, Ended, Before}
+use Rattle.pli_base.specs.Statements.{Declare, Stop, Begin, On, Signal, Revert, If, NoElse, ExternalProcedure}
 use Rattle.pli_base.specs.declared.statement.Condition.TheVariants.{Area as AreaCondition}
 use Rattle.pli_base.specs.declared.code.Code.TheVariants.{NotYetBuilt, CannotAssign}
 use Rattle.pli_base.specs.declared.declaration.InitialValue.{InitialValue}
@@ -16,7 +16,7 @@ use Rattle.pli_type.specs.InitialScalars.{InitialItem, template_of, initial_scal
 use Rattle.pli_type.specs.Names.{NamedAs, NamedUnit}
 use Rattle.pli_type.specs.Unbuilt.{first_unbuilt}
 use Rattle.pli_type.specs.examples.ExampleTrees.{array, naming, compiled, called, alone_named, text}
-use Rattle.pli_type.specs.examples.ExampleTrees.{of_bits, assign, null, x}
+use Rattle.pli_type.specs.examples.ExampleTrees.{of_bits, assign, decimal, null, x}
 use Rattle.pli_type_tree.specs.Templates.{InitialScalar}
 use Rattle.pli_type_tree.specs.TypedTree as typed
 use Rattle.pli_type_tree.specs.TypedTree.{TypedUnit, InSlot, Fit, Whole, Literal, NoStatement, StatementThen}
@@ -51,23 +51,34 @@ declare attributes =
       attributes = map Simple attributes;
     } ∷ []))
 
+-- what a statement is
+abbrev pub body_of : Statement → Body
+body_of (Numbered number label at body) = body
+
 -- no name means anything
 abbrev pub no_names : List (ℕ × NamedAs)
 no_names = []
 
--- DCL X AREA; null statements
--- a labelled SIGNAL, at its label; SIGNAL behind THEN, at SIGNAL; REVERT; none in `BEGIN; STOP; END;`
+-- `X = 99999999999;` from this token on, whose constant is over the limits: it has 11 digits
+abbrev pub over_limits : (number at : ℕ) → Statement
+over_limits number at =
+    assign number at (alone_named (codes "X") at) (at + 1) (decimal 99999999999 11 (at + 2))
+
+-- such a statement, at its label; behind THEN; in an ON-unit; none in
+-- `DCL X AREA; ; SIGNAL AREA; REVERT AREA; BEGIN; STOP; END;`
 abbrev pub FirstUnbuilt : Type 0
 FirstUnbuilt =
-    (first_unbuilt (compiled no_names) (main (declare (Area None ∷ []) ∷ null 3 12 ∷ [])) ≡ None)
+    (first_unbuilt (compiled no_names)
+    (main (null 2 8 ∷ Numbered 3 (Some (called (codes "L") 9)) 11 (body_of (over_limits 3 11)) ∷ []))
+    ≡ Some 9)
     × (first_unbuilt (compiled no_names)
-    (main (null 2 8 ∷ Numbered 3 (Some (called (codes "L") 9)) 11 (Signal AreaCondition) ∷ [])) ≡ Some 9)
+    (main (Numbered 2 None 8 (If (of_bits (codes "1") 9) (over_limits 3 11) NoElse) ∷ [])) ≡ Some 11)
+    × (first_unbuilt (compiled no_names) (main (Numbered 2 None 8 (On AreaCondition (over_limits 3 10)) ∷ []))
+    ≡ Some 10)
     × (first_unbuilt (compiled no_names)
-    (main (Numbered 2 None 8 (If (of_bits (codes "1") 9) (Numbered 3 None 11 (Signal AreaCondition)) NoElse)
-    ∷ [])) ≡ Some 11)
-    × (first_unbuilt (compiled no_names) (main (Numbered 2 None 8 (Revert AreaCondition) ∷ [])) ≡ Some 8)
-    × (first_unbuilt (compiled no_names)
-    (main (Numbered 2 None 8 (Begin (Before (Numbered 3 None 10 Stop) Ended) 4) ∷ [])) ≡ None)
+    (main (declare (Area None ∷ []) ∷ null 3 12 ∷ Numbered 4 None 13 (Signal AreaCondition)
+    ∷ Numbered 5 None 16 (Revert AreaCondition)
+    ∷ Numbered 6 None 19 (Begin (Before (Numbered 7 None 21 Stop) Ended) 8) ∷ [])) ≡ None)
 
 -- FIXED BINARY values without a factor
 abbrev pub numbers : List ℕ → List InitialValue
@@ -143,6 +154,7 @@ typed_unit = record {
   signature = record { parameters = []; result = None };
   globals = [];
   procedures = record {
+    is_on_unit = false;
     head = record {
       number = 0;
       statement = 1;
@@ -159,11 +171,11 @@ typed_unit = record {
 }
 
 -- M: PROC OPTIONS(MAIN); DCL X BIT; X = '1'B; END M;
--- with two bad assignments in its place; with a bad one and SIGNAL, which is not compiled yet
+-- with two bad assignments in its place; with a bad one, and one of a constant over the limits
 abbrev pub CheckedUnits : Type 0
 CheckedUnits =
     (checked (with_x (12 ∷ []) (good_assignment 3 12 ∷ [])) ≡ Ok typed_unit)
     × (checked (with_x (12 ∷ 16 ∷ []) (bad_assignment 3 12 ∷ bad_assignment 4 16 ∷ []))
     ≡ Err (record { code = CannotAssign; at = 13 } ∷ record { code = CannotAssign; at = 17 } ∷ []))
-    × (checked (with_x (12 ∷ []) (bad_assignment 3 12 ∷ Numbered 4 None 16 (Signal AreaCondition) ∷ []))
+    × (checked (with_x (12 ∷ []) (bad_assignment 3 12 ∷ over_limits 4 16 ∷ []))
     ≡ Err (record { code = NotYetBuilt; at = 16 } ∷ []))

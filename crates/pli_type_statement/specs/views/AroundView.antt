@@ -7,7 +7,7 @@ use Rattle.pli_type_statement.specs.declared.surroundings.Surroundings.{Surround
 
 -- a list with its labels
 abbrev pub listing_view : ListLabels → Listing
-listing_view l = record { block = l.block; labels = l.labels.items }
+listing_view l = record { block = l.block; is_on_unit = l.is_on_unit; labels = l.labels.items }
 
 -- the lists round a place
 abbrev pub lists_view : List ListLabels → List Listing

@@ -41,7 +41,8 @@ use Rattle.pli_type_tree.specs.declared.statement.TypedStatement.{TypedStatement
 use Rattle.pli_type_tree.specs.declared.statement.Form.{Form, Null, Assign, AssignAggregate, AssignArea}
 use Rattle.pli_type_tree.specs.declared.statement.Form.{EmptyArea, Put, If', Begin'}
 use Rattle.pli_type_tree.specs.declared.statement.Form.{Group', While', Iterate', Call, Goto, Return}
-use Rattle.pli_type_tree.specs.declared.statement.Form.{ReturnValue, Stop, Allocate, Free}
+use Rattle.pli_type_tree.specs.declared.statement.Form.{ReturnValue, Stop, On, Revert, Signal, Allocate}
+use Rattle.pli_type_tree.specs.declared.statement.Form.{Free}
 use Rattle.pli_type_tree.specs.declared.statement.Form.{Held-Form-If-2, None', Some', Row_of-TypedStatement}
 use Rattle.pli_type_tree.specs.declared.statement.Form.{end_of-TypedStatement, more_of-TypedStatement}
 use Rattle.pli_type_tree.specs.declared.unit.TypedProcedure.{TypedProcedure}
@@ -205,6 +206,9 @@ abbrev mutual
   form_view (Return outward) = plain.Return outward
   form_view (ReturnValue outward value) = plain.ReturnValue outward (expression_view value)
   form_view Stop = plain.Stop
+  form_view (On condition block) = plain.On condition block
+  form_view (Revert condition) = plain.Revert condition
+  form_view (Signal condition) = plain.Signal condition
 
   -- the ELSE of an IF, if it has one
   pub else_view : Held-Form-If-2 → plain.OtherWise
@@ -226,10 +230,11 @@ abbrev pub statements_view : List TypedStatement → plain.TypedStatements
 statements_view [] = plain.NoStatement
 statements_view (s ∷ ss) = plain.StatementThen (statement_view s) (statements_view ss)
 
--- a procedure
+-- a procedure or an ON-unit
 abbrev pub procedure_view : TypedProcedure → plain.TypedProcedure
 procedure_view p =
     record {
+      is_on_unit = p.is_on_unit;
       head = head_view p.head;
       parent = p.parent;
       parameters = p.parameters;

@@ -4,6 +4,7 @@ use Rattle.std.specs.Prelude.{Option, ◌*◌, ◌-ℤ◌, int_le, unsigned_abs}
 use Rattle.std.specs.Prelude.{Some, None, List, [], ◌∷◌, ◌++◌, length, slice_get, if◌then◌else◌, refl}
 use Rattle.std.proofs.Common.{◌≡◌, ◌<◌, ◌≤◌, sym, ap, ◌∙◌, subst, arith, append_assoc, append-nil, le-leb}
 use Rattle.std.proofs.lemmas.Bool.{lt-leb}
+use Rattle.pli_base.specs.declared.statement.Condition.{Condition}
 use Rattle.pli_map.specs.Description.{Description}
 use Rattle.pli_run.specs.Print.{print}
 use Rattle.pli_run.specs.declared.ending.RunError.TheVariants.{StorageLimit, SubscriptRange}
@@ -19,6 +20,7 @@ use Rattle.pli_value.specs.declared.locator.Locator.TheVariants.{Null, Pointer, 
 use Rattle.pli_value.specs.declared.number.Raised.TheVariants as raised
 use Rattle.pli_operation.specs.Operations.{Calculates, RaisesCondition, OutOfString, Misfits}
 use Rattle.pli_world.specs.Activations.{Activation, activation_at, outward_from, with_newest, without_newest}
+use Rattle.pli_world.specs.Activations.{with_on_unit}
 use Rattle.pli_world.specs.Storage.{Block, Generation, Automatic, Static as AsStatic, Controlled, Based}
 use Rattle.pli_world.specs.Storage.{Dummy}
 use Rattle.pli_world.specs.Storage.{Place, Contents, contents_of, whole, field_of, generation_in, block_at}
@@ -42,6 +44,7 @@ use Rattle.pli_world.specs.World.{made_as, made_once, with_shared, with_static, 
 use Rattle.pli_world.specs.World.{dummy_of, printed, line_ended}
 use Rattle.pli_world.specs.Areas.{place_in, end_of_blocks, with_block, is_whole_area, area_found, with_area}
 use Rattle.pli_world.specs.Areas.{put_at, allocated_in, emptied, assigned, is_within, offset_in, pointer_in}
+use Rattle.pli_world.specs.Conditions.{is_newest, established, reverted, signalled}
 use Rattle.pli_world.specs.Targets.{Target, target_at}
 use Rattle.pli_world.specs.Locating.{unless_ended, unless_other, located, based, pointer_to, based_allocated}
 use Rattle.pli_world.specs.Locating.{ended, is_allocated, based_freed, is_whole_of, addressed, locator_of}
@@ -57,7 +60,8 @@ use Rattle.pli_world.specs.laws.Operations.{SlotKeeps}
 use Rattle.pli_world.specs.laws.Operations.{StaticKeeps, StaticsKeep, StackingKeeps, UnstackingKeeps}
 use Rattle.pli_world.specs.laws.Operations.{CountingKeeps, BasedKeeps, AllocatingKeeps, FreeingKeeps}
 use Rattle.pli_world.specs.laws.Operations.{AddressKeeps, BlockKeeps, OffsetKeeps, PointerKeeps}
-use Rattle.pli_world.specs.laws.Operations.{AssigningKeeps, EmptyingKeeps, DummyKeeps, EnteringAdds}
+use Rattle.pli_world.specs.laws.Operations.{AssigningKeeps, EmptyingKeeps, EstablishingKeeps}
+use Rattle.pli_world.specs.laws.Operations.{SignallingKeeps, RevertingKeeps, DummyKeeps, EnteringAdds}
 use Rattle.pli_world.specs.laws.Operations.{LeavingTakes, ClearingKeeps, StatementKeeps, PrintingKeeps}
 use Rattle.pli_world.specs.laws.Operations.{LineKeeps, SteppingCounts}
 
@@ -564,6 +568,21 @@ unfolding pointer_within
 pointer_keeps p v =
     one_after_another (locator_of v) _ (locator_keeps v)
     (λ l. one_after_another (pointer_in p l) _ (pointer_keeps_area p l) (λ q u. follows_same u))
+
+-- conditions
+
+pub establishing_keeps : EstablishingKeeps
+unfolding established
+establishing_keeps unit parent c block w =
+    guarded (height w) w (is_newest unit parent w.activations) _
+    (newest_follows (λ a. record a { on_units = with_on_unit c (Some block) a.on_units }) w)
+
+pub reverting_keeps : RevertingKeeps
+unfolding reverted
+reverting_keeps c w = newest_follows (λ a. record a { on_units = with_on_unit c None a.on_units }) w
+
+pub signalling_keeps : SignallingKeeps
+signalling_keeps c w = follows_same w
 
 -- variables that are made before the program begins
 

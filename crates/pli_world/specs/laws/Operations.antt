@@ -1,6 +1,7 @@
 -- What every operation on the world keeps: it takes no step, adds to the output, and leaves as many
 -- activations as it should.
 use Rattle.std.specs.Prelude.{◌≡◌, ℕ, suc, ◌-◌, Bool, ℤ, Option, List, ◌++◌}
+use Rattle.pli_base.specs.declared.statement.Condition.{Condition}
 use Rattle.pli_map.specs.Description.{Description}
 use Rattle.pli_value.specs.Value.{Value}
 use Rattle.pli_operation.specs.Operations.{Calculation}
@@ -13,6 +14,7 @@ use Rattle.pli_world.specs.World.{calculation}
 use Rattle.pli_world.specs.World.{entered, left_by, cleared, at_statement, stepped, height_of, slot_place}
 use Rattle.pli_world.specs.World.{static_place, statics_made, dummy_of, printed, line_ended}
 use Rattle.pli_world.specs.Areas.{emptied, assigned}
+use Rattle.pli_world.specs.Conditions.{established, reverted, signalled}
 use Rattle.pli_world.specs.Locating.{place_by, freed_by, pointer_made, block_made, address_of, offset_made}
 use Rattle.pli_world.specs.Locating.{pointer_within}
 use Rattle.pli_world.specs.Stacks.{generation_stacked, generation_unstacked, generations_counted}
@@ -146,6 +148,19 @@ AssigningKeeps = (source target : Place) → Keeps (assigned source target)
 -- emptying one is such an operation
 abbrev pub EmptyingKeeps : Type 0
 EmptyingKeeps = (p : Place) → Keeps (emptied p)
+
+-- establishing an ON-unit is such an operation
+abbrev pub EstablishingKeeps : Type 0
+EstablishingKeeps =
+    (unit : ℕ) (parent : Option ℕ) (c : Condition) (block : ℕ) → Keeps (established unit parent c block)
+
+-- and so is raising a condition
+abbrev pub SignallingKeeps : Type 0
+SignallingKeeps = (c : Condition) → Keeps (signalled c)
+
+-- removing an ON-unit leaves the activations as many, and takes no step
+abbrev pub RevertingKeeps : Type 0
+RevertingKeeps = (c : Condition) (w : World) → Follows (height w) w (reverted c w)
 
 -- entering a block adds an activation, also where there is no room for its variables
 abbrev pub EnteringAdds : Type 0

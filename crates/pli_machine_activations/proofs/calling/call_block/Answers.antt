@@ -11,13 +11,13 @@ pub returns-then-len-ge-WAITING_LIMIT : goal.returns-then-len-ge-WAITING_LIMIT
 returns-then-len-ge-WAITING_LIMIT c = λ image put.
     let m = c.args.machine.now in
     calls_full c.args.unit c.args.number (block_looked_up (code_view c.args.ready.now.code.now) (block_view c.args.block.now)) (map place_view c.args.places.items)
-    (frame_view m.here) (frames_of m.waiting.items) (world_of image m put) (left_of m) c.args.link (has_none image m put (omega arith))
+    (record (frame_view m.here) { again = c.args.again }) (frames_of m.waiting.items) (world_of image m put) (left_of m) c.args.link (has_none image m put (omega arith))
 
 pub returns-then-machine : goal.returns-then-machine
 returns-then-machine c = λ image put.
     let m = c.args.machine.now in
     calls_out c.args.unit c.args.number (block_looked_up (code_view c.args.ready.now.code.now) (block_view c.args.block.now)) (map place_view c.args.places.items)
-    (frame_view m.here) (frames_of m.waiting.items) (world_of image m put) (left_of m) c.args.link (has_room image m put (omega arith)) (omega arith)
+    (record (frame_view m.here) { again = c.args.again }) (frames_of m.waiting.items) (world_of image m put) (left_of m) c.args.link (has_room image m put (omega arith)) (omega arith)
 
 pub returns : goal.returns
 returns c =
@@ -25,7 +25,7 @@ returns c =
     IfOk-weaker c.enter.result _ _
     (λ stop moves image put.
     calls_enter c.args.unit c.args.number (block_looked_up (code_view c.args.ready.now.code.now) (block_view c.args.block.now)) (map place_view c.args.places.items)
-    (frame_view m.here) (frames_of m.waiting.items) (world_of image m put) (left_of m) c.args.link (m.limit - (m.steps + 1))
+    (record (frame_view m.here) { again = c.args.again }) (frames_of m.waiting.items) (world_of image m put) (left_of m) c.args.link (m.limit - (m.steps + 1))
     (record (world_of image m put) { steps = m.steps + 1 })
     (has_room image m put (omega arith)) (omega arith) (step_more (world_of image m put) m.steps refl)
     ∙ moves image put)

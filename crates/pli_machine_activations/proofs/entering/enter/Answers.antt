@@ -17,7 +17,7 @@ returns-in-Ok c = λ image put.
     let same = c.in-Ok.ensures.same in
     let mid = world_of image c.begin_block.new.machine put in
     enters_goes c.args.unit c.args.number b c.args.link (map place_view c.args.places.items) (world_of image m put) mid begun.world
-    (frame_view m.here ∷ frames_of m.waiting.items) (left_of m)
+    (record (frame_view m.here) { again = c.args.again } ∷ frames_of m.waiting.items) (left_of m)
     (frame_view c.make_variables.new.machine.here) (frames_of c.make_variables.new.machine.waiting.items) (world_of image c.make_variables.new.machine put) (left_of c.make_variables.new.machine)
     (ap (λ ns. made_all (variables_at code ns) mid) (sym c.deref.ensures.value) ∙ c.in-Ok.ensures.made image put)
     (same.here ∙ begun.here) (same.frames ∙ begun.frames) (same.left ∙ begun.left)
@@ -31,7 +31,7 @@ returns-in_ok-stop_at-in-Err c = λ image put.
     let mid = world_of image c.begin_block.new.machine put in
     let v = world_of image c.make_variables.new.machine put in
     enters_stops c.args.unit c.args.number b c.args.link (map place_view c.args.places.items) (world_of image m put) mid begun.world
-    (frame_view m.here ∷ frames_of m.waiting.items) (left_of m)
+    (record (frame_view m.here) { again = c.args.again } ∷ frames_of m.waiting.items) (left_of m)
     c.in-Err.fault c.in_ok-stop_at-in-Err.field-0 (frame_view c.make_variables.new.machine.here) (frames_of c.make_variables.new.machine.waiting.items) v (left_of c.make_variables.new.machine)
     (subst (λ ns. EndsAs c.in-Err.fault (made_all (variables_at code ns) mid) v) c.deref.ensures.value (c.in-Err.ensures.made image put))
     c.in_ok-stop_at-in-Err.ensures (ap (λ o. put ++ o) c.in-Err.ensures.same.output) c.in-Err.ensures.same.column

@@ -1,7 +1,7 @@
 use Rattle.std.proofs.Common.{◌-◌, ◌+◌, ◌∷◌, ◌∙◌, sym, ap, arith}
 use Rattle.pli_value.specs.Value.{value_view}
-use Rattle.pli_machine_step.specs.Machine.{OfValue, At, with_operands}
-use Rattle.pli_machine_activations.specs.views.MachineView.{Running, frame_view, frames_of, world_of, left_of}
+use Rattle.pli_machine_step.specs.Machine.{OfValue, goes_on, with_operands}
+use Rattle.pli_machine_activations.specs.views.MachineView.{leads, waiting_view, frames_of, world_of, left_of}
 use Rattle.pli_machine_operate.specs.views.OperandView.{stack}
 use Rattle.pli_machine_activations.proofs.EndLemmas.{valued_more, valued_fails, valued_goes, valued_ends}
 use Rattle.pli_machine_activations.proofs.leaving.give_back.Goals as goal
@@ -33,4 +33,5 @@ returns c = λ image put.
     let m = c.leave-2.new.machine in
     c.loop-ended.invariant.way image put
     ∙ valued_goes (value_view c.args.value) (c.args.outward - c.loop-ended._ended) _ _ _ _ _ _ _ (omega arith) left.frames left.world left.left
-    ∙ ap (λ ops. Running (At (with_operands ops (frame_view m.here)) (frames_of m.waiting.items) (world_of image m put) (left_of m))) (sym (c.in_ok-push.ensures ∙ ap (λ v. OfValue v ∷ stack m.here.operands.items) c.loop-ended.invariant.same))
+    ∙ ap (λ ops. leads (goes_on m.here.again (with_operands ops (waiting_view m.here)) (frames_of m.waiting.items) (world_of image m put)) (left_of m)) (sym (c.in_ok-push.ensures ∙ ap (λ v. OfValue v ∷ stack m.here.operands.items) c.loop-ended.invariant.same))
+    ∙ c.resume.ensures image put

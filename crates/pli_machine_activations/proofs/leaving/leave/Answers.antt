@@ -2,7 +2,7 @@ use Rattle.std.proofs.Common.{◌∷◌, map, reverse, refl, sym, ap, ◌∙◌}
 use Rattle.pli_world.specs.Storage.{without}
 use Rattle.pli_world.specs.World.{left_by}
 use Rattle.pli_store.specs.views.StorageView.{storage_view}
-use Rattle.pli_machine_activations.specs.views.MachineView.{activation_view, activations_of, frame_view, frames_of, world_of}
+use Rattle.pli_machine_activations.specs.views.MachineView.{activation_view, activations_of, waiting_view, frames_of, world_of}
 use Rattle.pli_store.proofs.RisingNumbers.{without_append}
 use Rattle.pli_machine_activations.proofs.DisplayLemmas.{one_fewer}
 use Rattle.pli_machine_activations.proofs.EndLemmas.{newest_first, same_world}
@@ -22,9 +22,9 @@ returns-in-Some-clause-leaves c = λ image put.
     let storage = storage_view c.args.machine.now.storage in
     record {
       frames =
-          ap (λ xs. reverse (map frame_view xs)) c.in-Some.ensures.items
-          ∙ newest_first frame_view c.pop.new.self.items c.in-Some.next
-          ∙ ap (λ a. frame_view a ∷ frames_of c.pop.new.self.items) (sym c.replace-ended.ensures.after);
+          ap (λ xs. reverse (map waiting_view xs)) c.in-Some.ensures.items
+          ∙ newest_first waiting_view c.pop.new.self.items c.in-Some.next
+          ∙ ap (λ a. waiting_view a ∷ frames_of c.pop.new.self.items) (sym c.replace-ended.ensures.after);
       world =
           same_world (world_of image c.args.machine.now put) _ _ _ _ _ _
           (c.end-in-Some.ensures.storage

@@ -9,7 +9,7 @@ use Rattle.pli_code.specs.CodeTables.{block_looked_up, variables_at}
 use Rattle.pli_code.specs.Modules.{program_of}
 use Rattle.pli_code.specs.views.CodeView.{code_view, block_view}
 use Rattle.pli_machine_activations.specs.answers.Making.{EndsAs, first_world}
-use Rattle.pli_machine_activations.specs.views.MachineView.{frame_view, frames_of, world_of, left_of, shown}
+use Rattle.pli_machine_activations.specs.views.MachineView.{frame_view, waiting_view, frames_of, world_of, left_of, shown}
 use Rattle.pli_machine_activations.proofs.BeginningLemmas.{no_step, one_step, main_begun, begun_main, ends_main}
 use Rattle.pli_machine_activations.proofs.EnteredBlocks.{enters_goes, enters_stops}
 use Rattle.pli_machine_activations.proofs.StateLemmas.{goes_on}
@@ -40,7 +40,7 @@ returns-in-Ok c = λ image named.
     [] (c.args.limit - 1)
     (frame_view c.make_variables.new.machine.here) (frames_of c.make_variables.new.machine.waiting.items) (world_of image c.make_variables.new.machine []) (left_of c.make_variables.new.machine)
     (ap (λ ns. made_all (variables_at code ns) mid) (sym c.deref.ensures.value) ∙ c.in-Ok.ensures.made image [])
-    (same.here ∙ c.in_ok-here.ensures.0) (same.frames ∙ ap (λ xs. reverse (map frame_view xs)) c.new-3.ensures.items) same.left)
+    (same.here ∙ c.in_ok-here.ensures.0) (same.frames ∙ ap (λ xs. reverse (map waiting_view xs)) c.new-3.ensures.items) same.left)
 
 pub returns : goal.returns
 returns c = λ image named.

@@ -1,8 +1,15 @@
+use Rattle.std.proofs.Common.{◌∙◌}
 use Rattle.std.proofs.lemmas.Result.{IfOk-weaker}
+use Rattle.pli_code.specs.Modules.{program_of}
+use Rattle.pli_machine_activations.specs.views.ImageView.{image_of}
 use Rattle.pli_machine_activations.specs.views.MachineView.{frame_view, frames_of, world_of, left_of}
 use Rattle.pli_machine_perform.proofs.areas.allocate_at.Goals as goal
 
 pub returns : goal.returns
-returns c = λ after.
+returns c =
     let m = c.args.machine.now in
-    IfOk-weaker c.allocate.result _ _ (λ s works u image put. works (frame_view m.here) (frames_of m.waiting.items) (world_of image m put) (left_of m)) c.allocate.ensures
+    let image = image_of c.args.unit.now.loaded.now in
+    IfOk-weaker c.settle_again.result _ _
+    (λ s settles u put.
+    c.in_ok-halt.ensures c.args.target (program_of image.linked) (frame_view m.here) (frames_of m.waiting.items) (world_of image m put) (left_of m) ∙ settles put)
+    c.settle_again.ensures

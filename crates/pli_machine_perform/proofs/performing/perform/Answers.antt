@@ -6,7 +6,7 @@ use Rattle.pli_code.specs.declared.instruction.Instruction.TheVariants as coded
 use Rattle.pli_code.specs.views.CodeView.{member_view}
 use Rattle.pli_machine_activations.specs.views.ImageView.{image_of}
 use Rattle.pli_machine_activations.specs.declared.machine.Stop.TheVariants as stop
-use Rattle.pli_machine_perform.proofs.InstructionsDo.{one_performs, does_performs, moves_performs, same_performs}
+use Rattle.pli_machine_perform.proofs.InstructionsDo.{performs_as, one_performs, does_performs, moves_performs, same_performs}
 use Rattle.pli_machine_perform.proofs.performing.perform.Goals as goal
 
 pub returns-in-Step : goal.returns-in-Step
@@ -99,11 +99,13 @@ returns-in-MakeDummy c =
 
 pub returns-in-Fit : goal.returns-in-Fit
 returns-in-Fit c =
-    does_performs (image_of c.args.unit.now.loaded.now) (member_view c.args.unit.now.linked.now) c.args.instruction (coded.Fit c.in-Fit.description) c.args.machine.now c.fit.new.machine c.fit.result c.in-Fit.is c.fit.ensures
+    same_performs (image_of c.args.unit.now.loaded.now) (member_view c.args.unit.now.linked.now) c.args.instruction (coded.Fit c.in-Fit.description) c.args.machine.now c.fit.new.machine c.fit.result c.in-Fit.is
+    (IfOk-weaker c.fit.result _ _ (λ s moves. moves (unit_of (member_view c.args.unit.now.linked.now))) c.fit.ensures)
 
 pub returns-in-Operate : goal.returns-in-Operate
 returns-in-Operate c =
-    does_performs (image_of c.args.unit.now.loaded.now) (member_view c.args.unit.now.linked.now) c.args.instruction (coded.Operate c.in-Operate.operation) c.args.machine.now c.calculate.new.machine c.calculate.result c.in-Operate.is c.calculate.ensures
+    same_performs (image_of c.args.unit.now.loaded.now) (member_view c.args.unit.now.linked.now) c.args.instruction (coded.Operate c.in-Operate.operation) c.args.machine.now c.calculate.new.machine c.calculate.result c.in-Operate.is
+    (IfOk-weaker c.calculate.result _ _ (λ s moves. moves (unit_of (member_view c.args.unit.now.linked.now))) c.calculate.ensures)
 
 pub returns-in-Put : goal.returns-in-Put
 returns-in-Put c =
@@ -162,12 +164,27 @@ returns-in-ToOffset c =
 
 pub returns-in-AllocateInArea : goal.returns-in-AllocateInArea
 returns-in-AllocateInArea c =
-    does_performs (image_of c.args.unit.now.loaded.now) (member_view c.args.unit.now.linked.now) c.args.instruction (coded.AllocateInArea c.in-AllocateInArea.template c.in-AllocateInArea._after) c.args.machine.now c.allocate_in_area.new.machine c.allocate_in_area.result c.in-AllocateInArea.is (c.allocate_in_area.ensures c.in-AllocateInArea._after)
+    same_performs (image_of c.args.unit.now.loaded.now) (member_view c.args.unit.now.linked.now) c.args.instruction (coded.AllocateInArea c.in-AllocateInArea.template c.in-AllocateInArea.target) c.args.machine.now c.allocate_in_area.new.machine c.allocate_in_area.result c.in-AllocateInArea.is
+    (IfOk-weaker c.allocate_in_area.result _ _ (λ s moves. moves (unit_of (member_view c.args.unit.now.linked.now))) c.allocate_in_area.ensures)
 
 pub returns-in-AssignArea : goal.returns-in-AssignArea
 returns-in-AssignArea c =
-    does_performs (image_of c.args.unit.now.loaded.now) (member_view c.args.unit.now.linked.now) c.args.instruction coded.AssignArea c.args.machine.now c.assign_area.new.machine c.assign_area.result c.in-AssignArea.is c.assign_area.ensures
+    same_performs (image_of c.args.unit.now.loaded.now) (member_view c.args.unit.now.linked.now) c.args.instruction coded.AssignArea c.args.machine.now c.assign_area.new.machine c.assign_area.result c.in-AssignArea.is
+    (IfOk-weaker c.assign_area.result _ _ (λ s moves. moves (unit_of (member_view c.args.unit.now.linked.now))) c.assign_area.ensures)
 
 pub returns-in-EmptyArea : goal.returns-in-EmptyArea
 returns-in-EmptyArea c =
     does_performs (image_of c.args.unit.now.loaded.now) (member_view c.args.unit.now.linked.now) c.args.instruction coded.EmptyArea c.args.machine.now c.empty_area.new.machine c.empty_area.result c.in-EmptyArea.is c.empty_area.ensures
+
+pub returns-in-On : goal.returns-in-On
+returns-in-On c =
+    performs_as (image_of c.args.unit.now.loaded.now) (member_view c.args.unit.now.linked.now) c.args.instruction (coded.On c.in-On.condition c.in-On.block) c.args.machine.now c.establish.new.machine c.establish.result c.in-On.is c.establish.ensures
+
+pub returns-in-Revert : goal.returns-in-Revert
+returns-in-Revert c =
+    one_performs (image_of c.args.unit.now.loaded.now) (member_view c.args.unit.now.linked.now) c.args.instruction (coded.Revert c.in-Revert.condition) c.args.machine.now c.revert.new.machine c.revert.result c.in-Revert.is c.revert.ensures
+
+pub returns-in-Signal : goal.returns-in-Signal
+returns-in-Signal c =
+    same_performs (image_of c.args.unit.now.loaded.now) (member_view c.args.unit.now.linked.now) c.args.instruction (coded.Signal c.in-Signal.condition) c.args.machine.now c.signal.new.machine c.signal.result c.in-Signal.is
+    (IfOk-weaker c.signal.result _ _ (λ s moves. moves (unit_of (member_view c.args.unit.now.linked.now))) c.signal.ensures)

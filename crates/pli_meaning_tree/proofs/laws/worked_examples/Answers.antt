@@ -1,4 +1,5 @@
 use Rattle.pli_meaning_tree.proofs.AreasHold as areas
+use Rattle.pli_meaning_tree.proofs.ConditionsHold as conditions
 use Rattle.pli_meaning_tree.proofs.ExamplesHold as holds
 use Rattle.pli_meaning_tree.proofs.laws.worked_examples.Goals as goal
 
@@ -115,3 +116,51 @@ returns-clause-list_in_area c = areas.list_in_area
 
 pub returns-clause-no_area_is_error : goal.returns-clause-no_area_is_error
 returns-clause-no_area_is_error c = areas.no_area_is_error
+
+pub returns-clause-revert_removes : goal.returns-clause-revert_removes
+returns-clause-revert_removes c = conditions.revert_removes
+
+pub returns-clause-unit_is_steps : goal.returns-clause-unit_is_steps
+returns-clause-unit_is_steps c = conditions.unit_is_steps
+
+pub returns-clause-unit_stays : goal.returns-clause-unit_stays
+returns-clause-unit_stays c = conditions.unit_stays
+
+pub returns-clause-units_are_many : goal.returns-clause-units_are_many
+returns-clause-units_are_many c = conditions.units_are_many
+
+pub returns-clause-second_takes_place : goal.returns-clause-second_takes_place
+returns-clause-second_takes_place c = conditions.second_takes_place
+
+pub returns-clause-names_are_of_on : goal.returns-clause-names_are_of_on
+returns-clause-names_are_of_on c = conditions.names_are_of_on
+
+pub returns-clause-zero_stands_behind : goal.returns-clause-zero_stands_behind
+returns-clause-zero_stands_behind c = conditions.zero_stands_behind
+
+pub returns-clause-zero_divide_unit : goal.returns-clause-zero_divide_unit
+returns-clause-zero_divide_unit c = conditions.zero_divide_unit
+
+pub returns-clause-newest_unit : goal.returns-clause-newest_unit
+returns-clause-newest_unit c = conditions.newest_unit
+
+pub returns-clause-counter_overflows : goal.returns-clause-counter_overflows
+returns-clause-counter_overflows c = conditions.counter_overflows
+
+pub returns-clause-allocate_is_repeated : goal.returns-clause-allocate_is_repeated
+returns-clause-allocate_is_repeated c = conditions.allocate_is_repeated
+
+pub returns-clause-extent_exceeds : goal.returns-clause-extent_exceeds
+returns-clause-extent_exceeds c = conditions.extent_exceeds
+
+pub returns-clause-signal_goes_on : goal.returns-clause-signal_goes_on
+returns-clause-signal_goes_on c = conditions.signal_goes_on
+
+pub returns-clause-area_is_evaluated_anew : goal.returns-clause-area_is_evaluated_anew
+returns-clause-area_is_evaluated_anew c = conditions.area_is_evaluated_anew
+
+pub returns-clause-group_around_is_reached : goal.returns-clause-group_around_is_reached
+returns-clause-group_around_is_reached c = conditions.group_around_is_reached
+
+pub returns-clause-goto_leaves_units : goal.returns-clause-goto_leaves_units
+returns-clause-goto_leaves_units c = conditions.goto_leaves_units

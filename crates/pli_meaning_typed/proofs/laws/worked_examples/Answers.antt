@@ -18,3 +18,6 @@ returns-clause-units c = law.units_are
 
 pub returns-clause-areas : goal.returns-clause-areas
 returns-clause-areas c = law.areas_are
+
+pub returns-clause-conditions : goal.returns-clause-conditions
+returns-clause-conditions c = law.conditions_are

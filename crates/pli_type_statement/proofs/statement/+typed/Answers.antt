@@ -7,19 +7,18 @@ use Rattle.pli_base.specs.views.SyntaxView as syntax
 use Rattle.pli_declare_outline.specs.Outlines.{regions_among, regions_else, regions_in, regions_of}
 use Rattle.pli_map.specs.views.DescriptionView.{description_view}
 use Rattle.pli_type.specs.StatementTyping as spec
-use Rattle.pli_type.specs.StatementTyping.{labels_of}
 use Rattle.pli_type.specs.Temporaries.{behind}
 use Rattle.pli_type.specs.Unbuilt.{later_alternative, later_body, later_statement, later_statements}
 use Rattle.pli_type_names.specs.UnitNaming.{Names, compiled_in}
 use Rattle.pli_type_tree.specs.TypedTree as plain
 use Rattle.pli_type_tree.specs.declared.statement.TypedStatement.{TypedStatement}
 use Rattle.pli_type_tree.specs.views.TypedView.{form_view, statement_view, statements_view}
-use Rattle.pli_type_statement.specs.Walking.{HasRoom, WalksBody, WalksList, around, based_names, next_at, unit_at}
+use Rattle.pli_type_statement.specs.Walking.{HasRoom, WalksBlock, WalksBody, WalksList, in_block, around, based_names, next_at, unit_at}
 use Rattle.pli_type_statement.specs.views.HeaderView.{header_view}
-use Rattle.pli_type_statement.proofs.Blocks.{begin_walked, block_placed, block_walked, group_placed, group_walked, in_group_around, procedure_answer, returned_is}
-use Rattle.pli_type_statement.proofs.NothingLater.{statement_built, do_built, if_built}
-use Rattle.pli_type_statement.proofs.RoomLeft.{room_behind, room_controlled, room_else, room_first, room_if, room_inside, room_next}
-use Rattle.pli_type_statement.proofs.SizeLemmas.{statement_size, body_size, alternative_size, item_size}
+use Rattle.pli_type_statement.proofs.Blocks.{begin_walked, block_placed, block_walked, group_placed, group_walked, in_group_around, procedure_answer, returned_is, unit_answer}
+use Rattle.pli_type_statement.proofs.NothingLater.{statement_built, only_built, do_built, if_built}
+use Rattle.pli_type_statement.proofs.RoomLeft.{room_behind, room_controlled, room_else, room_first, room_if, room_inside, room_next, room_unit}
+use Rattle.pli_type_statement.proofs.SizeLemmas.{statement_size, body_size, list_size, alternative_size, item_size}
 use Rattle.pli_type_statement.proofs.TurnLemmas.{all_walked, do_walked, goes_on_first, goes_on_next, if_next_none, if_next_some, in_front, next_built, none_walked, simple_answer}
 use Rattle.pli_type_statement.proofs.WalkLemmas.{as_typed, if_walked, made_walked, back_then, moved, nothing_walked, same_based}
 use Rattle.pli_type_statement.proofs.statement.+typed.Goals as goal
@@ -53,7 +52,7 @@ type_block-type_statements-requires t c =
     let ss = source.statements_view c.args.statements.now in (
       omega (arith, c.decreases),
       (
-        block_placed c.args.walk.now _ c.in_ok-block.block _ _ _ c.requires.deep c.requires.placed c.in_ok-block.ensures,
+        block_placed c.args.walk.now _ c.in_ok-block.block c.args.is_on_unit _ _ _ c.requires.deep c.requires.placed c.in_ok-block.ensures,
         (
           subst (λ (n : Names). later_statements (compiled_in n) ss ≡ None) (sym c.in_ok-block.ensures.naming) c.requires.built,
           subst (λ x. HasRoom x (regions_among ss)) (sym c.in_ok-block.ensures.next) (room_inside (next_at c.args.walk.now) (regions_among ss) c.requires.room),
@@ -63,7 +62,7 @@ type_block-type_statements-requires t c =
 
 pub type_block-returns : goal.type_block-returns
 type_block-returns t c =
-    block_walked c.args.walk.now _ _ _ c.in_ok-block.block _ _ c.args.number (source.statements_view c.args.statements.now) _ _
+    block_walked c.args.walk.now _ _ _ c.in_ok-block.block c.args.is_on_unit _ _ c.args.number (source.statements_view c.args.statements.now) _ _
     c.requires.placed c.in_ok-block.ensures c.in_ok-list.ensures c.leave_block-head.ensures
 
 pub type_body-type_block-requires : goal.type_body-type_block-requires
@@ -134,6 +133,44 @@ type_body-returns-in_ok-block-in-Begin t c =
     subst (λ x. WalksBody w c.type_block-in-Begin.new.walk c.args.number c.args.at x (option_map form_view c.begin_form.result)) (sym is)
     (as_typed _ _ _ _ _ _ _ _ refl refl c.begin_form.ensures
     (begin_walked w _ c.args.number c.args.at ss b.end (w.surroundings.begins + 1) c.in_ok-block-in-Begin.block.head _ one_more c.in_ok-block-in-Begin.ensures))
+
+pub type_body-type_block-requires-in-On : goal.type_body-type_block-requires-in-On
+type_body-type_block-requires-in-On t c =
+    let n = c.args.walk.now.naming in
+    let b = c.in-On in
+    let s = source.statement_view c.deref-in-On.result.now in
+    let is : source.body_view c.args.body.now ≡ tree.On b.condition s =
+    ap source.body_view b.is ∙ laws.on_made b.condition b.unit ∙ ap (λ s. tree.On b.condition (source.statement_view s)) (sym c.deref-in-On.ensures) in
+    let list : source.statements_view c.from_ref-list.result.now ≡ spec.only s = ap source.statements_view c.from_ref-list.ensures.value in (
+      omega (arith, c.decreases, ap body_size is, ap list_size list),
+      (
+        c.requires.placed,
+        (
+          ap (later_statements (compiled_in n)) list
+              ∙ only_built (compiled_in n) s (ap (later_body (compiled_in n) c.requires.built.0) (sym is) ∙ c.requires.built.1),
+          (
+            subst (λ ss. HasRoom (next_at c.args.walk.now) (1 + regions_among ss)) (sym list)
+                (room_unit (next_at c.args.walk.now) _ b.condition s is c.requires.room),
+            omega arith,
+          ),
+        ),
+      ),
+    )
+
+pub type_body-returns-in_ok-block-in-On : goal.type_body-returns-in_ok-block-in-On
+type_body-returns-in_ok-block-in-On t c =
+    let w = c.args.walk.now in
+    let b = c.in-On in
+    let s = source.statement_view c.deref-in-On.result.now in
+    let made = c.in_ok-block-in-On.block in
+    let is : source.body_view c.args.body.now ≡ tree.On b.condition s =
+    ap source.body_view b.is ∙ laws.on_made b.condition b.unit ∙ ap (λ s. tree.On b.condition (source.statement_view s)) (sym c.deref-in-On.ensures) in
+    let list : source.statements_view c.from_ref-list.result.now ≡ spec.only s = ap source.statements_view c.from_ref-list.ensures.value in
+    subst (λ b. IfOk c.finish_unit.result (λ form. WalksBody w c.finish_unit.new.walk c.args.number c.args.at b (option_map form_view form))) (sym is)
+    (unit_answer form_view c.finish_unit.result w _ _ c.args.number c.args.at b.condition s made.head _
+    (subst (λ ss. WalksBlock w c.type_block-in-On.new.walk (in_block w true 0 None ss) c.args.number ss made.head
+    (option_map (λ (list : Vec TypedStatement Global). statements_view list.items) made.list)) list c.in_ok-block-in-On.ensures)
+    c.finish_unit.ensures)
 
 -- groups
 
@@ -262,9 +299,8 @@ type_body-type_statement-requires-in-Some t c =
 
 pub type_body-returns-in_default : goal.type_body-returns-in_default
 type_body-returns-in_default t c =
-    let n = c.args.walk.now.naming in
-    simple_answer form_view c.type_simple.result c.args.walk.now _ (compiled_in n) c.requires.built.0 c.args.number c.args.at
-    (source.body_view c.args.body.now) c.type_simple.ensures.simple c.requires.built.1 c.type_simple.ensures.walked
+    simple_answer form_view c.type_simple.result c.args.walk.now _ c.args.number c.args.at (source.body_view c.args.body.now)
+    c.type_simple.ensures.simple c.type_simple.ensures.walked
 
 -- lists
 

@@ -1,7 +1,6 @@
-use Rattle.std.proofs.Common.{◌≡◌, ◌++◌, ◌∷◌, [], None, Some, Vec, Global, length, map, option_map, refl, ap, sym, ◌∙◌, subst}
+use Rattle.std.proofs.Common.{◌≡◌, ◌++◌, ◌∷◌, [], None, Some, Vec, Global, false, length, map, option_map, refl, ap, sym, ◌∙◌, subst}
 use Rattle.pli_type.specs.StatementTyping as spec
 use Rattle.pli_type_tree.specs.TypedTree as typed
-use Rattle.pli_type_tree.specs.TypedTree.{TypedStatements}
 use Rattle.pli_type_tree.specs.declared.statement.TypedStatement.{TypedStatement}
 use Rattle.pli_type_tree.specs.views.TypedView.{head_view, procedure_view, statements_view}
 use Rattle.pli_type_statement.specs.Around.{blocks_of, number_of}
@@ -19,7 +18,7 @@ returns-in_default c =
       next = refl;
       templates = refl;
       faults = refl;
-      ends = subst (λ l. Ends c.args.walk.now c.args.end c.args.head (option_map (λ (list : Vec TypedStatement Global). statements_view list.items) l) (finished c.args.walk.now) None) (sym c.in_default.is) refl;
+      ends = subst (λ l. Ends typed.Null (ended_as c.args.walk.now c.args.end c.args.head) (finished c.args.walk.now) (option_map (λ (list : Vec TypedStatement Global). statements_view list.items) l) (finished c.args.walk.now) None) (sym c.in_default.is) refl;
     }
 
 pub returns : goal.returns
@@ -36,13 +35,13 @@ returns c =
     let put : finished (record { naming = w.naming; surroundings = w.surroundings; next = w.next; templates = w.templates; faults = w.faults; procedures = c.push.new.self })
     ≡ finished w ++ ended_as w c.args.end c.args.head list ∷ [] =
     ap (map procedure_view) c.in_ok-push.ensures.items ∙ map_push procedure_view w.procedures.items _
-    ∙ ap (λ p. finished w ++ p ∷ []) (procedure_parts (head_view c.args.head) list _ _ _ _ _ _ parent many end) in
+    ∙ ap (λ p. finished w ++ p ∷ []) (procedure_parts false (head_view c.args.head) list _ _ _ _ _ _ parent many end) in
     record {
       naming = refl;
       surroundings = refl;
       next = refl;
       templates = refl;
       faults = refl;
-      ends = subst (λ l. Ends w c.args.end c.args.head (option_map (λ (list : Vec TypedStatement Global). statements_view list.items) l)
+      ends = subst (λ l. Ends typed.Null (ended_as w c.args.end c.args.head) (finished w) (option_map (λ (list : Vec TypedStatement Global). statements_view list.items) l)
           (finished (record { naming = w.naming; surroundings = w.surroundings; next = w.next; templates = w.templates; faults = w.faults; procedures = c.push.new.self })) (Some typed.Null)) (sym c.in-Some.is) (refl, put);
     }

@@ -100,5 +100,14 @@ returns-clause-assigning c = law.assigning_keeps
 pub returns-clause-emptying : goal.returns-clause-emptying
 returns-clause-emptying c = law.emptying_keeps
 
+pub returns-clause-establishing : goal.returns-clause-establishing
+returns-clause-establishing c = law.establishing_keeps
+
+pub returns-clause-signalling : goal.returns-clause-signalling
+returns-clause-signalling c = law.signalling_keeps
+
+pub returns-clause-reverting : goal.returns-clause-reverting
+returns-clause-reverting c = law.reverting_keeps
+
 pub returns-clause-line : goal.returns-clause-line
 returns-clause-line c = law.line_keeps

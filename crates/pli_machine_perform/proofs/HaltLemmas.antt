@@ -1,0 +1,59 @@
+-- Instructions that halt: the run stops, or a condition is raised.
+use Rattle.std.proofs.Common.{◌≡◌, ℕ, Option, Some, None, Result, Err, IfOk, List, refl, sym, ap, subst, ◌∙◌}
+use Rattle.pli_base.specs.declared.statement.Condition.{Condition}
+use Rattle.pli_run.specs.declared.ending.RunError.{RunError}
+use Rattle.pli_program.specs.Program as op
+use Rattle.pli_program.specs.Program.{Program}
+use Rattle.pli_code.specs.CodeTables.{naming}
+use Rattle.pli_world.specs.Conditions.{condition_of}
+use Rattle.pli_world.specs.World.{World, Answer}
+use Rattle.pli_store.specs.answers.Answered.{Answered}
+use Rattle.pli_store.specs.declared.fault.StoreFault.{StoreFault}
+use Rattle.pli_store.specs.declared.fault.StoreFault.TheVariants as fault
+use Rattle.pli_store.specs.declared.storage.Storage.{Storage}
+use Rattle.pli_store.specs.views.StorageView.{SameStorage, storage_view, made_count, with_storage}
+use Rattle.pli_machine_step.specs.Machine.{Frame, Move, erring, handled}
+use Rattle.pli_machine_activations.specs.declared.machine.Machine.{Machine}
+use Rattle.pli_machine_activations.specs.declared.machine.Stop.{Stop}
+use Rattle.pli_machine_activations.specs.declared.machine.Stop.TheVariants as stop
+use Rattle.pli_machine_activations.specs.views.Image.{Image}
+use Rattle.pli_machine_activations.specs.views.MachineView.{leads}
+use Rattle.pli_machine_perform.specs.declared.halting.Halt.{Halt}
+use Rattle.pli_machine_perform.specs.views.HaltView.{HaltsAs, DoesIn, halt_of, halted}
+
+same_with : (before behind : Storage) (w : World) → SameStorage before behind → with_storage before w ≡ with_storage behind w
+same_with before behind w same =
+    sym
+    (ap (λ s. record w { storage = s; made = made_count behind }) same.storage
+    ∙ ap (λ n. record w { storage = storage_view before; made = n }) same.made)
+
+-- an answer that is a fault, where that may be a condition
+module _ (p : Program) (wait : Frame → Frame) (here : Frame) (frames : List Frame) (left : ℕ) where
+  erring_halts : (e : RunError) (o : Option Condition) (v : World)
+      → leads (erring p e o (wait here) frames v) left ≡ halted p wait left (Some (halt_of e o)) here frames v
+  erring_halts e None v = refl
+  erring_halts e (Some c) v = refl
+
+  pub answer_halts : {T A : Type 0} (view : T → A) (f : StoreFault) (h : Halt) (before behind : Storage) (w other : World) (a : Answer A)
+      (go : A → World → Move)
+      → HaltsAs f h → SameStorage before behind → Answered view (Err f) (with_storage before w) other a
+      → leads (handled p (with_storage before w) (wait here) frames a go) left ≡ halted p wait left (Some h) here frames (with_storage behind w)
+  answer_halts view (fault.Raised e) h before behind w other a go halts same is =
+      ap (λ b. leads (handled p (with_storage before w) (wait here) frames b go) left) is
+      ∙ erring_halts e (condition_of e) (with_storage before w)
+      ∙ ap (λ x. halted p wait left (Some x) here frames (with_storage before w)) (sym halts)
+      ∙ ap (halted p wait left (Some h) here frames) (same_with before behind w same)
+  answer_halts view fault.NoRule h before behind w other a go halts same is =
+      ap (λ b. leads (handled p (with_storage before w) (wait here) frames b go) left) is
+      ∙ ap (λ x. halted p wait left (Some x) here frames (with_storage behind w)) (sym halts)
+  answer_halts view fault.OutOfMemory h before behind w other a go halts same is = absurd halts
+
+-- an instruction that names an entry of a table does what it does with the entry
+pub done_found : {X E : Type 0} (with : X → op.Instruction) (image : Image) (o : Option X) (x : X) (old new : Machine) (r : Result (Option Stop) E)
+    → o ≡ Some x → IfOk r (DoesIn image (with x) old new) → IfOk r (DoesIn image (naming with o) old new)
+done_found with image o x old new r e does = subst (λ o. IfOk r (DoesIn image (naming with o) old new)) (sym e) does
+
+-- where the table has none, it is a fault
+pub done_none : {X : Type 0} (with : X → op.Instruction) (image : Image) (o : Option X) (m : Machine)
+    → o ≡ None → DoesIn image (naming with o) m m (Some stop.Fault)
+done_none with image o m e = subst (λ o. DoesIn image (naming with o) m m (Some stop.Fault)) (sym e) (λ u put. refl)
