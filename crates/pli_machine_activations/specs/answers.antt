@@ -2,3 +2,4 @@ pub mod Activated
 pub mod Begun
 pub mod LaidTemplates
 pub mod Making
+pub mod Used

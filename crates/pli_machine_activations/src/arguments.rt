@@ -6,11 +6,12 @@ ghost use Rattle.pli_store.specs.views.StorageView.{place_view};
 ghost use Rattle.pli_machine_step.specs.Machine.{places_off};
 ghost use Rattle.pli_machine_operate.specs.views.OperandView.{stack};
 
-use pli_machine_operate::{Operand, pop_place};
+use pli_machine_operate::{Operand, take_place};
 use pli_store::Place;
 use std::alloc::{AllocError, Global};
 
-/// Takes so many operands, where they are places: the oldest is the first. They are put where there are none yet.
+/// Takes so many operands, where they are places, also those of dummy arguments: the oldest is the first. They are put
+/// where there are none yet.
 #[inline(always)]
 pub fn pop_places<'m>(
     mut places: Vec<Place<'m>>,
@@ -22,10 +23,10 @@ pub fn pop_places<'m>(
         (λ places. places_off count [] (stack operands.old.items) ≡ Some (map place_view places.items, stack operands.new.items))) }
 {
     for _taken in 0..count {
-        let Some(place) = pop_place(operands) else {
+        let Some(taken) = take_place(operands) else {
             return Ok(None);
         };
-        places.push(place)?;
+        places.push(taken.place())?;
     }
     places.reverse();
     Ok(Some(places))

@@ -2,15 +2,19 @@
 ghost use Rattle.std.specs.Prelude.{◌∷◌, IfOk};
 ghost use Rattle.pli_map.specs.views.DescriptionView.{description_view};
 ghost use Rattle.pli_value.specs.Value.{value_view};
-ghost use Rattle.pli_machine_step.specs.Machine.{OfValue, dummied};
+ghost use Rattle.pli_machine_step.specs.Machine.{OfValue, AtDummy, dummied};
 ghost use Rattle.pli_program.specs.Program.{MakeDummy};
+ghost use Rattle.pli_store.specs.views.StorageView.{place_view};
+ghost use Rattle.pli_machine_operate.specs.views.OperandView.{taken_operand};
+ghost use Rattle.pli_machine_activations.specs.answers.Used.{IsUsedUp};
 ghost use Rattle.pli_machine_activations.specs.views.Image.{Image};
 ghost use Rattle.pli_machine_activations.specs.views.MachineView.{Does, Moves};
 
 use crate::machine::{Machine, Stop};
 use crate::stops::stop_at;
-use pli_machine_operate::{Operand, pop_number, pop_value, push};
+use pli_machine_operate::{Operand, TakenPlace, pop_number, pop_value, push};
 use pli_map::Description;
+use pli_store::Place;
 use pli_value::Value;
 use std::alloc::{AllocError, Global};
 
@@ -57,9 +61,33 @@ pub fn dummy_with<'m>(
     match machine.storage.make_dummy(alloc, description, value) {
         Ok(place) => {
             machine.here.pending.push(place.generation)?;
-            push(&mut machine.here.operands, Operand::AtPlace(place))?;
+            push(&mut machine.here.operands, Operand::AtDummy(place))?;
             Ok(None)
         }
         Err(fault) => Ok(Some(stop_at(fault)?)),
+    }
+}
+
+/// Ends a dummy argument, which is no more among those that the newest activation prepares.
+#[inline(never)]
+fn end_dummy(machine: &mut Machine, dummy: Place<'_>)
+    ensures { IsUsedUp (AtDummy (place_view dummy.entry)) machine.old machine.new }
+{
+    let generation = dummy.generation;
+    machine.storage.end(&[generation]);
+    machine
+        .here
+        .pending
+        .retain(move |other| generation != *other);
+}
+
+/// Ends what an instruction has taken that hands nothing over, where that is a dummy argument.
+#[inline(always)]
+pub fn use_up(machine: &mut Machine, taken: TakenPlace<'_>)
+    ensures { IsUsedUp (taken_operand taken.entry) machine.old machine.new }
+{
+    match taken {
+        TakenPlace::OfReference(_) => {}
+        TakenPlace::OfDummy(place) => end_dummy(machine, place),
     }
 }

@@ -10,7 +10,7 @@ pub use calculation::{
     compare_locators, fit, fit_number, is_within,
 };
 pub use operand::{
-    Operand, Taken, pop_locator, pop_number, pop_place, pop_three, pop_truth, pop_two, pop_value,
-    push, take_three_numbers, take_two_numbers, take_value,
+    Operand, Taken, TakenPlace, pop_locator, pop_number, pop_three, pop_truth, pop_two, pop_value,
+    push, take_place, take_three_numbers, take_two_numbers, take_value,
 };
 pub use texts::{compare_texts, text_length, text_part};

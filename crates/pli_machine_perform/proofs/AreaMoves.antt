@@ -1,5 +1,5 @@
 -- What instructions on areas do.
-use Rattle.std.proofs.Common.{◌≡◌, ℕ, true, false, List, [], ◌∷◌, refl}
+use Rattle.std.proofs.Common.{◌≡◌, ℕ, true, false, Result, Ok, Err, List, [], ◌∷◌, refl, ap, ◌∙◌}
 use Rattle.pli_map.specs.Scalars.{is_area}
 use Rattle.pli_map.specs.Variables.{Variable}
 use Rattle.pli_value.specs.Value.{Number, Characters, Bits, Located}
@@ -9,9 +9,13 @@ use Rattle.pli_world.specs.Ends as end
 use Rattle.pli_world.specs.Locating.{block_made, offset_made, pointer_within}
 use Rattle.pli_world.specs.Storage.{Place}
 use Rattle.pli_world.specs.World.{World, Yields, Wrong, further}
-use Rattle.pli_machine_step.specs.Machine.{Operand, OfValue, AtPlace, Frame, to_offset, to_pointer}
+use Rattle.pli_machine_step.specs.Machine.{Operand, OfValue, AtPlace, AtDummy, Frame}
+use Rattle.pli_store.specs.answers.Answered.{Answered}
+use Rattle.pli_store.specs.declared.fault.StoreFault.{StoreFault}
+use Rattle.pli_store.specs.declared.fault.StoreFault.TheVariants as fault
 use Rattle.pli_machine_activations.specs.views.MachineView.{leads, Finished, left_by_end}
-use Rattle.pli_machine_operate.specs.views.OperandView.{NoNewestLocator, NoNewestPlace}
+use Rattle.pli_machine_operate.specs.views.OperandView.{NoNewestLocator}
+use Rattle.pli_machine_perform.specs.views.ActView.{offset_as, pointer_as}
 
 -- ---- operations by values
 
@@ -32,38 +36,35 @@ module _ (p : Place) (v : Variable) (w : World) where
   unfolding block_made
   no_block area = rw area refl
 
--- ---- where the newest operand is no place, or the one below it no locator, it is a fault
+-- what makes a block answers as the operation by values
+pub located_answers : (r : Result Locator StoreFault) (before behind : World) (p : Place) (v : Variable) → is_area v.description ≡ false
+    → Answered (λ l. l) r before behind (allocated_in p v before) → Answered (λ l. Located l) r before behind (block_made p v before)
+located_answers (Ok l) before behind p v none is = block_by p v before none ∙ ap (λ a. further a (λ l w. Yields (Located l) w)) is
+located_answers (Err (fault.Raised e)) before behind p v none is = block_by p v before none ∙ ap (λ a. further a (λ l w. Yields (Located l) w)) is
+located_answers (Err fault.NoRule) before behind p v none is = block_by p v before none ∙ ap (λ a. further a (λ l w. Yields (Located l) w)) is
+located_answers (Err fault.OutOfMemory) before behind p v none is = tt
 
-module _ (here : Frame) (frames : List Frame) (w : World) (left : ℕ) where
-  pub no_pointer_without : (ops : List Operand) → NoNewestPlace ops
-      → leads (to_pointer ops here frames w) left ≡ Finished (left_by_end end.MachineFault w)
-  no_pointer_without [] none = refl
-  no_pointer_without (OfValue v ∷ ops) none = refl
-  no_pointer_without (AtPlace p ∷ ops) none = absurd none
+-- ---- where the newest operand is no locator, it is a fault
 
-  pub no_offset_without : (ops : List Operand) → NoNewestPlace ops
-      → leads (to_offset ops here frames w) left ≡ Finished (left_by_end end.MachineFault w)
-  no_offset_without [] none = refl
-  no_offset_without (OfValue v ∷ ops) none = refl
-  no_offset_without (AtPlace p ∷ ops) none = absurd none
+module _ (p : Place) (here : Frame) (frames : List Frame) (w : World) (left : ℕ) where
+  pub no_offset : (ops : List Operand) → NoNewestLocator ops
+      → leads (pointer_as p ops here frames w) left ≡ Finished (left_by_end end.MachineFault w)
+  unfolding pointer_within
+  no_offset [] none = refl
+  no_offset (OfValue (Number x) ∷ ops) none = refl
+  no_offset (OfValue (Characters text) ∷ ops) none = refl
+  no_offset (OfValue (Bits bits) ∷ ops) none = refl
+  no_offset (OfValue (Located l) ∷ ops) none = absurd none
+  no_offset (AtPlace q ∷ ops) none = refl
+  no_offset (AtDummy q ∷ ops) none = refl
 
-  module _ (p : Place) where
-    pub no_offset_below : (ops : List Operand) → NoNewestLocator ops
-        → leads (to_pointer (AtPlace p ∷ ops) here frames w) left ≡ Finished (left_by_end end.MachineFault w)
-    unfolding pointer_within
-    no_offset_below [] none = refl
-    no_offset_below (OfValue (Number x) ∷ ops) none = refl
-    no_offset_below (OfValue (Characters text) ∷ ops) none = refl
-    no_offset_below (OfValue (Bits bits) ∷ ops) none = refl
-    no_offset_below (OfValue (Located l) ∷ ops) none = absurd none
-    no_offset_below (AtPlace q ∷ ops) none = refl
-
-    pub no_pointer_below : (ops : List Operand) → NoNewestLocator ops
-        → leads (to_offset (AtPlace p ∷ ops) here frames w) left ≡ Finished (left_by_end end.MachineFault w)
-    unfolding offset_made
-    no_pointer_below [] none = refl
-    no_pointer_below (OfValue (Number x) ∷ ops) none = refl
-    no_pointer_below (OfValue (Characters text) ∷ ops) none = refl
-    no_pointer_below (OfValue (Bits bits) ∷ ops) none = refl
-    no_pointer_below (OfValue (Located l) ∷ ops) none = absurd none
-    no_pointer_below (AtPlace q ∷ ops) none = refl
+  pub no_pointer : (ops : List Operand) → NoNewestLocator ops
+      → leads (offset_as p ops here frames w) left ≡ Finished (left_by_end end.MachineFault w)
+  unfolding offset_made
+  no_pointer [] none = refl
+  no_pointer (OfValue (Number x) ∷ ops) none = refl
+  no_pointer (OfValue (Characters text) ∷ ops) none = refl
+  no_pointer (OfValue (Bits bits) ∷ ops) none = refl
+  no_pointer (OfValue (Located l) ∷ ops) none = absurd none
+  no_pointer (AtPlace q ∷ ops) none = refl
+  no_pointer (AtDummy q ∷ ops) none = refl

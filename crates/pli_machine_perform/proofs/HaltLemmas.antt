@@ -6,6 +6,7 @@ use Rattle.pli_program.specs.Program as op
 use Rattle.pli_program.specs.Program.{Program}
 use Rattle.pli_code.specs.CodeTables.{naming}
 use Rattle.pli_world.specs.Conditions.{condition_of}
+use Rattle.pli_world.specs.Ends as end
 use Rattle.pli_world.specs.World.{World, Answer}
 use Rattle.pli_store.specs.answers.Answered.{Answered}
 use Rattle.pli_store.specs.declared.fault.StoreFault.{StoreFault}
@@ -17,11 +18,11 @@ use Rattle.pli_machine_activations.specs.declared.machine.Machine.{Machine}
 use Rattle.pli_machine_activations.specs.declared.machine.Stop.{Stop}
 use Rattle.pli_machine_activations.specs.declared.machine.Stop.TheVariants as stop
 use Rattle.pli_machine_activations.specs.views.Image.{Image}
-use Rattle.pli_machine_activations.specs.views.MachineView.{leads}
+use Rattle.pli_machine_activations.specs.views.MachineView.{Finished, leads}
 use Rattle.pli_machine_perform.specs.declared.halting.Halt.{Halt}
 use Rattle.pli_machine_perform.specs.views.HaltView.{HaltsAs, DoesIn, halt_of, halted}
 
-same_with : (before behind : Storage) (w : World) → SameStorage before behind → with_storage before w ≡ with_storage behind w
+pub same_with : (before behind : Storage) (w : World) → SameStorage before behind → with_storage before w ≡ with_storage behind w
 same_with before behind w same =
     sym
     (ap (λ s. record w { storage = s; made = made_count behind }) same.storage
@@ -47,6 +48,22 @@ module _ (p : Program) (wait : Frame → Frame) (here : Frame) (frames : List Fr
       ap (λ b. leads (handled p (with_storage before w) (wait here) frames b go) left) is
       ∙ ap (λ x. halted p wait left (Some x) here frames (with_storage behind w)) (sym halts)
   answer_halts view fault.OutOfMemory h before behind w other a go halts same is = absurd halts
+
+-- the same in whatever world the answer is given, where nothing was printed between
+module _ (p : Program) (wait : Frame → Frame) (here : Frame) (frames : List Frame) (left : ℕ) where
+  pub refused_halts : {T A : Type 0} (view : T → A) (f : StoreFault) (h : Halt) (w v other : World) (a : Answer A) (go : A → World → Move)
+      → HaltsAs f h → w.output ≡ v.output → w.column ≡ v.column → Answered view (Err f) v other a
+      → leads (handled p w (wait here) frames a go) left ≡ halted p wait left (Some h) here frames v
+  refused_halts view (fault.Raised e) h w v other a go halts output column is =
+      ap (λ b. leads (handled p w (wait here) frames b go) left) is
+      ∙ erring_halts p wait here frames left e (condition_of e) v
+      ∙ ap (λ x. halted p wait left (Some x) here frames v) (sym halts)
+  refused_halts view fault.NoRule h w v other a go halts output column is =
+      ap (λ b. leads (handled p w (wait here) frames b go) left) is
+      ∙ ap (λ o. Finished (record { output = o; ending = end.MachineFault; column = w.column })) output
+      ∙ ap (λ k. Finished (record { output = v.output; ending = end.MachineFault; column = k })) column
+      ∙ ap (λ x. halted p wait left (Some x) here frames v) (sym halts)
+  refused_halts view fault.OutOfMemory h w v other a go halts output column is = absurd halts
 
 -- an instruction that names an entry of a table does what it does with the entry
 pub done_found : {X E : Type 0} (with : X → op.Instruction) (image : Image) (o : Option X) (x : X) (old new : Machine) (r : Result (Option Stop) E)

@@ -4,4 +4,5 @@ pub mod HaltLemmas
 pub mod InstructionsDo
 pub mod OperationLemmas
 pub mod PointerMoves
+pub mod UsedMoves
 pub mod WorldLemmas

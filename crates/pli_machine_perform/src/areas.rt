@@ -11,25 +11,37 @@ ghost use Rattle.pli_machine_activations.specs.views.ImageView.{image_of};
 ghost use Rattle.pli_machine_activations.specs.views.MachineView.{Does};
 ghost use Rattle.pli_machine_perform.specs.views.HaltView.{DoesIn};
 
-use crate::halting::{settle, settle_again};
+use crate::halting::{halt_at, settle, settle_again};
 use crate::inhabiting;
-use pli_machine_activations::{ActiveUnit, Machine, Stop, laid_in, template_of};
+use pli_machine_activations::{ActiveUnit, Machine, Stop, laid_in, template_of, use_up};
+use pli_machine_operate::{Operand, push, take_place};
 use pli_map::Description;
 use pli_type_tree::InitialScalar;
+use pli_value::Value;
 use std::alloc::{AllocError, Global};
 
 /// The pointer into the area of the newest place, by the offset below it.
 pub fn to_pointer(machine: &mut Machine) -> Result<Option<Stop>, AllocError>
     ensures { IfOk result (Does ToPointer machine.old machine.new) }
 {
-    inhabiting::to_pointer(&mut machine.here.operands, &machine.storage)
+    let Some(area) = take_place(&mut machine.here.operands) else {
+        return Ok(Some(Stop::Fault));
+    };
+    let stop = inhabiting::to_pointer(&mut machine.here.operands, &machine.storage, area.place())?;
+    use_up(machine, area);
+    Ok(stop)
 }
 
 /// The offset of the area of the newest place, by the pointer below it.
 pub fn to_offset(machine: &mut Machine) -> Result<Option<Stop>, AllocError>
     ensures { IfOk result (Does ToOffset machine.old machine.new) }
 {
-    inhabiting::to_offset(&mut machine.here.operands, &machine.storage)
+    let Some(area) = take_place(&mut machine.here.operands) else {
+        return Ok(Some(Stop::Fault));
+    };
+    let stop = inhabiting::to_offset(&mut machine.here.operands, &machine.storage, area.place())?;
+    use_up(machine, area);
+    Ok(stop)
 }
 
 /// ALLOCATE in the area of the newest place of a BASED variable of a description and of initial values, or of what is
@@ -48,15 +60,31 @@ fn allocate_at<'m>(
         (AllocateInArea (record { description = description_view description.now; initial = map initial_view scalars.now }) target)
         machine.old machine.new) }
 {
-    let halt = inhabiting::allocate(
+    let Some(area) = take_place(&mut machine.here.operands) else {
+        return Ok(Some(Stop::Fault));
+    };
+    let made = inhabiting::make_block(
         alloc,
-        &mut machine.here.operands,
         &mut machine.storage,
+        area.place(),
         description,
         scalars,
         laid,
-    )?;
-    settle_again(alloc, unit.loaded, machine, halt, target as usize)
+    );
+    use_up(machine, area);
+    match made {
+        Ok(locator) => {
+            push(
+                &mut machine.here.operands,
+                Operand::OfValue(Value::Locator(locator)),
+            )?;
+            Ok(None)
+        }
+        Err(fault) => {
+            let halt = halt_at(fault)?;
+            settle_again(alloc, unit.loaded, machine, Some(halt), target as usize)
+        }
+    }
 }
 
 /// ALLOCATE in the area of the newest place of a BASED variable of a template of the tables: the pointer to its block.
@@ -88,13 +116,32 @@ pub fn assign_area<'m>(
 ) -> Result<Option<Stop>, AllocError>
     ensures { IfOk result (DoesIn (image_of unit.now.loaded.now) AssignArea machine.old machine.new) }
 {
-    let halt = inhabiting::assign(&mut machine.here.operands, &mut machine.storage)?;
-    settle(alloc, unit.loaded, machine, halt)
+    let Some(source) = take_place(&mut machine.here.operands) else {
+        return Ok(Some(Stop::Fault));
+    };
+    let Some(target) = take_place(&mut machine.here.operands) else {
+        return Ok(Some(Stop::Fault));
+    };
+    let assigned = machine.storage.assign_area(source.place(), target.place());
+    use_up(machine, target);
+    use_up(machine, source);
+    match assigned {
+        Ok(()) => Ok(None),
+        Err(fault) => {
+            let halt = halt_at(fault)?;
+            settle(alloc, unit.loaded, machine, Some(halt))
+        }
+    }
 }
 
 /// Ends all blocks of the newest place's area.
 pub fn empty_area(machine: &mut Machine) -> Result<Option<Stop>, AllocError>
     ensures { IfOk result (Does EmptyArea machine.old machine.new) }
 {
-    inhabiting::empty(&mut machine.here.operands, &mut machine.storage)
+    let Some(area) = take_place(&mut machine.here.operands) else {
+        return Ok(Some(Stop::Fault));
+    };
+    let stop = inhabiting::empty(&mut machine.storage, area.place())?;
+    use_up(machine, area);
+    Ok(stop)
 }

@@ -1,34 +1,34 @@
 //! Instructions on areas, on operands and storage.
-ghost use Rattle.std.specs.Prelude.{ℕ, map, IfOk, IfSome};
-ghost use Rattle.pli_machine_step.specs.Machine.{allocates_in, assigns_area, empties};
-ghost use Rattle.pli_machine_step.specs.Machine as plain;
+ghost use Rattle.std.specs.Prelude.{map, IfOk, IfSome, OnErr};
 ghost use Rattle.pli_map.specs.views.DescriptionView.{description_view};
 ghost use Rattle.pli_stacks.specs.answers.LaidBytes.{IsLaid};
+ghost use Rattle.pli_store.specs.answers.Answered.{Answered};
+ghost use Rattle.pli_store.specs.views.StorageView.{SameStorage, place_view, with_storage};
 ghost use Rattle.pli_type_tree.specs.Templates.{variable_of};
 ghost use Rattle.pli_type_tree.specs.views.TemplateView.{initial_view};
+ghost use Rattle.pli_value.specs.Value.{Located};
+ghost use Rattle.pli_world.specs.Locating.{block_made};
+ghost use Rattle.pli_world.specs.World.{World};
 ghost use Rattle.pli_machine_activations.specs.views.MachineView.{Works};
-ghost use Rattle.pli_machine_perform.specs.views.HaltView.{Inhabits, as_it_is, to_do_again};
+ghost use Rattle.pli_machine_perform.specs.views.ActView.{Touches, emptied_at, offset_as, pointer_as};
 
-use crate::halting::{Halt, halt_at};
 use pli_locators::{allocate_in, offset_in, pointer_in};
 use pli_machine_activations::{Stop, stop_at};
-use pli_machine_operate::{Operand, pop_locator, pop_place, push};
+use pli_machine_operate::{Operand, pop_locator, push};
 use pli_map::{Description, is_area};
-use pli_store::Storage;
+use pli_store::{Place, Storage, StoreFault};
 use pli_type_tree::InitialScalar;
-use pli_value::Value;
+use pli_value::{Locator, Value};
 use std::alloc::{AllocError, Global};
 
-/// Takes an area's place, and an offset below it, and gives the pointer into the area.
+/// Takes an offset, and gives the pointer into an area.
 pub fn to_pointer(
     operands: &mut Vec<Operand>,
     storage: &Storage,
+    area: Place<'_>,
 ) -> Result<Option<Stop>, AllocError>
-    ensures { IfOk result (Works plain.to_pointer operands.old.items operands.new.items storage.now storage.now) }
+    ensures { IfOk result (Works (pointer_as (place_view area.entry)) operands.old.items operands.new.items storage.now storage.now) }
 {
-    let Some(area) = pop_place(operands) else {
-        return Ok(Some(Stop::Fault));
-    };
     let Some(offset) = pop_locator(operands) else {
         return Ok(Some(Stop::Fault));
     };
@@ -41,13 +41,14 @@ pub fn to_pointer(
     }
 }
 
-/// Takes an area's place, and a pointer below it, and gives the offset of the area.
-pub fn to_offset(operands: &mut Vec<Operand>, storage: &Storage) -> Result<Option<Stop>, AllocError>
-    ensures { IfOk result (Works plain.to_offset operands.old.items operands.new.items storage.now storage.now) }
+/// Takes a pointer, and gives the offset of an area.
+pub fn to_offset(
+    operands: &mut Vec<Operand>,
+    storage: &Storage,
+    area: Place<'_>,
+) -> Result<Option<Stop>, AllocError>
+    ensures { IfOk result (Works (offset_as (place_view area.entry)) operands.old.items operands.new.items storage.now storage.now) }
 {
-    let Some(area) = pop_place(operands) else {
-        return Ok(Some(Stop::Fault));
-    };
     let Some(pointer) = pop_locator(operands) else {
         return Ok(Some(Stop::Fault));
     };
@@ -60,62 +61,33 @@ pub fn to_offset(operands: &mut Vec<Operand>, storage: &Storage) -> Result<Optio
     }
 }
 
-/// Takes an area's place, makes a block of a BASED variable there from a description and initial values, or from what
-/// is laid for them, and gives the pointer to it. No variable that is an area itself stands in another.
-pub fn allocate<'m>(
+/// Makes a block of a BASED variable in an area from a description and initial values, or from what is laid for them:
+/// the pointer to it. No variable that is an area itself stands in another. After an error nothing has changed.
+pub fn make_block<'m>(
     alloc: Global,
-    operands: &mut Vec<Operand<'m>>,
     storage: &mut Storage<'m>,
+    area: Place<'_>,
     description: &'m Description,
     scalars: &[InitialScalar],
     laid: Option<&[u8]>,
-) -> Result<Option<Halt>, AllocError>
+) -> Result<Locator, StoreFault>
     requires { IfSome laid (λ bytes. IsLaid (record { description = description_view description.now; initial = map initial_view scalars.now }) bytes.now) }
-    ensures { IfOk result (λ halt. (after : ℕ) → Inhabits (to_do_again after)
-        (λ p. allocates_in p (variable_of (record { description = description_view description.now; initial = map initial_view scalars.now })) after)
-        operands.old.items operands.new.items storage.old storage.new halt) }
+    ensures answer { (w : World) → Answered (λ locator. Located locator) result (with_storage storage.old w) (with_storage storage.new w)
+        (block_made (place_view area.entry)
+        (variable_of (record { description = description_view description.now; initial = map initial_view scalars.now }))
+        (with_storage storage.old w)) }
+    ensures err { OnErr result (SameStorage storage.old storage.new) }
 {
-    let Some(area) = pop_place(operands) else {
-        return Ok(Some(Halt::Stops(Stop::Fault)));
-    };
     if is_area(description) {
-        return Ok(Some(Halt::Stops(Stop::Fault)));
+        return Err(StoreFault::NoRule);
     }
-    match allocate_in(alloc, storage, area, description, scalars, laid) {
-        Ok(locator) => {
-            push(operands, Operand::OfValue(Value::Locator(locator)))?;
-            Ok(None)
-        }
-        Err(fault) => Ok(Some(halt_at(fault)?)),
-    }
+    allocate_in(alloc, storage, area, description, scalars, laid)
 }
 
-/// Takes a source's place and a target's, and puts the blocks of the one area at the other.
-pub fn assign(
-    operands: &mut Vec<Operand>,
-    storage: &mut Storage,
-) -> Result<Option<Halt>, AllocError>
-    ensures { IfOk result (Inhabits as_it_is assigns_area operands.old.items operands.new.items storage.old storage.new) }
+/// Ends all blocks of an area.
+pub fn empty(storage: &mut Storage, area: Place<'_>) -> Result<Option<Stop>, AllocError>
+    ensures { IfOk result (Touches (emptied_at (place_view area.entry)) storage.old storage.new) }
 {
-    let Some(source) = pop_place(operands) else {
-        return Ok(Some(Halt::Stops(Stop::Fault)));
-    };
-    let Some(target) = pop_place(operands) else {
-        return Ok(Some(Halt::Stops(Stop::Fault)));
-    };
-    match storage.assign_area(source, target) {
-        Ok(()) => Ok(None),
-        Err(fault) => Ok(Some(halt_at(fault)?)),
-    }
-}
-
-/// Takes an area's place, and ends all blocks there.
-pub fn empty(operands: &mut Vec<Operand>, storage: &mut Storage) -> Result<Option<Stop>, AllocError>
-    ensures { IfOk result (Works empties operands.old.items operands.new.items storage.old storage.new) }
-{
-    let Some(area) = pop_place(operands) else {
-        return Ok(Some(Stop::Fault));
-    };
     match storage.empty_area(area) {
         Ok(()) => Ok(None),
         Err(fault) => Ok(Some(stop_at(fault)?)),

@@ -6,7 +6,10 @@ ghost use Rattle.pli_code.specs.CodeTables.{looked_up};
 ghost use Rattle.pli_code.specs.declared.instruction.Instruction.TheVariants as coded;
 ghost use Rattle.pli_code.specs.views.CodeView.{code_view};
 ghost use Rattle.pli_machine_activations.specs.views.ImageView.{image_of};
-ghost use Rattle.pli_machine_activations.specs.views.MachineView.{Does};
+ghost use Rattle.pli_value.specs.Value.{value_view};
+ghost use Rattle.pli_machine_activations.specs.views.Image.{Image};
+ghost use Rattle.pli_machine_activations.specs.views.MachineView.{Does, Moves};
+ghost use Rattle.pli_machine_perform.specs.views.ActView.{kept_as};
 ghost use Rattle.pli_machine_perform.specs.views.HaltView.{DoesIn};
 
 use crate::halting::settle;
@@ -14,9 +17,11 @@ use crate::keeping::put_constant;
 use crate::operate::{operate, operate_fit};
 use crate::{jumping, places, storing};
 use pli_code::Code;
-use pli_machine_activations::{ActiveUnit, Machine, Stop, template_of};
+use pli_machine_activations::{ActiveUnit, Machine, Stop, template_of, use_up};
+use pli_machine_operate::{pop_number, pop_value, take_place};
 use pli_map::Description;
 use pli_operation::Operation;
+use pli_value::Value;
 use std::alloc::{AllocError, Global};
 
 /// A jump.
@@ -44,7 +49,17 @@ fn field_at<'m>(
 ) -> Result<Option<Stop>, AllocError>
     ensures { IfOk result (Does (Field offset (description_view description.now)) machine.old machine.new) }
 {
-    places::field(&mut machine.here.operands, offset, description)
+    let Some(taken) = take_place(&mut machine.here.operands) else {
+        return Ok(Some(Stop::Fault));
+    };
+    let stop = places::field(
+        &mut machine.here.operands,
+        taken.place(),
+        offset,
+        description,
+    )?;
+    use_up(machine, taken);
+    Ok(stop)
 }
 
 /// Leads the newest place on to a part of a description of the tables.
@@ -71,7 +86,22 @@ pub fn subscript(
 ) -> Result<Option<Stop>, AllocError>
     ensures { IfOk result (Does (Subscript low high multiplier) machine.old machine.new) }
 {
-    places::subscript(&mut machine.here.operands, low, high, multiplier)
+    let Some(number) = pop_number(&mut machine.here.operands) else {
+        return Ok(Some(Stop::Fault));
+    };
+    let Some(taken) = take_place(&mut machine.here.operands) else {
+        return Ok(Some(Stop::Fault));
+    };
+    let stop = places::subscript(
+        &mut machine.here.operands,
+        taken.place(),
+        number,
+        low,
+        high,
+        multiplier,
+    )?;
+    use_up(machine, taken);
+    Ok(stop)
 }
 
 /// Puts a constant of the tables upon the operands.
@@ -92,21 +122,67 @@ pub fn constant<'m>(
 pub fn load(alloc: Global, machine: &mut Machine) -> Result<Option<Stop>, AllocError>
     ensures { IfOk result (Does Load machine.old machine.new) }
 {
-    storing::load(alloc, &mut machine.here.operands, &machine.storage)
+    let Some(taken) = take_place(&mut machine.here.operands) else {
+        return Ok(Some(Stop::Fault));
+    };
+    let stop = storing::load(
+        alloc,
+        &mut machine.here.operands,
+        &machine.storage,
+        taken.place(),
+    )?;
+    use_up(machine, taken);
+    Ok(stop)
 }
 
-/// Puts the newest value at the place below it.
+/// Puts the newest value at the place below it. A number takes the short way.
 pub fn store(alloc: Global, machine: &mut Machine) -> Result<Option<Stop>, AllocError>
     ensures { IfOk result (Does Store machine.old machine.new) }
 {
-    storing::store(alloc, &mut machine.here.operands, &mut machine.storage)
+    match pop_number(&mut machine.here.operands) {
+        Some(number) => store_value(machine, Value::Number(number)),
+        None => store_newest(alloc, machine),
+    }
+}
+
+/// The same of any value.
+fn store_newest(alloc: Global, machine: &mut Machine) -> Result<Option<Stop>, AllocError>
+    ensures { IfOk result (Does Store machine.old machine.new) }
+{
+    let Some(value) = pop_value(alloc, &mut machine.here.operands)? else {
+        return Ok(Some(Stop::Fault));
+    };
+    store_value(machine, value)
+}
+
+/// Puts a value at the newest place.
+#[inline]
+fn store_value(machine: &mut Machine, value: Value) -> Result<Option<Stop>, AllocError>
+    ensures { IfOk result (λ stop. (image : Image) → Moves image
+        (λ here frames w. kept_as (value_view value) here.operands here frames w) machine.old machine.new stop) }
+{
+    let Some(taken) = take_place(&mut machine.here.operands) else {
+        return Ok(Some(Stop::Fault));
+    };
+    let stop = storing::store(&mut machine.storage, taken.place(), value)?;
+    use_up(machine, taken);
+    Ok(stop)
 }
 
 /// Copies what the newest place holds to the place below it.
 pub fn copy(machine: &mut Machine) -> Result<Option<Stop>, AllocError>
     ensures { IfOk result (Does Copy machine.old machine.new) }
 {
-    storing::copy(&mut machine.here.operands, &mut machine.storage)
+    let Some(source) = take_place(&mut machine.here.operands) else {
+        return Ok(Some(Stop::Fault));
+    };
+    let Some(target) = take_place(&mut machine.here.operands) else {
+        return Ok(Some(Stop::Fault));
+    };
+    let stop = storing::copy(&mut machine.storage, source.place(), target.place())?;
+    use_up(machine, target);
+    use_up(machine, source);
+    Ok(stop)
 }
 
 /// A dummy argument of a template of the tables.

@@ -1,27 +1,27 @@
 //! Instructions that lead a place on.
 ghost use Rattle.std.specs.Prelude.{◌≡◌, ◌&&◌, ◌≤ℤ◌, int_le, true, false, IfOk, MatchOption};
 ghost use Rattle.pli_map.specs.views.DescriptionView.{description_view};
-ghost use Rattle.pli_machine_step.specs.Machine.{fielded, subscripts};
+ghost use Rattle.pli_store.specs.views.StorageView.{place_view};
 ghost use Rattle.pli_machine_activations.specs.views.MachineView.{Acts};
+ghost use Rattle.pli_machine_perform.specs.views.ActView.{led_on_as, subscripted_as};
 
 use pli_machine_activations::Stop;
-use pli_machine_operate::{Operand, pop_number, pop_place, push};
+use pli_machine_operate::{Operand, push};
 use pli_map::Description;
 use pli_run::RunError;
+use pli_store::Place;
 use std::alloc::AllocError;
 
 /// Leads a place on to a part; no rule fits where that is more than 1,000,000 bytes behind the beginning.
 #[inline]
 pub fn field<'m>(
     operands: &mut Vec<Operand<'m>>,
+    place: Place<'m>,
     offset: u32,
     description: &'m Description,
 ) -> Result<Option<Stop>, AllocError>
-    ensures { IfOk result (Acts (fielded offset (description_view description.now)) operands.old.items operands.new.items) }
+    ensures { IfOk result (Acts (led_on_as offset (description_view description.now) (place_view place.entry)) operands.old.items operands.new.items) }
 {
-    let Some(place) = pop_place(operands) else {
-        return Ok(Some(Stop::Fault));
-    };
     match place.field(offset, description) {
         Some(part) => {
             push(operands, Operand::AtPlace(part))?;
@@ -44,23 +44,19 @@ pub fn bounded(low: i32, high: i32, subscript: i64) -> Option<i32>
     }
 }
 
-/// Takes a number, tests it and leads a place on by so many bytes for each number over the low one; no rule fits where
-/// that is more than 1,000,000 bytes behind the beginning.
+/// Tests a number and leads a place on by so many bytes for each number over the low one; no rule fits where that is more
+/// than 1,000,000 bytes behind the beginning.
 #[inline]
-pub fn subscript(
-    operands: &mut Vec<Operand>,
+pub fn subscript<'m>(
+    operands: &mut Vec<Operand<'m>>,
+    place: Place<'m>,
+    number: i64,
     low: i32,
     high: i32,
     multiplier: u32,
 ) -> Result<Option<Stop>, AllocError>
-    ensures { IfOk result (Acts (subscripts low high multiplier) operands.old.items operands.new.items) }
+    ensures { IfOk result (Acts (subscripted_as low high multiplier number (place_view place.entry)) operands.old.items operands.new.items) }
 {
-    let Some(number) = pop_number(operands) else {
-        return Ok(Some(Stop::Fault));
-    };
-    let Some(place) = pop_place(operands) else {
-        return Ok(Some(Stop::Fault));
-    };
     let Some(number) = bounded(low, high, number) else {
         return Ok(Some(Stop::Raised(RunError::SubscriptRange)));
     };

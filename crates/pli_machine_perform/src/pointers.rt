@@ -11,7 +11,8 @@ ghost use Rattle.pli_machine_activations.specs.views.MachineView.{Does};
 
 use crate::pointing;
 use pli_code::Code;
-use pli_machine_activations::{ActiveUnit, Machine, Stop, laid_in, template_of};
+use pli_machine_activations::{ActiveUnit, Machine, Stop, laid_in, template_of, use_up};
+use pli_machine_operate::take_place;
 use pli_map::Description;
 use pli_type_tree::InitialScalar;
 use std::alloc::{AllocError, Global};
@@ -44,7 +45,12 @@ pub fn based(
 pub fn address_of(machine: &mut Machine) -> Result<Option<Stop>, AllocError>
     ensures { IfOk result (Does AddressOf machine.old machine.new) }
 {
-    pointing::address_of(&mut machine.here.operands, &machine.storage)
+    let Some(taken) = take_place(&mut machine.here.operands) else {
+        return Ok(Some(Stop::Fault));
+    };
+    let stop = pointing::address_of(&mut machine.here.operands, &machine.storage, taken.place())?;
+    use_up(machine, taken);
+    Ok(stop)
 }
 
 /// ALLOCATE of a BASED variable of this description and with these initial values, whose bytes may have been laid

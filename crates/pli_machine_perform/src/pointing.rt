@@ -1,18 +1,19 @@
 //! Instructions by pointers, on operands and storage.
 ghost use Rattle.std.specs.Prelude.{map, IfOk, IfSome};
-ghost use Rattle.pli_machine_step.specs.Machine.{leads_to, addresses, frees};
+ghost use Rattle.pli_machine_step.specs.Machine.{leads_to, frees};
 ghost use Rattle.pli_map.specs.views.DescriptionView.{description_view};
 ghost use Rattle.pli_stacks.specs.answers.LaidBytes.{IsLaid};
+ghost use Rattle.pli_store.specs.views.StorageView.{place_view};
 ghost use Rattle.pli_type_tree.specs.Templates.{variable_of};
 ghost use Rattle.pli_type_tree.specs.views.TemplateView.{initial_view};
-ghost use Rattle.pli_machine_perform.specs.views.ActView.{allocates};
+ghost use Rattle.pli_machine_perform.specs.views.ActView.{addressed_as, allocates};
 ghost use Rattle.pli_machine_activations.specs.views.MachineView.{Works};
 
 use pli_locators::{address, allocate_based, based, free_based};
 use pli_machine_activations::{Stop, stop_at};
-use pli_machine_operate::{Operand, pop_locator, pop_place, push};
+use pli_machine_operate::{Operand, pop_locator, push};
 use pli_map::Description;
-use pli_store::Storage;
+use pli_store::{Place, Storage};
 use pli_type_tree::InitialScalar;
 use pli_value::Value;
 use std::alloc::{AllocError, Global};
@@ -37,16 +38,14 @@ pub fn lead_to<'m>(
     }
 }
 
-/// Takes a place and gives the pointer to what it is the whole of.
+/// Gives the pointer to what a place is the whole of.
 pub fn address_of(
     operands: &mut Vec<Operand>,
     storage: &Storage,
+    place: Place<'_>,
 ) -> Result<Option<Stop>, AllocError>
-    ensures { IfOk result (Works addresses operands.old.items operands.new.items storage.now storage.now) }
+    ensures { IfOk result (Works (addressed_as (place_view place.entry)) operands.old.items operands.new.items storage.now storage.now) }
 {
-    let Some(place) = pop_place(operands) else {
-        return Ok(Some(Stop::Fault));
-    };
     match address(storage, place) {
         Ok(locator) => {
             push(operands, Operand::OfValue(Value::Locator(locator)))?;

@@ -2,7 +2,7 @@
 use Rattle.std.specs.Prelude.{refl}
 use Rattle.std.specs.Fmt.{digits}
 use Rattle.pli_operation.specs.Operations.{calculated}
-use Rattle.pli_world.specs.World.{nothing, entered, made_of, left_by, parts_held, parts_stored, held, stored, cleared, at_statement, stepped, height_of, slot_place, static_place, printed, line_ended, error_at}
+use Rattle.pli_world.specs.World.{nothing, entered, made_of, left_by, parts_held, parts_stored, held, stored, cleared, at_statement, stepped, height_of, slot_place, static_place, dummy_of, printed, line_ended, error_at}
 use Rattle.pli_world.specs.Locating.{located, based, based_allocated, based_freed, addressed, place_by, freed_by, pointer_made, address_of}
 use Rattle.pli_world.specs.Stacks.{stacked, unstacked, counted, stack_named, generation_stacked, generation_unstacked, generations_counted}
 use Rattle.pli_machine_step.specs.examples.MachineExamples as example
@@ -47,6 +47,10 @@ pub begin_faults : example.BeginFaults
 unfolding nothing entered stepped
 begin_faults = refl
 
+pub parameter_faults : example.ParameterFaults
+unfolding nothing entered stepped
+parameter_faults = refl
+
 pub call_faults : example.CallFaults
 unfolding nothing entered stepped
 call_faults = refl
@@ -78,6 +82,18 @@ jumps_end = refl
 pub argument_is_shared : example.ArgumentIsShared
 unfolding nothing entered made_of stepped left_by parts_held parts_stored held stored height_of slot_place calculated printed digits
 argument_is_shared = refl
+
+pub dummy_ends : example.DummyEnds
+unfolding nothing entered made_of stepped left_by parts_held held dummy_of calculated printed digits
+dummy_ends = (refl, refl, refl)
+
+pub dummy_is_given : example.DummyIsGiven
+unfolding nothing entered made_of stepped left_by parts_held held height_of slot_place dummy_of calculated printed digits
+dummy_is_given = (refl, refl, refl)
+
+pub dummy_is_dead : example.DummyIsDead
+unfolding nothing entered made_of stepped at_statement parts_held held dummy_of located based addressed place_by address_of error_at
+dummy_is_dead = (refl, refl)
 
 pub function_gives : example.FunctionGives
 unfolding nothing entered stepped left_by printed

@@ -16,6 +16,8 @@ ghost use Rattle.pli_machine_step.specs.examples.MachineExamples.{UnitFails, NoU
 ghost use Rattle.pli_machine_step.specs.examples.MachineExamples.{GenerationsPrint, NoneIsError, OthersFault};
 ghost use Rattle.pli_machine_step.specs.examples.MachineExamples.{BasedPrints, AddressPrints, LocatorsFail};
 ghost use Rattle.pli_machine_step.specs.examples.MachineExamples.{AddressIsNotFreed, NumbersFault};
+ghost use Rattle.pli_machine_step.specs.examples.MachineExamples.{ParameterFaults, DummyEnds, DummyIsGiven};
+ghost use Rattle.pli_machine_step.specs.examples.MachineExamples.{DummyIsDead};
 
 /// A law: a program's run gives one outcome.
 pub fn one_outcome()
@@ -38,7 +40,7 @@ pub fn every_run_ends()
 {}
 
 /// Worked examples: steps, a GOTO out of a call, jumps without a step, the limit of activations, the kinds of
-/// blocks, the code's end, an argument by place, a function's value, a loop, an element and a part of a string that are
+/// blocks, the code's end, an argument by place, dummy arguments that end, a function's value, a loop, an element and a part of a string that are
 /// there and that are not, how far a place is led on, a comparison, bits printed, a line ended, a variable that is made
 /// once, a call of another unit's procedure and a variable that both units have, the generations of a CONTROLLED one,
 /// BASED ones by their pointers, blocks of areas and offsets.
@@ -55,6 +57,7 @@ pub fn worked_examples()
     ensures many_stop { ManyStop }
     ensures begin_ends { BeginEnds }
     ensures begin_faults { BeginFaults }
+    ensures parameter_faults { ParameterFaults }
     ensures call_faults { CallFaults }
     ensures begins_end { BeginsEnd }
     ensures end_faults { EndFaults }
@@ -62,6 +65,9 @@ pub fn worked_examples()
     ensures gotos_fault { GotosFault }
     ensures jumps_end { JumpsEnd }
     ensures argument_is_shared { ArgumentIsShared }
+    ensures dummy_ends { DummyEnds }
+    ensures dummy_is_given { DummyIsGiven }
+    ensures dummy_is_dead { DummyIsDead }
     ensures function_gives { FunctionGives }
     ensures value_faults { ValueFaults }
     ensures loop_ends { LoopEnds }

@@ -2,6 +2,7 @@
 use Rattle.std.specs.Prelude.{◌≡◌, ℕ, zero, suc, ◌+◌, nat_eq, Bool, true, false, not, ◌&&◌, Option, Some, None, List, [], ◌∷◌, length, slice_get, if◌then◌else◌, refl}
 use Rattle.std.proofs.Common.{ap, ◌∙◌, sym, subst, arith}
 use Rattle.std.proofs.lemmas.Bool.{eqb-true}
+use Rattle.std.proofs.lemmas.List.{length-map}
 use Rattle.pli_base.specs.Name.{Name}
 use Rattle.pli_base.specs.declared.statement.Condition.{Condition}
 use Rattle.pli_world.specs.Conditions.{Handler, handler}
@@ -19,7 +20,7 @@ use Rattle.pli_meaning_tree.specs.Effects.{Label, Effect, Lost, Flow, Next, Retu
 use Rattle.pli_meaning_tree.specs.TreeMeaning.{Calls, in_order, head_in, static_link, activation_of, does_from, does_list, procedure_run, activates_in, activates, procedure_in, unit_named, entry_unit, activates_outer, activates_unit, activates_entry, called_in, runs_block, runs_unit, raised_in, calls}
 use Rattle.pli_meaning_simulation.specs.CodeStands.{Context, call_of, block_of, EndStands, ProcedureStands, ProceduresStand, GlobalStands, GlobalsStand, UnitStands, UnitsStand}
 use Rattle.pli_meaning_simulation.proofs.ReachesLemmas.{Fine, calm_kept, calm_fine, stays, from, waiting, frame, flows, resumes, returns, Reaches, gives, keeping, goes}
-use Rattle.pli_meaning_simulation.proofs.ExpressionsReach.{CallsRun, places_above, places_come_off, as_long}
+use Rattle.pli_meaning_simulation.proofs.ExpressionsReach.{Argument, CallsRun, arguments_above, given_place, given_places, places_come_off, as_long}
 use Rattle.pli_meaning_simulation.proofs.ControlReaches.{fresh_fine, leaves, full_run, step_run, enters_run}
 use Rattle.pli_meaning_simulation.proofs.FormsReach.{list_run}
 use Rattle.pli_meaning_simulation.proofs.StatementsReach.{from_run}
@@ -118,14 +119,14 @@ module _ (p : Program) (number : ℕ) (u : UnitCode) (at : Label → ℕ) (other
         (if t then effect.unless_full (procedure_run p.greatest call level other f link places) w left else Lost)) (sym e) (record { by = tt })
 
     -- from the call
-    found_run : (before : List Place) (w : World) (left : ℕ)
-        → Reaches p number u at c (resume (machine.called_with other f.head.number block (length before) (places_off (length before) [] (places_above before ops))
-        (frame p number u b (places_above before ops) l) fs w) left) l
-        (returns p number u b ops fs) fs (activates_in p.greatest call level other f (static_link other f.parent w) (in_order before []) w left)
+    found_run : (before : List Argument) (w : World) (left : ℕ)
+        → Reaches p number u at c (resume (machine.called_with other f.head.number block (length before) (places_off (length before) [] (arguments_above before ops))
+        (frame p number u b (arguments_above before ops) l) fs w) left) l
+        (returns p number u b ops fs) fs (activates_in p.greatest call level other f (static_link other f.parent w) (in_order (given_places before) []) w left)
     found_run before w left =
-        let places = in_order before [] in
-        let here = frame p number u b (places_above before ops) l in
-        let count : length before ≡ length places = let e = as_long before [] in omega arith in
+        let places = in_order (given_places before) [] in
+        let here = frame p number u b (arguments_above before ops) l in
+        let count : length before ≡ length places = let e = as_long (given_places before) [] in let n = length-map before given_place in omega arith in
         let same =
         ap (λ x. resume (machine.called_with other f.head.number block (length before) x here fs w) left) (places_come_off before [] ops)
         ∙ ap (λ n. resume (if is_procedure (kind_of_procedure f) && nat_eq f.parameters n then machine.calls other f.head.number block (link_of other f.parent w) places (frame p number u b ops l) fs w else faulty w) left) count
@@ -185,15 +186,15 @@ module _ (p : Program) (units : List TypedUnit) (names : List Name) (at : Label 
       → CallsRun p number u at (calls p.greatest units level number t)
 
   module _ (level : ℕ) (run : AllRun level) (number : ℕ) (u : UnitCode) (there : slice_get p.units number ≡ Some u) (t : TypedUnit) (is : UnitStands units names at number t u)
-      (before : List Place) (c : Context) (b : ℕ) (ops : List Operand) (l : Locals) (fs : List Frame) (fine : Fine c l) (w : World) (left : ℕ) where
+      (before : List Argument) (c : Context) (b : ℕ) (ops : List Operand) (l : Locals) (fs : List Frame) (fine : Fine c l) (w : World) (left : ℕ) where
     abbrev Does : Move → Effect (Option Value) → Type 0
     Does m o = Reaches p number u at c (resume m left) l (returns p number u b ops fs) fs o
 
     abbrev here : Frame
-    here = frame p number u b (places_above before ops) l
+    here = frame p number u b (arguments_above before ops) l
 
     abbrev places : List Place
-    places = in_order before []
+    places = in_order (given_places before) []
 
     -- of a procedure of the unit
     inside_run : (block : ℕ) → Does (called block (length before) (slice_get u.blocks block) here fs w)
@@ -227,12 +228,12 @@ module _ (p : Program) (units : List TypedUnit) (names : List Name) (at : Label 
             let block = code p k v at found call (run k v found s stands) level f has.1 in
             subst (λ x. Does (machine.called_outside k (length before) x here fs w) (activates_outer p.greatest call level k (Some f) places w left))
             (sym (ap (slice_get v.blocks) (sym has.0) ∙ has.1.there))
-            (subst (λ n. Does (if is_external f.parent then machine.called_with k n block (length before) (places_off (length before) [] (places_above before ops)) here fs w else faulty w)
+            (subst (λ n. Does (if is_external f.parent then machine.called_with k n block (length before) (places_off (length before) [] (arguments_above before ops)) here fs w else faulty w)
             (activates_outer p.greatest call level k (Some f) places w left)) has.0
             (tested (f.parent) refl))
           where
             way : Move
-            way = machine.called_with k f.head.number (code p k v at found call (run k v found s stands) level f has.1) (length before) (places_off (length before) [] (places_above before ops)) here fs w
+            way = machine.called_with k f.head.number (code p k v at found call (run k v found s stands) level f has.1) (length before) (places_off (length before) [] (arguments_above before ops)) here fs w
 
             what : Option ℕ → Effect (Option Value)
             what link = activates_in p.greatest call level k f link places w left
@@ -320,8 +321,8 @@ module _ (p : Program) (units : List TypedUnit) (names : List Name) (at : Label 
         conditions = λ k c b ops l again fs fine w left. raised_run level (calls_run level) number u c b ops l again fs fine w left k (handler k w.activations);
       }
     where
-      by : AllRun level → (callee : Callee) (before : List Place) (c : Context) (b : ℕ) (ops : List Operand) (l : Locals) (fs : List Frame) (fine : Fine c l) (w : World) (left : ℕ)
-          → Reaches p number u at c (resume (act p u (Some (call_of callee (length before))) (frame p number u b (places_above before ops) l) fs w) left) l (returns p number u b ops fs) fs
-          (called_in p.greatest units (calls p.greatest units level) level number t callee (in_order before []) w left)
+      by : AllRun level → (callee : Callee) (before : List Argument) (c : Context) (b : ℕ) (ops : List Operand) (l : Locals) (fs : List Frame) (fine : Fine c l) (w : World) (left : ℕ)
+          → Reaches p number u at c (resume (act p u (Some (call_of callee (length before))) (frame p number u b (arguments_above before ops) l) fs w) left) l (returns p number u b ops fs) fs
+          (called_in p.greatest units (calls p.greatest units level) level number t callee (in_order (given_places before) []) w left)
       by run (OfBlock block) before c b ops l fs fine w left = inside_run level run number u there t is before c b ops l fs fine w left block
       by run (OfEntry n) before c b ops l fs fine w left = outside_run level run number u there t is before c b ops l fs fine w left n

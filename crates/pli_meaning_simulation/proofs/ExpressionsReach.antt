@@ -1,5 +1,5 @@
 -- The machine does what expressions and references mean, for any operands and frames beneath.
-use Rattle.std.specs.Prelude.{◌≡◌, ℕ, ℤ, pos, ◌+◌, Option, Some, None, List, [], ◌∷◌, length, slice_get, refl}
+use Rattle.std.specs.Prelude.{◌≡◌, ℕ, ℤ, pos, ◌+◌, Option, Some, None, List, [], ◌∷◌, length, map, slice_get, refl}
 use Rattle.std.proofs.Common.{ap, ◌∙◌, sym, subst, arith}
 use Rattle.pli_operation.specs.Operations.{Misfits, arity, calculated, fitted_to}
 use Rattle.pli_map.specs.Description.{Description}
@@ -11,7 +11,7 @@ use Rattle.pli_world.specs.Stacks.{generations_counted}
 use Rattle.pli_value.specs.Value.{Value, Number, Characters, Bits, Located as LocatorValue}
 use Rattle.pli_program.specs.Program as op
 use Rattle.pli_program.specs.Program.{UnitCode, Program}
-use Rattle.pli_machine_step.specs.Machine.{Operand, OfValue, AtPlace, Locals, Frame, At, values_off, places_off, operated, act, resume}
+use Rattle.pli_machine_step.specs.Machine.{Operand, OfValue, AtPlace, AtDummy, Locals, Frame, At, values_off, places_off, operated, act, resume}
 use Rattle.pli_type_tree.specs.TypedOperations.{comes_to}
 use Rattle.pli_type_tree.specs.TypedTree.{TypedOperation, Fit, Operate, Root, InSlot, OfProgram, NewestOf, Located, Callee, TypedExpression, Literal, Held, Calculated, Called, Generations, Address, AsPointer, AsOffset, TypedReference, Whole, Part, Operands, NoOperand, OperandThen, Subscripts, NoSubscript, SubscriptThen, TypedArguments, NoArgument, ByPlace, ByDummy}
 use Rattle.pli_meaning_tree.specs.Effects.{Label, Doing, answered, resolved}
@@ -27,17 +27,36 @@ abbrev pub values_above : List Value → List Operand → List Operand
 values_above [] ops = ops
 values_above (v ∷ vs) ops = OfValue v ∷ values_above vs ops
 
-abbrev pub places_above : List Place → List Operand → List Operand
-places_above [] ops = ops
-places_above (p ∷ ps) ops = AtPlace p ∷ places_above ps ops
+-- an argument among the operands: where a reference leads, or where a dummy argument is
+pub data Argument : Type 0 where
+  OfReference : (place : Place) → Argument
+  OfDummy : (place : Place) → Argument
+
+-- the operand that it is, and its place
+abbrev pub given_operand : Argument → Operand
+given_operand (OfReference p) = AtPlace p
+given_operand (OfDummy p) = AtDummy p
+
+abbrev pub given_place : Argument → Place
+given_place (OfReference p) = p
+given_place (OfDummy p) = p
+
+abbrev pub given_places : List Argument → List Place
+given_places gs = map given_place gs
+
+abbrev pub arguments_above : List Argument → List Operand → List Operand
+arguments_above [] ops = ops
+arguments_above (g ∷ gs) ops = given_operand g ∷ arguments_above gs ops
 
 values_come_off : (vs behind : List Value) (ops : List Operand) → values_off (length vs) behind (values_above vs ops) ≡ Some (in_order vs behind, ops)
 values_come_off [] behind ops = refl
 values_come_off (v ∷ vs) behind ops = values_come_off vs (v ∷ behind) ops
 
-pub places_come_off : (ps behind : List Place) (ops : List Operand) → places_off (length ps) behind (places_above ps ops) ≡ Some (in_order ps behind, ops)
+pub places_come_off : (gs : List Argument) (behind : List Place) (ops : List Operand)
+    → places_off (length gs) behind (arguments_above gs ops) ≡ Some (in_order (given_places gs) behind, ops)
 places_come_off [] behind ops = refl
-places_come_off (p ∷ ps) behind ops = places_come_off ps (p ∷ behind) ops
+places_come_off (OfReference p ∷ gs) behind ops = places_come_off gs (p ∷ behind) ops
+places_come_off (OfDummy p ∷ gs) behind ops = places_come_off gs (p ∷ behind) ops
 
 pub as_long : {A : Type 0} (xs behind : List A) → length (in_order xs behind) ≡ length xs + length behind
 as_long [] behind = omega arith
@@ -52,9 +71,9 @@ module _ (p : Program) (number : ℕ) (u : UnitCode) (at : Label → ℕ) where
   -- a call does what it means, from its instruction on; and so does a condition that is raised
   pub record CallsRun (call : Calls) : Type 0 where
     pub procedure :
-        (callee : Callee) (before : List Place) (c : Context) (b : ℕ) (ops : List Operand) (l : Locals) (fs : List Frame) → Fine c l → (w : World) (left : ℕ)
-        → Reaches p number u at c (resume (act p u (Some (call_of callee (length before))) (frame p number u b (places_above before ops) l) fs w) left) l
-        (returns p number u b ops fs) fs (call.procedure callee (in_order before []) w left)
+        (callee : Callee) (before : List Argument) (c : Context) (b : ℕ) (ops : List Operand) (l : Locals) (fs : List Frame) → Fine c l → (w : World) (left : ℕ)
+        → Reaches p number u at c (resume (act p u (Some (call_of callee (length before))) (frame p number u b (arguments_above before ops) l) fs w) left) l
+        (returns p number u b ops fs) fs (call.procedure callee (in_order (given_places before) []) w left)
     pub conditions : RaisesRun p number u at call.condition
 
   module _ (there : slice_get p.units number ≡ Some u) (call : Calls) (calls_run : CallsRun call) (c : Context) where
@@ -167,18 +186,18 @@ module _ (p : Program) (number : ℕ) (u : UnitCode) (at : Label → ℕ) where
           (λ m k q w left. element_run more is.snd.snd q ops m k.fine fs w left))
 
       pub called_run : (arguments : TypedArguments) (callee : Callee) (count : ℕ) {a b : ℕ} → Then (ArgumentsStand u arguments) (Is u (call_of callee count)) a b
-          → (before : List Place) → arguments_in arguments + length before ≡ count → (ops : List Operand) (l : Locals) → Fine c l → (fs : List Frame) (w : World) (left : ℕ)
-          → Reaches p number u at c (At (frame p number u a (places_above before ops) l) fs w left) l (returns p number u b ops fs) fs
-          (called_with p.greatest call callee arguments before w left)
+          → (before : List Argument) → arguments_in arguments + length before ≡ count → (ops : List Operand) (l : Locals) → Fine c l → (fs : List Frame) (w : World) (left : ℕ)
+          → Reaches p number u at c (At (frame p number u a (arguments_above before ops) l) fs w left) l (returns p number u b ops fs) fs
+          (called_with p.greatest call callee arguments (given_places before) w left)
       called_run NoArgument callee count {a} {b} is before all ops l fine fs w left =
           let n : count ≡ length before = omega arith in
           let here : Is u (call_of callee (length before)) a b = subst (λ k. Is u (call_of callee k) a b) n (subst (λ q. Is u (call_of callee count) q b) (sym is.fst) is.snd) in
           then_reaches p number u at (goes p number u at there here refl) (calls_run.procedure callee before c b ops l fs fine w left)
       called_run (ByPlace r more) callee count is before all ops l fine fs w left =
-          bound p number u at (place_of p.greatest call r w left) _ (place_run r is.fst.fst (places_above before ops) l fine fs w left)
-          (λ m k q w left. called_run more callee count (record { middle = is.middle; fst = is.fst.snd; snd = is.snd }) (q ∷ before) (omega arith) ops m k.fine fs w left)
+          bound p number u at (place_of p.greatest call r w left) _ (place_run r is.fst.fst (arguments_above before ops) l fine fs w left)
+          (λ m k q w left. called_run more callee count (record { middle = is.middle; fst = is.fst.snd; snd = is.snd }) (OfReference q ∷ before) (omega arith) ops m k.fine fs w left)
       called_run (ByDummy d e more) callee count is before all ops l fine fs w left =
-          bound p number u at (value_of p.greatest call e w left) _ (value_run e is.fst.fst (places_above before ops) l fine fs w left)
+          bound p number u at (value_of p.greatest call e w left) _ (value_run e is.fst.fst (arguments_above before ops) l fine fs w left)
           (λ m k v w left. bound p number u at (answered (dummy_of d v w) left) _
-          (answers p number u at there (λ x. AtPlace x ∷ places_above before ops) (dummy_of d v w) is.fst.snd.fst k.fine w left refl)
-          (λ m k q w left. called_run more callee count (record { middle = is.middle; fst = is.fst.snd.snd; snd = is.snd }) (q ∷ before) (omega arith) ops m k.fine fs w left))
+          (answers p number u at there (λ x. AtDummy x ∷ arguments_above before ops) (dummy_of d v w) is.fst.snd.fst k.fine w left refl)
+          (λ m k q w left. called_run more callee count (record { middle = is.middle; fst = is.fst.snd.snd; snd = is.snd }) (OfDummy q ∷ before) (omega arith) ops m k.fine fs w left))

@@ -1,6 +1,6 @@
 -- Worked examples: small programs, each with what its run gives after so many instructions.
 use Rattle.std.specs.Prelude.{◌≡◌, ℕ, zero, suc, true, false, pos, Option, Some, None, List, [], ◌∷◌, ◌++◌}
-use Rattle.std.specs.Prelude.{codes}
+use Rattle.std.specs.Prelude.{codes, length}
 use Rattle.pli_base.specs.Name.{Name}
 use Rattle.pli_run.specs.declared.ending.Ending.{Ending}
 use Rattle.pli_run.specs.declared.ending.Ending.TheVariants.{Ended, OutOfSteps, Error, MachineFault}
@@ -19,7 +19,7 @@ use Rattle.pli_map.specs.Variables.{Variable}
 use Rattle.pli_program.specs.Program.{Instruction, Step, Line, Jump, JumpUnless, Goto, Call}
 use Rattle.pli_program.specs.Program.{CallExternal}
 use Rattle.pli_program.specs.Program.{Begin, Raise, Return, ReturnValue, Local, Global, Field, Subscript}
-use Rattle.pli_program.specs.Program.{Constant}
+use Rattle.pli_program.specs.Program.{Constant, MakeDummy}
 use Rattle.pli_program.specs.Program.{Load, Store, Operate, Put, Skip}
 use Rattle.pli_program.specs.Program.{BlockKind, Procedure, BeginBlock, Block, GlobalCode, OwnVariable}
 use Rattle.pli_program.specs.Program.{ExternalVariable, EntryPoint, UnitCode, Program, AllocateControlled}
@@ -172,6 +172,13 @@ BeginEnds = after (entering BeginBlock (Begin 1)) 1 3 ≡ Some (gives [] Ended 1
 abbrev pub BeginFaults : Type 0
 BeginFaults = after (entering Procedure (Begin 1)) 1 1 ≡ Some (gives [] MachineFault 1)
 
+-- nor one that has a parameter by BEGIN
+abbrev pub ParameterFaults : Type 0
+ParameterFaults =
+    after
+    (program (record (block BeginBlock (Some 0) 2 3) { parameters = 1 } ∷ [])
+    (Begin 1 ∷ Return 0 ∷ Return 0 ∷ [])) 1 1 ≡ Some (gives [] MachineFault 1)
+
 -- a BEGIN block not by a call
 abbrev pub CallFaults : Type 0
 CallFaults = after (entering BeginBlock (Call 1 0)) 1 1 ≡ Some (gives [] MachineFault 1)
@@ -199,6 +206,49 @@ shared = record {
 -- the argument is the variable itself
 abbrev pub ArgumentIsShared : Type 0
 ArgumentIsShared = after shared 2 11 ≡ Some (gives (codes "7 ") Ended 3)
+
+-- how many generations live at a state
+abbrev pub lives_at : State → ℕ
+lives_at (At here frames w left) = length w.storage
+lives_at (Over ending w) = length w.storage
+
+-- how many live after so many instructions of a run with two steps
+abbrev pub lives : Program → (instructions : ℕ) → ℕ
+lives p instructions = lives_at (iterate p instructions (start p 2))
+
+-- a dummy argument of the number 7, and what comes then
+abbrev pub with_dummy : List Instruction → List Instruction
+with_dummy more = number 7 ∷ MakeDummy (FixedBinary 15) ∷ more
+
+-- what a dummy argument holds is printed
+abbrev pub dummy_loaded : Program
+dummy_loaded = program [] (with_dummy (Load ∷ Operate (ToCharacters 1) ∷ Put ∷ Return 0 ∷ []))
+
+-- it is there to be looked at, and then it has ended
+abbrev pub DummyEnds : Type 0
+DummyEnds =
+    (after dummy_loaded 1 6 ≡ Some (gives (codes "7 ") Ended 3)) × (lives dummy_loaded 2 ≡ 1)
+    × (lives dummy_loaded 3 ≡ 0)
+
+-- a dummy argument is given to a procedure, which prints what it holds
+abbrev pub dummy_given : Program
+dummy_given =
+    program (record (block Procedure (Some 0) 4 7) { parameters = 1 } ∷ [])
+    (with_dummy (Call 1 1 ∷ Return 0 ∷ Local 0 0 ∷ Load ∷ Operate (ToCharacters 1) ∷ Put ∷ Return 0 ∷ []))
+
+-- it lives as long as the procedure's activation
+abbrev pub DummyIsGiven : Type 0
+DummyIsGiven =
+    (after dummy_given 2 9 ≡ Some (gives (codes "7 ") Ended 3)) × (lives dummy_given 7 ≡ 1)
+    × (lives dummy_given 8 ≡ 0)
+
+-- what leads to a dummy argument by another way leads nowhere then: its address, and a part of it
+abbrev pub DummyIsDead : Type 0
+DummyIsDead =
+    (after (program [] (Line 2 ∷ with_dummy (AddressOf ∷ Based (FixedBinary 15) ∷ []))) 1 5
+    ≡ Some (gives [] (Error DeadLocator (codes "M") 2) 1))
+    × (after (program [] (Line 2 ∷ with_dummy (Field 0 (FixedBinary 15) ∷ Load ∷ []))) 1 5
+    ≡ Some (gives [] (Error DeadLocator (codes "M") 2) 1))
 
 -- a function's value is there for its caller
 abbrev pub FunctionGives : Type 0

@@ -18,5 +18,5 @@ returns-in_default c =
 pub loop-taken-preserved : goal.loop-taken-preserved
 loop-taken-preserved c =
     c.loop-taken.invariant
-    ∙ one_off (c.args.count - c.loop-taken._taken) (c.args.count - (c.loop-taken._taken + 1)) c.loop-taken.places.items c.push.new.self.items c.in-Some.place
-    (stack c.loop-taken.operands.items) (stack c.pop_place.new.operands.items) (omega arith) c.in-Some.ensures c.in_ok-push.ensures.items
+    ∙ one_off (c.args.count - c.loop-taken._taken) (c.args.count - (c.loop-taken._taken + 1)) c.loop-taken.places.items c.push.new.self.items c.in-Some.taken c.place.result
+    (stack c.loop-taken.operands.items) (stack c.take_place.new.operands.items) (omega arith) c.in-Some.ensures c.place.ensures c.in_ok-push.ensures.items

@@ -3,7 +3,7 @@ use Rattle.pli_map.specs.views.DescriptionView.{description_view}
 use Rattle.pli_value.specs.Value.{value_view}
 use Rattle.pli_world.specs.World.{dummy_of}
 use Rattle.pli_store.specs.views.StorageView.{place_view, with_storage}
-use Rattle.pli_machine_step.specs.Machine.{OfValue, AtPlace, At, pushes, with_operands}
+use Rattle.pli_machine_step.specs.Machine.{OfValue, AtDummy, At, pushes, with_operands}
 use Rattle.pli_machine_activations.specs.views.MachineView.{Running, activation_view, activations_of, frame_view, frames_of, world_of, left_of}
 use Rattle.pli_machine_operate.specs.views.OperandView.{stack}
 use Rattle.pli_machine_activations.proofs.DummyArguments.{dummy_goes}
@@ -31,5 +31,5 @@ returns-in_ok-stop_at-in-Err c = λ image put.
     let w = world_of image m put in
     answer_stops place_view c.in-Err.fault c.in_ok-stop_at-in-Err.field-0 m.storage c.make_dummy.new.self c.make_dummy.new.self w
     (dummy_of (description_view c.args.description.now) (value_view c.args.value) w)
-    (λ p w. pushes (frame_view m.here) (frames_of m.waiting.items) (AtPlace p) (stack m.here.operands.items) w) (frame_view m.here) (frames_of m.waiting.items) (left_of m)
+    (λ p w. pushes (frame_view m.here) (frames_of m.waiting.items) (AtDummy p) (stack m.here.operands.items) w) (frame_view m.here) (frames_of m.waiting.items) (left_of m)
     c.in_ok-stop_at-in-Err.ensures (c.in-Err.ensures.made w)

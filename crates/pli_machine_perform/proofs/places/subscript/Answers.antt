@@ -1,29 +1,27 @@
-use Rattle.std.proofs.Common.{◌≡◌, ◌&&◌, ◌*◌, ℕ, true, int_le, ℤ, ◌-ℤ◌, List, ◌∷◌, sym, ap, ◌∙◌, if◌then◌else◌, rules, w32, w64, SFits}
+use Rattle.std.proofs.Common.{◌≡◌, ◌&&◌, ◌*◌, ℕ, true, int_le, ℤ, ◌-ℤ◌, List, sym, ap, ◌∙◌, if◌then◌else◌, rules, w32, w64, SFits}
 use Rattle.std.specs.Prelude.{unsigned_abs}
 use Rattle.std.proofs.lemmas.Int.{to_z-of_z}
 use Rattle.pli_run.specs.declared.ending.RunError.TheVariants.{SubscriptRange}
-use Rattle.pli_value.specs.Value.{Number}
 use Rattle.pli_world.specs.Storage.{Place}
 use Rattle.pli_world.specs.World.{World, Answer, Yields, Raises, Wrong, led_on}
-use Rattle.pli_machine_step.specs.Machine.{Operand, OfValue, AtPlace, Frame, At, given, pushes, subscripts, with_operands}
+use Rattle.pli_machine_step.specs.Machine.{Operand, AtPlace, Frame, At, given, pushes, with_operands}
 use Rattle.pli_store.specs.views.StorageView.{place_view}
 use Rattle.pli_machine_operate.specs.views.OperandView.{stack}
 use Rattle.pli_machine_activations.specs.views.MachineView.{leads, Running}
+use Rattle.pli_machine_perform.specs.views.ActView.{subscripted_as}
 use Rattle.pli_machine_perform.proofs.places.subscript.Goals as goal
 
 -- within its bounds a subscript gives what the place is led on to
-module _ (low high x : ℤ) (multiplier : ℕ) (p : Place) (all ops : List Operand)
-    (is : all ≡ OfValue (Number x) ∷ AtPlace p ∷ ops) (inside : (int_le low x && int_le x high) ≡ true)
+module _ (low high x : ℤ) (multiplier : ℕ) (p : Place) (ops : List Operand) (inside : (int_le low x && int_le x high) ≡ true)
     (here : Frame) (frames : List Frame) (w : World) (left : ℕ) where
   abbrev leads_on : World → Answer Place
   leads_on = led_on (unsigned_abs (x -ℤ low) * multiplier) p.description p
 
   subscript_gives : (a : Answer Place) → leads_on w ≡ a
-      → leads (subscripts low high multiplier all here frames w) left
+      → leads (subscripted_as low high multiplier x p ops here frames w) left
       ≡ leads (given w a (λ q w. pushes here frames (AtPlace q) ops w)) left
   subscript_gives a answers =
-      ap (λ xs. leads (subscripts low high multiplier xs here frames w) left) is
-      ∙ ap
+      ap
       (λ b. leads (given w (if b then leads_on w else Raises SubscriptRange w)
       (λ q w. pushes here frames (AtPlace q) ops w)) left)
       inside
@@ -31,33 +29,29 @@ module _ (low high x : ℤ) (multiplier : ℕ) (p : Place) (all ops : List Opera
 
 pub returns-in_ok-push-in-Some-element : goal.returns-in_ok-push-in-Some-element
 returns-in_ok-push-in-Some-element c = λ here frames w left.
-    let x = c.in-Some-bounded.number in
+    let x = c.in-Some.number in
     let low : SFits w32 c.args.low = search rules in
     let high : SFits w32 c.args.high = search rules in
-    let number : SFits w64 c.in-Some.number = search rules in
+    let number : SFits w64 c.args.number = search rules in
     let within : SFits w32 x = search rules in
-    let inside = rw (to_z-of_z w32 c.args.low low, to_z-of_z w32 c.args.high high, to_z-of_z w64 c.in-Some.number number) at c.in-Some-bounded.ensures.inside in
-    let leads = rw (to_z-of_z w32 c.args.low low, to_z-of_z w32 x within) at c.in-Some-element.ensures in
-    subscript_gives c.args.low c.args.high x c.args.multiplier (place_view c.in-Some-pop_place.place)
-    (stack c.args.operands.now.items) (stack c.pop_place.new.operands.items)
-    (c.in-Some.ensures.newest
-    ∙ ap (λ y. OfValue (Number y) ∷ stack c.pop_number.new.operands.items) (sym inside.0)
-    ∙ ap (λ xs. OfValue (Number x) ∷ xs) c.in-Some-pop_place.ensures)
-    inside.2 here frames w left (Yields (place_view c.in-Some-element.part) w) (leads w)
+    let inside = rw (to_z-of_z w32 c.args.low low, to_z-of_z w32 c.args.high high, to_z-of_z w64 c.args.number number) at c.in-Some.ensures.inside in
+    let on = rw (to_z-of_z w32 c.args.low low, to_z-of_z w32 x within) at c.in-Some-element.ensures in
+    let p = place_view c.args.place in
+    let ops = stack c.args.operands.now.items in
+    ap (λ y. leads (subscripted_as c.args.low c.args.high c.args.multiplier y p ops here frames w) left) (sym inside.0)
+    ∙ subscript_gives c.args.low c.args.high x c.args.multiplier p ops inside.2 here frames w left (Yields (place_view c.in-Some-element.part) w) (on w)
     ∙ ap (λ xs. Running (At (with_operands xs here) frames w left)) (sym c.in_ok-push-in-Some-element.ensures)
 
 pub returns-in-None : goal.returns-in-None
 returns-in-None c = λ here frames w left.
-    let x = c.in-Some-bounded.number in
+    let x = c.in-Some.number in
     let low : SFits w32 c.args.low = search rules in
     let high : SFits w32 c.args.high = search rules in
-    let number : SFits w64 c.in-Some.number = search rules in
+    let number : SFits w64 c.args.number = search rules in
     let within : SFits w32 x = search rules in
-    let inside = rw (to_z-of_z w32 c.args.low low, to_z-of_z w32 c.args.high high, to_z-of_z w64 c.in-Some.number number) at c.in-Some-bounded.ensures.inside in
-    let leads = rw (to_z-of_z w32 c.args.low low, to_z-of_z w32 x within) at c.in-None.ensures in
-    subscript_gives c.args.low c.args.high x c.args.multiplier (place_view c.in-Some-pop_place.place)
-    (stack c.args.operands.now.items) (stack c.pop_place.new.operands.items)
-    (c.in-Some.ensures.newest
-    ∙ ap (λ y. OfValue (Number y) ∷ stack c.pop_number.new.operands.items) (sym inside.0)
-    ∙ ap (λ xs. OfValue (Number x) ∷ xs) c.in-Some-pop_place.ensures)
-    inside.2 here frames w left Wrong (leads w)
+    let inside = rw (to_z-of_z w32 c.args.low low, to_z-of_z w32 c.args.high high, to_z-of_z w64 c.args.number number) at c.in-Some.ensures.inside in
+    let on = rw (to_z-of_z w32 c.args.low low, to_z-of_z w32 x within) at c.in-None.ensures in
+    let p = place_view c.args.place in
+    let ops = stack c.args.operands.now.items in
+    ap (λ y. leads (subscripted_as c.args.low c.args.high c.args.multiplier y p ops here frames w) left) (sym inside.0)
+    ∙ subscript_gives c.args.low c.args.high x c.args.multiplier p ops inside.2 here frames w left Wrong (on w)

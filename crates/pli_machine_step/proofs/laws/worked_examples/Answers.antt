@@ -41,6 +41,9 @@ returns-clause-begin_ends c = run.begin_ends
 pub returns-clause-begin_faults : goal.returns-clause-begin_faults
 returns-clause-begin_faults c = run.begin_faults
 
+pub returns-clause-parameter_faults : goal.returns-clause-parameter_faults
+returns-clause-parameter_faults c = run.parameter_faults
+
 pub returns-clause-call_faults : goal.returns-clause-call_faults
 returns-clause-call_faults c = run.call_faults
 
@@ -55,6 +58,15 @@ returns-clause-jumps_end c = run.jumps_end
 
 pub returns-clause-argument_is_shared : goal.returns-clause-argument_is_shared
 returns-clause-argument_is_shared c = run.argument_is_shared
+
+pub returns-clause-dummy_ends : goal.returns-clause-dummy_ends
+returns-clause-dummy_ends c = run.dummy_ends
+
+pub returns-clause-dummy_is_given : goal.returns-clause-dummy_is_given
+returns-clause-dummy_is_given c = run.dummy_is_given
+
+pub returns-clause-dummy_is_dead : goal.returns-clause-dummy_is_dead
+returns-clause-dummy_is_dead c = run.dummy_is_dead
 
 pub returns-clause-function_gives : goal.returns-clause-function_gives
 returns-clause-function_gives c = run.function_gives

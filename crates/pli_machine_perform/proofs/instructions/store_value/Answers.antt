@@ -1,0 +1,37 @@
+use Rattle.std.proofs.Common.{◌∷◌, List, refl, sym, ap, ◌∙◌}
+use Rattle.pli_value.specs.Value.{value_view}
+use Rattle.pli_world.specs.World.{stored}
+use Rattle.pli_machine_step.specs.Machine.{Operand, Goes, given, used_up, with_operands}
+use Rattle.pli_world.specs.Storage.{Place}
+use Rattle.pli_machine_operate.specs.views.OperandView.{stack, taken_operand, taken_place}
+use Rattle.pli_machine_activations.specs.views.MachineView.{leads, frame_view, frames_of, world_of, left_of}
+use Rattle.pli_machine_perform.specs.views.ActView.{stored_at}
+use Rattle.pli_machine_perform.proofs.UsedMoves.{none_off, used_leads, used_moves}
+use Rattle.pli_machine_perform.proofs.instructions.store_value.Goals as goal
+
+pub returns-in_default : goal.returns-in_default
+returns-in_default c = λ image put.
+    let m = c.args.machine.now in
+    let here = frame_view m.here in
+    let frames = frames_of m.waiting.items in
+    let w = world_of image m put in
+    let left = left_of m in
+    ap (λ m. leads m left)
+    (none_off (stack m.here.operands.items) w (λ (x : Operand) (p : Place) (ops : List Operand). given w (used_up x (stored p (value_view c.args.value) w)) (λ _ w. Goes (with_operands ops here) frames w))
+    c.in_default.ensures)
+
+pub returns : goal.returns
+returns c = λ image put.
+    let m = c.args.machine.now in
+    let here = frame_view m.here in
+    let frames = frames_of m.waiting.items in
+    let w = world_of image m put in
+    let left = left_of m in
+    let t = c.in-Some.taken in
+    let ops = stack c.take_place.new.operands.items in
+    used_moves t image c.in_ok-stop.stop _ c.use_up.new.machine put (stack m.here.operands.items) ops w left
+    (λ (x : Operand) (p : Place) (ops : List Operand). given w (used_up x (stored p (value_view c.args.value) w)) (λ _ w. Goes (with_operands ops here) frames w))
+    (leads (stored_at (taken_place t) (value_view c.args.value) ops here frames w) left) c.in-Some.ensures
+    (used_leads (taken_operand t) w (stored (taken_place t) (value_view c.args.value) w) (λ _ w. Goes (with_operands ops here) frames w) left (λ y v. refl))
+    (ap (λ p. leads (stored_at p (value_view c.args.value) ops here frames w) left) (sym c.place.ensures) ∙ c.in_ok-stop.ensures ops here frames w left)
+    c.use_up.ensures
