@@ -7,7 +7,7 @@ from math import prod
 
 import faults
 from areas import Area
-from typed import AREA, BITS, CHARACTERS, NUMBER, OFFSET, POINTER, VARYING, constant_value, described, element_of, scalars_of, types_of, whole_of
+from typed import AREA, BITS, CHARACTERS, NUMBER, OFFSET, POINTER, VARYING, constant_value, described, element_of, remembered, scalars_of, types_of, whole_of
 
 
 def first_value(kind):
@@ -53,8 +53,13 @@ def places_of(item):
     return list(found.values())
 
 
+@remembered
 def given_values(item):
     """The values that INITIAL gives, each with the number of its scalar."""
+    return list(each_value(item))
+
+
+def each_value(item):
     for each, numbers in places_of(item) if has_initial(item) else ():
         given = []
         for constant in each.description.given.get("INITIAL", ()):

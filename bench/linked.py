@@ -43,7 +43,7 @@ def is_controlled(item):
 
 def template(item):
     """What two declarations of a variable must have alike."""
-    return is_controlled(item), whole_of(item), list(given_values(item))
+    return is_controlled(item), whole_of(item), given_values(item)
 
 
 def signature(unit):

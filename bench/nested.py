@@ -1,4 +1,4 @@
-"""nested.py: programs in which each of nine forms stands in each, and is left by a GOTO, by RETURN and by an error, for stepped.py.
+"""nested.py: programs in which each of ten forms stands in each, and is left by a GOTO, by RETURN and by an error, for stepped.py.
 
 Each way out stands in the inner form, and is taken at its second turn where there are two, at the third where both forms have two. Behind the
 forms stands what a program does that goes on. Procedures stand at the end of the innermost block round the form that calls them.
@@ -8,7 +8,7 @@ from typing import NamedTuple
 
 class Form(NamedTuple):
     """A form: its statements, with `@` where others stand in it and `#` for its depth; its procedure, if it calls one; how often the others
-    are executed; whether only one statement may stand in it; what RETURN is in its procedure."""
+    are executed; whether only one statement may stand in it; what RETURN is in its procedure, or what stands for it in an ON-unit."""
 
     text: str
     routine: str = ""
@@ -26,6 +26,7 @@ FORMS = {
     "begin": Form("BEGIN; DCL X# FIXED BIN(15) INIT(#0); @ X# = X# + K; PUT LIST(X#); ! END;"),
     "call": Form("CALL P#(K);", "P#: PROC(X#); DCL X# FIXED BIN(15); @ PUT LIST('P#', X#); ! END P#;", leaves="RETURN;"),
     "function": Form("PUT LIST('F#', F#());", "F#: PROC RETURNS(FIXED BIN(15)); @ RETURN(#0); ! END F#;", leaves="RETURN(K);"),
+    "on_unit": Form("ON AREA BEGIN; DCL X# FIXED BIN(15) INIT(#0); @ PUT LIST('U#', X# + K); ! END; SIGNAL AREA; REVERT AREA;", leaves="STOP;"),
     "jump_back": Form("DO; N# = 0; L#: N# = N# + 1; @ IF N# < 2 THEN GOTO L#; END;", turns=2),
 }
 ERRORS = ["A(K + 2) = K;", "C = SUBSTR('A', K + 2);", "S = K + 7;", "S = MOD(K, 0);"]

@@ -2,12 +2,14 @@
 """runs.py [PROGRAM [ARGUMENT..]]: compares the workbench with meaning.py, which is written from the rules of types and runs alone.
 
 It prints how many units agreed, and of those that did not the ten shortest, each with what was expected and what was answered:
-  the answers to each session of the examples and of several units (crates/pli_sessions), as they stand beside it, with those of meaning.py;
+  the answers to each session of the examples, of several units and of conditions (crates/pli_sessions), as they stand beside it, with
+  those of meaning.py;
   300 programs grown at random, at each number of steps from 0 to 40, and at 5,000;
   300 programs grown so of which some variables are CONTROLLED, which ALLOCATE and FREE change, at the same numbers of steps;
   300 programs grown so with pointers and BASED variables, and 300 with areas and offsets too, at the same numbers of steps;
+  300 programs grown so with conditions and ON-units (conditions.py), and 300 with these and storage of all classes, at the same;
   3,000 units whose expressions have operands, arguments and targets of wrong types now and then: all their diagnostics; 500 with
-  CONTROLLED variables, 500 with pointers, and 500 with areas.
+  CONTROLLED variables, 500 with pointers, 500 with areas, and 500 with conditions and storage of all classes.
 Each token of a unit is typed on a line of its own, so that the line of a diagnostic tells the token. All is the same every time.
 Without PROGRAM meaning.py is run alone.
 """
@@ -17,13 +19,14 @@ from pathlib import Path
 import answers
 import mutations
 from compared import compare
+from conditions import Conditions
 
 PROGRAMS = 300
-FAULTY, FAULTY_STACKS, FAULTY_POINTERS, FAULTY_AREAS = 3000, 500, 500, 500
+FAULTY, FAULTY_STACKS, FAULTY_POINTERS, FAULTY_AREAS, FAULTY_CONDITIONS = 3000, 500, 500, 500, 500
 SEED = 19741130
 FEW_STEPS, MANY_STEPS = 40, 5000
 SESSIONS = Path(__file__).resolve().parent.parent / "crates" / "pli_sessions" / "data"
-FOLDERS = ["examples", "units"]
+FOLDERS = ["examples", "units", "conditions", "storage"]
 
 # The variables that each program has, with their kinds: a number, characters or bits, and how one is written.
 VARIABLES = """
@@ -481,6 +484,32 @@ class AreaGrower(PointerGrower):
         return [*words, *"AWAY : PUT LIST ( 'AWAY' , N , P1 = O1 , O2 = O4 ) ;".split(), *ROUTINES, *HANG, *HEAP, *"END M ;".split()]
 
 
+class StorageGrower(AreaGrower, StackGrower):
+    """Programs with storage of all classes."""
+
+    def allocate(self):
+        return self.chosen(PointerGrower, StackGrower).allocate(self)
+
+    def free(self):
+        return self.chosen(AreaGrower, StackGrower).free(self)
+
+    def unit(self):
+        words, first = super().unit(), ["ALLOCATE", "G", ",", "H", ",", "R", ",", "W", ";"] if self.below(6) else []
+        start = words.index(";") + 1
+        return [*words[:start], *STACKED, *first, *words[start:-3], *PUSH, *words[-3:]]
+
+
+class ConditionGrower(Conditions, Grower):
+    """Programs with conditions."""
+
+
+class WholeGrower(Conditions, StorageGrower):
+    """Programs with conditions and storage of all classes."""
+
+    def free(self):
+        return super().free() if self.below(3) == 0 else self.allocate()
+
+
 def as_program(words):
     return [("M", words)]
 
@@ -505,7 +534,7 @@ def compare_sessions():
         known += 1
         if found != path.with_suffix(".answers").read_text().split("\n")[:-1]:
             wrong.append(path.name)
-    print(f"answers to sessions of {' and '.join(FOLDERS)}: {known - len(wrong)} of {known} agree {' '.join(wrong)}", flush=True)
+    print(f"answers to sessions of {', '.join(FOLDERS)}: {known - len(wrong)} of {known} agree {' '.join(wrong)}", flush=True)
     return not wrong
 
 
@@ -528,6 +557,11 @@ def main():
     agree &= compare("programs with areas", workbench, [as_program(sound.unit()) for _ in range(PROGRAMS)], steps, shown)
     faulted = [as_program(faulty.unit()) for _ in range(FAULTY_AREAS)]
     agree &= compare("units with wrong types and areas", workbench, faulted, [MANY_STEPS], shown)
+    sound, whole, faulty = ConditionGrower(mutations.Numbers(SEED + 8), False), WholeGrower(mutations.Numbers(SEED + 9), False), WholeGrower(mutations.Numbers(SEED + 10), True)
+    agree &= compare("programs with conditions", workbench, [as_program(sound.unit()) for _ in range(PROGRAMS)], steps, shown)
+    agree &= compare("programs with conditions and all storage", workbench, [as_program(whole.unit()) for _ in range(PROGRAMS)], steps, shown)
+    faulted = [as_program(faulty.unit()) for _ in range(FAULTY_CONDITIONS)]
+    agree &= compare("units with wrong types, conditions and all storage", workbench, faulted, [MANY_STEPS], shown)
     sys.exit(not agree)
 
 

@@ -4,12 +4,17 @@ It is written from the rules of types alone, over the trees of reader.py and the
 `Types` walks a unit: `found` are its faults, each a token, counted from 0, and a code; `types` and `calls` keep the type of each expression
 and what each call calls. It knows what the workbench compiles.
 """
+from functools import lru_cache
 from math import prod
 
 import faults
 import reader
 
 MOST_DIGITS = 31
+
+# What is asked again and again of what has been declared.
+remembered = lru_cache(maxsize=8192)
+
 FUNCTIONS = {"ABS": 1, "MAX": 2, "MIN": 2, "MOD": 2, "DIVIDE": 3, "SIGN": 1, "LENGTH": 1, "INDEX": 2, "ALLOCATION": 1, "LBOUND": 2, "HBOUND": 2, "SUBSTR": (2, 3)}
 FUNCTIONS |= {"ADDR": 1, "NULL": 0, "EMPTY": 0, "POINTER": 2, "OFFSET": 2}
 NUMBER, CHARACTERS, VARYING, BITS, POINTER, OFFSET, AREA = "number", "characters", "varying", "bits", "pointer", "offset", "area"
@@ -127,6 +132,7 @@ def with_bounds(bounds, element):
     return ("array", tuple(bounds), element) if bounds else element
 
 
+@remembered
 def whole_of(item):
     return with_bounds(item.description.bounds, element_of(item))
 
@@ -177,12 +183,14 @@ def implied_names(root):
     return given and given[0].split("."), root.description.block
 
 
+@remembered
 def implied_item(root):
     """The item that BASED names, or None."""
     names, block = implied_names(root)
     return names and faults.variable(block, names)
 
 
+@remembered
 def area_named(description):
     """The variable that OFFSET names in attributes, or None."""
     return faults.variable(description.block, [description.given["OFFSET"][0]]) if "OFFSET" in description.given else None
@@ -339,19 +347,18 @@ class Types:
     """The faults of types of a unit."""
 
     def __init__(self, unit):
-        self.unit, self.found, self.types, self.calls = unit, [], {}, {}
+        self.unit, self.found, self.types, self.calls, self.meanings = unit, [], {}, {}, {}
 
     # names
 
     def meaning(self, reference, block):
         """What the names mean: an item (a variable, member or entry), a label or procedure (Named), or a built-in function's name."""
-        meant = faults.found(block, reference.names)
-        if not meant:
-            return str(reference.names[0])
-        item = meant[0]
-        if isinstance(item, faults.Item) and "BUILTIN" in item.description.has:
-            return str(reference.names[0])
-        return item
+        asked = (id(block), *reference.names)
+        if asked not in self.meanings:
+            meant = faults.found(block, reference.names)
+            is_function = not meant or isinstance(meant[0], faults.Item) and "BUILTIN" in meant[0].description.has
+            self.meanings[asked] = str(reference.names[0]) if is_function else meant[0]
+        return self.meanings[asked]
 
     # references
 
@@ -634,6 +641,8 @@ class Types:
             self.judged(self.condition, parts[0], block)
             for part in parts[1:]:
                 self.statement(part, block, procedure)
+        elif kind == "on":
+            self.statement(parts[1], block, procedure)
         elif kind == "assign":
             self.judged(self.assign, tree, block)
         elif kind == "put":

@@ -6,7 +6,8 @@ It prints how many programs agreed, and of those that did not the ten shortest, 
   300 of which some have other descriptions, values, names or main procedures than they should: what linking finds, and a run;
   200 whose expressions have operands, arguments and targets of wrong types now and then: all their diagnostics;
   150 with variables that are CONTROLLED in most units, and EXTERNAL in most of these;
-  150 with an area and offsets in it, EXTERNAL in most units.
+  150 with an area and offsets in it, EXTERNAL in most units;
+  150 with conditions and ON-units (conditions.py) besides all these.
 The units call each other, both ways, and the main procedure; each has variables of the same names, of which most are EXTERNAL and others
 STATIC or AUTOMATIC in some units. The routines of runs.py are external procedures, whose bodies are grown, or internal ones in every unit.
 All is the same every time. Without PROGRAM meaning.py is run alone.
@@ -16,6 +17,7 @@ import sys
 import mutations
 import runs
 from compared import compare
+from conditions import Conditions
 
 PROGRAMS, LINKED, FAULTY = 150, 300, 200
 SEED = 19760809
@@ -377,6 +379,26 @@ class AreaGrower(Grower):
         return self.chosen(*several.split("|")).split()
 
 
+class ConditionGrower(Conditions, AreaGrower, StackGrower):
+    """Programs of several units with conditions, and with stacks and an area that most units share."""
+
+    def variables(self):
+        """A stack in every unit."""
+        words = super().variables()
+        at = words.index("G")
+        words[at + 6 : at + 6] = ["CTL"] * ("CTL" not in words[at : words.index("INIT", at)])
+        return words
+
+    def procedure(self, name, is_guarded):
+        self.bare, self.is_main = (8, True) if name == START else (2, False)
+        return super().procedure(name, is_guarded)
+
+    def beginning(self):
+        """ON-units, which conditions of the other units meet too."""
+        words = super().beginning()
+        return [*self.units(), *self.call_of_external(), *words] if self.is_main else words
+
+
 def shown(program):
     """The units, without the routines that are the same in all."""
     texts = []
@@ -400,6 +422,8 @@ def main():
     agree &= compare("programs with shared stacks", workbench, [stacked.program() for _ in range(PROGRAMS)], [*range(FEW_STEPS + 1), MANY_STEPS], shown)
     placed = AreaGrower(mutations.Numbers(SEED + 4), False)
     agree &= compare("programs with shared areas", workbench, [placed.program() for _ in range(PROGRAMS)], [*range(FEW_STEPS + 1), MANY_STEPS], shown)
+    raised = ConditionGrower(mutations.Numbers(SEED + 5), False)
+    agree &= compare("programs with conditions", workbench, [raised.program() for _ in range(PROGRAMS)], [*range(FEW_STEPS + 1), MANY_STEPS], shown)
     sys.exit(not agree)
 
 

@@ -22,8 +22,7 @@ def printed(name):
 
 def shown(block):
     """An example as a terminal shows it: a heading, and its lines behind four blanks."""
-    heading = block[1].capitalize().replace(" later", " (not compiled yet)")
-    return "\n".join([f"{heading}:", *("    " + line for line in block[2].splitlines())])
+    return "\n".join([f"{block[1].capitalize()}:", *("    " + line for line in block[2].splitlines())])
 
 
 def explain(code):

@@ -113,18 +113,22 @@ def traced(outline, declaration, counting):
     """The words of a unit with marks. `counting` stands before a statement, whose number is its `#`: five steps."""
     statements, words = outline.statements, []
 
-    def add(number, wrapped=False):
-        """Adds a statement with all that stands in it, wrapped behind THEN and ELSE; gives the number of the next."""
+    def add(number, within=()):
+        """Adds a statement with all that stands in it, behind THEN, ELSE and ON within these words and END; gives the
+        number of the next.
+        """
         each, following = statements[number], number + 1
-        words.extend(["DO ;"] * wrapped + [token.spelled for token in outline.tokens[each.start : each.at]])
+        words.extend([*within, *(token.spelled for token in outline.tokens[each.start : each.at])])
         if each.word not in ("PROCEDURE", "DECLARE", "END"):
-            words.extend([part.replace("#", str(number + 1)) for part in counting] + [";"] * (not wrapped))
+            words.extend([part.replace("#", str(number + 1)) for part in counting] + [";"] * (not within))
         words.extend(token.spelled for token in outline.tokens[each.at : each.end])
         if each.word == "IF":
-            following = add(following, True)
+            following = add(following, ["DO ;"])
             if following < len(statements) and statements[following].is_else:
                 words.append("ELSE")
-                following = add(following, True)
+                following = add(following, ["DO ;"])
+        elif each.word == "ON":
+            following = add(following, ["BEGIN ;"] + [";"] * (SPREAD - 1))
         elif each.word in OPENING:
             turns = each.word == "DO" and each.end - each.at > len(("DO", ";"))
             words.extend(declaration * (not number) + [";"] * (SPREAD - 1) * (turns or each.word == "PROCEDURE"))
@@ -132,7 +136,7 @@ def traced(outline, declaration, counting):
                 following = add(following)
             words.append("END ;")
             following += 1
-        words.extend(["END ;"] * wrapped)
+        words.extend(["END ;"] * bool(within))
         return following
 
     add(0)

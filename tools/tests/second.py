@@ -2,8 +2,8 @@
 """second.py: a workbench that answers commands as they come by the second opinion of bench/.
 
 It knows what bench/answers.py knows, and what the tests of the tool need beside that: lines that are no command,
-refusals of edits for their text, MEMBERS, faults of tokens and directives (by the tool's own scan.py), Z1 for
-conditions, and output that is written as a run prints it.
+refusals of edits for their text, MEMBERS, faults of tokens and directives (by the tool's own scan.py), and output that
+is written as a run prints it.
 """
 import re
 import sys
@@ -14,12 +14,11 @@ sys.path[:0] = [str(TOP / "bench"), str(TOP / "tools" / "pli")]
 import answers  # noqa: E402
 import compared  # noqa: E402
 import meaning  # noqa: E402
-from outline import statements  # noqa: E402
 from scan import scan  # noqa: E402
 
 TEXTS = """
     X1 UNENDED COMMENT, X2 UNENDED STRING, X3 BAD CHARACTER, X4 BAD NUMBER, X5 NAME TOO LONG, X6 BAD BITS,
-    I1 NO SUCH MEMBER, I2 RECURSIVE INCLUDE, I3 TOO MANY TOKENS, I4 BAD INCLUDE, Z1 NOT YET BUILT
+    I1 NO SUCH MEMBER, I2 RECURSIVE INCLUDE, I3 TOO MANY TOKENS, I4 BAD INCLUDE
 """
 TEXT_OF = dict(text.split(maxsplit=1) for text in " ".join(TEXTS.split()).split(", "))
 MOST_TOKENS = 200_000
@@ -29,7 +28,6 @@ COMMAND = re.compile(
     f"|REMOVE {NAME} {NUMBER} {NUMBER}|MEMBERS|BUILD|QUIT|RUN( [0-9]{{1,18}})?",
     re.IGNORECASE,
 )
-LATER = {"ON", "REVERT", "SIGNAL"}
 
 
 class Fault(Exception):
@@ -95,20 +93,7 @@ class Second(answers.Workbench):
         self.read = 0
         tokens = list(self.tokens(name, ()))
         words, places = [token.text for token in tokens], [(token.source, token.line) for token in tokens]
-        later = self.later(tokens)
-        try:
-            unit = meaning.Unit(words, name, places)
-            known = later is None or any(code[0] in "PA" for _, code in unit.faults())
-        except (KeyError, AttributeError, TypeError, ValueError, IndexError):
-            known = False
-        if not known:
-            raise Fault("Z1", *places[later])
-        return unit
-
-    @staticmethod
-    def later(tokens):
-        """Where the first statement begins of a form that is not compiled yet."""
-        return next((one.start for one in statements(tokens) if one.word in LATER), None)
+        return meaning.Unit(words, name, places)
 
     def tokens(self, name, around):
         """The tokens of a member with those that it includes in their places."""

@@ -17,7 +17,7 @@ from scan import scan  # noqa: E402
 CODES = {"X": 6, "I": 4, "P": 18, "A": 15, "Z": 1, "T": 14, "G": 1, "N": 6, "E": 13, "M": 8, "B": 2, "K": 8, "L": 8}
 ENDINGS = ["OUT OF STEPS", "MACHINE FAULT", "NO MEMORY"]
 BYTES = [f"{letter}{number}" for letter in "KL" for number in range(1, 9)]
-IN_WORDS = {*ENDINGS[1:], "G1", "M4", "M5", "M6", "M7", "M8", *BYTES}
+IN_WORDS = {*ENDINGS[1:], "Z1", "G1", "M4", "M5", "M6", "M7", "M8", *BYTES}
 EXAMPLES = TOP / "examples"
 STEPS = 20_000
 DIAGNOSTIC = re.compile(r"(?:\S+ \S+:\d+ )?([A-Z]\d+) (.*)")
@@ -66,19 +66,15 @@ class Diagnostics(unittest.TestCase):
     def test_each_code_has_a_wrong_and_a_right_example(self):
         words = {}
         for block in self.blocks:
-            words.setdefault(code_of(block.heading), []).append(block.word.removesuffix(" later"))
+            words.setdefault(code_of(block.heading), []).append(block.word)
         wanted = {code: ["wrong", "right"] for code in self.codes() if code not in IN_WORDS}
         self.assertEqual(words, wanted)
 
     def expected(self, block):
         """What an example is answered with, or None where the second opinion does not know it."""
-        code, later = code_of(block.heading), block.word.endswith("later")
-        told_today = block.word == "wrong later" and code[0] in "PA"
-        if not PROGRAM and (code[0] not in SECOND_KNOWS or later and not told_today):
+        if not PROGRAM and code_of(block.heading)[0] not in SECOND_KNOWS:
             return None
-        if later and not told_today:
-            return ["Z1 NOT YET BUILT"]
-        return [block.heading] if block.word.startswith("wrong") else ["ENDED"]
+        return [block.heading] if block.word == "wrong" else ["ENDED"]
 
     def test_units(self):
         chosen = [block for block in self.blocks if block.heading[0] not in "MB" and self.expected(block)]
@@ -105,7 +101,7 @@ class Language(unittest.TestCase):
         self.blocks = list(blocks("docs/LANGUAGE.md"))
 
     def test_each_section_has_a_program(self):
-        self.assertEqual([block.word for block in self.blocks if block.word not in ("pli", "prints", "pli later")], [])
+        self.assertEqual([block.word for block in self.blocks if block.word not in ("pli", "prints")], [])
         text = (TOP / "docs" / "LANGUAGE.md").read_text(encoding="utf-8")
         sections = re.findall(r"^## (.*)$", text, re.MULTILINE)
         self.assertEqual(set(sections) - {block.heading for block in self.blocks}, {"What is left out"})
@@ -117,13 +113,6 @@ class Language(unittest.TestCase):
                 self.assertEqual(printed.word, "prints")
                 self.assertEqual(result(answers), ["ENDED"])
                 self.assertEqual([line.rstrip() for line in answers[-1][:-1]], printed.lines)
-
-    @unittest.skipUnless(PROGRAM, "the second opinion does not know these forms")
-    def test_what_is_not_compiled_yet_is_good(self):
-        later = [block for block in self.blocks if block.word == "pli later"]
-        for block, answers in zip(later, answered([built_and_run(block.lines) for block in later])):
-            with self.subTest(block.place):
-                self.assertEqual(result(answers), ["Z1 NOT YET BUILT"])
 
 
 def told(call):

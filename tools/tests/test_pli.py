@@ -128,6 +128,14 @@ class Runs(Room):
         told = f"pli: OUT OF STEPS\npli: the last 3 statements\nm.pli:3: DO I = 1 TO 30000;\n{turn}"
         self.check(["m.pli", "--trace", "--steps=6"], 1, "", told)
 
+    def test_a_trace_goes_into_units(self):
+        units = ["ON ZDIV PUT LIST('Z');", "ON FOFL BEGIN;", "SIGNAL ZDIV;", "END;", "SIGNAL FOFL;", "SIGNAL AREA;"]
+        self.write(m_pli=body(*units))
+        lines = ["2: ON ZDIV", "3: ON FOFL", "6: SIGNAL FOFL;", "3: BEGIN;", "4: SIGNAL ZDIV;", "2: PUT LIST('Z');"]
+        told = "m.pli:7: E11 AREA\n  SIGNAL AREA;\npli: the last 7 statements\n"
+        told += "".join(f"m.pli:{line}\n" for line in [*lines, "7: SIGNAL AREA;"])
+        self.check(["m.pli", "--trace"], 1, "Z \n", told)
+
     def test_steps(self):
         self.write(m_pli=ENDLESS)
         for words in (["--steps", "6"], ["--steps=6"]):
@@ -165,8 +173,9 @@ class Places(Room):
                         "note: did you mean COUNT\n")
 
     def test_whole_lines_decide(self):
-        self.write(m_pli=body("REVERT AREA;"), q_pli="Q: PROC;\n  X = 1;\nEND;\n")
-        self.check_told(["m.pli", "q.pli"], "m.pli:2:1: Z1 NOT YET BUILT: REVERT\n", "q.pli:2:3: A1 NOT DECLARED: X\n")
+        self.write(m_pli=body("CALL M(1);"), q_pli="Q: PROC;\n  X = 1;\nEND;\n")
+        told = "m.pli:2:6: T6 WRONG NUMBER OF ARGUMENTS: M\n", "q.pli:2:3: A1 NOT DECLARED: X\n"
+        self.check_told(["m.pli", "q.pli"], *told)
 
     def test_notes_on_declarations(self):
         self.write(m_pli=body("DCL X BIT;", "DCL X CHAR(2);", "BEGIN; DCL X BIT; END;"))
