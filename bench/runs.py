@@ -2,8 +2,8 @@
 """runs.py [PROGRAM [ARGUMENT..]]: compares the workbench with meaning.py, which is written from the rules of types and runs alone.
 
 It prints how many units agreed, and of those that did not the ten shortest, each with what was expected and what was answered:
-  the answers to each session of the examples, of several units and of conditions (crates/pli_sessions), as they stand beside it, with
-  those of meaning.py;
+  the answers to each session of the examples, of several units, of conditions and of storage (crates/pli_sessions), as they stand beside
+  it, with those of meaning.py;
   300 programs grown at random, at each number of steps from 0 to 40, and at 5,000;
   300 programs grown so of which some variables are CONTROLLED, which ALLOCATE and FREE change, at the same numbers of steps;
   300 programs grown so with pointers and BASED variables, and 300 with areas and offsets too, at the same numbers of steps;
