@@ -14,16 +14,16 @@ from examples import TOP, blocks, members, typed
 sys.path.insert(0, str(TOP / "tools" / "pli"))
 from scan import scan  # noqa: E402
 
-CODES = {"X": 6, "I": 4, "P": 18, "A": 15, "Z": 1, "T": 14, "G": 1, "N": 6, "E": 13, "M": 8, "B": 2, "K": 8, "L": 8}
+CODES = {"X": 6, "I": 4, "P": 18, "A": 15, "T": 14, "G": 1, "N": 6, "E": 13, "M": 8, "B": 2, "K": 8, "L": 8}
 ENDINGS = ["OUT OF STEPS", "MACHINE FAULT", "NO MEMORY"]
 BYTES = [f"{letter}{number}" for letter in "KL" for number in range(1, 9)]
-IN_WORDS = {*ENDINGS[1:], "Z1", "G1", "M4", "M5", "M6", "M7", "M8", *BYTES}
+IN_WORDS = {*ENDINGS[1:], "G1", "M4", "M5", "M6", "M7", "M8", *BYTES}
 EXAMPLES = TOP / "examples"
 STEPS = 20_000
 DIAGNOSTIC = re.compile(r"(?:\S+ \S+:\d+ )?([A-Z]\d+) (.*)")
 LINKING = re.compile(r"(N[2-5] [A-Z ]+?) \S+ \S+")
 RUN_ERROR = re.compile(r"ERROR (E\d+ .*) \S+ \d+")
-TOLD = re.compile(r"(?:\S+:\d+(?::\d+)?|pli): ([XIPATZGNE]\d+ [A-Z -]+?|OUT OF STEPS)(?::.*)?")
+TOLD = re.compile(r"(?:\S+:\d+(?::\d+)?|pli): ([XIPATGNE]\d+ [A-Z -]+?|OUT OF STEPS)(?::.*)?")
 COURSE = re.compile(r"^- `([^`]*)`: ", re.MULTILINE)
 SECOND_KNOWS = "XIPATNEOMB"
 

@@ -4,10 +4,10 @@ use Rattle.std.proofs.Common.{sym, ap, ◌∙◌}
 use Rattle.std.specs.Cmp.Lexicographic.{pointwise}
 use Rattle.pli_base.specs.Codes.{code_label, code_text}
 use Rattle.pli_base.specs.declared.code.Code.{Code}
-use Rattle.pli_base.specs.declared.code.Code.TheVariants.{UnendedComment, UnendedString, BadCharacter, BadNumber, NameTooLong, BadBits, NoSuchMember, RecursiveInclude, TooManyTokens, BadInclude, NoProcedure, NotAStatement, ExpressionExpected, ParenthesisExpected, SemicolonExpected, NameExpected, ThenExpected, WrongEndName, EndMissing, TextAfterEnd, BadDo, BadAttribute, ConstantExpected, BadLabel, BadCondition, NestedTooDeep, MisplacedStatement, BadOption, NotDeclared, DeclaredTwice, AttributesConflict, AttributesMissing, BadPrecision, BadLength, BadBounds, BadLevel, BadInitial, Ambiguous, BadGoto, BadLocatorOrAreaName, AreaNotAllowedHere, TooManyParameters, GenerationTooLarge, NotYetBuilt, NotAVariable, AggregateNotAllowedHere, WrongNumberOfSubscripts, WrongOperandType, CannotAssign, WrongNumberOfArguments, WrongArgument, NotCallableHere, WrongReturn, LocatorMissingOrNotAllowed, CannotAllocateOrFree, BadControlVariable, WrongBuiltInArgument, CannotPrint, CodeTooLong, NoMainProcedure, TwoMainProcedures, Unresolved, DefinedTwice, Mismatch, ModuleTooLarge}
+use Rattle.pli_base.specs.declared.code.Code.TheVariants.{UnendedComment, UnendedString, BadCharacter, BadNumber, NameTooLong, BadBits, NoSuchMember, RecursiveInclude, TooManyTokens, BadInclude, NoProcedure, NotAStatement, ExpressionExpected, ParenthesisExpected, SemicolonExpected, NameExpected, ThenExpected, WrongEndName, EndMissing, TextAfterEnd, BadDo, BadAttribute, ConstantExpected, BadLabel, BadCondition, NestedTooDeep, MisplacedStatement, BadOption, NotDeclared, DeclaredTwice, AttributesConflict, AttributesMissing, BadPrecision, BadLength, BadBounds, BadLevel, BadInitial, Ambiguous, BadGoto, BadLocatorOrAreaName, AreaNotAllowedHere, TooManyParameters, GenerationTooLarge, NotAVariable, AggregateNotAllowedHere, WrongNumberOfSubscripts, WrongOperandType, CannotAssign, WrongNumberOfArguments, WrongArgument, NotCallableHere, WrongReturn, LocatorMissingOrNotAllowed, CannotAllocateOrFree, BadControlVariable, WrongBuiltInArgument, CannotPrint, CodeTooLong, NoMainProcedure, TwoMainProcedures, Unresolved, DefinedTwice, Mismatch, ModuleTooLarge}
 
 abbrev all_codes : List Code
-all_codes = UnendedComment ∷ UnendedString ∷ BadCharacter ∷ BadNumber ∷ NameTooLong ∷ BadBits ∷ NoSuchMember ∷ RecursiveInclude ∷ TooManyTokens ∷ BadInclude ∷ NoProcedure ∷ NotAStatement ∷ ExpressionExpected ∷ ParenthesisExpected ∷ SemicolonExpected ∷ NameExpected ∷ ThenExpected ∷ WrongEndName ∷ EndMissing ∷ TextAfterEnd ∷ BadDo ∷ BadAttribute ∷ ConstantExpected ∷ BadLabel ∷ BadCondition ∷ NestedTooDeep ∷ MisplacedStatement ∷ BadOption ∷ NotDeclared ∷ DeclaredTwice ∷ AttributesConflict ∷ AttributesMissing ∷ BadPrecision ∷ BadLength ∷ BadBounds ∷ BadLevel ∷ BadInitial ∷ Ambiguous ∷ BadGoto ∷ BadLocatorOrAreaName ∷ AreaNotAllowedHere ∷ TooManyParameters ∷ GenerationTooLarge ∷ NotYetBuilt ∷ NotAVariable ∷ AggregateNotAllowedHere ∷ WrongNumberOfSubscripts ∷ WrongOperandType ∷ CannotAssign ∷ WrongNumberOfArguments ∷ WrongArgument ∷ NotCallableHere ∷ WrongReturn ∷ LocatorMissingOrNotAllowed ∷ CannotAllocateOrFree ∷ BadControlVariable ∷ WrongBuiltInArgument ∷ CannotPrint ∷ CodeTooLong ∷ NoMainProcedure ∷ TwoMainProcedures ∷ Unresolved ∷ DefinedTwice ∷ Mismatch ∷ ModuleTooLarge ∷ []
+all_codes = UnendedComment ∷ UnendedString ∷ BadCharacter ∷ BadNumber ∷ NameTooLong ∷ BadBits ∷ NoSuchMember ∷ RecursiveInclude ∷ TooManyTokens ∷ BadInclude ∷ NoProcedure ∷ NotAStatement ∷ ExpressionExpected ∷ ParenthesisExpected ∷ SemicolonExpected ∷ NameExpected ∷ ThenExpected ∷ WrongEndName ∷ EndMissing ∷ TextAfterEnd ∷ BadDo ∷ BadAttribute ∷ ConstantExpected ∷ BadLabel ∷ BadCondition ∷ NestedTooDeep ∷ MisplacedStatement ∷ BadOption ∷ NotDeclared ∷ DeclaredTwice ∷ AttributesConflict ∷ AttributesMissing ∷ BadPrecision ∷ BadLength ∷ BadBounds ∷ BadLevel ∷ BadInitial ∷ Ambiguous ∷ BadGoto ∷ BadLocatorOrAreaName ∷ AreaNotAllowedHere ∷ TooManyParameters ∷ GenerationTooLarge ∷ NotAVariable ∷ AggregateNotAllowedHere ∷ WrongNumberOfSubscripts ∷ WrongOperandType ∷ CannotAssign ∷ WrongNumberOfArguments ∷ WrongArgument ∷ NotCallableHere ∷ WrongReturn ∷ LocatorMissingOrNotAllowed ∷ CannotAllocateOrFree ∷ BadControlVariable ∷ WrongBuiltInArgument ∷ CannotPrint ∷ CodeTooLong ∷ NoMainProcedure ∷ TwoMainProcedures ∷ Unresolved ∷ DefinedTwice ∷ Mismatch ∷ ModuleTooLarge ∷ []
 
 abbrev by_label : List ℕ → Option Code
 by_label label = find (λ c. pointwise nat_eq (code_label c) label) all_codes
@@ -60,7 +60,6 @@ found BadLocatorOrAreaName = (refl, refl)
 found AreaNotAllowedHere = (refl, refl)
 found TooManyParameters = (refl, refl)
 found GenerationTooLarge = (refl, refl)
-found NotYetBuilt = (refl, refl)
 found NotAVariable = (refl, refl)
 found AggregateNotAllowedHere = (refl, refl)
 found WrongNumberOfSubscripts = (refl, refl)

@@ -14,7 +14,7 @@ use Rattle.pli_base.specs.declared.code.Code.TheVariants.{NotDeclared, DeclaredT
 use Rattle.pli_base.specs.declared.code.Code.TheVariants.{AttributesMissing, BadPrecision, BadLength}
 use Rattle.pli_base.specs.declared.code.Code.TheVariants.{BadBounds, BadLevel, BadInitial, Ambiguous, BadGoto}
 use Rattle.pli_base.specs.declared.code.Code.TheVariants.{BadLocatorOrAreaName, AreaNotAllowedHere}
-use Rattle.pli_base.specs.declared.code.Code.TheVariants.{TooManyParameters, GenerationTooLarge, NotYetBuilt}
+use Rattle.pli_base.specs.declared.code.Code.TheVariants.{TooManyParameters, GenerationTooLarge}
 use Rattle.pli_base.specs.declared.code.Code.TheVariants.{NotAVariable, AggregateNotAllowedHere}
 use Rattle.pli_base.specs.declared.code.Code.TheVariants.{WrongNumberOfSubscripts, WrongOperandType}
 use Rattle.pli_base.specs.declared.code.Code.TheVariants.{CannotAssign, WrongNumberOfArguments, WrongArgument}
@@ -74,7 +74,6 @@ code_label BadLocatorOrAreaName = codes "A12"
 code_label AreaNotAllowedHere = codes "A13"
 code_label TooManyParameters = codes "A14"
 code_label GenerationTooLarge = codes "A15"
-code_label NotYetBuilt = codes "Z1"
 code_label NotAVariable = codes "T1"
 code_label AggregateNotAllowedHere = codes "T2"
 code_label WrongNumberOfSubscripts = codes "T3"
@@ -142,7 +141,6 @@ code_text BadLocatorOrAreaName = codes "BAD LOCATOR OR AREA NAME"
 code_text AreaNotAllowedHere = codes "AREA NOT ALLOWED HERE"
 code_text TooManyParameters = codes "TOO MANY PARAMETERS"
 code_text GenerationTooLarge = codes "GENERATION TOO LARGE"
-code_text NotYetBuilt = codes "NOT YET BUILT"
 code_text NotAVariable = codes "NOT A VARIABLE"
 code_text AggregateNotAllowedHere = codes "AGGREGATE NOT ALLOWED HERE"
 code_text WrongNumberOfSubscripts = codes "WRONG NUMBER OF SUBSCRIPTS"
@@ -214,25 +212,24 @@ code_place BadLocatorOrAreaName = 39
 code_place AreaNotAllowedHere = 40
 code_place TooManyParameters = 41
 code_place GenerationTooLarge = 42
-code_place NotYetBuilt = 43
-code_place NotAVariable = 44
-code_place AggregateNotAllowedHere = 45
-code_place WrongNumberOfSubscripts = 46
-code_place WrongOperandType = 47
-code_place CannotAssign = 48
-code_place WrongNumberOfArguments = 49
-code_place WrongArgument = 50
-code_place NotCallableHere = 51
-code_place WrongReturn = 52
-code_place LocatorMissingOrNotAllowed = 53
-code_place CannotAllocateOrFree = 54
-code_place BadControlVariable = 55
-code_place WrongBuiltInArgument = 56
-code_place CannotPrint = 57
-code_place CodeTooLong = 58
-code_place NoMainProcedure = 59
-code_place TwoMainProcedures = 60
-code_place Unresolved = 61
-code_place DefinedTwice = 62
-code_place Mismatch = 63
-code_place ModuleTooLarge = 64
+code_place NotAVariable = 43
+code_place AggregateNotAllowedHere = 44
+code_place WrongNumberOfSubscripts = 45
+code_place WrongOperandType = 46
+code_place CannotAssign = 47
+code_place WrongNumberOfArguments = 48
+code_place WrongArgument = 49
+code_place NotCallableHere = 50
+code_place WrongReturn = 51
+code_place LocatorMissingOrNotAllowed = 52
+code_place CannotAllocateOrFree = 53
+code_place BadControlVariable = 54
+code_place WrongBuiltInArgument = 55
+code_place CannotPrint = 56
+code_place CodeTooLong = 57
+code_place NoMainProcedure = 58
+code_place TwoMainProcedures = 59
+code_place Unresolved = 60
+code_place DefinedTwice = 61
+code_place Mismatch = 62
+code_place ModuleTooLarge = 63

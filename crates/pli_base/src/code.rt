@@ -94,8 +94,6 @@ pub enum Code {
     TooManyParameters,
     /// A15, in declarations.
     GenerationTooLarge,
-    /// Z1, where a form cannot be compiled yet.
-    NotYetBuilt,
     /// T1, in types.
     NotAVariable,
     /// T2, in types.
@@ -189,7 +187,6 @@ impl Code {
             Code::AreaNotAllowedHere => "A13",
             Code::TooManyParameters => "A14",
             Code::GenerationTooLarge => "A15",
-            Code::NotYetBuilt => "Z1",
             Code::NotAVariable => "T1",
             Code::AggregateNotAllowedHere => "T2",
             Code::WrongNumberOfSubscripts => "T3",
@@ -262,7 +259,6 @@ impl Code {
             Code::AreaNotAllowedHere => "AREA NOT ALLOWED HERE",
             Code::TooManyParameters => "TOO MANY PARAMETERS",
             Code::GenerationTooLarge => "GENERATION TOO LARGE",
-            Code::NotYetBuilt => "NOT YET BUILT",
             Code::NotAVariable => "NOT A VARIABLE",
             Code::AggregateNotAllowedHere => "AGGREGATE NOT ALLOWED HERE",
             Code::WrongNumberOfSubscripts => "WRONG NUMBER OF SUBSCRIPTS",

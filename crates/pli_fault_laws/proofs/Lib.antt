@@ -6,4 +6,3 @@ pub mod MarksRise
 pub mod PlacesHold
 pub mod StatementsBegin
 pub mod TypeFaultsStand
-pub mod UnbuiltStands

@@ -1,5 +1,5 @@
 -- The faults of types of a unit stand at tokens of its text.
-use Rattle.std.proofs.Common.{◌≡◌, ℕ, ◌+◌, ◌<◌, nat_lt, if◌then◌else◌, Bool, true, false, Option, Some, None, List, [], ◌∷◌, ◌++◌, Result, Ok, Err, length, subst, arith}
+use Rattle.std.proofs.Common.{◌≡◌, ℕ, ◌+◌, ◌<◌, nat_lt, if◌then◌else◌, Bool, true, false, Option, Some, None, List, [], ◌∷◌, ◌++◌, Result, Ok, Err, length, subst, sym, arith}
 use Rattle.pli_base.specs.Statements as tree
 use Rattle.pli_base.specs.Statements.{Allocation, Statement, Numbered, Body, Statements, Ended, Before, Alternative}
 use Rattle.pli_base.specs.Syntax as syntax
@@ -7,14 +7,14 @@ use Rattle.pli_base.specs.Syntax.{Expression, Reference, Named, JoinedParts, Alo
 use Rattle.pli_base.specs.TreeTokens.{tokens_of_each, tokens_of_some, name_tokens, expression_tokens, reference_tokens, joined_tokens, argument_tokens, range_tokens, control_tokens, placed_tokens, allocation_tokens, statement_tokens, begun_tokens, statements_tokens, alternative_tokens, unit_tokens}
 use Rattle.pli_base.specs.Words.{Tokens}
 use Rattle.pli_base.specs.FaultPlaces.{StandsAtToken}
-use Rattle.pli_base.specs.declared.code.Code.TheVariants.{WrongOperandType, CannotAssign, CannotPrint, CannotAllocateOrFree, NotYetBuilt}
+use Rattle.pli_base.specs.declared.code.Code.TheVariants.{WrongOperandType, CannotAssign, CannotPrint, CannotAllocateOrFree, BadGoto}
 use Rattle.pli_base.specs.declared.syntax.Identifier.{Identifier}
 use Rattle.pli_base.specs.declared.syntax.Joining.TheVariants.{Member, Located}
 use Rattle.pli_base.specs.declared.token.Fault.{Fault}
 use Rattle.pli_map.specs.Description.{Description}
 use Rattle.pli_parse.proofs.StatementTokens.{unit_read_rises}
 use Rattle.pli_type.specs.AllocationTyping.{in_turn, only_variable, place_given, kept_for, allocated, all_allocated, freed}
-use Rattle.pli_type.specs.Checked.{checked, unless_unbuilt, typed_as}
+use Rattle.pli_type.specs.Checked.{checked, typed_as}
 use Rattle.pli_type.specs.ExpressionTypes.{TypedValue}
 use Rattle.pli_type.specs.FunctionCalls.{Denoted, DenotesVariable, DenotesResult, DenotesEmpty, Meant, OneValue, WholeAggregate, Argument}
 use Rattle.pli_type.specs.Names.{NamedAs, AVariable, AFunction, AProcedure, ALabel, Untyped, NamedUnit, Naming}
@@ -24,13 +24,12 @@ use Rattle.pli_type.specs.StatementTyping.{WithProcedures}
 use Rattle.pli_type.specs.Temporaries.{Next}
 use Rattle.pli_type.specs.Typing.{first_token, behind_arrows, own_token}
 use Rattle.pli_type.specs.declared.beginning.Beginning.{Beginning}
-use Rattle.pli_type_tree.specs.TypedTree.{Callee, Form, TypedArguments, TypedRange, TypedStatements, TypedProcedure, TypedUnit}
+use Rattle.pli_type_tree.specs.TypedTree.{Callee, Form, TypedArguments, TypedRange, TypedStatements, TypedProcedure}
 use Rattle.pli_fault_laws.specs.StatementStarts.{Begins, BodyBegins, AllBegin, ElseBegins}
 use Rattle.pli_fault_laws.specs.TypeFaultPlaces.{AllStand, TypeFaultsStandAtTokens}
 use Rattle.pli_fault_laws.proofs.BelowLemmas.{Below, rising_below, below_left, below_right}
 use Rattle.pli_fault_laws.proofs.ExpressionFaultsStand.{Only, fine, told, only_then, only_or, only_if, first_below, only_passed, only_denoted, only_referred, only_arguments, only_value_of}
 use Rattle.pli_fault_laws.proofs.StatementsBegin.{statements_begin}
-use Rattle.pli_fault_laws.proofs.UnbuiltStands.{AtBelow, start_below, unit_below}
 
 -- parts of statements
 
@@ -69,7 +68,7 @@ only_condition high n e h =
 
 only_goto : (high : ℕ) (n : Naming) (s : statements.Surroundings) (label : Identifier) → label.at < high
     → Only high (statements.goto_typed n s label)
-only_goto high n s label h = only_or high NotYetBuilt label.at _ h
+only_goto high n s label h = only_or high BadGoto label.at _ h
 
 only_no_function : (high at : ℕ) (callee : Callee) (d : Option Description) (arguments : TypedArguments) → at < high
     → Only high (statements.no_function at callee d arguments)
@@ -299,6 +298,26 @@ told_procedure high form make (Err fs) p = p
 
 -- units
 
+-- a statement's first token behind its label
+start_below : (high : ℕ) (label : Option Identifier) (at : ℕ) (body : Body) → BodyBegins label at body → Below high (begun_tokens at body) → at < high
+start_below high label at (tree.Assign (Named name arguments more) equals value) b h = subst (λ t. t < high) (sym b) h.0
+start_below high label at tree.Null b h = h.0
+start_below high label at (tree.Declare items) b h = h.0
+start_below high label at (tree.Procedure heading statements end) b h = h.0
+start_below high label at (tree.Begin statements end) b h = h.0
+start_below high label at (tree.Do control statements end) b h = h.0
+start_below high label at (tree.If condition consequence alternative) b h = h.0
+start_below high label at (tree.On condition unit) b h = h.0
+start_below high label at (tree.Revert condition) b h = h.0
+start_below high label at (tree.Signal condition) b h = h.0
+start_below high label at tree.Stop b h = h.0
+start_below high label at (tree.Allocate allocations) b h = h.0
+start_below high label at (tree.Free references) b h = h.0
+start_below high label at (tree.Call name arguments) b h = h.0
+start_below high label at (tree.Goto name) b h = h.0
+start_below high label at (tree.Return value) b h = h.0
+start_below high label at (tree.Put skip items) b h = h.0
+
 mutual
   told_statement : (high : ℕ) (u : NamedUnit) (s : statements.Surroundings) (x : Next) (st : Statement) → Begins st
       → Below high (statement_tokens st) → Told high (statements.statement_typed u s x st)
@@ -379,19 +398,12 @@ unfolding Told
 told_unit high u (Ok list) p = tt
 told_unit high u (Err faults) p = p
 
-told_unless : (high : ℕ) (o : Option ℕ) (r : Result TypedUnit (List Fault)) → AtBelow high o → Told high r
-    → Told high (unless_unbuilt o r)
-unfolding Told AtBelow
-told_unless high None r p q = q
-told_unless high (Some at) r p q = (p, tt)
-
 told_checked : (high : ℕ) (u : NamedUnit) → AllBegin u.tree.statements → Below high (unit_tokens u.tree) → Told high (checked u)
 unfolding checked
 told_checked high u b h =
-    told_unless high _ _ (unit_below u.compiled high u.tree b h)
-    (told_unit high u _
+    told_unit high u _
     (told_statements high u _ _ u.tree.statements b
-    (below_right high (tokens_of_each name_tokens u.tree.heading.parameters) (statements_tokens u.tree.statements) h.1)))
+    (below_right high (tokens_of_each name_tokens u.tree.heading.parameters) (statements_tokens u.tree.statements) h.1))
 
 -- faults before the end of a text stand at its tokens
 pub at_token : (ts : Tokens) (f : Fault) → f.at < length ts → StandsAtToken ts f

@@ -1,28 +1,19 @@
--- Where Z1 and the faults of types stand (own).
-use Rattle.std.specs.Prelude.{◌≡◌, ℕ, ◌<◌, List, [], ◌∷◌, length, Some, Ok, Err}
+-- Where the faults of types stand (own).
+use Rattle.std.specs.Prelude.{◌≡◌, List, [], ◌∷◌, Ok, Err}
 use Rattle.pli_base.specs.FaultPlaces.{StandsAtToken}
-use Rattle.pli_base.specs.Statements.{ExternalProcedure}
 use Rattle.pli_base.specs.Words.{Tokens}
 use Rattle.pli_base.specs.declared.token.Fault.{Fault}
 use Rattle.pli_parse_statement.specs.StatementReading.{unit_of}
 use Rattle.pli_type.specs.Checked.{checked}
-use Rattle.pli_type.specs.Names.{Compiled, NamedUnit}
-use Rattle.pli_type.specs.Unbuilt.{first_unbuilt}
-
--- in a unit that is read, the first statement with a constant over the limits, whatever these are, stands at
--- a token of the text
-abbrev pub UnbuiltStandsAtToken : Type 0
-UnbuiltStandsAtToken =
-    (n : Compiled) (ts : Tokens) (u : ExternalProcedure) (at : ℕ) → unit_of ts ≡ Ok u
-    → first_unbuilt n u ≡ Some at → at < length ts
+use Rattle.pli_type.specs.Names.{NamedUnit}
 
 -- each of these faults stands at a token of the text, or at 0 where the text has none
 abbrev pub AllStand : Tokens → List Fault → Type 0
 AllStand ts [] = Unit {0}
 AllStand ts (f ∷ fs) = StandsAtToken ts f × AllStand ts fs
 
--- each fault of types of a unit whose tree was read, and Z1 in their place, stands at a token of the text,
--- whatever the unit's names mean
+-- each fault of types of a unit whose tree was read stands at a token of the text, whatever the unit's names
+-- mean
 abbrev pub TypeFaultsStandAtTokens : Type 0
 TypeFaultsStandAtTokens =
     (ts : Tokens) (u : NamedUnit) (fs : List Fault) → unit_of ts ≡ Ok u.tree → checked u ≡ Err fs

@@ -3,7 +3,7 @@ ghost use Rattle.pli_fault_laws.specs.DiagnosticPlaces.{DiagnosticsHavePlaces, F
 ghost use Rattle.pli_fault_laws.specs.FaultOrder.{DeclarationFaultsRise};
 ghost use Rattle.pli_fault_laws.specs.MarkTokens.{MarksRise};
 ghost use Rattle.pli_fault_laws.specs.StatementStarts.{StatementsBegin};
-ghost use Rattle.pli_fault_laws.specs.TypeFaultPlaces.{TypeFaultsStandAtTokens, UnbuiltStandsAtToken};
+ghost use Rattle.pli_fault_laws.specs.TypeFaultPlaces.{TypeFaultsStandAtTokens};
 
 /// A law: where the tokens of a tree rise, and its statements begin where they should, the tokens of its outline's
 /// marks rise.
@@ -26,13 +26,7 @@ pub fn declaration_faults_rise()
     ensures { DeclarationFaultsRise }
 {}
 
-/// A law: in a unit that is read, the first statement with a constant over the limits stands at a token of the text.
-#[tactic(auto, using(crate::proofs::UnbuiltStands::unbuilt_stands_at_token))]
-pub fn unbuilt_stands_at_token()
-    ensures { UnbuiltStandsAtToken }
-{}
-
-/// A law: each fault of types of a unit that is read stands at a token of the text, and so does Z1 in their place.
+/// A law: each fault of types of a unit that is read stands at a token of the text.
 #[tactic(auto, using(crate::proofs::TypeFaultsStand::type_faults_stand_at_tokens))]
 pub fn type_faults_stand_at_tokens()
     ensures { TypeFaultsStandAtTokens }

@@ -5,5 +5,5 @@ mod laws;
 
 pub use laws::{
     declaration_faults_rise, faults_have_places, marks_rise, statements_begin,
-    type_faults_stand_at_tokens, unbuilt_stands_at_token,
+    type_faults_stand_at_tokens,
 };

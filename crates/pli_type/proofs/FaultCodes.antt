@@ -7,7 +7,7 @@ use Rattle.pli_base.specs.Statements.{Allocation, Statement, Numbered, Body, Sta
 use Rattle.pli_base.specs.Syntax.{Expression, Referred, Constant, Parenthesized, Prefix, Infix, Reference, Named}
 use Rattle.pli_base.specs.Syntax.{JoinedParts, Alone, Joined, Arguments, Absent, Given, Expressions, Empty, Listed}
 use Rattle.pli_base.specs.declared.code.Code.{Code}
-use Rattle.pli_base.specs.declared.code.Code.TheVariants.{WrongOperandType, CannotAssign, CannotPrint, NotYetBuilt}
+use Rattle.pli_base.specs.declared.code.Code.TheVariants.{WrongOperandType, CannotAssign, CannotPrint, BadGoto}
 use Rattle.pli_base.specs.declared.code.Code.TheVariants.{CannotAllocateOrFree}
 use Rattle.pli_base.specs.declared.syntax.Identifier.{Identifier}
 use Rattle.pli_base.specs.declared.syntax.Joining.TheVariants.{Member, Located}
@@ -15,7 +15,7 @@ use Rattle.pli_base.specs.declared.token.Fault.{Fault}
 use Rattle.pli_map.specs.Description.{Description}
 use Rattle.pli_resolve.specs.declared.built_in.BuiltInFunction.{BuiltInFunction}
 use Rattle.pli_type.specs.AllocationTyping.{in_turn, only_variable, place_given, kept_for, allocated, all_allocated, freed}
-use Rattle.pli_type.specs.Checked.{checked, unless_unbuilt, typed_as}
+use Rattle.pli_type.specs.Checked.{checked, typed_as}
 use Rattle.pli_type.specs.ExpressionTypes.{TypedValue}
 use Rattle.pli_type.specs.FunctionCalls.{Denoted, DenotesVariable, DenotesResult, DenotesEmpty, Meant, OneValue}
 use Rattle.pli_type.specs.FunctionCalls.{WholeAggregate, Argument, function_called, or_bad_argument}
@@ -36,7 +36,7 @@ use Rattle.pli_type.specs.declared.beginning.Beginning.{Beginning}
 use Rattle.pli_type.specs.declared.expression_type.ExpressionType.{ExpressionType}
 use Rattle.pli_type.specs.laws.Laws.{is_of_types, AreOfTypes, IsFault, IsToldOfTypes, FaultsAreOfTypes}
 use Rattle.pli_type_tree.specs.TypedTree.{Callee, TypedExpression, TypedArguments, TypedRange, TypedStatements}
-use Rattle.pli_type_tree.specs.TypedTree.{Form, TypedProcedure, TypedUnit}
+use Rattle.pli_type_tree.specs.TypedTree.{Form, TypedProcedure}
 
 -- a fault, where there is one, is of types
 Only : {A : Type 0} → Result A Fault → Type 0
@@ -237,7 +237,7 @@ only_condition n e =
     only_then _ _ (only_value_of n e) (λ v. only_or WrongOperandType (first_token e) _ refl)
 
 only_goto : (n : Naming) (s : statements.Surroundings) (label : Identifier) → Only (statements.goto_typed n s label)
-only_goto n s label = only_or NotYetBuilt label.at _ refl
+only_goto n s label = only_or BadGoto label.at _ refl
 
 only_no_function : (at : ℕ) (callee : Callee) (d : Option Description) (arguments : TypedArguments)
     → Only (statements.no_function at callee d arguments)
@@ -453,12 +453,7 @@ unfolding Told
 told_unit u (Ok list) p = tt
 told_unit u (Err faults) p = p
 
-told_unless : (o : Option ℕ) (r : Result TypedUnit (List Fault)) → Told r → Told (unless_unbuilt o r)
-unfolding Told
-told_unless None r p = p
-told_unless (Some at) r p = (tt, (refl, tt))
-
 -- a unit that is not typed has a fault of types, and no fault of another kind
 pub faults_are_of_types : FaultsAreOfTypes
 unfolding checked Told
-faults_are_of_types u = told_unless _ _ (told_unit u _ (told_statements u _ _ u.tree.statements))
+faults_are_of_types u = told_unit u _ (told_statements u _ _ u.tree.statements)

@@ -1,16 +1,14 @@
--- The typed unit, or all its faults of types (X3.74, Z1 own): one for each statement, in the order of the
--- text. A unit with a constant over the limits has Z1 in their place.
-use Rattle.std.specs.Prelude.{ℕ, Bool, true, false, ◌&&◌, Option, Some, None, List, [], ◌∷◌, length}
+-- The typed unit, or all its faults of types (X3.74): one for each statement, in the order of the text.
+use Rattle.std.specs.Prelude.{Bool, true, false, ◌&&◌, Option, None, List, [], ◌∷◌, length}
 use Rattle.std.specs.Prelude.{Result, Ok, Err}
-use Rattle.pli_base.specs.Statements.{ExternalProcedure, Statements}
-use Rattle.pli_base.specs.declared.code.Code.TheVariants.{NotYetBuilt}
+use Rattle.std.specs.List.{list_any}
+use Rattle.pli_base.specs.Statements.{ExternalProcedure, Main, ProcedureOption, Statements}
 use Rattle.pli_base.specs.declared.token.Fault.{Fault}
 use Rattle.pli_map.specs.Description.{Description}
 use Rattle.pli_type.specs.Names.{NamedUnit}
 use Rattle.pli_type.specs.StatementTyping.{Surroundings, WithProcedures, enclosing, function_end}
 use Rattle.pli_type.specs.StatementTyping.{statements_typed}
 use Rattle.pli_type.specs.Temporaries.{Next, temporaries_among}
-use Rattle.pli_type.specs.Unbuilt.{first_unbuilt, is_main}
 use Rattle.pli_type_tree.specs.TypedTree.{Signature, TypedUnit, TypedProcedure, TypedStatements}
 
 -- the external procedure is block 0; it gives this, if it is a function
@@ -29,7 +27,7 @@ external_of u list = record {
     number = 0;
     statement = u.tree.heading.number;
     variables = u.automatic 0;
-    temporaries = temporaries_among u.compiled.is_based u.tree.statements;
+    temporaries = temporaries_among u.is_based u.tree.statements;
   };
   parent = None;
   parameters = length (u.parameters 0);
@@ -49,6 +47,15 @@ is_nothing parameters result = false
 -- such a procedure takes and gives nothing
 abbrev pub takes_nothing : Signature → Bool
 takes_nothing s = is_nothing s.parameters s.result
+
+-- MAIN among the options
+abbrev pub is_main_option : ProcedureOption → Bool
+is_main_option Main = true
+is_main_option option = false
+
+-- the unit has OPTIONS(MAIN)
+abbrev pub is_main : ExternalProcedure → Bool
+is_main u = list_any is_main_option u.heading.options
 
 -- a program may begin with a unit that has OPTIONS(MAIN): its procedure has no parameters and no RETURNS, as
 -- is asked of its declaration
@@ -72,14 +79,7 @@ abbrev pub typed_as : NamedUnit → Result (WithProcedures TypedStatements) (Lis
 typed_as u (Ok list) = Ok (unit_of u list)
 typed_as u (Err faults) = Err faults
 
--- Z1 at the first statement with a constant over the limits, in place of all else
-abbrev pub unless_unbuilt : Option ℕ → Result TypedUnit (List Fault) → Result TypedUnit (List Fault)
-unless_unbuilt None typed = typed
-unless_unbuilt (Some at) typed = Err (record { code = NotYetBuilt; at = at } ∷ [])
-
 -- what `check` answers
 unfoldable pub checked : NamedUnit → Result TypedUnit (List Fault)
 checked u =
-    unless_unbuilt (first_unbuilt u.compiled u.tree)
-    (typed_as u
-    (statements_typed u (in_unit (u.returned 0) u.tree.statements) first_inside u.tree.statements))
+    typed_as u (statements_typed u (in_unit (u.returned 0) u.tree.statements) first_inside u.tree.statements)

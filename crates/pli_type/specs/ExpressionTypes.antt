@@ -1,9 +1,9 @@
 -- The types of expressions: how many digits the number of an operation has, which operands an operator takes,
 -- and which conversion a value goes through where it is assigned or printed. Precisions are own, the rest is
 -- X3.74.
-use Rattle.std.specs.Prelude.{ℕ, ◌+◌, ◌*◌, max, min, Bool, true, false, ◌&&◌, Option, Some, None, option_map}
-use Rattle.std.specs.Prelude.{pos, if◌then◌else◌}
-use Rattle.std.specs.Prelude.{List, [], ◌∷◌, ◌++◌}
+use Rattle.std.specs.Prelude.{ℕ, ◌+◌, ◌-◌, ◌*◌, ◌^◌, max, min, Bool, true, false, ◌&&◌, Option, Some, None}
+use Rattle.std.specs.Prelude.{option_map, pos, if◌then◌else◌}
+use Rattle.std.specs.Prelude.{List, [], ◌∷◌, ◌++◌, take}
 use Rattle.std.specs.Int.{div_ceil}
 use Rattle.pli_base.specs.declared.syntax.ConstantValue.{ConstantValue}
 use Rattle.pli_base.specs.declared.syntax.ConstantValue.TheVariants as constants
@@ -27,7 +27,8 @@ use Rattle.pli_type.specs.declared.expression_type.ExpressionType.TheVariants as
 use Rattle.pli_type_tree.specs.TypedTree.{TypedExpression, Literal, Calculated, Operands, NoOperand}
 use Rattle.pli_type_tree.specs.TypedTree.{OperandThen, TypedOperation, Fit, Operate, AsPointer, AsOffset}
 use Rattle.pli_type_tree.specs.TypedTree.{Conversion, ByOperations, AsPointerIn, AsOffsetIn}
-use Rattle.pli_value.specs.Value.{Number, Characters, Bits, Located}
+use Rattle.pli_type_tree.specs.ValueTypes.{longest}
+use Rattle.pli_value.specs.Value.{Value, Number, Characters, Bits, Located}
 use Rattle.pli_value.specs.declared.locator.Locator.TheVariants as locators
 
 -- an expression with its type
@@ -86,15 +87,30 @@ type_of area described.Offset = Some (types.Offset area)
 type_of area (described.Area n) = Some types.Area
 type_of area aggregate = None
 
--- a constant: of the digits that are written, leading zeros too
-abbrev pub constant : ConstantValue → TypedValue
-constant (constants.Decimal value digits) =
-    record { expression = Literal (Number (pos value)); kind = types.FixedDecimal digits }
-constant (constants.Binary value digits) =
-    record { expression = Literal (Number (pos value)); kind = types.FixedBinary digits }
-constant (constants.Characters text) =
-    record { expression = Literal (Characters text); kind = types.Characters }
-constant (constants.Bits bits) = record { expression = Literal (Bits bits); kind = types.Bits }
+-- a number as far as so many binary digits have room for it: no more than the greatest that they have
+abbrev pub within : (precision value : ℕ) → ℕ
+within precision value = min value (2 ^ precision - 1)
+
+-- the value of a constant, as far as its type has room for it; of a constant of a text this is what is written
+-- (`ConstantsAreAsWritten` of `pli_type_laws`)
+abbrev pub literal_value : (greatest : ℕ) → ConstantValue → Value
+literal_value greatest (constants.Decimal value digits) =
+    Number (pos (within (binary_digits greatest digits) value))
+literal_value greatest (constants.Binary value digits) = Number (pos (within (min greatest digits) value))
+literal_value greatest (constants.Characters text) = Characters (take longest text)
+literal_value greatest (constants.Bits bits) = Bits (take longest bits)
+
+-- the type of a constant: of the digits that are written, leading zeros too
+abbrev pub constant_type : (greatest : ℕ) → ConstantValue → ExpressionType
+constant_type greatest (constants.Decimal value digits) = types.FixedDecimal digits
+constant_type greatest (constants.Binary value digits) = types.FixedBinary (min greatest digits)
+constant_type greatest (constants.Characters text) = types.Characters
+constant_type greatest (constants.Bits bits) = types.Bits
+
+-- a constant
+abbrev pub constant : (greatest : ℕ) → ConstantValue → TypedValue
+constant greatest value =
+    record { expression = Literal (literal_value greatest value); kind = constant_type greatest value }
 
 -- NULL; it is the null pointer, but beside an OFFSET, and where one is wanted, it is the null offset
 abbrev pub null_value : TypedValue

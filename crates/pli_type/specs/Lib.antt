@@ -12,7 +12,6 @@ pub mod StatementTyping
 pub mod Typing
 pub mod Temporaries
 pub mod TextOrder
-pub mod Unbuilt
 pub mod examples
 pub mod laws
 pub mod views

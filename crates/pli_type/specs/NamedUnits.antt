@@ -31,7 +31,7 @@ use Rattle.pli_type.specs.Beginnings.{beginning_of}
 use Rattle.pli_type.specs.Checked.{checked}
 use Rattle.pli_type.specs.InitialScalars.{InitialItem, template_of}
 use Rattle.pli_type.specs.Names.{NamedAs, AVariable, AFunction, AProcedure, ALabel, Untyped, NamedProcedure}
-use Rattle.pli_type.specs.Names.{Naming, Compiled, NamedUnit, NamedStorage, Begins, IsBased, LocatorVariable}
+use Rattle.pli_type.specs.Names.{Naming, NamedUnit, NamedStorage, Begins, IsBased, LocatorVariable}
 use Rattle.pli_type.specs.References.{StridedPart, part_on, locator_at, reference_to, whole_part}
 use Rattle.pli_type.specs.TextOrder.{in_order, text_places}
 use Rattle.pli_type.specs.declared.beginning.Beginning.{Beginning}
@@ -467,11 +467,8 @@ names_based (AVariable v) = is_based_whole v.storage v.path
 names_based meant = false
 
 -- which names are those of BASED variables; the blocks around say nothing of that
-abbrev pub compiled_of : (greatest : ℕ) → ResolvedUnit → Compiled
-compiled_of greatest r = record {
-  greatest = greatest;
-  is_based = λ at. names_based (named_as greatest r [] (meaning_at r at));
-}
+abbrev pub based_of : (greatest : ℕ) → ResolvedUnit → (at : ℕ) → Bool
+based_of greatest r at = names_based (named_as greatest r [] (meaning_at r at))
 
 -- what variables are made from
 
@@ -569,7 +566,7 @@ all_globals greatest blocks =
 abbrev pub named_unit : (greatest : ℕ) → ResolvedUnit → NamedUnit
 named_unit greatest r = record {
   tree = r.tree;
-  compiled = compiled_of greatest r;
+  is_based = based_of greatest r;
   naming = naming_of greatest r;
   parameters = parameters_of r;
   returned = returned_of r;

@@ -56,18 +56,13 @@ pub record Naming : Type 0 where
   pub returned_area : (block : ℕ) → Option Beginning
   pub meaning : (at : ℕ) → NamedAs
 
--- how many binary digits numbers have at most, and at which tokens stands the name of a BASED variable, for
--- which ALLOCATE has a temporary
-pub record Compiled : Type 0 where
-  pub greatest : ℕ
-  pub is_based : (at : ℕ) → Bool
-
--- a unit without faults of declarations: its tree; what is compiled; what its names mean where these blocks
--- stand around, the innermost first; of each block what its parameters are, what it gives if it is that of a
--- function, and what its AUTOMATIC variables are made from; and the globals of all blocks
+-- a unit without faults of declarations: its tree; at which tokens stands the name of a BASED variable, for
+-- which ALLOCATE has a temporary; what its names mean where these blocks stand around, the innermost first; of
+-- each block what its parameters are, what it gives if it is that of a function, and what its AUTOMATIC
+-- variables are made from; and the globals of all blocks
 pub record NamedUnit : Type 0 where
   pub tree : ExternalProcedure
-  pub compiled : Compiled
+  pub is_based : (at : ℕ) → Bool
   pub naming : (blocks : List ℕ) → Naming
   pub parameters : (block : ℕ) → List Description
   pub returned : (block : ℕ) → Option Description

@@ -15,7 +15,7 @@ use Rattle.pli_base.specs.Syntax.{Arguments, Absent, Given}
 use Rattle.pli_base.specs.declared.syntax.Joining.TheVariants.{Member, Located}
 use Rattle.pli_base.specs.declared.code.Code.TheVariants.{NotAVariable, CannotAssign, NotCallableHere}
 use Rattle.pli_base.specs.declared.code.Code.TheVariants.{CannotPrint, WrongOperandType, WrongReturn}
-use Rattle.pli_base.specs.declared.code.Code.TheVariants.{BadControlVariable, NotYetBuilt}
+use Rattle.pli_base.specs.declared.code.Code.TheVariants.{BadControlVariable, BadGoto}
 use Rattle.pli_base.specs.declared.syntax.Identifier.{Identifier}
 use Rattle.pli_base.specs.declared.token.Fault.{Fault}
 use Rattle.pli_map.specs.Description.{Description, FixedBinary}
@@ -232,15 +232,15 @@ abbrev pub jump_to : (label : ℕ) → Option ℕ → Option Form
 jump_to label None = None
 jump_to label (Some outward) = Some (typed.Goto outward label)
 
--- a GOTO leads to a label of a list that it stands in; any other is a fault of declarations, and is not
--- compiled
+-- a GOTO leads to a label of a list that it stands in, and any other leads nowhere
 abbrev pub jump : Surroundings → NamedAs → Option Form
 jump s (ALabel statement) = jump_to statement (label_found s.blocks statement)
 jump s other = None
 
--- GOTO: Z1 at the label where the jump is not compiled
+-- GOTO: A11 at the label where it leads nowhere. Resolution tells this fault of each text already, so no unit
+-- that is typed has it
 abbrev pub goto_typed : Naming → Surroundings → (label : Identifier) → Result Form Fault
-goto_typed n s label = or_fault NotYetBuilt label.at (jump s (n.meaning label.at))
+goto_typed n s label = or_fault BadGoto label.at (jump s (n.meaning label.at))
 
 -- what CALL has in parentheses
 abbrev pub arguments_typed : Naming → Arguments → Result (List Argument) Fault
@@ -461,7 +461,7 @@ head_of u number statement statements = record {
   number = number;
   statement = statement;
   variables = u.automatic number;
-  temporaries = temporaries_among u.compiled.is_based statements;
+  temporaries = temporaries_among u.is_based statements;
 }
 
 -- the END of a function must not be reached
@@ -554,7 +554,7 @@ abbrev mutual
       (statements_typed u (in_group statements s) (behind_limits range x) statements)
   body_typed u s x number at (tree.If tested consequence alternative) =
       if_form (condition (naming_at u s) tested) (statement_typed u s x consequence)
-      (alternative_typed u s (behind u.compiled.is_based x consequence) alternative)
+      (alternative_typed u s (behind u.is_based x consequence) alternative)
   body_typed u s x number at tree.Stop = Ok (alone typed.Stop)
   body_typed u s x number at (tree.Allocate list) =
       of_own (allocate_typed (naming_at u s) x.temporary list)
@@ -583,4 +583,4 @@ abbrev mutual
   statements_typed u s x Ended = Ok (alone NoStatement)
   statements_typed u s x (Before first more) =
       listed first (statement_typed u s x first)
-      (statements_typed u s (behind u.compiled.is_based x first) more)
+      (statements_typed u s (behind u.is_based x first) more)

@@ -135,7 +135,7 @@ abbrev mutual
   -- an expression in its role; parentheses and operators leave a value
   pub denoted : Naming → Role → Expression → Result Denoted Fault
   denoted n role (Referred reference) = referred n role reference
-  denoted n role (Constant at value) = Ok (DenotesResult (constant value))
+  denoted n role (Constant at value) = Ok (DenotesResult (constant n.greatest value))
   denoted n role (Parenthesized at inner) = do
     v ← as_value (first_token inner) (denoted n AsValue inner)
     Ok (DenotesResult v)

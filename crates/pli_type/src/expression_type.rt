@@ -25,7 +25,7 @@ pub enum ExpressionType {
 
 /// The precision of a FIXED BINARY operand that a decimal constant of so many digits is; none is greater than
 /// `greatest` (own).
-fn binary_digits(greatest: u8, digits: u8) -> u8
+pub fn binary_digits(greatest: u8, digits: u8) -> u8
     ensures { result ≡ spec.binary_digits greatest digits }
 {
     let precision = 1 + (332 * u32::from(digits)).div_ceil(100);

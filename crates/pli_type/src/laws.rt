@@ -7,9 +7,9 @@ ghost use Rattle.pli_type.specs.examples.FaultExamples.{OneFaultToAStatement, Op
 ghost use Rattle.pli_type.specs.examples.ConditionExamples.{UnitsAreTyped};
 ghost use Rattle.pli_type.specs.examples.ControlExamples.{ControlVariables, CallsAreTyped, BlocksAreTyped};
 ghost use Rattle.pli_type.specs.examples.PointerExamples.{PointersAndNull, BasedReferences, Addresses, GenerationsByPointers};
-ghost use Rattle.pli_type.specs.examples.TypeExamples.{ConstantsAreDecimal, PrecisionsOfOperations, PrecisionsOfFunctions, KindsOfStrings, ColumnsOfNumbers};
+ghost use Rattle.pli_type.specs.examples.TypeExamples.{ConstantsAreDecimal, ConstantsHaveRoom, PrecisionsOfOperations, PrecisionsOfFunctions, KindsOfStrings, ColumnsOfNumbers};
 ghost use Rattle.pli_type.specs.examples.TypedExamples.{ConversionsStand, SubscriptsHaveStrides};
-ghost use Rattle.pli_type.specs.examples.UnitExamples.{FirstUnbuilt, InitialValues, CheckedUnits};
+ghost use Rattle.pli_type.specs.examples.UnitExamples.{InitialValues, CheckedUnits};
 ghost use Rattle.pli_type.specs.examples.NameExamples.{NamesOfUnit, VariablesOfUnit};
 ghost use Rattle.pli_type.specs.examples.OrderExamples.{GlobalsOfUnit, TokensInOrder};
 
@@ -60,6 +60,7 @@ pub fn area_examples()
 /// Worked examples of types.
 pub fn type_examples()
     ensures constants { ConstantsAreDecimal }
+    ensures room { ConstantsHaveRoom }
     ensures operations { PrecisionsOfOperations }
     ensures functions { PrecisionsOfFunctions }
     ensures strings { KindsOfStrings }
@@ -75,12 +76,11 @@ pub fn typed_examples()
 /// Worked examples of units.
 #[tactic(auto, unfolding(crate::specs::Checked::checked))]
 pub fn unit_examples()
-    ensures unbuilt { FirstUnbuilt }
     ensures initial { InitialValues }
     ensures checked { CheckedUnits }
 {}
 
-/// A law: a unit that is not typed has a fault of types, or Z1, and no fault of another kind.
+/// A law: a unit that is not typed has a fault of types, or A11 at a GOTO, and no fault of another kind.
 #[tactic(auto, using(crate::proofs::FaultCodes::faults_are_of_types))]
 pub fn faults_are_of_types()
     ensures { FaultsAreOfTypes }

@@ -12,7 +12,7 @@ mod typed_value;
 
 pub use beginning::{Beginning, area_meant};
 pub use converting::{conversion, converted, printed, unconverted};
-pub use expression_type::{ExpressionType, product_precision, sum_precision};
+pub use expression_type::{ExpressionType, binary_digits, product_precision, sum_precision};
 pub use function_calls::{
     address, call, call_type, empty_value, generations, null_value, offset_within, operation_of,
     pointer_within, quotient, quotient_type,

@@ -1,8 +1,6 @@
 -- Several in turn, one after the other.
-use Rattle.std.proofs.Common.{◌≡◌, ◌++◌, ◌+◌, ◌<◌, ◌≤◌, ℕ, Bool, false, [], ◌∷◌, List, Result, Ok, Err, map, drop, get_or, length, refl, ap, sym, ◌∙◌, append-nil, append_assoc}
-use Rattle.std.proofs.lemmas.Bool.{or_parts}
+use Rattle.std.proofs.Common.{◌≡◌, ◌++◌, ◌+◌, ◌<◌, ◌≤◌, ℕ, [], ◌∷◌, List, Result, Ok, Err, map, drop, get_or, length, refl, ap, sym, ◌∙◌, append-nil, append_assoc}
 use Rattle.std.proofs.lemmas.List.{at_drop_all, at_drop_more}
-use Rattle.std.specs.List.{list_any}
 use Rattle.pli_base.specs.Results.{◌>>=◌}
 use Rattle.pli_base.specs.answers.FailureAnswers.{Fails}
 use Rattle.pli_base.specs.declared.failure.Failure.{Failure}
@@ -37,13 +35,6 @@ one_faulty each xs f a more h = ap (λ r. behind xs (r >>= λ z. in_turn each mo
 pub front : {X C : Type 0} (P : List X → C) (xs : List X) (i : ℕ) (x : X) → x ≡ get_or xs i x → i < length xs
     → P (drop i xs) ≡ P (x ∷ drop (i + 1) xs)
 front P xs i x is within = at_drop_more P xs i x within ∙ ap (λ y. P (y ∷ drop (i + 1) xs)) (sym is)
-
-pub each_built : {X A : Type 0} (later : A → Bool) (view : X → A) (es : List X) (i : ℕ) (e : X) → e ≡ get_or es i e → i < length es
-    → list_any later (map view (drop i es)) ≡ false
-    → (later (view e) ≡ false) × (list_any later (map view (drop (i + 1) es)) ≡ false)
-each_built later view es i e is within h =
-    or_parts (later (view e)) (list_any later (map view (drop (i + 1) es)))
-    (sym (front (λ ys. list_any later (map view ys)) es i e is within) ∙ h)
 
 module _ {X A B : Type 0} (view : X → A) (each : A → Result B Fault) (es : List X) (i : ℕ) where
   pub each_typed : (e : X) (xs ys : List B) (x : B) (whole : Result (List B) Fault) → e ≡ get_or es i e → i < length es

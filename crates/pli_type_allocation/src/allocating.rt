@@ -1,6 +1,5 @@
 //! ALLOCATE.
-ghost use Rattle.std.specs.Prelude.{◌≡◌, ℕ, Bool, false, [], map, option_map, IfOk};
-ghost use Rattle.std.specs.List.{list_any};
+ghost use Rattle.std.specs.Prelude.{◌≡◌, ℕ, Bool, [], map, option_map, IfOk};
 ghost use Rattle.pli_base.specs.answers.FailureAnswers.{Gives};
 ghost use Rattle.pli_base.specs.views.StatementView.{allocation_view};
 ghost use Rattle.pli_base.specs.views.SyntaxView.{reference_view};
@@ -8,10 +7,9 @@ ghost use Rattle.pli_type.specs.AllocationTyping as spec;
 ghost use Rattle.pli_type.specs.Beginnings.{root_at};
 ghost use Rattle.pli_type.specs.Names as names;
 ghost use Rattle.pli_type.specs.StatementTyping.{allocate_typed};
-ghost use Rattle.pli_type.specs.Unbuilt.{later_allocation, later_part, later_reference};
 ghost use Rattle.pli_type_expression.specs.views.TypingView.{referent_view, variable_view};
 ghost use Rattle.pli_type_names.specs.SymbolMeaning.{IsVariable};
-ghost use Rattle.pli_type_names.specs.UnitNaming.{compiled_in, naming_in};
+ghost use Rattle.pli_type_names.specs.UnitNaming.{naming_in};
 ghost use Rattle.pli_type_names.specs.views.StorageView.{locator_view as named_view};
 ghost use Rattle.pli_type_templates.specs.views.UnitView.{based_at};
 ghost use Rattle.pli_type_tree.specs.views.TemplateView.{template_view};
@@ -37,7 +35,6 @@ fn place_given<'a>(
     naming: &Naming<'a>,
     reference: &Option<Reference>,
 ) -> Result<Option<Referent<'a>>, TypeError>
-    requires { later_part (later_reference (compiled_in naming.now)) (option_map reference_view reference.now) ≡ false }
     ensures { Gives (option_map referent_view) result
         (spec.place_given (naming_in naming.now) (option_map reference_view reference.now)) }
 {
@@ -262,8 +259,7 @@ fn allocated(
     temporary: usize,
     item: &Allocation,
 ) -> Result<AllocatedItem, TypeError>
-    requires based { (block : ℕ) → based_at templates.now block ≡ (naming_in naming.now).based block }
-    requires built { later_allocation (compiled_in naming.now) (allocation_view item.now) ≡ false }
+    requires { (block : ℕ) → based_at templates.now block ≡ (naming_in naming.now).based block }
     ensures { Gives allocated_view result (spec.allocated (naming_in naming.now) temporary (allocation_view item.now)) }
 {
     let area = place_given(alloc, naming, &item.area)?;
@@ -306,8 +302,7 @@ fn all_allocated(
     temporary: usize,
     items: &[Allocation],
 ) -> Result<Vec<AllocatedItem>, TypeError>
-    requires based { (block : ℕ) → based_at templates.now block ≡ (naming_in naming.now).based block }
-    requires built { list_any (later_allocation (compiled_in naming.now)) (map allocation_view items.now) ≡ false }
+    requires { (block : ℕ) → based_at templates.now block ≡ (naming_in naming.now).based block }
     ensures { Gives (λ made. map allocated_view made.items) result
         (spec.all_allocated (naming_in naming.now) temporary (map allocation_view items.now)) }
 {
@@ -331,8 +326,7 @@ pub fn allocate(
     temporary: usize,
     items: &[Allocation],
 ) -> Result<Form, TypeError>
-    requires based { (block : ℕ) → based_at templates.now block ≡ (naming_in naming.now).based block }
-    requires built { list_any (later_allocation (compiled_in naming.now)) (map allocation_view items.now) ≡ false }
+    requires { (block : ℕ) → based_at templates.now block ≡ (naming_in naming.now).based block }
     ensures { Gives form_view result (allocate_typed (naming_in naming.now) temporary (map allocation_view items.now)) }
 {
     let items = all_allocated(alloc, naming, templates, temporary, items)?;

@@ -1,13 +1,11 @@
 //! FREE.
-ghost use Rattle.std.specs.Prelude.{◌≡◌, false, map, option_map};
-ghost use Rattle.std.specs.List.{list_any};
+ghost use Rattle.std.specs.Prelude.{◌≡◌, map, option_map};
 ghost use Rattle.pli_base.specs.answers.FailureAnswers.{Gives};
 ghost use Rattle.pli_base.specs.views.SyntaxView.{reference_view};
 ghost use Rattle.pli_type.specs.AllocationTyping as spec;
 ghost use Rattle.pli_type.specs.AllocationTyping.{in_turn};
 ghost use Rattle.pli_type.specs.StatementTyping.{free_typed};
-ghost use Rattle.pli_type.specs.Unbuilt.{later_reference};
-ghost use Rattle.pli_type_names.specs.UnitNaming.{compiled_in, naming_in};
+ghost use Rattle.pli_type_names.specs.UnitNaming.{naming_in};
 ghost use Rattle.pli_type_tree.specs.TypedTree as tree;
 ghost use Rattle.pli_type_tree.specs.views.TypedView as typed;
 ghost use Rattle.pli_type_tree.specs.views.TypedView.{form_view, freed_view};
@@ -57,7 +55,6 @@ fn released(reference: TypedReference) -> Option<FreedItem>
 /// An item of FREE: the faults of its reference, then T11 where that can't be freed (X3.74), at its first name behind
 /// its last arrow (own).
 fn freed(alloc: Global, naming: &Naming<'_>, reference: &Reference) -> Result<FreedItem, TypeError>
-    requires { later_reference (compiled_in naming.now) (reference_view reference.now) ≡ false }
     ensures { Gives freed_view result (spec.freed (naming_in naming.now) (reference_view reference.now)) }
 {
     let at = own_token(reference);
@@ -75,7 +72,6 @@ fn all_freed(
     naming: &Naming<'_>,
     references: &[Reference],
 ) -> Result<Vec<FreedItem>, TypeError>
-    requires { list_any (later_reference (compiled_in naming.now)) (map reference_view references.now) ≡ false }
     ensures { Gives (λ made. map freed_view made.items) result
         (in_turn (spec.freed (naming_in naming.now)) (map reference_view references.now)) }
 {
@@ -89,7 +85,6 @@ fn all_freed(
 
 /// A FREE, or the first fault of its items, which are looked at one after the other (X3.74).
 pub fn free(alloc: Global, naming: &Naming<'_>, references: &[Reference]) -> Result<Form, TypeError>
-    requires { list_any (later_reference (compiled_in naming.now)) (map reference_view references.now) ≡ false }
     ensures { Gives form_view result (free_typed (naming_in naming.now) (map reference_view references.now)) }
 {
     let items = all_freed(alloc, naming, references)?;

@@ -22,7 +22,6 @@ use Rattle.pli_type_laws.proofs.References.{read_then}
 use Rattle.pli_type_bounds.proofs.ExpressionsFit.{N, referred_fits}
 use Rattle.pli_type_bounds.proofs.Meanings.{IsAreaNamed, IsLocatorVariable, IsImplied, locator_fits, IsStorage, IsMeaning, IsReferent, IsDenoted}
 use Rattle.pli_type_bounds.proofs.OperatorsFit.{area_fits}
-use Rattle.pli_source_laws.specs.Sources.{IsSourceReference, IsSourceAllocation}
 use Rattle.pli_deck_laws.specs.Limits.{IfThere, IsTemplate}
 use Rattle.pli_deck_laws.specs.WellFormed.{IsReference, IsAllocated, IsFreed, IsForm}
 
@@ -100,46 +99,46 @@ module _ (t : TypedUnit) (based : ℕ → List Template) (areas : ℕ → Option
   abbrev M : Naming
   M = N t based areas meaning known
 
-  given_fits : (o : Option Reference) → IfThere IsSourceReference o → OnRead (IsGiven t) (place_given M o)
-  given_fits None l = tt
-  given_fits (Some r) l =
-      read_then (IsDenoted t) (IsGiven t) (referred M AsLocator r) _ (referred_fits t based areas meaning known AsLocator r l)
+  given_fits : (o : Option Reference) → OnRead (IsGiven t) (place_given M o)
+  given_fits None = tt
+  given_fits (Some r) =
+      read_then (IsDenoted t) (IsGiven t) (referred M AsLocator r) _ (referred_fits t based areas meaning known AsLocator r)
       (λ d h. read_then (IsReferent t) (IsGiven t) (only_variable (own_token r) d) _ (only_fits t (own_token r) d h) (λ q k. k))
 
   module _ (templates : (block : ℕ) → AllByRecursion IsTemplate (based block)) where
-    one_allocated : (temporary : ℕ) (a : Allocation) → IsSourceAllocation a → OnRead (IsAllocated t) (allocated M temporary a)
-    one_allocated temporary a l =
-        read_then (IsGiven t) (IsAllocated t) (place_given M a.area) _ (given_fits a.area l.0)
-        (λ area h. read_then (IsGiven t) (IsAllocated t) (place_given M a.target) _ (given_fits a.target l.1)
+    one_allocated : (temporary : ℕ) (a : Allocation) → OnRead (IsAllocated t) (allocated M temporary a)
+    one_allocated temporary a =
+        read_then (IsGiven t) (IsAllocated t) (place_given M a.area) _ (given_fits a.area)
+        (λ area h. read_then (IsGiven t) (IsAllocated t) (place_given M a.target) _ (given_fits a.target)
         (λ target k. read_option (IsAllocated t) CannotAllocateOrFree a.name.at (taken M temporary (meaning a.name.at) area target)
         (one_taken t M templates temporary (meaning a.name.at) (known a.name.at) area target h k)))
 
-    each_allocated : (temporary : ℕ) (list : List Allocation) → AllByRecursion IsSourceAllocation list
+    each_allocated : (temporary : ℕ) (list : List Allocation)
         → OnRead (AllByRecursion (IsAllocated t)) (all_allocated M temporary list)
-    each_allocated temporary [] l = tt
-    each_allocated temporary (a ∷ more) l =
-        read_then (IsAllocated t) (AllByRecursion (IsAllocated t)) (allocated M temporary a) _ (one_allocated temporary a l.0)
+    each_allocated temporary [] = tt
+    each_allocated temporary (a ∷ more) =
+        read_then (IsAllocated t) (AllByRecursion (IsAllocated t)) (allocated M temporary a) _ (one_allocated temporary a)
         (λ x h. read_then (AllByRecursion (IsAllocated t)) (AllByRecursion (IsAllocated t)) (all_allocated M (temporary + kept_for x) more) _
-        (each_allocated (temporary + kept_for x) more l.1) (λ xs k. (h, k)))
+        (each_allocated (temporary + kept_for x) more) (λ xs k. (h, k)))
 
-    pub allocate_fits : (temporary : ℕ) (list : List Allocation) → AllByRecursion IsSourceAllocation list
+    pub allocate_fits : (temporary : ℕ) (list : List Allocation)
         → OnRead (IsForm t) (allocate_typed M temporary list)
-    allocate_fits temporary list l =
-        read_then (AllByRecursion (IsAllocated t)) (IsForm t) (all_allocated M temporary list) _ (each_allocated temporary list l) (λ xs h. h)
+    allocate_fits temporary list =
+        read_then (AllByRecursion (IsAllocated t)) (IsForm t) (all_allocated M temporary list) _ (each_allocated temporary list) (λ xs h. h)
 
-  one_freed : (r : Reference) → IsSourceReference r → OnRead (IsFreed t) (freed M r)
-  one_freed r l =
-      read_then (IsDenoted t) (IsFreed t) (referred M AsTarget r) _ (referred_fits t based areas meaning known AsTarget r l)
+  one_freed : (r : Reference) → OnRead (IsFreed t) (freed M r)
+  one_freed r =
+      read_then (IsDenoted t) (IsFreed t) (referred M AsTarget r) _ (referred_fits t based areas meaning known AsTarget r)
       (λ d h. read_then (IsReferent t) (IsFreed t) (only_variable (own_token r) d) _ (only_fits t (own_token r) d h)
       (λ q k. read_option (IsFreed t) CannotAllocateOrFree (own_token r) (released q.reference) (one_released t q.reference k.reference)))
 
-  all_freed : (list : List Reference) → AllByRecursion IsSourceReference list → OnRead (AllByRecursion (IsFreed t)) (in_turn (freed M) list)
-  all_freed [] l = tt
-  all_freed (r ∷ more) l =
-      read_then (IsFreed t) (AllByRecursion (IsFreed t)) (freed M r) _ (one_freed r l.0)
-      (λ x h. read_then (AllByRecursion (IsFreed t)) (AllByRecursion (IsFreed t)) (in_turn (freed M) more) _ (all_freed more l.1)
+  all_freed : (list : List Reference) → OnRead (AllByRecursion (IsFreed t)) (in_turn (freed M) list)
+  all_freed [] = tt
+  all_freed (r ∷ more) =
+      read_then (IsFreed t) (AllByRecursion (IsFreed t)) (freed M r) _ (one_freed r)
+      (λ x h. read_then (AllByRecursion (IsFreed t)) (AllByRecursion (IsFreed t)) (in_turn (freed M) more) _ (all_freed more)
       (λ xs k. (h, k)))
 
-  pub free_fits : (list : List Reference) → AllByRecursion IsSourceReference list → OnRead (IsForm t) (free_typed M list)
-  free_fits list l =
-      read_then (AllByRecursion (IsFreed t)) (IsForm t) (in_turn (freed M) list) _ (all_freed list l) (λ xs h. h)
+  pub free_fits : (list : List Reference) → OnRead (IsForm t) (free_typed M list)
+  free_fits list =
+      read_then (AllByRecursion (IsFreed t)) (IsForm t) (in_turn (freed M) list) _ (all_freed list) (λ xs h. h)

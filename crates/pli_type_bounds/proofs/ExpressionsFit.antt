@@ -39,7 +39,6 @@ use Rattle.pli_type_laws.proofs.References.{read_then, read_if}
 use Rattle.pli_type_name_laws.proofs.InitialHeld.{all_behind}
 use Rattle.pli_type_bounds.proofs.Meanings.{IsPart, IsAreaNamed, IsLocatorVariable, IsImplied, locator_fits, IsStorage, IsLocator, IsVariable, IsProcedureNamed, IsMeaning, IsKind, IsValue, IsReferent, IsMeant, IsDenoted, AreArgumentsGiven, IsSegment}
 use Rattle.pli_type_bounds.proofs.OperatorsFit.{given_made, constant_fits, prefix_fits, infix_fits, converted_fits, kinds_held, area_fits, denoted_fits, functions_fit}
-use Rattle.pli_source_laws.specs.Sources.{IsSource, IsSourceReference, AreSourceParts, AreSourceArguments, AreSources}
 use Rattle.pli_deck_laws.specs.Limits.{parameter_limit, IsDescription, IsMade, IsStride}
 use Rattle.pli_deck_laws.specs.WellFormed.{IsRoot, IsExpression, IsReference, AreSubscripts, AreArguments}
 
@@ -261,92 +260,92 @@ module _ (t : TypedUnit) (based : ℕ → List Template) (areas : ℕ → Option
       read_then (IsDenoted t) (IsValue t) r (λ d. one_value at (meant_as d)) h (λ d k. one_meant t at (meant_as d) (denoted_fits t d k))
 
   mutual
-    pub denoted_all : (role : Role) (e : Expression) → IsSource e → OnRead (IsDenoted t) (denoted N role e)
-    denoted_all role (Referred reference) l = referred_fits role reference l
-    denoted_all role (Constant at value) l = constant_fits t value l
-    denoted_all role (Parenthesized at inner) l =
+    pub denoted_all : (role : Role) (e : Expression) → OnRead (IsDenoted t) (denoted N role e)
+    denoted_all role (Referred reference) = referred_fits role reference
+    denoted_all role (Constant at value) = constant_fits t value
+    denoted_all role (Parenthesized at inner) =
         read_then (IsValue t) (IsDenoted t) (as_value (first_token inner) (denoted N AsValue inner)) _
-        (value_read (first_token inner) (denoted N AsValue inner) (denoted_all AsValue inner l)) (λ v h. h)
-    denoted_all role (Prefix operator at operand) l =
+        (value_read (first_token inner) (denoted N AsValue inner) (denoted_all AsValue inner)) (λ v h. h)
+    denoted_all role (Prefix operator at operand) =
         read_then (IsValue t) (IsDenoted t) (as_value (first_token operand) (denoted N AsValue operand)) _
-        (value_read (first_token operand) (denoted N AsValue operand) (denoted_all AsValue operand l))
+        (value_read (first_token operand) (denoted N AsValue operand) (denoted_all AsValue operand))
         (λ v h. read_then (IsValue t) (IsDenoted t) (or_fault WrongOperandType at (prefix_value 31 operator v)) _
         (read_option (IsValue t) WrongOperandType at (prefix_value 31 operator v) (prefix_fits t operator v h)) (λ u g. g))
-    denoted_all role (Infix operator at left right) l =
+    denoted_all role (Infix operator at left right) =
         read_then (IsValue t) (IsDenoted t) (as_value (first_token left) (denoted N AsValue left)) _
-        (value_read (first_token left) (denoted N AsValue left) (denoted_all AsValue left l.0))
+        (value_read (first_token left) (denoted N AsValue left) (denoted_all AsValue left))
         (λ v h. read_then (IsValue t) (IsDenoted t) (as_value (first_token right) (denoted N AsValue right)) _
-        (value_read (first_token right) (denoted N AsValue right) (denoted_all AsValue right l.1))
+        (value_read (first_token right) (denoted N AsValue right) (denoted_all AsValue right))
         (λ w k. read_then (IsValue t) (IsDenoted t) (or_fault WrongOperandType at (infix_value 31 operator v w)) _
         (read_option (IsValue t) WrongOperandType at (infix_value 31 operator v w) (infix_fits t operator v w h k)) (λ u g. g)))
 
-    pub referred_fits : (role : Role) (r : Reference) → IsSourceReference r → OnRead (IsDenoted t) (referred N role r)
-    referred_fits role (Named name arguments more) l =
+    pub referred_fits : (role : Role) (r : Reference) → OnRead (IsDenoted t) (referred N role r)
+    referred_fits role (Named name arguments more) =
         read_then (IsSegment t) (IsDenoted t) (begun N (meaning name.at) (is_call role false more) NotLocated name.at arguments) _
-        (begun_fits (meaning name.at) (known name.at) (is_call role false more) NotLocated tt name.at arguments l.0)
-        (λ g h. joined_fits role g h more l.1)
+        (begun_fits (meaning name.at) (known name.at) (is_call role false more) NotLocated tt name.at arguments)
+        (λ g h. joined_fits role g h more)
 
-    joined_fits : (role : Role) (g : Segment) → IsSegment t g → (more : JoinedParts) → AreSourceParts more
+    joined_fits : (role : Role) (g : Segment) → IsSegment t g → (more : JoinedParts)
         → OnRead (IsDenoted t) (joined N role g more)
-    joined_fits role g h Alone l = ended_fits t role g h
-    joined_fits role g h (Joined Member name arguments more) l =
-        read_then (AllByRecursion (IsExpression t)) (IsDenoted t) (subscripts_in N arguments) _ (subscripts_all arguments l.0)
-        (λ xs k. joined_fits role (with_more g xs) (more_segment t g xs h k) more l.1)
-    joined_fits role g h (Joined Located name arguments more) l =
+    joined_fits role g h Alone = ended_fits t role g h
+    joined_fits role g h (Joined Member name arguments more) =
+        read_then (AllByRecursion (IsExpression t)) (IsDenoted t) (subscripts_in N arguments) _ (subscripts_all arguments)
+        (λ xs k. joined_fits role (with_more g xs) (more_segment t g xs h k) more)
+    joined_fits role g h (Joined Located name arguments more) =
         read_then (IsDenoted t) (IsDenoted t) (ended AsLocator g) _ (ended_fits t AsLocator g h)
         (λ locator k. read_then (IsSegment t) (IsDenoted t)
         (begun N (meaning name.at) (is_call role true more) (as_locator locator) name.at arguments) _
-        (begun_fits (meaning name.at) (known name.at) (is_call role true more) (as_locator locator) (before_arrow t locator k) name.at arguments l.0)
-        (λ s u. joined_fits role s u more l.1))
+        (begun_fits (meaning name.at) (known name.at) (is_call role true more) (as_locator locator) (before_arrow t locator k) name.at arguments)
+        (λ s u. joined_fits role s u more))
 
     begun_fits : (a : NamedAs) → IsMeaning t a → (call : Bool) (locator : LocatorBefore) → IsLocator t locator → (at : ℕ) (arguments : Arguments)
-        → AreSourceArguments arguments → OnRead (IsSegment t) (begun N a call locator at arguments)
-    begun_fits (AVariable v) k call locator located at (Given list) l =
-        read_then (AllByRecursion (IsExpression t)) (IsSegment t) (all_subscripts N list) _ (indices_fit list l) (λ xs h. (k, h, located))
-    begun_fits (AVariable v) k call locator located at Absent l = (k, tt, located)
-    begun_fits (AFunction function) k true locator located at Absent l = alone_fits t at function
-    begun_fits (AFunction function) k true locator located at (Given list) l =
+        → OnRead (IsSegment t) (begun N a call locator at arguments)
+    begun_fits (AVariable v) k call locator located at (Given list) =
+        read_then (AllByRecursion (IsExpression t)) (IsSegment t) (all_subscripts N list) _ (indices_fit list) (λ xs h. (k, h, located))
+    begun_fits (AVariable v) k call locator located at Absent = (k, tt, located)
+    begun_fits (AFunction function) k true locator located at Absent = alone_fits t at function
+    begun_fits (AFunction function) k true locator located at (Given list) =
         read_then (AreArgumentsGiven t) (IsSegment t) (all_arguments N (roles_or_none (roles_of function (how_many list))) list) _
-        (list_fits (roles_or_none (roles_of function (how_many list))) list l)
+        (list_fits (roles_or_none (roles_of function (how_many list))) list)
         (λ gs h. read_then (IsValue t) (IsSegment t) (function_called 31 function at (roles_of function (how_many list)) gs) _
         (functions_fit t function at (roles_of function (how_many list)) gs h) (λ v g. given_fits t function v g))
-    begun_fits (AProcedure p) k true locator located at (Given list) l =
-        read_then (AreArgumentsGiven t) (IsSegment t) (all_arguments N [] list) _ (list_fits [] list l)
+    begun_fits (AProcedure p) k true locator located at (Given list) =
+        read_then (AreArgumentsGiven t) (IsSegment t) (all_arguments N [] list) _ (list_fits [] list)
         (λ gs h. procedure_fits p k at gs h)
-    begun_fits a k call locator located at (Given list) l =
-        read_then (AreArgumentsGiven t) (IsSegment t) (all_arguments N [] list) _ (list_fits [] list l) (λ gs h. tt)
-    begun_fits a k call locator located at Absent l = tt
+    begun_fits a k call locator located at (Given list) =
+        read_then (AreArgumentsGiven t) (IsSegment t) (all_arguments N [] list) _ (list_fits [] list) (λ gs h. tt)
+    begun_fits a k call locator located at Absent = tt
 
-    subscripts_all : (arguments : Arguments) → AreSourceArguments arguments
+    subscripts_all : (arguments : Arguments)
         → OnRead (AllByRecursion (IsExpression t)) (subscripts_in N arguments)
-    subscripts_all Absent l = tt
-    subscripts_all (Given list) l = indices_fit list l
+    subscripts_all Absent = tt
+    subscripts_all (Given list) = indices_fit list
 
-    indices_fit : (list : Expressions) → AreSources list → OnRead (AllByRecursion (IsExpression t)) (all_subscripts N list)
-    indices_fit Empty l = tt
-    indices_fit (Listed first more) l =
+    indices_fit : (list : Expressions) → OnRead (AllByRecursion (IsExpression t)) (all_subscripts N list)
+    indices_fit Empty = tt
+    indices_fit (Listed first more) =
         read_then (IsValue t) (AllByRecursion (IsExpression t)) (as_value (first_token first) (denoted N AsValue first)) _
-        (value_read (first_token first) (denoted N AsValue first) (denoted_all AsValue first l.0))
+        (value_read (first_token first) (denoted N AsValue first) (denoted_all AsValue first))
         (λ v h. read_then (IsExpression t) (AllByRecursion (IsExpression t)) (subscript_value 31 (first_token first) v) _
         (read_option (IsExpression t) WrongOperandType (first_token first) (option_map (λ p. v.expression) (precision_of 31 v.kind))
         (given_made (IsExpression t) (λ p. v.expression) (precision_of 31 v.kind) (λ p. h.0)))
-        (λ x k. read_then (AllByRecursion (IsExpression t)) (AllByRecursion (IsExpression t)) (all_subscripts N more) _ (indices_fit more l.1)
+        (λ x k. read_then (AllByRecursion (IsExpression t)) (AllByRecursion (IsExpression t)) (all_subscripts N more) _ (indices_fit more)
         (λ xs j. (k, j))))
 
-    pub list_fits : (roles : List Role) (list : Expressions) → AreSources list → OnRead (AreArgumentsGiven t) (all_arguments N roles list)
-    list_fits [] Empty l = tt
-    list_fits (role ∷ roles) Empty l = tt
-    list_fits [] (Listed first more) l =
-        read_then (IsDenoted t) (AreArgumentsGiven t) (denoted N AsArgument first) _ (denoted_all AsArgument first l.0)
-        (λ m h. read_then (AreArgumentsGiven t) (AreArgumentsGiven t) (all_arguments N [] more) _ (list_fits [] more l.1) (λ gs k. (h, k)))
-    list_fits (role ∷ roles) (Listed first more) l =
-        read_then (IsDenoted t) (AreArgumentsGiven t) (denoted N role first) _ (denoted_all role first l.0)
-        (λ m h. read_then (AreArgumentsGiven t) (AreArgumentsGiven t) (all_arguments N roles more) _ (list_fits roles more l.1)
+    pub list_fits : (roles : List Role) (list : Expressions) → OnRead (AreArgumentsGiven t) (all_arguments N roles list)
+    list_fits [] Empty = tt
+    list_fits (role ∷ roles) Empty = tt
+    list_fits [] (Listed first more) =
+        read_then (IsDenoted t) (AreArgumentsGiven t) (denoted N AsArgument first) _ (denoted_all AsArgument first)
+        (λ m h. read_then (AreArgumentsGiven t) (AreArgumentsGiven t) (all_arguments N [] more) _ (list_fits [] more) (λ gs k. (h, k)))
+    list_fits (role ∷ roles) (Listed first more) =
+        read_then (IsDenoted t) (AreArgumentsGiven t) (denoted N role first) _ (denoted_all role first)
+        (λ m h. read_then (AreArgumentsGiven t) (AreArgumentsGiven t) (all_arguments N roles more) _ (list_fits roles more)
         (λ gs k. (h, k)))
 
-  pub meant_fits : (role : Role) (e : Expression) → IsSource e → OnRead (IsMeant t) (meant N role e)
-  meant_fits role e l =
-      read_then (IsDenoted t) (IsMeant t) (denoted N role e) _ (denoted_all role e l) (denoted_fits t)
+  pub meant_fits : (role : Role) (e : Expression) → OnRead (IsMeant t) (meant N role e)
+  meant_fits role e =
+      read_then (IsDenoted t) (IsMeant t) (denoted N role e) _ (denoted_all role e) (denoted_fits t)
 
-  pub value_of_fits : (e : Expression) → IsSource e → OnRead (IsValue t) (value_of N e)
-  value_of_fits e l = value_read (first_token e) (denoted N AsValue e) (denoted_all AsValue e l)
+  pub value_of_fits : (e : Expression) → OnRead (IsValue t) (value_of N e)
+  value_of_fits e = value_read (first_token e) (denoted N AsValue e) (denoted_all AsValue e)

@@ -7,7 +7,7 @@ use Rattle.pli_base.specs.Reading.{at_fault}
 use Rattle.pli_base.specs.Statements as tree
 use Rattle.pli_base.specs.Statements.{Range}
 use Rattle.pli_base.specs.Syntax.{Expression, Reference, Arguments, Absent, Given}
-use Rattle.pli_base.specs.declared.code.Code.TheVariants.{WrongOperandType, CannotAssign, CannotPrint, NotYetBuilt, WrongReturn}
+use Rattle.pli_base.specs.declared.code.Code.TheVariants.{WrongOperandType, CannotAssign, CannotPrint, BadGoto, WrongReturn}
 use Rattle.pli_base.specs.declared.syntax.Identifier.{Identifier}
 use Rattle.pli_map.specs.Description.{Description}
 use Rattle.pli_map.specs.Same.{same}
@@ -37,7 +37,6 @@ use Rattle.pli_type_laws.proofs.References.{read_then, read_if}
 use Rattle.pli_type_bounds.proofs.ExpressionsFit.{N, Pass, arguments_fit, denoted_all, referred_fits, list_fits, meant_fits, value_of_fits}
 use Rattle.pli_type_bounds.proofs.Meanings.{IsAreaNamed, IsProcedureNamed, IsMeaning, IsValue, IsReferent, IsMeant, IsDenoted, AreArgumentsGiven}
 use Rattle.pli_type_bounds.proofs.OperatorsFit.{given_made, converted_fits, conversion_fits, unconverted_fits, area_fits, area_given, printed_fits}
-use Rattle.pli_source_laws.specs.Sources.{IsSource, IsSourceReference, AreSourceArguments, IsSourceRange, IsSourceControl}
 use Rattle.pli_deck_laws.specs.Limits.{link_limit, parameter_limit, IfThere, IsDescription}
 use Rattle.pli_deck_laws.specs.WellFormed.{IsExpression, IsReference, IsConversion, IsRange, IsIteration, IsForm}
 
@@ -89,57 +88,57 @@ module _ (t : TypedUnit) (based : ℕ → List Template) (areas : ℕ → Option
   abbrev M : Naming
   M = N t based areas meaning known
 
-  pub condition_fits : (e : Expression) → IsSource e → OnRead (IsExpression t) (condition M e)
-  condition_fits e l =
-      read_then (IsValue t) (IsExpression t) (value_of M e) _ (value_of_fits t based areas meaning known e l)
+  pub condition_fits : (e : Expression) → OnRead (IsExpression t) (condition M e)
+  condition_fits e =
+      read_then (IsValue t) (IsExpression t) (value_of M e) _ (value_of_fits t based areas meaning known e)
       (λ v h. read_option (IsExpression t) WrongOperandType (first_token e) (truth_of v) (truth_fits t v.expression v.kind h.0))
 
-  item_fits : (e : Expression) → IsSource e → OnRead (IsExpression t) (item M e)
-  item_fits e l =
-      read_then (IsValue t) (IsExpression t) (value_of M e) _ (value_of_fits t based areas meaning known e l)
+  item_fits : (e : Expression) → OnRead (IsExpression t) (item M e)
+  item_fits e =
+      read_then (IsValue t) (IsExpression t) (value_of M e) _ (value_of_fits t based areas meaning known e)
       (λ v h. read_option (IsExpression t) CannotPrint (first_token e) (printed v) (printed_fits t v.expression v.kind h.0))
 
-  pub items_fit : (es : List Expression) → AllByRecursion IsSource es → OnRead (AllByRecursion (IsExpression t)) (items M es)
-  items_fit [] l = tt
-  items_fit (e ∷ es) l =
-      read_then (IsExpression t) (AllByRecursion (IsExpression t)) (item M e) _ (item_fits e l.0)
-      (λ x h. read_then (AllByRecursion (IsExpression t)) (AllByRecursion (IsExpression t)) (items M es) _ (items_fit es l.1) (λ xs k. (h, k)))
+  pub items_fit : (es : List Expression) → OnRead (AllByRecursion (IsExpression t)) (items M es)
+  items_fit [] = tt
+  items_fit (e ∷ es) =
+      read_then (IsExpression t) (AllByRecursion (IsExpression t)) (item M e) _ (item_fits e)
+      (λ x h. read_then (AllByRecursion (IsExpression t)) (AllByRecursion (IsExpression t)) (items M es) _ (items_fit es) (λ xs k. (h, k)))
 
-  scalar_fits : (equals : ℕ) (target : Referent) → IsReferent t target → (e : Expression) → IsSource e
+  scalar_fits : (equals : ℕ) (target : Referent) → IsReferent t target → (e : Expression)
       → OnRead (IsForm t) (scalar_assigned M equals target e)
-  scalar_fits equals target placed e l =
+  scalar_fits equals target placed e =
       let d : Description = target.description in
-      read_then (IsValue t) (IsForm t) (value_of M e) _ (value_of_fits t based areas meaning known e l)
+      read_then (IsValue t) (IsForm t) (value_of M e) _ (value_of_fits t based areas meaning known e)
       (λ v h. read_then (IsExpression t) (IsForm t) (or_fault CannotAssign equals (converted 31 target.area d v)) _
       (read_option (IsExpression t) CannotAssign equals (converted 31 target.area d v) (converted_fits t target.area placed.area d v placed.described h))
       (λ x k. (placed.reference, k)))
 
-  area_assigned_fits : (equals : ℕ) (target : Option Beginning) → IsAreaNamed t target → (e : Expression) → IsSource e
+  area_assigned_fits : (equals : ℕ) (target : Option Beginning) → IsAreaNamed t target → (e : Expression)
       → OnRead (IsForm t) (area_assigned M equals target e)
-  area_assigned_fits equals target h e l =
-      read_then (IsDenoted t) (IsForm t) (denoted M AsValue e) _ (denoted_all t based areas meaning known AsValue e l)
+  area_assigned_fits equals target h e =
+      read_then (IsDenoted t) (IsForm t) (denoted M AsValue e) _ (denoted_all t based areas meaning known AsValue e)
       (λ d k. read_option (IsForm t) CannotAssign equals (area_put target d) (put_fits t target h d k))
 
-  variable_assigned_fits : (equals : ℕ) (target : Referent) → IsReferent t target → (e : Expression) → IsSource e
+  variable_assigned_fits : (equals : ℕ) (target : Referent) → IsReferent t target → (e : Expression)
       → OnRead (IsForm t) (variable_assigned M equals target e)
-  variable_assigned_fits equals target h e l =
+  variable_assigned_fits equals target h e =
       read_if (IsForm t) (is_aggregate target.description) _ _
       (read_then (IsMeant t) (IsForm t) (meant M AsArgument e) (aggregate_assigned equals target)
-      (meant_fits t based areas meaning known AsArgument e l) (aggregate_fits t equals target h))
+      (meant_fits t based areas meaning known AsArgument e) (aggregate_fits t equals target h))
       (read_if (IsForm t) (is_area target.description) _ _
-      (area_assigned_fits equals (area_meant target.reference target.description) (area_fits t target.reference target.description h.reference) e l)
-      (scalar_fits equals target h e l))
+      (area_assigned_fits equals (area_meant target.reference target.description) (area_fits t target.reference target.description h.reference) e)
+      (scalar_fits equals target h e))
 
-  assigned_fits : (at equals : ℕ) (d : Denoted) → IsDenoted t d → (e : Expression) → IsSource e → OnRead (IsForm t) (assigned M at equals d e)
-  assigned_fits at equals (DenotesVariable target) h e l = variable_assigned_fits equals target h e l
-  assigned_fits at equals (DenotesResult v) h e l = tt
-  assigned_fits at equals DenotesEmpty h e l = tt
+  assigned_fits : (at equals : ℕ) (d : Denoted) → IsDenoted t d → (e : Expression) → OnRead (IsForm t) (assigned M at equals d e)
+  assigned_fits at equals (DenotesVariable target) h e = variable_assigned_fits equals target h e
+  assigned_fits at equals (DenotesResult v) h e = tt
+  assigned_fits at equals DenotesEmpty h e = tt
 
-  pub assignment_fits : (at : ℕ) (target : Reference) (equals : ℕ) (e : Expression) → IsSourceReference target → IsSource e
+  pub assignment_fits : (at : ℕ) (target : Reference) (equals : ℕ) (e : Expression)
       → OnRead (IsForm t) (assignment M at target equals e)
-  assignment_fits at target equals e l m =
-      read_then (IsDenoted t) (IsForm t) (referred M AsTarget target) _ (referred_fits t based areas meaning known AsTarget target l)
-      (λ d h. assigned_fits at equals d h e m)
+  assignment_fits at target equals e =
+      read_then (IsDenoted t) (IsForm t) (referred M AsTarget target) _ (referred_fits t based areas meaning known AsTarget target)
+      (λ d h. assigned_fits at equals d h e)
 
   -- calls
   no_function_fits : (p : NamedProcedure) → IsProcedureNamed t p → (xs : TypedArguments) → Pass t p.parameters xs → (at : ℕ)
@@ -153,13 +152,13 @@ module _ (t : TypedUnit) (based : ℕ → List Template) (areas : ℕ → Option
       (λ xs fit. no_function_fits p k xs fit at p.returned)
   call_of_fits at other k gs h = tt
 
-  arguments_read : (a : Arguments) → AreSourceArguments a → OnRead (AreArgumentsGiven t) (arguments_typed M a)
-  arguments_read Absent l = tt
-  arguments_read (Given list) l = list_fits t based areas meaning known [] list l
+  arguments_read : (a : Arguments) → OnRead (AreArgumentsGiven t) (arguments_typed M a)
+  arguments_read Absent = tt
+  arguments_read (Given list) = list_fits t based areas meaning known [] list
 
-  pub call_fits : (name : Identifier) (a : Arguments) → AreSourceArguments a → OnRead (IsForm t) (call_typed M name a)
-  call_fits name a l =
-      read_then (AreArgumentsGiven t) (IsForm t) (arguments_typed M a) _ (arguments_read a l)
+  pub call_fits : (name : Identifier) (a : Arguments) → OnRead (IsForm t) (call_typed M name a)
+  call_fits name a =
+      read_then (AreArgumentsGiven t) (IsForm t) (arguments_typed M a) _ (arguments_read a)
       (λ gs h. call_of_fits name.at (meaning name.at) (known name.at) gs h)
 
   -- returns, where few BEGIN blocks are left, and what is returned is described
@@ -185,10 +184,10 @@ module _ (t : TypedUnit) (based : ℕ → List Template) (areas : ℕ → Option
         read_then (IsExpression t) (IsForm t) (or_fault CannotAssign first (converted 31 area d v)) _
         (read_option (IsExpression t) CannotAssign first (converted 31 area d v) (converted_fits t area here_there d v g h)) (λ x k. (near, k))
 
-    pub return_fits : (at : ℕ) (v : Option Expression) → IfThere IsSource v → OnRead (IsForm t) (return_typed M su at v)
-    return_fits at None l = without_value at (is_none su.value)
-    return_fits at (Some e) l =
-        read_then (IsValue t) (IsForm t) (value_of M e) _ (value_of_fits t based areas meaning known e l)
+    pub return_fits : (at : ℕ) (v : Option Expression) → OnRead (IsForm t) (return_typed M su at v)
+    return_fits at None = without_value at (is_none su.value)
+    return_fits at (Some e) =
+        read_then (IsValue t) (IsForm t) (value_of M e) _ (value_of_fits t based areas meaning known e)
         (λ v h. with_value at (first_token e) v h su.value good)
 
   -- jumps, where few blocks are around
@@ -202,29 +201,29 @@ module _ (t : TypedUnit) (based : ℕ → List Template) (areas : ℕ → Option
     jump_fits a = tt
 
     pub goto_fits : (label : Identifier) → OnRead (IsForm t) (goto_typed M su label)
-    goto_fits label = read_option (IsForm t) NotYetBuilt label.at (jump su (meaning label.at)) (jump_fits (meaning label.at))
+    goto_fits label = read_option (IsForm t) BadGoto label.at (jump su (meaning label.at)) (jump_fits (meaning label.at))
 
   -- groups with a control variable
-  limit_fits : (e : Expression) → IsSource e → OnRead (IsExpression t) (limit M e)
-  limit_fits e l =
-      read_then (IsValue t) (IsExpression t) (value_of M e) _ (value_of_fits t based areas meaning known e l)
+  limit_fits : (e : Expression) → OnRead (IsExpression t) (limit M e)
+  limit_fits e =
+      read_then (IsValue t) (IsExpression t) (value_of M e) _ (value_of_fits t based areas meaning known e)
       (λ v h. read_option (IsExpression t) WrongOperandType (first_token e) (number_of 31 v)
       (given_made (IsExpression t) (λ p. v.expression) (precision_of 31 v.kind) (λ p. h.0)))
 
-  possible_limit_fits : (o : Option Expression) → IfThere IsSource o → OnRead (IfThere (IsExpression t)) (possible_limit M o)
-  possible_limit_fits None l = tt
-  possible_limit_fits (Some e) l =
-      read_then (IsExpression t) (IfThere (IsExpression t)) (limit M e) _ (limit_fits e l) (λ x h. h)
+  possible_limit_fits : (o : Option Expression) → OnRead (IfThere (IsExpression t)) (possible_limit M o)
+  possible_limit_fits None = tt
+  possible_limit_fits (Some e) =
+      read_then (IsExpression t) (IfThere (IsExpression t)) (limit M e) _ (limit_fits e) (λ x h. h)
 
-  limits_fit : (range : Option Range) → IfThere IsSourceRange range → OnRead (IsRange t) (limits M range)
-  limits_fit (Some (tree.To to by)) l =
-      read_then (IsExpression t) (IsRange t) (limit M to) _ (limit_fits to l.0)
-      (λ x h. read_then (IfThere (IsExpression t)) (IsRange t) (possible_limit M by) _ (possible_limit_fits by l.1) (λ y k. (h, k)))
-  limits_fit (Some (tree.By by to)) l =
-      read_then (IsExpression t) (IsRange t) (limit M by) _ (limit_fits by l.0)
-      (λ x h. read_then (IfThere (IsExpression t)) (IsRange t) (possible_limit M to) _ (possible_limit_fits to l.1) (λ y k. (h, k)))
-  limits_fit (Some (tree.Repeat next)) l = tt
-  limits_fit None l = tt
+  limits_fit : (range : Option Range) → OnRead (IsRange t) (limits M range)
+  limits_fit (Some (tree.To to by)) =
+      read_then (IsExpression t) (IsRange t) (limit M to) _ (limit_fits to)
+      (λ x h. read_then (IfThere (IsExpression t)) (IsRange t) (possible_limit M by) _ (possible_limit_fits by) (λ y k. (h, k)))
+  limits_fit (Some (tree.By by to)) =
+      read_then (IsExpression t) (IsRange t) (limit M by) _ (limit_fits by)
+      (λ x h. read_then (IfThere (IsExpression t)) (IsRange t) (possible_limit M to) _ (possible_limit_fits to) (λ y k. (h, k)))
+  limits_fit (Some (tree.Repeat next)) = tt
+  limits_fit None = tt
 
   control_fits : (at : ℕ) (r : Referent) (b : Bool) → IsReferent t r → OnRead (IsReferent t) (suited_control at r b)
   control_fits at r true h = h
@@ -237,38 +236,38 @@ module _ (t : TypedUnit) (based : ℕ → List Template) (areas : ℕ → Option
   controls_fit at is_located range (DenotesResult v) h = tt
   controls_fit at is_located range DenotesEmpty h = tt
 
-  possible_condition_fits : (o : Option Expression) → IfThere IsSource o → OnRead (IfThere (IsExpression t)) (possible_condition M o)
-  possible_condition_fits None l = tt
-  possible_condition_fits (Some e) l =
-      read_then (IsExpression t) (IfThere (IsExpression t)) (condition M e) _ (condition_fits e l) (λ x h. h)
+  possible_condition_fits : (o : Option Expression) → OnRead (IfThere (IsExpression t)) (possible_condition M o)
+  possible_condition_fits None = tt
+  possible_condition_fits (Some e) =
+      read_then (IsExpression t) (IfThere (IsExpression t)) (condition M e) _ (condition_fits e) (λ x h. h)
 
-  next_fits : (r : Referent) → IsReferent t r → (e : Expression) → IsSource e → OnRead (IsRange t) (next_value M r e)
-  next_fits r placed e l =
+  next_fits : (r : Referent) → IsReferent t r → (e : Expression) → OnRead (IsRange t) (next_value M r e)
+  next_fits r placed e =
       let d : Description = r.description in
-      read_then (IsValue t) (IsRange t) (value_of M e) _ (value_of_fits t based areas meaning known e l)
+      read_then (IsValue t) (IsRange t) (value_of M e) _ (value_of_fits t based areas meaning known e)
       (λ v h. read_then (IsExpression t) (IsRange t) (or_fault CannotAssign (first_token e) (converted 31 r.area d v)) _
       (read_option (IsExpression t) CannotAssign (first_token e) (converted 31 r.area d v)
       (converted_fits t r.area placed.area d v placed.described h)) (λ x k. k))
 
-  turns_fit : (r : Referent) → IsReferent t r → (kept : TypedRange) (range : Option Range) → IfThere IsSourceRange range → IsRange t kept
+  turns_fit : (r : Referent) → IsReferent t r → (kept : TypedRange) (range : Option Range) → IsRange t kept
       → OnRead (IsRange t) (with_repeat M r kept range)
-  turns_fit r placed kept (Some (tree.Repeat next)) l h = next_fits r placed next l
-  turns_fit r placed kept (Some (tree.To to by)) l h = h
-  turns_fit r placed kept (Some (tree.By by to)) l h = h
-  turns_fit r placed kept None l h = h
+  turns_fit r placed kept (Some (tree.Repeat next)) h = next_fits r placed next
+  turns_fit r placed kept (Some (tree.To to by)) h = h
+  turns_fit r placed kept (Some (tree.By by to)) h = h
+  turns_fit r placed kept None h = h
 
   pub iteration_fits : (temporary : ℕ) (variable : Reference) (equals : ℕ) (first : Expression) (range : Option Range)
-      (tested : Option Expression) → IsSourceControl (tree.Iterate variable equals first range tested)
+      (tested : Option Expression)
       → OnRead (IsIteration t) (iteration M temporary variable equals first range tested)
-  iteration_fits temporary variable equals first range tested l =
-      read_then (IsValue t) (IsIteration t) (value_of M first) _ (value_of_fits t based areas meaning known first l.1)
-      (λ v h. read_then (IsRange t) (IsIteration t) (limits M range) _ (limits_fit range l.2)
-      (λ kept k. read_then (IsDenoted t) (IsIteration t) (referred M AsLocator variable) _ (referred_fits t based areas meaning known AsLocator variable l.0)
+  iteration_fits temporary variable equals first range tested =
+      read_then (IsValue t) (IsIteration t) (value_of M first) _ (value_of_fits t based areas meaning known first)
+      (λ v h. read_then (IsRange t) (IsIteration t) (limits M range) _ (limits_fit range)
+      (λ kept k. read_then (IsDenoted t) (IsIteration t) (referred M AsLocator variable) _ (referred_fits t based areas meaning known AsLocator variable)
       (λ d g. read_then (IsReferent t) (IsIteration t) (controls (own_token variable) (has_locator variable) kept d) _
       (controls_fit (own_token variable) (has_locator variable) kept d g)
       (λ r m. read_then (IsConversion t) (IsIteration t) (or_fault CannotAssign equals (conversion 31 r.area r.description v.kind)) _
       (read_option (IsConversion t) CannotAssign equals (conversion 31 r.area r.description v.kind)
       (conversion_fits t r.area m.area r.description v.kind m.described h.1))
-      (λ converts c. read_then (IfThere (IsExpression t)) (IsIteration t) (possible_condition M tested) _ (possible_condition_fits tested l.3)
-      (λ x w. read_then (IsRange t) (IsIteration t) (with_repeat M r kept range) _ (turns_fit r m kept range l.2 k)
+      (λ converts c. read_then (IfThere (IsExpression t)) (IsIteration t) (possible_condition M tested) _ (possible_condition_fits tested)
+      (λ x w. read_then (IsRange t) (IsIteration t) (with_repeat M r kept range) _ (turns_fit r m kept range k)
       (λ turns s. (m.reference, c, unconverted_fits t r.description v h, s, w))))))))

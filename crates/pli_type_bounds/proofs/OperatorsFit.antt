@@ -1,9 +1,11 @@
 -- Operators, conversions and built-in functions of what is within the limits are within them.
-use Rattle.std.specs.Prelude.{◌≡◌, ℕ, zero, suc, ◌-◌, ◌≤◌, nat_eq, nat_le, ℤ, Bool, true, false, ◌&&◌}
+use Rattle.std.specs.Prelude.{◌≡◌, ℕ, zero, suc, ◌-◌, ◌≤◌, min, nat_eq, nat_le, ℤ, Bool, true, false, ◌&&◌}
 use Rattle.std.specs.Prelude.{Option, Some, None, option_map, option_and_then, List, [], ◌∷◌, ◌++◌, map, length, slice_get, refl, if◌then◌else◌}
 use Rattle.std.specs.List.{AllByRecursion}
 use Rattle.std.proofs.Common.{arith}
 use Rattle.std.proofs.lemmas.Bool.{and_parts, leb-true}
+use Rattle.std.proofs.lemmas.List.{length-take}
+use Rattle.std.proofs.Math.Nat.{pow-le-pow_right}
 use Rattle.pli_base.specs.declared.syntax.ConstantValue.{ConstantValue}
 use Rattle.pli_base.specs.declared.syntax.ConstantValue.TheVariants as constants
 use Rattle.pli_base.specs.declared.syntax.InfixOperator.{InfixOperator}
@@ -20,7 +22,7 @@ use Rattle.pli_operation.specs.declared.operation.Relation.TheVariants.{Equal, U
 use Rattle.pli_resolve.specs.declared.built_in.BuiltInFunction.{BuiltInFunction}
 use Rattle.pli_resolve.specs.declared.built_in.BuiltInFunction.TheVariants as functions
 use Rattle.pli_type.specs.Beginnings.{area_meant, whole_at}
-use Rattle.pli_type.specs.ExpressionTypes.{TypedValue, precision_of, precisions, all_operands, constant, null_offset, with_one, with_plus, with_minus, with_not}
+use Rattle.pli_type.specs.ExpressionTypes.{TypedValue, precision_of, precisions, all_operands, binary_digits, constant, within, null_offset, with_one, with_plus, with_minus, with_not}
 use Rattle.pli_type.specs.ExpressionTypes.{prefix_value, infix_value, on_numbers, sum_precision, product_precision, columns, width_of, decimal_digits}
 use Rattle.pli_type.specs.ExpressionTypes.{string_type, string_as, on_strings, as_bits, is_locator, as_pointer, as_offset, are_offsets, locators_compared, locators_beside, compared, comparison, concatenation, of_bits_alone}
 use Rattle.pli_type.specs.ExpressionTypes.{number_as_characters, as_characters, only_bits, suited, converted, string_conversions, bit_conversions, suiting, printed_from}
@@ -34,11 +36,12 @@ use Rattle.pli_type.specs.declared.beginning.Beginning.{Beginning}
 use Rattle.pli_type.specs.declared.expression_type.ExpressionType.{ExpressionType}
 use Rattle.pli_type.specs.declared.expression_type.ExpressionType.TheVariants as types
 use Rattle.pli_type_tree.specs.TypedTree.{InSlot, OfProgram, NewestOf, Located, TypedOperation, Fit, Operate, TypedExpression, ByOperations, TypedReference, Whole, TypedUnit}
+use Rattle.pli_type_tree.specs.ValueTypes.{longest}
+use Rattle.pli_type_laws.proofs.Constants.{below}
 use Rattle.pli_type_laws.proofs.Conversions.{OnGiven, given_if}
 use Rattle.pli_type_laws.proofs.Denotations.{OnRead}
 use Rattle.pli_type_laws.proofs.Operators.{given_map}
 use Rattle.pli_type_bounds.proofs.Meanings.{IsAreaNamed, IsKind, IsValue, IsReferent, IsMeant, IsDenoted, AreArgumentsGiven}
-use Rattle.pli_source_laws.specs.Sources.{IsWritten}
 use Rattle.pli_deck_laws.specs.Limits.{IsDescription, IsBound, AreBounds, IsOperation}
 use Rattle.pli_deck_laws.specs.WellFormed.{IsExpression, IsReference, AreOperands, IsConversion}
 
@@ -51,12 +54,16 @@ given_made Q f None g = tt
 width_fits : (digits : ℕ) → columns digits ≤ 255
 width_fits digits = omega arith
 
+-- the value of a constant is a number of 31 binary digits
+number_fits : (p value : ℕ) → p ≤ 31 → within p value ≤ 2147483647
+number_fits p value le = omega (arith, below p value, pow-le-pow_right {n = 2} (omega arith) {i = p} {j = 31} le)
+
 module _ (t : TypedUnit) where
-  pub constant_fits : (value : ConstantValue) → IsWritten value → IsValue t (constant value)
-  constant_fits (constants.Decimal value digits) h = (h, tt)
-  constant_fits (constants.Binary value digits) h = (h, tt)
-  constant_fits (constants.Characters text) h = (h, tt)
-  constant_fits (constants.Bits bits) h = (h, tt)
+  pub constant_fits : (value : ConstantValue) → IsValue t (constant 31 value)
+  constant_fits (constants.Decimal value digits) = (number_fits (binary_digits 31 digits) value (omega arith), tt)
+  constant_fits (constants.Binary value digits) = (number_fits (min 31 digits) value (omega arith), tt)
+  constant_fits (constants.Characters text) = (omega (arith, length-take longest text), tt)
+  constant_fits (constants.Bits bits) = (omega (arith, length-take longest bits), tt)
 
   operands_fit : (es : List TypedExpression) → AllByRecursion (IsExpression t) es → AreOperands t (all_operands es)
   operands_fit [] h = tt

@@ -33,7 +33,6 @@ use Rattle.pli_type_laws.proofs.TypedParts.{OnTyped}
 use Rattle.pli_type_name_laws.proofs.InitialHeld.{all_behind}
 use Rattle.pli_type_bounds.proofs.Meanings.{IsAreaNamed, IsMeaning}
 use Rattle.pli_deck_laws.specs.Limits.{link_limit, parameter_limit, word_limit, IfThere, IsDescription, IsTemplate}
-use Rattle.pli_source_laws.specs.Sources.{IsSourceStatement, IsSourceBody, IsSourceElse, AreSourceStatements}
 use Rattle.pli_deck_laws.specs.WellFormed.{HasBlock, IsHead, IsExpression, IsIteration, IsStatement, IsForm, IsElse, AreStatements, IsProcedure, kept_in, kept_in_form, kept_in_else, kept_among}
 
 -- what is to be known of a unit: names mean what is within the limits, blocks have few parameters and templates
@@ -255,49 +254,49 @@ module _ (t : TypedUnit) (program : ExternalProcedure) (is_based : ℕ → Bool)
 
   mutual
     statement_fits : (d : Bool) (m : ℕ) (s : Surroundings) (x : Next) (a : ℕ) (st : Statement) → Sits size m s → NestsWithin d m st
-        → IsNumbered a st → a + count st ≤ word_limit → x.block + blocks.blocks_in st ≤ size → IsSourceStatement st
+        → IsNumbered a st → a + count st ≤ word_limit → x.block + blocks.blocks_in st ≤ size
         → OnTyped (Fit t (StatementFits t (temporaries_in is_based st))) (statement_typed U s x st)
-    statement_fits d m s x a (Numbered number label at body) sits n h low room l =
+    statement_fits d m s x a (Numbered number label at body) sits n h low room =
         made_fits t (FormFits t (temporaries_of is_based body)) (StatementFits t (temporaries_of is_based body)) (typed.Statement number) (body_typed U s x number at body)
         (λ f k. ((omega (arith, h.0, low), k.0), k.1))
-        (body_fits d m s x number at (suc a) body sits n h.1 (omega (arith, h.0, low)) (omega (arith, low)) room l)
+        (body_fits d m s x number at (suc a) body sits n h.1 (omega (arith, h.0, low)) (omega (arith, low)) room)
 
     body_fits : (d : Bool) (m : ℕ) (s : Surroundings) (x : Next) (number at a : ℕ) (body : Body) → Sits size m s → BodyNests d m body
         → IsNumberedBody a body → number < word_limit → a + body_count body ≤ word_limit → x.block + blocks.blocks_of body ≤ size
-        → IsSourceBody body → OnTyped (Fit t (FormFits t (temporaries_of is_based body))) (body_typed U s x number at body)
-    body_fits d m s x number at a tree.Null sits n h lt low room l = ((tt, omega arith), tt)
-    body_fits d m s x number at a (tree.Assign target equals value) sits n h lt low room l =
+        → OnTyped (Fit t (FormFits t (temporaries_of is_based body))) (body_typed U s x number at body)
+    body_fits d m s x number at a tree.Null sits n h lt low room = ((tt, omega arith), tt)
+    body_fits d m s x number at a (tree.Assign target equals value) sits n h lt low room =
         form_fits t (assignment (naming_at U s) at target equals value)
-        (assignment_fits t (based (numbers s)) (areas (numbers s)) (meaning (numbers s)) (known m s sits) at target equals value l.0 l.1)
-    body_fits d m s x number at a (tree.Declare declared) sits n h lt low room l = ((tt, omega arith), tt)
-    body_fits d m s x number at a (tree.Procedure heading ss end) sits n h lt low room l =
+        (assignment_fits t (based (numbers s)) (areas (numbers s)) (meaning (numbers s)) (known m s sits) at target equals value)
+    body_fits d m s x number at a (tree.Declare declared) sits n h lt low room = ((tt, omega arith), tt)
+    body_fits d m s x number at a (tree.Procedure heading ss end) sits n h lt low room =
         deeper_in m (λ m. ListNests true m ss) _ n.1
         (λ i e g. procedures_fit (temporaries_among is_based ss) typed.Null (procedure_of U (Some (block_at s)) x.block number end ss)
         (statements_typed U (in_procedure x.block (returned x.block) ss s) (inside x) ss) tt
         (λ list k. procedure_fits s x.block number end ss list sits.block lt (omega (arith, h.1, low)) k)
         (list_fits true i (in_procedure x.block (returned x.block) ss s) (inside x) a ss
         (in_a_procedure i x.block s ss (omega (arith, room)) (subst (λ k. Sits size k s) e sits)) g h.0 (omega (arith, low))
-        (omega (arith, room)) l))
-    body_fits d m s x number at a (tree.Begin ss end) sits n h lt low room l =
+        (omega (arith, room))))
+    body_fits d m s x number at a (tree.Begin ss end) sits n h lt low room =
         deeper_in m (λ m. ListNests true m ss) _ n
         (λ i e g. made_fits t (ListFits t (temporaries_among is_based ss)) (FormFits t 0) (typed.Begin (head_of U x.block number ss))
         (statements_typed U (in_begin x.block ss s) (inside x) ss) (λ list k. ((head_fits x.block number ss list lt k.1, k.0), omega arith))
         (list_fits true i (in_begin x.block ss s) (inside x) a ss
         (in_a_begin i x.block s ss (omega (arith, room)) (subst (λ k. Sits size k s) e sits)) g h.0 (omega (arith, low))
-        (omega (arith, room)) l))
-    body_fits d m s x number at a (tree.Do None ss end) sits n h lt low room l =
+        (omega (arith, room))))
+    body_fits d m s x number at a (tree.Do None ss end) sits n h lt low room =
         deeper_in m (λ m. ListNests false m ss) _ n
         (λ i e g. made_fits t (ListFits t (temporaries_among is_based ss)) (FormFits t (temporaries_of is_based (tree.Do None ss end))) typed.Group
         (statements_typed U (in_group ss s) x ss) (λ list k. (k.0, omega (arith, k.1)))
-        (list_fits false i (in_group ss s) x a ss (in_a_group i s ss (subst (λ k. Sits size k s) e sits)) g h.0 (omega (arith, low)) room l.1))
-    body_fits d m s x number at a (tree.Do (Some (tree.While tested)) ss end) sits n h lt low room l =
+        (list_fits false i (in_group ss s) x a ss (in_a_group i s ss (subst (λ k. Sits size k s) e sits)) g h.0 (omega (arith, low)) room))
+    body_fits d m s x number at a (tree.Do (Some (tree.While tested)) ss end) sits n h lt low room =
         deeper_in m (λ m. ListNests false m ss) _ n
         (λ i e g. both_fit t (IsExpression t) (ListFits t (temporaries_among is_based ss)) (FormFits t (temporaries_of is_based (tree.Do (Some (tree.While tested)) ss end)))
         typed.While (of_own (condition (naming_at U s) tested)) (statements_typed U (in_group ss s) x ss)
         (λ c list j k. ((j, k.0), omega (arith, k.1)))
-        (own_fits t (IsExpression t) (condition (naming_at U s) tested) (condition_fits t (based (numbers s)) (areas (numbers s)) (meaning (numbers s)) (known m s sits) tested l.0))
-        (list_fits false i (in_group ss s) x a ss (in_a_group i s ss (subst (λ k. Sits size k s) e sits)) g h.0 (omega (arith, low)) room l.1))
-    body_fits d m s x number at a (tree.Do (Some (tree.Iterate variable equals first range tested)) ss end) sits n h lt low room l =
+        (own_fits t (IsExpression t) (condition (naming_at U s) tested) (condition_fits t (based (numbers s)) (areas (numbers s)) (meaning (numbers s)) (known m s sits) tested))
+        (list_fits false i (in_group ss s) x a ss (in_a_group i s ss (subst (λ k. Sits size k s) e sits)) g h.0 (omega (arith, low)) room))
+    body_fits d m s x number at a (tree.Do (Some (tree.Iterate variable equals first range tested)) ss end) sits n h lt low room =
         deeper_in m (λ m. ListNests false m ss) _ n
         (λ i e g. both_fit t (λ i. IsIteration t i × HasOwn x.temporary range i) (ListFits t (temporaries_among is_based ss))
         (FormFits t (temporaries_of is_based (tree.Do (Some (tree.Iterate variable equals first range tested)) ss end))) typed.Iterate
@@ -305,11 +304,11 @@ module _ (t : TypedUnit) (program : ExternalProcedure) (is_based : ℕ → Bool)
         (statements_typed U (in_group ss s) (behind_limits range x) ss) (λ c list j k. ((j.0, k.0), omega (arith, j.1.1, k.1)))
         (own_fits t (λ i. IsIteration t i × HasOwn x.temporary range i) (iteration (naming_at U s) x.temporary variable equals first range tested)
         (both_read (IsIteration t) (HasOwn x.temporary range) (iteration (naming_at U s) x.temporary variable equals first range tested)
-        (iteration_fits t (based (numbers s)) (areas (numbers s)) (meaning (numbers s)) (known m s sits) x.temporary variable equals first range tested l.0)
+        (iteration_fits t (based (numbers s)) (areas (numbers s)) (meaning (numbers s)) (known m s sits) x.temporary variable equals first range tested)
         (iteration_keeps (naming_at U s) x.temporary variable equals first range tested)))
         (list_fits false i (in_group ss s) (behind_limits range x) a ss (in_a_group i s ss (subst (λ k. Sits size k s) e sits)) g h.0
-        (omega (arith, low)) room l.1))
-    body_fits d m s x number at a (tree.If tested consequence alternative) sits n h lt low room l =
+        (omega (arith, low)) room))
+    body_fits d m s x number at a (tree.If tested consequence alternative) sits n h lt low room =
         deeper_in m (λ m. NestsWithin false m consequence × ElseNests m alternative) _ n
         (λ i e g. both_fit t (IsExpression t)
         (λ (b : TypedStatement × OtherWise). StatementFits t (temporaries_in is_based consequence) b.0 × ElseFits t (temporaries_behind is_based alternative) b.1)
@@ -317,36 +316,36 @@ module _ (t : TypedUnit) (program : ExternalProcedure) (is_based : ℕ → Bool)
         (λ c b. typed.If c b.0 b.1) (of_own (condition (naming_at U s) tested))
         (together (λ y z. (y, z)) (statement_typed U s x consequence) (alternative_typed U s (behind is_based x consequence) alternative))
         (λ c b j k. ((j, k.0.0, k.1.0), omega (arith, k.0.1, k.1.1)))
-        (own_fits t (IsExpression t) (condition (naming_at U s) tested) (condition_fits t (based (numbers s)) (areas (numbers s)) (meaning (numbers s)) (known m s sits) tested l.0))
+        (own_fits t (IsExpression t) (condition (naming_at U s) tested) (condition_fits t (based (numbers s)) (areas (numbers s)) (meaning (numbers s)) (known m s sits) tested))
         (both_fit t (StatementFits t (temporaries_in is_based consequence)) (ElseFits t (temporaries_behind is_based alternative))
         (λ (b : TypedStatement × OtherWise). StatementFits t (temporaries_in is_based consequence) b.0 × ElseFits t (temporaries_behind is_based alternative) b.1)
         (λ y z. (y, z))
         (statement_typed U s x consequence) (alternative_typed U s (behind is_based x consequence) alternative) (λ y z j k. (j, k))
         (statement_fits false i s x a consequence (fewer i s (subst (λ k. Sits size k s) e sits)) g.0 h.0 (omega (arith, low))
-        (omega (arith, room)) l.1)
+        (omega (arith, room)))
         (alternative_fits i s (behind is_based x consequence) (a + count consequence) alternative (fewer i s (subst (λ k. Sits size k s) e sits)) g.1 h.1
-        (omega (arith, low)) (omega (arith, room)) l.2)))
-    body_fits d m s x number at a tree.Stop sits n h lt low room l = ((tt, omega arith), tt)
-    body_fits d m s x number at a (tree.Allocate list) sits n h lt low room l =
+        (omega (arith, low)) (omega (arith, room)))))
+    body_fits d m s x number at a tree.Stop sits n h lt low room = ((tt, omega arith), tt)
+    body_fits d m s x number at a (tree.Allocate list) sits n h lt low room =
         own_fits t (FormFits t (based_among is_based list)) (allocate_typed (naming_at U s) x.temporary list)
         (both_read (IsForm t) (λ f. based_among is_based list ≤ kept_in_form f) (allocate_typed (naming_at U s) x.temporary list)
-        (allocate_fits t (based (numbers s)) (areas (numbers s)) (meaning (numbers s)) (known m s sits) (fits.based_fits (numbers s)) x.temporary list l)
+        (allocate_fits t (based (numbers s)) (areas (numbers s)) (meaning (numbers s)) (known m s sits) (fits.based_fits (numbers s)) x.temporary list)
         (allocation_kept x.temporary (based_among is_based list) (allocate_typed (naming_at U s) x.temporary list)
         (allocate_keeps (naming_at U s) is_based (fits.knows (numbers s)) x.temporary list)))
-    body_fits d m s x number at a (tree.Free list) sits n h lt low room l =
-        form_fits t (free_typed (naming_at U s) list) (free_fits t (based (numbers s)) (areas (numbers s)) (meaning (numbers s)) (known m s sits) list l)
-    body_fits d m s x number at a (tree.Call name arguments) sits n h lt low room l =
-        form_fits t (call_typed (naming_at U s) name arguments) (call_fits t (based (numbers s)) (areas (numbers s)) (meaning (numbers s)) (known m s sits) name arguments l)
-    body_fits d m s x number at a (tree.Goto label) sits n h lt low room l =
+    body_fits d m s x number at a (tree.Free list) sits n h lt low room =
+        form_fits t (free_typed (naming_at U s) list) (free_fits t (based (numbers s)) (areas (numbers s)) (meaning (numbers s)) (known m s sits) list)
+    body_fits d m s x number at a (tree.Call name arguments) sits n h lt low room =
+        form_fits t (call_typed (naming_at U s) name arguments) (call_fits t (based (numbers s)) (areas (numbers s)) (meaning (numbers s)) (known m s sits) name arguments)
+    body_fits d m s x number at a (tree.Goto label) sits n h lt low room =
         form_fits t (goto_typed (naming_at U s) s label)
         (goto_fits t (based (numbers s)) (areas (numbers s)) (meaning (numbers s)) (known m s sits) s (near m s sits) label)
-    body_fits d m s x number at a (tree.Return value) sits n h lt low room l =
+    body_fits d m s x number at a (tree.Return value) sits n h lt low room =
         form_fits t (return_typed (naming_at U s) s at value)
-        (return_fits t (based (numbers s)) (areas (numbers s)) (meaning (numbers s)) (known m s sits) (there m s sits) s (few_begins m s sits) sits.value at value l)
-    body_fits d m s x number at a (tree.Put skip list) sits n h lt low room l =
+        (return_fits t (based (numbers s)) (areas (numbers s)) (meaning (numbers s)) (known m s sits) (there m s sits) s (few_begins m s sits) sits.value at value)
+    body_fits d m s x number at a (tree.Put skip list) sits n h lt low room =
         made_fits t (AllByRecursion (IsExpression t)) (FormFits t 0) (typed.Put skip) (of_own (items (naming_at U s) list)) (λ xs k. (k, omega arith))
-        (own_fits t (AllByRecursion (IsExpression t)) (items (naming_at U s) list) (items_fit t (based (numbers s)) (areas (numbers s)) (meaning (numbers s)) (known m s sits) list l))
-    body_fits d m s x number at a (tree.On c (Numbered own label first inner)) sits n h lt low room l =
+        (own_fits t (AllByRecursion (IsExpression t)) (items (naming_at U s) list) (items_fit t (based (numbers s)) (areas (numbers s)) (meaning (numbers s)) (known m s sits) list))
+    body_fits d m s x number at a (tree.On c (Numbered own label first inner)) sits n h lt low room =
         let unit : Statement = Numbered own label first inner in
         let there : Surroundings = in_on_unit x.block (Numbered own label first inner) s in
         deeper_in m (λ m. NestsWithin false m (Numbered own label first inner)) _ n
@@ -359,28 +358,28 @@ module _ (t : TypedUnit) (program : ExternalProcedure) (is_based : ℕ → Bool)
         (λ y z j k. put_fits t (leaves_nothing inner) y z (temporaries_of is_based inner) 0 (nothing_kept is_based inner) j k)
         (statement_fits false i there (inside x) a (Numbered own label first inner)
         (in_a_unit i x.block s (Numbered own label first inner) (omega (arith, room)) (subst (λ k. Sits size k s) e sits)) g h
-        (omega (arith, low)) (omega (arith, room)) l)
+        (omega (arith, low)) (omega (arith, room)))
         ((tt, omega arith), tt)))
-    body_fits d m s x number at a (tree.Revert c) sits n h lt low room l = ((tt, omega arith), tt)
-    body_fits d m s x number at a (tree.Signal c) sits n h lt low room l = ((tt, omega arith), tt)
+    body_fits d m s x number at a (tree.Revert c) sits n h lt low room = ((tt, omega arith), tt)
+    body_fits d m s x number at a (tree.Signal c) sits n h lt low room = ((tt, omega arith), tt)
 
     alternative_fits : (m : ℕ) (s : Surroundings) (x : Next) (a : ℕ) (e : Alternative) → Sits size m s → ElseNests m e
-        → IsNumberedElse a e → a + alternative_count e ≤ word_limit → x.block + blocks.blocks_behind e ≤ size → IsSourceElse e
+        → IsNumberedElse a e → a + alternative_count e ≤ word_limit → x.block + blocks.blocks_behind e ≤ size
         → OnTyped (Fit t (ElseFits t (temporaries_behind is_based e))) (alternative_typed U s x e)
-    alternative_fits m s x a tree.NoElse sits n h low room l = ((tt, omega arith), tt)
-    alternative_fits m s x a (tree.Else st) sits n h low room l =
+    alternative_fits m s x a tree.NoElse sits n h low room = ((tt, omega arith), tt)
+    alternative_fits m s x a (tree.Else st) sits n h low room =
         made_fits t (StatementFits t (temporaries_in is_based st)) (ElseFits t (temporaries_in is_based st)) Else (statement_typed U s x st) (λ y k. k)
-        (statement_fits false m s x a st sits n h low room l)
+        (statement_fits false m s x a st sits n h low room)
 
     pub list_fits : (d : Bool) (m : ℕ) (s : Surroundings) (x : Next) (a : ℕ) (ss : Statements) → Sits size m s → ListNests d m ss
-        → AreNumbered a ss → a + list_count ss ≤ word_limit → x.block + blocks.blocks_among ss ≤ size → AreSourceStatements ss
+        → AreNumbered a ss → a + list_count ss ≤ word_limit → x.block + blocks.blocks_among ss ≤ size
         → OnTyped (Fit t (ListFits t (temporaries_among is_based ss))) (statements_typed U s x ss)
-    list_fits d m s x a Ended sits n h low room l = ((tt, omega arith), tt)
-    list_fits d m s x a (Before (Numbered number label at body) more) sits n h low room l =
+    list_fits d m s x a Ended sits n h low room = ((tt, omega arith), tt)
+    list_fits d m s x a (Before (Numbered number label at body) more) sits n h low room =
         both_fit t (StatementFits t (temporaries_of is_based body)) (ListFits t (temporaries_among is_based more)) (ListFits t (temporaries_of is_based body + temporaries_among is_based more))
         (put_before (leaves_nothing body))
         (statement_typed U s x (Numbered number label at body)) (statements_typed U s (behind is_based x (Numbered number label at body)) more)
         (λ y z j k. put_fits t (leaves_nothing body) y z (temporaries_of is_based body) (temporaries_among is_based more) (nothing_kept is_based body) j k)
-        (statement_fits d m s x a (Numbered number label at body) sits n.0 h.0 (omega (arith, low)) (omega (arith, room)) l.0)
+        (statement_fits d m s x a (Numbered number label at body) sits n.0 h.0 (omega (arith, low)) (omega (arith, room)))
         (list_fits d m s (behind is_based x (Numbered number label at body)) (a + count (Numbered number label at body)) more sits n.1 h.1
-        (omega (arith, low)) (omega (arith, room)) l.1)
+        (omega (arith, low)) (omega (arith, room)))

@@ -1,6 +1,6 @@
 -- Typed units are well formed.
 use Rattle.std.specs.Prelude.{◌≡◌, ℕ, zero, suc, ◌+◌, ◌≤◌, ◌<◌, Option, Some, None, List, [], ◌∷◌, length, slice_get}
-use Rattle.std.specs.Prelude.{Bool, true, Result, Ok, Err, refl}
+use Rattle.std.specs.Prelude.{Bool, true, Result, Ok, refl}
 use Rattle.std.proofs.Common.{arith, sym, ap, ◌∙◌, subst}
 use Rattle.std.proofs.lemmas.List.{length-map}
 use Rattle.pli_base.specs.Statements.{ExternalProcedure, Statements, Ended, Before, Numbered, list_count}
@@ -19,7 +19,7 @@ use Rattle.pli_parse_statement.specs.StatementWords.{Context, a_procedure}
 use Rattle.pli_resolve.specs.ResolvedUnits.{ResolvedUnit, resolved_unit_of, all_symbols, meaning_at}
 use Rattle.pli_resolve.specs.TreeBlocks as source
 use Rattle.pli_type.specs.Checked as typing
-use Rattle.pli_type.specs.Checked.{in_unit, first_inside, typed_as, checked, unless_unbuilt}
+use Rattle.pli_type.specs.Checked.{in_unit, first_inside, checked}
 use Rattle.pli_type.specs.NamedUnits.{is_automatic, is_based, all_globals, area_named, block_symbols, parameters_of, returned_of, returned_area_of, names_based, named_as}
 use Rattle.pli_type.specs.NamedUnits.{named_unit, templates_of, checked_unit}
 use Rattle.pli_type.specs.Names.{NamedUnit, NamedAs}
@@ -41,15 +41,13 @@ use Rattle.pli_type_tree.specs.Templates.{Template}
 use Rattle.pli_type_tree.specs.TypedTree.{TypedStatements, TypedUnit}
 use Rattle.pli_gen_emit.specs.TreeTranslation.{blocks_among}
 use Rattle.pli_type_bounds.proofs.BlocksThere.{AreHere, list_here, has_block, has_slot}
-use Rattle.pli_type_laws.proofs.TypedParts.{OnTyped}
+use Rattle.pli_type_laws.proofs.TypedParts.{OnTyped, on_given, unit_given}
 use Rattle.pli_type_laws.specs.TypedUnits.{unit_with}
 use Rattle.pli_type_bounds.proofs.NamesFit.{Has, Automatic, automatic_fit, based_fit, all_globals_fit, areas_fit, meanings_fit, parameters_few, parameters_described, returned_described}
 use Rattle.pli_type_bounds.proofs.StatementsFit as fitting
 use Rattle.pli_type_bounds.proofs.StatementsFit.{UnitFits, Fit, ListFits, list_fits}
 use Rattle.pli_type_bounds.specs.UnitLaws.{TypedUnitsAreWellFormed}
 use Rattle.pli_resolve_bounds.proofs.StatementsCounted.{statements_are_few}
-use Rattle.pli_source_laws.proofs.ConstantsWithin.{constants_are_within_limits}
-use Rattle.pli_source_laws.specs.Sources.{AreSourceStatements}
 
 -- ---- numbers
 
@@ -74,17 +72,7 @@ unit_numbered texts u read =
 
 -- ---- what is given
 
-given_same : {A B : Type 0} {x y : A} (r : Result A B) → r ≡ Ok x → r ≡ Ok y → x ≡ y
-given_same r e f = cc
-
-error_given : {A B : Type 0} {x : A} {y : B} (r : Result A B) → r ≡ Err y → r ≡ Ok x → ⊥
-error_given r f e = absurd (cc)
-
-on_given : {A : Type 0} (P : A → Type 0) (r : Result A (List Fault)) (y : A) → r ≡ Ok y → OnTyped P r → P y
-on_given P (Ok x) y e h = subst P (given_same (Ok x) refl e) h
-on_given P (Err fs) y e h = absurd (error_given (Err fs) refl e)
-
-module _ (texts : Tokens) (u : ExternalProcedure) (read : unit_of texts ≡ Ok u) (none : resolution_faults u ≡ []) (short : length texts ≤ 200000) (list_good : AreSourceStatements u.statements) where
+module _ (texts : Tokens) (u : ExternalProcedure) (read : unit_of texts ≡ Ok u) (none : resolution_faults u ≡ []) (short : length texts ≤ 200000) where
   abbrev R : ResolvedUnit
   R = resolved_unit_of u
 
@@ -178,7 +166,7 @@ module _ (texts : Tokens) (u : ExternalProcedure) (read : unit_of texts ≡ Ok u
         list_fits T u named based areas meaning (parameters_of R) (returned_of R)
         (λ block. templates_of (is_automatic 31) (block_symbols R block)) (all_globals 31 (all_symbols R)) (length R.blocks) fits
         true 63 (in_unit (returned_of R 0) u.statements) first_inside 2 u.statements start (unit_nests texts u read) (unit_numbered texts u read)
-        (omega (arith, few)) (omega (arith, size_is)) list_good
+        (omega (arith, few)) (omega (arith, size_is))
 
     end_fits : (o : Option Description) (end : ℕ) → end < word_limit → IfThere (λ n. n < word_limit) (function_end o end)
     end_fits None end lt = tt
@@ -200,18 +188,10 @@ module _ (texts : Tokens) (u : ExternalProcedure) (read : unit_of texts ≡ Ok u
           );
         }
 
-  of_result : (t : TypedUnit) (r : Result (WithProcedures TypedStatements) (List Fault)) → Given ≡ r → typed_as U r ≡ Ok t → IsWellFormed t
-  of_result t (Ok y) is e = subst IsWellFormed (given_same (Ok (typing.unit_of U y)) refl e) (well_formed y is)
-  of_result t (Err fs) is e = absurd (error_given _ refl e)
-
-  of_built : (t : TypedUnit) (o : Option ℕ) → unless_unbuilt o (typed_as U Given) ≡ Ok t → IsWellFormed t
-  of_built t None e = of_result t Given refl e
-  of_built t (Some at) e = absurd (error_given _ refl e)
-
   unit_fits : (t : TypedUnit) → checked_unit R ≡ Ok t → IsWellFormed t
   unfolding checked_unit checked
-  unit_fits t e = of_built t _ e
+  unit_fits t e = unit_given U IsWellFormed Given t (λ y is. well_formed y is) e
 
 pub typed_units_are_well_formed : TypedUnitsAreWellFormed
 typed_units_are_well_formed texts u t short read none e =
-    unit_fits texts u read none short (constants_are_within_limits (resolved_unit_of u) t e) t e
+    unit_fits texts u read none short t e

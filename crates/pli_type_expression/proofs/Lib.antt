@@ -1,5 +1,5 @@
 pub mod BindLemmas
-pub mod NothingLater
+pub mod Rooms
 pub mod WrittenCalls
 pub mod CallLemmas
 pub mod LoopLemmas

@@ -1,5 +1,4 @@
 pub mod Bounded
-pub mod Literals
 pub mod Operated
 pub mod Quotients
 pub mod Segments

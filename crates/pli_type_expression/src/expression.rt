@@ -1,13 +1,12 @@
 //! The walk over expressions and references.
-ghost use Rattle.std.specs.Prelude.{◌≡◌, false, map, []};
+ghost use Rattle.std.specs.Prelude.{◌≡◌, map, []};
 ghost use Rattle.pli_base.specs.Syntax.{Given};
 ghost use Rattle.pli_base.specs.views.SyntaxView as syntax;
 ghost use Rattle.pli_type.specs.Typing as typing;
-ghost use Rattle.pli_type.specs.Unbuilt.{later_expression, later_reference, later_joined, later_arguments, later_list};
 ghost use Rattle.pli_type.specs.views.ValueView.{value_view};
 ghost use Rattle.pli_type_expression.specs.Operated as operated;
 ghost use Rattle.pli_type_expression.specs.Segments.{next_segment, last_segment, function_typed};
-ghost use Rattle.pli_type_names.specs.UnitNaming.{compiled_in, naming_in};
+ghost use Rattle.pli_type_names.specs.UnitNaming.{naming_in};
 ghost use Rattle.pli_base.specs.answers.FailureAnswers.{Gives};
 ghost use Rattle.pli_type_expression.specs.views.TypingView.{argument_view, denoted_view, locator_view, meant_view, role_view, segment_view};
 ghost use Rattle.pli_type_tree.specs.views.TypedView.{expression_view};
@@ -34,14 +33,13 @@ use pli_type_names::{NamedAs, Naming};
 use pli_type_tree::TypedExpression;
 use std::alloc::{AllocError, Global};
 
-/// What an expression is in its role, or its first fault of types. Its constants are within the language's limits.
+/// What an expression is in its role, or its first fault of types.
 pub fn meant<'a>(
     alloc: Global,
     naming: &Naming<'a>,
     role: Role,
     expression: &Expression,
 ) -> Result<ExpressionMeaning<'a>, TypeError>
-    requires { later_expression (compiled_in naming.now) (syntax.expression_view expression.now) ≡ false }
     ensures { Gives meant_view result (typing.meant (naming_in naming.now) (role_view role) (syntax.expression_view expression.now)) }
 {
     let denoted = denoted(alloc, naming, role, expression)?;
@@ -54,22 +52,19 @@ pub fn arguments<'a>(
     naming: &Naming<'a>,
     list: &[Expression],
 ) -> Result<Vec<Argument<'a>>, TypeError>
-    requires { later_list (compiled_in naming.now) (syntax.expressions_view list.now) ≡ false }
     ensures { Gives (λ v. map argument_view v.items) result
         (typing.all_arguments (naming_in naming.now) [] (syntax.expressions_view list.now)) }
 {
     all_arguments(alloc, naming, &[], list)
 }
 
-/// One value of an expression: T2 at its first token where it is an aggregate. Its constants are within the language's
-/// limits.
+/// One value of an expression: T2 at its first token where it is an aggregate.
 #[cycle(typed)]
 pub fn value_of(
     alloc: Global,
     naming: &Naming<'_>,
     expression: &Expression,
 ) -> Result<TypedValue, TypeError>
-    requires { later_expression (compiled_in naming.now) (syntax.expression_view expression.now) ≡ false }
     ensures { Gives value_view result (typing.value_of (naming_in naming.now) (syntax.expression_view expression.now)) }
 {
     match expression {
@@ -91,7 +86,6 @@ fn value_denoted(
     naming: &Naming<'_>,
     expression: &Expression,
 ) -> Result<TypedValue, TypeError>
-    requires { later_expression (compiled_in naming.now) (syntax.expression_view expression.now) ≡ false }
     ensures { Gives value_view result (typing.value_of (naming_in naming.now) (syntax.expression_view expression.now)) }
 {
     let denoted = denoted(alloc, naming, Role::Value, expression)?;
@@ -107,13 +101,12 @@ pub fn denoted<'a>(
     role: Role,
     expression: &Expression,
 ) -> Result<Denoted<'a>, TypeError>
-    requires { later_expression (compiled_in naming.now) (syntax.expression_view expression.now) ≡ false }
     ensures { Gives denoted_view result (typing.denoted (naming_in naming.now) (role_view role) (syntax.expression_view expression.now)) }
 {
     match expression {
         Expression::Reference(reference) => referred(alloc, naming, role, reference),
         Expression::Constant { value, .. } => {
-            let literal = constant(alloc, value)?;
+            let literal = constant(alloc, greatest(naming), value)?;
             Ok(Denoted::Result(literal))
         }
         Expression::Parenthesized { inner, .. } => {
@@ -162,7 +155,6 @@ fn prefixed<'a>(
     at: u32,
     operand: &Expression,
 ) -> Result<Denoted<'a>, TypeError>
-    requires { later_expression (compiled_in naming.now) (syntax.expression_view operand.now) ≡ false }
     ensures { Gives denoted_view result (operated.prefixed (naming_in naming.now) operator at (syntax.expression_view operand.now)) }
 {
     let value = value_of(alloc, naming, operand)?;
@@ -182,8 +174,6 @@ fn infixed(
     left: &Expression,
     right: &Expression,
 ) -> Result<TypedValue, TypeError>
-    requires left { later_expression (compiled_in naming.now) (syntax.expression_view left.now) ≡ false }
-    requires right { later_expression (compiled_in naming.now) (syntax.expression_view right.now) ≡ false }
     ensures { Gives value_view result
         (operated.infixed (naming_in naming.now) operator at (syntax.expression_view left.now) (syntax.expression_view right.now)) }
 {
@@ -206,7 +196,6 @@ pub fn referred<'a>(
     role: Role,
     reference: &Reference,
 ) -> Result<Denoted<'a>, TypeError>
-    requires { later_reference (compiled_in naming.now) (syntax.reference_view reference.now) ≡ false }
     ensures { Gives denoted_view result (typing.referred (naming_in naming.now) (role_view role) (syntax.reference_view reference.now)) }
 {
     let joined = reference.joined.as_slice();
@@ -230,7 +219,6 @@ fn continued(
     first: Segment,
     joined: &[JoinedPart],
 ) -> Result<Segment, TypeError>
-    requires { later_joined (compiled_in naming.now) (syntax.joined_view joined.now) ≡ false }
     ensures { Gives (segment_view (naming_in naming.now)) result
         (last_segment (naming_in naming.now) (segment_view (naming_in naming.now) first) (syntax.joined_view joined.now)) }
 {
@@ -249,7 +237,6 @@ fn with_part(
     segment: Segment,
     joined: &JoinedPart,
 ) -> Result<Segment, TypeError>
-    requires { later_arguments (compiled_in naming.now) (syntax.arguments_view joined.now.part.arguments) ≡ false }
     ensures { Gives (segment_view (naming_in naming.now)) result
         (next_segment (naming_in naming.now) (segment_view (naming_in naming.now) segment) joined.now.joining joined.now.part.name
         (syntax.arguments_view joined.now.part.arguments)) }
@@ -283,7 +270,6 @@ fn begun(
     locator: LocatorBefore,
     part: &Part,
 ) -> Result<Segment, TypeError>
-    requires { later_arguments (compiled_in naming.now) (syntax.arguments_view part.now.arguments) ≡ false }
     ensures { Gives (segment_view (naming_in naming.now)) result
         (typing.begun (naming_in naming.now) ((naming_in naming.now).meaning part.now.name.at) call (locator_view locator) part.now.name.at
         (syntax.arguments_view part.now.arguments)) }
@@ -305,7 +291,6 @@ fn begun_with(
     at: u32,
     list: &[Expression],
 ) -> Result<Segment, TypeError>
-    requires { later_list (compiled_in naming.now) (syntax.expressions_view list.now) ≡ false }
     ensures { Gives (segment_view (naming_in naming.now)) result
         (typing.begun (naming_in naming.now) ((naming_in naming.now).meaning at) call (locator_view locator) at (Given (syntax.expressions_view list.now))) }
 {
@@ -349,7 +334,6 @@ fn called(
     at: u32,
     list: &[Expression],
 ) -> Result<TypedValue, TypeError>
-    requires { later_list (compiled_in naming.now) (syntax.expressions_view list.now) ≡ false }
     ensures { Gives value_view result (function_typed (naming_in naming.now) function at (syntax.expressions_view list.now)) }
 {
     let Some(roles) = roles_of(function, list.len()) else {
@@ -367,7 +351,6 @@ fn subscripts_in(
     naming: &Naming<'_>,
     part: &Part,
 ) -> Result<Vec<TypedExpression>, TypeError>
-    requires { later_arguments (compiled_in naming.now) (syntax.arguments_view part.now.arguments) ≡ false }
     ensures { Gives (λ v. map expression_view v.items) result
         (typing.subscripts_in (naming_in naming.now) (syntax.arguments_view part.now.arguments)) }
 {
@@ -384,7 +367,6 @@ fn all_subscripts(
     naming: &Naming<'_>,
     list: &[Expression],
 ) -> Result<Vec<TypedExpression>, TypeError>
-    requires { later_list (compiled_in naming.now) (syntax.expressions_view list.now) ≡ false }
     ensures { Gives (λ v. map expression_view v.items) result
         (typing.all_subscripts (naming_in naming.now) (syntax.expressions_view list.now)) }
 {
@@ -405,7 +387,6 @@ fn all_arguments<'a>(
     roles: &[Role],
     list: &[Expression],
 ) -> Result<Vec<Argument<'a>>, TypeError>
-    requires { later_list (compiled_in naming.now) (syntax.expressions_view list.now) ≡ false }
     ensures { Gives (λ v. map argument_view v.items) result
         (typing.all_arguments (naming_in naming.now) (map role_view roles.now) (syntax.expressions_view list.now)) }
 {

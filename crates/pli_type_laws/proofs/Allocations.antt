@@ -1,6 +1,6 @@
 -- ALLOCATE and FREE take CONTROLLED and BASED variables.
-use Rattle.std.specs.Prelude.{◌≡◌, ℕ, zero, suc, ◌+◌, Bool, false, Option, Some, None, option_map, List, [], ◌∷◌, slice_get, refl}
-use Rattle.std.specs.List.{list_any, AllByRecursion}
+use Rattle.std.specs.Prelude.{ℕ, zero, suc, ◌+◌, Option, Some, None, option_map, List, [], ◌∷◌, slice_get, refl}
+use Rattle.std.specs.List.{AllByRecursion}
 use Rattle.pli_base.specs.Statements.{Allocation}
 use Rattle.pli_base.specs.Syntax.{Reference}
 use Rattle.pli_base.specs.declared.code.Code.TheVariants.{CannotAllocateOrFree}
@@ -9,15 +9,14 @@ use Rattle.pli_program.specs.declared.kind.VariableKind.TheVariants.{Controlled}
 use Rattle.pli_type.specs.AllocationTyping.{in_turn, only_variable, place_given, locator_set, placed_within, placed_freely, placed_in, placed_by, taken_in, taken, allocated, all_allocated, released, freed}
 use Rattle.pli_type.specs.Beginnings.{area_meant, whole_at}
 use Rattle.pli_type.specs.FunctionCalls.{Denoted, DenotesVariable, DenotesResult, DenotesEmpty}
-use Rattle.pli_type.specs.Names.{LocatorVariable, OfPointer, OfOffset, NamedStorage, Begins, IsBased, NamedAs, AVariable, Naming, Compiled}
+use Rattle.pli_type.specs.Names.{LocatorVariable, OfPointer, OfOffset, NamedStorage, Begins, IsBased, NamedAs, AVariable, Naming}
 use Rattle.pli_type.specs.References.{AsLocator, AsTarget, Referent}
 use Rattle.pli_type.specs.declared.beginning.Beginning.{Beginning}
 use Rattle.pli_type.specs.StatementTyping.{allocate_typed, free_typed}
 use Rattle.pli_type.specs.Typing.{own_token, referred}
-use Rattle.pli_type.specs.Unbuilt.{later_part, later_reference, later_allocation}
 use Rattle.pli_type_laws.proofs.Conversions.{OnGiven}
 use Rattle.pli_type_laws.proofs.Denotations.{OnRead, IsReferent, IsDenoted}
-use Rattle.pli_type_laws.proofs.Expressions.{IsMeaning, N, C, or_parts, read_option, referred_typed}
+use Rattle.pli_type_laws.proofs.Expressions.{IsMeaning, N, read_option, referred_typed}
 use Rattle.pli_type_laws.proofs.Functions.{area_typed}
 use Rattle.pli_type_laws.proofs.References.{read_then, locator_kept}
 use Rattle.pli_type_name_laws.specs.NameFacts.{IsAreaNamed, IsLocatorThere, IsImplied, IsStoredIn, IsBasedTemplate}
@@ -100,57 +99,51 @@ module _ (s : TypingContext) where
   only_typed at (DenotesResult v) h = tt
   only_typed at DenotesEmpty h = tt
 
-module _ (is_based : ℕ → Bool) (based : ℕ → List Template) (areas : ℕ → Option Beginning) (meaning : ℕ → NamedAs) (s : TypingContext)
+module _ (based : ℕ → List Template) (areas : ℕ → Option Beginning) (meaning : ℕ → NamedAs) (s : TypingContext)
     (known : (at : ℕ) → IsMeaning s (meaning at)) where
   abbrev M : Naming
-  M = N is_based based areas meaning s known
+  M = N based areas meaning s known
 
-  abbrev L : Compiled
-  L = C is_based based areas meaning s known
-
-  given_typed : (o : Option Reference) → later_part (later_reference L) o ≡ false → OnRead (IsGiven s) (place_given M o)
-  given_typed None l = tt
-  given_typed (Some r) l =
-      read_then (IsDenoted s) (IsGiven s) (referred M AsLocator r) _ (referred_typed is_based based areas meaning s known AsLocator r l)
+  given_typed : (o : Option Reference) → OnRead (IsGiven s) (place_given M o)
+  given_typed None = tt
+  given_typed (Some r) =
+      read_then (IsDenoted s) (IsGiven s) (referred M AsLocator r) _ (referred_typed based areas meaning s known AsLocator r)
       (λ d h. read_then (IsReferent s) (IsGiven s) (only_variable (own_token r) d) _ (only_typed s (own_token r) d h) (λ q k. k))
 
   module _ (made : (block : ℕ) → AllByRecursion IsBasedTemplate (based block)) where
-    one_allocated : (temporary : ℕ) (a : Allocation) → later_allocation L a ≡ false → OnRead (IsAllocated 31 s) (allocated M temporary a)
-    one_allocated temporary a l =
-        let parts : (later_part (later_reference L) a.area ≡ false) × (later_part (later_reference L) a.target ≡ false) = or_parts _ _ l in
-        read_then (IsGiven s) (IsAllocated 31 s) (place_given M a.area) _ (given_typed a.area parts.0)
-        (λ area h. read_then (IsGiven s) (IsAllocated 31 s) (place_given M a.target) _ (given_typed a.target parts.1)
+    one_allocated : (temporary : ℕ) (a : Allocation) → OnRead (IsAllocated 31 s) (allocated M temporary a)
+    one_allocated temporary a =
+        read_then (IsGiven s) (IsAllocated 31 s) (place_given M a.area) _ (given_typed a.area)
+        (λ area h. read_then (IsGiven s) (IsAllocated 31 s) (place_given M a.target) _ (given_typed a.target)
         (λ target k. read_option (IsAllocated 31 s) CannotAllocateOrFree a.name.at (taken M temporary (meaning a.name.at) area target)
         (one_taken s M made temporary (meaning a.name.at) (known a.name.at) area target h k)))
 
-    each_allocated : (temporary : ℕ) (list : List Allocation) → list_any (later_allocation L) list ≡ false
+    each_allocated : (temporary : ℕ) (list : List Allocation)
         → OnRead (AreAllocated 31 s) (all_allocated M temporary list)
-    each_allocated temporary [] l = tt
-    each_allocated temporary (a ∷ more) l =
-        let parts : (later_allocation L a ≡ false) × (list_any (later_allocation L) more ≡ false) = or_parts _ _ l in
-        read_then (IsAllocated 31 s) (AreAllocated 31 s) (allocated M temporary a) _ (one_allocated temporary a parts.0)
+    each_allocated temporary [] = tt
+    each_allocated temporary (a ∷ more) =
+        read_then (IsAllocated 31 s) (AreAllocated 31 s) (allocated M temporary a) _ (one_allocated temporary a)
         (λ x h. read_then (AreAllocated 31 s) (AreAllocated 31 s) (all_allocated M (temporary + kept_for x) more) _
-        (each_allocated (temporary + kept_for x) more parts.1) (λ xs k. (h, k)))
+        (each_allocated (temporary + kept_for x) more) (λ xs k. (h, k)))
 
-    pub allocate_is_typed : (temporary : ℕ) (list : List Allocation) → list_any (later_allocation L) list ≡ false
+    pub allocate_is_typed : (temporary : ℕ) (list : List Allocation)
         → OnRead (IsTypedForm 31 s) (allocate_typed M temporary list)
-    allocate_is_typed temporary list l =
-        read_then (AreAllocated 31 s) (IsTypedForm 31 s) (all_allocated M temporary list) _ (each_allocated temporary list l) (λ xs h. h)
+    allocate_is_typed temporary list =
+        read_then (AreAllocated 31 s) (IsTypedForm 31 s) (all_allocated M temporary list) _ (each_allocated temporary list) (λ xs h. h)
 
-  one_freed : (r : Reference) → later_reference L r ≡ false → OnRead (IsFreed 31 s) (freed M r)
-  one_freed r l =
-      read_then (IsDenoted s) (IsFreed 31 s) (referred M AsTarget r) _ (referred_typed is_based based areas meaning s known AsTarget r l)
+  one_freed : (r : Reference) → OnRead (IsFreed 31 s) (freed M r)
+  one_freed r =
+      read_then (IsDenoted s) (IsFreed 31 s) (referred M AsTarget r) _ (referred_typed based areas meaning s known AsTarget r)
       (λ d h. read_then (IsReferent s) (IsFreed 31 s) (only_variable (own_token r) d) _ (only_typed s (own_token r) d h)
       (λ q k. read_option (IsFreed 31 s) CannotAllocateOrFree (own_token r) (released q.reference)
       (one_released s q.reference q.description k.0)))
 
-  all_freed : (list : List Reference) → list_any (later_reference L) list ≡ false → OnRead (AreFreed 31 s) (in_turn (freed M) list)
-  all_freed [] l = tt
-  all_freed (r ∷ more) l =
-      let parts : (later_reference L r ≡ false) × (list_any (later_reference L) more ≡ false) = or_parts _ _ l in
-      read_then (IsFreed 31 s) (AreFreed 31 s) (freed M r) _ (one_freed r parts.0)
-      (λ x h. read_then (AreFreed 31 s) (AreFreed 31 s) (in_turn (freed M) more) _ (all_freed more parts.1) (λ xs k. (h, k)))
+  all_freed : (list : List Reference) → OnRead (AreFreed 31 s) (in_turn (freed M) list)
+  all_freed [] = tt
+  all_freed (r ∷ more) =
+      read_then (IsFreed 31 s) (AreFreed 31 s) (freed M r) _ (one_freed r)
+      (λ x h. read_then (AreFreed 31 s) (AreFreed 31 s) (in_turn (freed M) more) _ (all_freed more) (λ xs k. (h, k)))
 
-  pub free_is_typed : (list : List Reference) → list_any (later_reference L) list ≡ false → OnRead (IsTypedForm 31 s) (free_typed M list)
-  free_is_typed list l =
-      read_then (AreFreed 31 s) (IsTypedForm 31 s) (in_turn (freed M) list) _ (all_freed list l) (λ xs h. h)
+  pub free_is_typed : (list : List Reference) → OnRead (IsTypedForm 31 s) (free_typed M list)
+  free_is_typed list =
+      read_then (AreFreed 31 s) (IsTypedForm 31 s) (in_turn (freed M) list) _ (all_freed list) (λ xs h. h)

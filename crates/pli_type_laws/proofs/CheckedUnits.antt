@@ -1,19 +1,17 @@
 -- What the type checker gives for a unit that was read.
-use Rattle.std.specs.Prelude.{◌≡◌, ℕ, true, Option, Some, None, List, [], ◌∷◌, Result, Ok, Err, refl}
-use Rattle.std.proofs.Common.{subst}
+use Rattle.std.specs.Prelude.{◌≡◌, ℕ, true, Option, Some, None, List, [], ◌∷◌, Ok, refl}
 use Rattle.std.proofs.lemmas.Bool.{and_parts, false≢true}
-use Rattle.pli_base.specs.declared.token.Fault.{Fault}
 use Rattle.pli_gen.specs.WellNumbered.{IsWellNumbered}
 use Rattle.pli_meaning_typed.specs.TypedPrograms.{IsTypedUnit}
 use Rattle.pli_resolve.specs.ResolvedUnits.{ResolvedUnit, all_symbols, meaning_at, resolved_unit_of}
 use Rattle.pli_map.specs.Description.{Description}
-use Rattle.pli_type.specs.Checked.{checked, is_nothing, typed_as, unit_of, unless_unbuilt}
+use Rattle.pli_type.specs.Checked.{checked, is_main, is_nothing, unit_of}
 use Rattle.pli_type.specs.Names.{NamedUnit}
 use Rattle.pli_type.specs.StatementTyping.{WithProcedures}
-use Rattle.pli_type.specs.Unbuilt.{is_main}
 use Rattle.pli_type.specs.NamedUnits.{is_automatic, is_based, all_globals, area_named, block_symbols, parameters_of, returned_of, returned_area_of, names_based, named_as}
 use Rattle.pli_type.specs.NamedUnits.{named_unit, templates_of, checked_unit}
 use Rattle.pli_type_laws.proofs.NumberedUnits.{units_are_numbered}
+use Rattle.pli_type_laws.proofs.TypedParts.{unit_given}
 use Rattle.pli_type_laws.proofs.Units.{unit_is_typed}
 use Rattle.pli_type_laws.specs.TypedUnits.{MainTakesNothing, CheckedIsTyped}
 use Rattle.pli_type_name_laws.specs.Nesting.{ListNests}
@@ -49,25 +47,13 @@ nothing_there [] None e = refl
 nothing_there [] (Some d) e = absurd (false≢true e)
 nothing_there (d ∷ ds) o e = absurd (false≢true e)
 
-given_same : {A B : Type 0} {x y : A} (r : Result A B) → r ≡ Ok x → r ≡ Ok y → x ≡ y
-given_same r e f = cc
-
-error_given : {A B : Type 0} {x : A} {y : B} (r : Result A B) → r ≡ Err y → r ≡ Ok x → ⊥
-error_given r f e = absurd (cc)
-
 unit_takes_nothing : (u : NamedUnit) (y : WithProcedures TypedStatements) → MainTakesNothing (unit_of u y)
 unit_takes_nothing u y is =
     nothing_there (u.parameters 0) (u.returned 0) (and_parts (is_main u.tree) (is_nothing (u.parameters 0) (u.returned 0)) is).1
 
-given_nothing : (u : NamedUnit) (t : TypedUnit) (o : Option ℕ) (r : Result (WithProcedures TypedStatements) (List Fault))
-    → unless_unbuilt o (typed_as u r) ≡ Ok t → MainTakesNothing t
-given_nothing u t (Some at) r e = absurd (error_given _ refl e)
-given_nothing u t None (Err fs) e = absurd (error_given _ refl e)
-given_nothing u t None (Ok y) e = subst MainTakesNothing (given_same (Ok (unit_of u y)) refl e) (unit_takes_nothing u y)
-
 main_takes_nothing : (r : ResolvedUnit) (t : TypedUnit) → checked_unit r ≡ Ok t → MainTakesNothing t
 unfolding checked_unit checked
-main_takes_nothing r t e = given_nothing (named_unit 31 r) t _ _ e
+main_takes_nothing r t e = unit_given (named_unit 31 r) MainTakesNothing _ t (λ y is. unit_takes_nothing (named_unit 31 r) y) e
 
 pub checked_is_typed : CheckedIsTyped
 checked_is_typed texts u read t e =

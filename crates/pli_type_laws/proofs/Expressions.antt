@@ -1,6 +1,5 @@
 -- Expressions and references give what their types say: by induction on the source tree.
-use Rattle.std.specs.Prelude.{◌≡◌, ℕ, Bool, true, false, ◌||◌, Option, Some, None, option_map, List, [], ◌∷◌, Result, refl}
-use Rattle.std.proofs.lemmas.Bool.{not-false, true≢false}
+use Rattle.std.specs.Prelude.{ℕ, Bool, true, false, Option, Some, None, option_map, List, [], ◌∷◌, Result, refl}
 use Rattle.pli_base.specs.Syntax.{Expression, Referred, Constant, Parenthesized, Prefix, Infix, Reference, Named}
 use Rattle.pli_base.specs.Syntax.{JoinedParts, Alone, Joined, Arguments, Absent, Given, Expressions, Empty, Listed}
 use Rattle.pli_base.specs.declared.code.Code.{Code}
@@ -12,13 +11,12 @@ use Rattle.pli_resolve.specs.declared.built_in.BuiltInFunction.{BuiltInFunction}
 use Rattle.pli_resolve.specs.declared.built_in.BuiltInFunction.TheVariants as functions
 use Rattle.pli_type.specs.FunctionCalls.{Denoted, DenotesVariable, DenotesResult, DenotesEmpty, Meant, OneValue, WholeAggregate, meant_as, Argument}
 use Rattle.pli_type.specs.FunctionCalls.{roles_of, function_called}
-use Rattle.pli_type.specs.Names.{NamedAs, AVariable, AFunction, AProcedure, NamedProcedure, Naming, Compiled}
+use Rattle.pli_type.specs.Names.{NamedAs, AVariable, AFunction, AProcedure, NamedProcedure, Naming}
 use Rattle.pli_type.specs.ProcedureCalls.{arguments_passed, result_of, type_returned}
 use Rattle.pli_type.specs.References.{Role, AsValue, AsArgument, AsLocator, LocatorBefore, NotLocated, locator_at, variable_meant}
 use Rattle.pli_type.specs.Typing.{first_token, how_many, or_fault, one_value}
 use Rattle.pli_type.specs.Typing.{subscript_value, Segment, OfVariable, OfFunction, OfEmpty, OfNoVariable, is_call, with_more, ended, as_locator, named_alone, given_by, procedure_called, roles_or_none}
 use Rattle.pli_type.specs.Typing.{as_value, denoted, meant, referred, joined, begun, subscripts_in, all_subscripts, all_arguments, value_of}
-use Rattle.pli_type.specs.Unbuilt.{later_expression, later_reference, later_joined, later_arguments, later_list}
 use Rattle.pli_type.specs.declared.beginning.Beginning.{Beginning}
 use Rattle.pli_type_laws.proofs.Calls.{IsCallable, arguments_fit, result_typed}
 use Rattle.pli_type_laws.proofs.Conversions.{OnGiven}
@@ -33,10 +31,6 @@ use Rattle.pli_type_tree.specs.TypedTree.{TypedExpression}
 use Rattle.pli_type_tree.specs.ValueTypes.{Numbers}
 use Rattle.pli_type_tree.specs.WellTyped.{TypingContext, IsTyped, ArePassed}
 use Rattle.pli_value.specs.declared.locator.Locator.TheVariants as locators
-
-pub or_parts : (a b : Bool) → (a || b) ≡ false → (a ≡ false) × (b ≡ false)
-or_parts true b e = absurd (true≢false e)
-or_parts false b e = (refl, e)
 
 -- what a name means is known
 abbrev pub IsMeaning : TypingContext → NamedAs → Type 0
@@ -99,13 +93,10 @@ module _ (s : TypingContext) where
   ended_typed role OfEmpty h = tt
   ended_typed role (OfNoVariable at) h = tt
 
-module _ (is_based : ℕ → Bool) (based : ℕ → List Template) (areas : ℕ → Option Beginning) (meaning : ℕ → NamedAs) (s : TypingContext)
+module _ (based : ℕ → List Template) (areas : ℕ → Option Beginning) (meaning : ℕ → NamedAs) (s : TypingContext)
     (known : (at : ℕ) → IsMeaning s (meaning at)) where
   abbrev pub N : Naming
   N = record { greatest = 31; based = based; returned_area = areas; meaning = meaning }
-
-  abbrev pub C : Compiled
-  C = record { greatest = 31; is_based = is_based }
 
   procedure_typed : (p : NamedProcedure) → IsCallable s p → (at : ℕ) (gs : List Argument) → AreArguments s gs
       → OnRead (IsSegment s) (procedure_called N p at gs)
@@ -121,109 +112,101 @@ module _ (is_based : ℕ → Bool) (based : ℕ → List Template) (areas : ℕ 
       (λ d k. one_meant s at (meant_as d) (denoted_meant s d k))
 
   mutual
-    pub denoted_typed : (role : Role) (e : Expression) → later_expression C e ≡ false
+    pub denoted_typed : (role : Role) (e : Expression)
         → OnRead (IsDenoted s) (denoted N role e)
-    denoted_typed role (Referred reference) l = referred_typed role reference l
-    denoted_typed role (Constant at value) l = constant_typed s value (not-false _ l)
-    denoted_typed role (Parenthesized at inner) l =
+    denoted_typed role (Referred reference) = referred_typed role reference
+    denoted_typed role (Constant at value) = constant_typed s value
+    denoted_typed role (Parenthesized at inner) =
         read_then (HasValue s) (IsDenoted s) (as_value (first_token inner) (denoted N AsValue inner)) _
-        (value_read (first_token inner) (denoted N AsValue inner) (denoted_typed AsValue inner l)) (λ v h. h)
-    denoted_typed role (Prefix operator at operand) l =
+        (value_read (first_token inner) (denoted N AsValue inner) (denoted_typed AsValue inner)) (λ v h. h)
+    denoted_typed role (Prefix operator at operand) =
         read_then (HasValue s) (IsDenoted s) (as_value (first_token operand) (denoted N AsValue operand)) _
-        (value_read (first_token operand) (denoted N AsValue operand) (denoted_typed AsValue operand l))
+        (value_read (first_token operand) (denoted N AsValue operand) (denoted_typed AsValue operand))
         (λ v h. read_then (HasValue s) (IsDenoted s) (or_fault WrongOperandType at (prefix_value 31 operator v)) _
         (read_option (HasValue s) WrongOperandType at (prefix_value 31 operator v) (prefix_has_type s operator v h))
         (λ u g. g))
-    denoted_typed role (Infix operator at left right) l =
-        let parts : (later_expression C left ≡ false) × (later_expression C right ≡ false) = or_parts _ _ l in
+    denoted_typed role (Infix operator at left right) =
         read_then (HasValue s) (IsDenoted s) (as_value (first_token left) (denoted N AsValue left)) _
-        (value_read (first_token left) (denoted N AsValue left) (denoted_typed AsValue left parts.0))
+        (value_read (first_token left) (denoted N AsValue left) (denoted_typed AsValue left))
         (λ v h. read_then (HasValue s) (IsDenoted s) (as_value (first_token right) (denoted N AsValue right)) _
-        (value_read (first_token right) (denoted N AsValue right) (denoted_typed AsValue right parts.1))
+        (value_read (first_token right) (denoted N AsValue right) (denoted_typed AsValue right))
         (λ w k. read_then (HasValue s) (IsDenoted s) (or_fault WrongOperandType at (infix_value 31 operator v w)) _
         (read_option (HasValue s) WrongOperandType at (infix_value 31 operator v w)
         (infix_has_type s operator v w h k)) (λ u g. g)))
 
-    pub referred_typed : (role : Role) (r : Reference) → later_reference C r ≡ false
+    pub referred_typed : (role : Role) (r : Reference)
         → OnRead (IsDenoted s) (referred N role r)
-    referred_typed role (Named name arguments more) l =
-        let parts : (later_arguments C arguments ≡ false) × (later_joined C more ≡ false) = or_parts _ _ l in
+    referred_typed role (Named name arguments more) =
         read_then (IsSegment s) (IsDenoted s)
         (begun N (meaning name.at) (is_call role false more) NotLocated name.at arguments) _
-        (begun_typed (meaning name.at) (known name.at) (is_call role false more) NotLocated tt name.at arguments parts.0)
-        (λ g h. joined_typed role g h more parts.1)
+        (begun_typed (meaning name.at) (known name.at) (is_call role false more) NotLocated tt name.at arguments)
+        (λ g h. joined_typed role g h more)
 
-    joined_typed : (role : Role) (g : Segment) → IsSegment s g → (more : JoinedParts) → later_joined C more ≡ false
+    joined_typed : (role : Role) (g : Segment) → IsSegment s g → (more : JoinedParts)
         → OnRead (IsDenoted s) (joined N role g more)
-    joined_typed role g h Alone l = ended_typed s role g h
-    joined_typed role g h (Joined Member name arguments more) l =
-        let parts : (later_arguments C arguments ≡ false) × (later_joined C more ≡ false) = or_parts _ _ l in
-        read_then (AreIndices s) (IsDenoted s) (subscripts_in N arguments) _ (subscripts_typed arguments parts.0)
-        (λ xs k. joined_typed role (with_more g xs) (more_segment s g xs h k) more parts.1)
-    joined_typed role g h (Joined Located name arguments more) l =
-        let parts : (later_arguments C arguments ≡ false) × (later_joined C more ≡ false) = or_parts _ _ l in
+    joined_typed role g h Alone = ended_typed s role g h
+    joined_typed role g h (Joined Member name arguments more) =
+        read_then (AreIndices s) (IsDenoted s) (subscripts_in N arguments) _ (subscripts_typed arguments)
+        (λ xs k. joined_typed role (with_more g xs) (more_segment s g xs h k) more)
+    joined_typed role g h (Joined Located name arguments more) =
         read_then (IsDenoted s) (IsDenoted s) (ended AsLocator g) _ (ended_typed s AsLocator g h)
         (λ locator k. read_then (IsSegment s) (IsDenoted s)
         (begun N (meaning name.at) (is_call role true more) (as_locator locator) name.at arguments) _
-        (begun_typed (meaning name.at) (known name.at) (is_call role true more) (as_locator locator) (locator_typed s locator k) name.at arguments
-        parts.0)
-        (λ t u. joined_typed role t u more parts.1))
+        (begun_typed (meaning name.at) (known name.at) (is_call role true more) (as_locator locator) (locator_typed s locator k) name.at arguments)
+        (λ t u. joined_typed role t u more))
 
     begun_typed : (a : NamedAs) → IsMeaning s a → (call : Bool) (locator : LocatorBefore) → IsLocator s locator → (at : ℕ) (arguments : Arguments)
-        → later_arguments C arguments ≡ false → OnRead (IsSegment s) (begun N a call locator at arguments)
-    begun_typed (AVariable v) k call locator located at (Given list) l =
-        read_then (AreIndices s) (IsSegment s) (all_subscripts N list) _ (indices_typed list l) (λ xs h. (k, h, located))
-    begun_typed (AVariable v) k call locator located at Absent l = (k, tt, located)
-    begun_typed (AFunction function) k true locator located at Absent l = alone_typed s at function
-    begun_typed (AFunction function) k true locator located at (Given list) l =
+        → OnRead (IsSegment s) (begun N a call locator at arguments)
+    begun_typed (AVariable v) k call locator located at (Given list) =
+        read_then (AreIndices s) (IsSegment s) (all_subscripts N list) _ (indices_typed list) (λ xs h. (k, h, located))
+    begun_typed (AVariable v) k call locator located at Absent = (k, tt, located)
+    begun_typed (AFunction function) k true locator located at Absent = alone_typed s at function
+    begun_typed (AFunction function) k true locator located at (Given list) =
         read_then (AreArguments s) (IsSegment s)
         (all_arguments N (roles_or_none (roles_of function (how_many list))) list) _
-        (list_typed (roles_or_none (roles_of function (how_many list))) list l)
+        (list_typed (roles_or_none (roles_of function (how_many list))) list)
         (λ gs h. read_then (HasValue s) (IsSegment s)
         (function_called 31 function at (roles_of function (how_many list)) gs) _
         (calls_have_type s function at (roles_of function (how_many list)) gs h) (λ v g. given_typed s function v g))
-    begun_typed (AProcedure p) k true locator located at (Given list) l =
-        read_then (AreArguments s) (IsSegment s) (all_arguments N [] list) _ (list_typed [] list l)
+    begun_typed (AProcedure p) k true locator located at (Given list) =
+        read_then (AreArguments s) (IsSegment s) (all_arguments N [] list) _ (list_typed [] list)
         (λ gs h. procedure_typed p k at gs h)
-    begun_typed a k call locator located at (Given list) l =
-        read_then (AreArguments s) (IsSegment s) (all_arguments N [] list) _ (list_typed [] list l) (λ gs h. tt)
-    begun_typed a k call locator located at Absent l = tt
+    begun_typed a k call locator located at (Given list) =
+        read_then (AreArguments s) (IsSegment s) (all_arguments N [] list) _ (list_typed [] list) (λ gs h. tt)
+    begun_typed a k call locator located at Absent = tt
 
-    subscripts_typed : (arguments : Arguments) → later_arguments C arguments ≡ false
+    subscripts_typed : (arguments : Arguments)
         → OnRead (AreIndices s) (subscripts_in N arguments)
-    subscripts_typed Absent l = tt
-    subscripts_typed (Given list) l = indices_typed list l
+    subscripts_typed Absent = tt
+    subscripts_typed (Given list) = indices_typed list
 
-    indices_typed : (list : Expressions) → later_list C list ≡ false → OnRead (AreIndices s) (all_subscripts N list)
-    indices_typed Empty l = tt
-    indices_typed (Listed first more) l =
-        let parts : (later_expression C first ≡ false) × (later_list C more ≡ false) = or_parts _ _ l in
+    indices_typed : (list : Expressions) → OnRead (AreIndices s) (all_subscripts N list)
+    indices_typed Empty = tt
+    indices_typed (Listed first more) =
         read_then (HasValue s) (AreIndices s) (as_value (first_token first) (denoted N AsValue first)) _
-        (value_read (first_token first) (denoted N AsValue first) (denoted_typed AsValue first parts.0))
+        (value_read (first_token first) (denoted N AsValue first) (denoted_typed AsValue first))
         (λ v h. read_then (λ x. (p : ℕ) × IsTyped 31 s x (Numbers p)) (AreIndices s)
         (subscript_value 31 (first_token first) v) _
         (subscript_typed s (first_token first) v (precision_of 31 v.kind) (has_precision s v.expression v.kind h))
-        (λ x k. read_then (AreIndices s) (AreIndices s) (all_subscripts N more) _ (indices_typed more parts.1)
+        (λ x k. read_then (AreIndices s) (AreIndices s) (all_subscripts N more) _ (indices_typed more)
         (λ xs j. (k, j))))
 
-    pub list_typed : (roles : List Role) (list : Expressions) → later_list C list ≡ false
+    pub list_typed : (roles : List Role) (list : Expressions)
         → OnRead (AreArguments s) (all_arguments N roles list)
-    list_typed [] Empty l = tt
-    list_typed (role ∷ roles) Empty l = tt
-    list_typed [] (Listed first more) l =
-        let parts : (later_expression C first ≡ false) × (later_list C more ≡ false) = or_parts _ _ l in
-        read_then (IsDenoted s) (AreArguments s) (denoted N AsArgument first) _ (denoted_typed AsArgument first parts.0)
+    list_typed [] Empty = tt
+    list_typed (role ∷ roles) Empty = tt
+    list_typed [] (Listed first more) =
+        read_then (IsDenoted s) (AreArguments s) (denoted N AsArgument first) _ (denoted_typed AsArgument first)
         (λ m h. read_then (AreArguments s) (AreArguments s) (all_arguments N [] more) _
-        (list_typed [] more parts.1) (λ gs k. (h, k)))
-    list_typed (role ∷ roles) (Listed first more) l =
-        let parts : (later_expression C first ≡ false) × (later_list C more ≡ false) = or_parts _ _ l in
-        read_then (IsDenoted s) (AreArguments s) (denoted N role first) _ (denoted_typed role first parts.0)
+        (list_typed [] more) (λ gs k. (h, k)))
+    list_typed (role ∷ roles) (Listed first more) =
+        read_then (IsDenoted s) (AreArguments s) (denoted N role first) _ (denoted_typed role first)
         (λ m h. read_then (AreArguments s) (AreArguments s) (all_arguments N roles more) _
-        (list_typed roles more parts.1) (λ gs k. (h, k)))
+        (list_typed roles more) (λ gs k. (h, k)))
 
-  pub meant_typed : (role : Role) (e : Expression) → later_expression C e ≡ false → OnRead (IsMeant s) (meant N role e)
-  meant_typed role e l =
-      read_then (IsDenoted s) (IsMeant s) (denoted N role e) _ (denoted_typed role e l) (denoted_meant s)
+  pub meant_typed : (role : Role) (e : Expression) → OnRead (IsMeant s) (meant N role e)
+  meant_typed role e =
+      read_then (IsDenoted s) (IsMeant s) (denoted N role e) _ (denoted_typed role e) (denoted_meant s)
 
-  pub value_typed : (e : Expression) → later_expression C e ≡ false → OnRead (HasValue s) (value_of N e)
-  value_typed e l = value_read (first_token e) (denoted N AsValue e) (denoted_typed AsValue e l)
+  pub value_typed : (e : Expression) → OnRead (HasValue s) (value_of N e)
+  value_typed e = value_read (first_token e) (denoted N AsValue e) (denoted_typed AsValue e)

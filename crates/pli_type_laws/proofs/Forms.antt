@@ -1,14 +1,13 @@
 -- Forms without statements in them are typed as the meaning of typed trees asks.
 use Rattle.std.specs.Prelude.{◌≡◌, ℕ, Bool, true, false, not, ◌&&◌, Option, Some, None, is_none, option_map, option_and_then, List, [], ◌∷◌, slice_get}
 use Rattle.std.specs.Prelude.{Result, Ok, Err, refl, if◌then◌else◌}
-use Rattle.std.specs.List.{list_any}
 use Rattle.std.proofs.Common.{sym, subst, ◌∙◌}
 use Rattle.std.proofs.lemmas.Bool.{false≢true}
 use Rattle.pli_base.specs.Reading.{at_fault}
 use Rattle.pli_base.specs.Statements as tree
 use Rattle.pli_base.specs.Statements.{Range}
 use Rattle.pli_base.specs.Syntax.{Expression, Reference, Arguments, Absent, Given}
-use Rattle.pli_base.specs.declared.code.Code.TheVariants.{WrongOperandType, CannotAssign, CannotPrint, WrongReturn, NotYetBuilt}
+use Rattle.pli_base.specs.declared.code.Code.TheVariants.{WrongOperandType, CannotAssign, CannotPrint, WrongReturn, BadGoto}
 use Rattle.pli_base.specs.declared.syntax.Identifier.{Identifier}
 use Rattle.pli_base.specs.declared.token.Fault.{Fault}
 use Rattle.pli_map.specs.Description.{Description, Array, Structure}
@@ -18,7 +17,7 @@ use Rattle.pli_map.specs.Scalars.{is_aggregate, is_area}
 use Rattle.pli_type.specs.Beginnings.{area_meant, whole_at}
 use Rattle.pli_type.specs.ExpressionTypes.{TypedValue, precision_of, converted, conversion, unconverted, printed}
 use Rattle.pli_type.specs.FunctionCalls.{Denoted, DenotesVariable, DenotesResult, DenotesEmpty, area_of, Meant, OneValue, WholeAggregate, Argument}
-use Rattle.pli_type.specs.Names.{NamedAs, AProcedure, ALabel, NamedProcedure, Naming, Compiled}
+use Rattle.pli_type.specs.Names.{NamedAs, AProcedure, ALabel, NamedProcedure, Naming}
 use Rattle.pli_type.specs.ProcedureCalls.{arguments_passed}
 use Rattle.pli_type.specs.References.{AsArgument, AsLocator, AsTarget, AsValue, Referent}
 use Rattle.pli_type.specs.StatementTyping.{aggregate_assigned, scalar_assigned, area_put, area_assigned, variable_assigned, assigned, assignment, truth_of, condition, item, items}
@@ -27,14 +26,13 @@ use Rattle.pli_type.specs.StatementTyping.{call_typed, area_here, returned_value
 use Rattle.pli_type.specs.StatementTyping.{without_subscripts, has_locator, suits_range, controls, possible_condition, next_value, with_repeat}
 use Rattle.pli_type.specs.StatementTyping.{iteration}
 use Rattle.pli_type.specs.Typing.{first_token, own_token, or_fault, denoted, meant, referred, value_of}
-use Rattle.pli_type.specs.Unbuilt.{later_expression, later_reference, later_arguments, later_part, later_range, later_control}
 use Rattle.pli_type.specs.declared.beginning.Beginning.{Beginning}
 use Rattle.pli_type.specs.declared.expression_type.ExpressionType.{ExpressionType}
 use Rattle.pli_type.specs.declared.expression_type.ExpressionType.TheVariants as types
 use Rattle.pli_type_laws.proofs.Calls.{IsCallable, arguments_fit, gives}
 use Rattle.pli_type_laws.proofs.Conversions.{OnGiven, IsItem, conversion_held, printing_held}
 use Rattle.pli_type_laws.proofs.Denotations.{OnRead, IsReferent, IsMeant, IsDenoted, AreArguments}
-use Rattle.pli_type_laws.proofs.Expressions.{IsMeaning, N, C, or_parts, read_option, denoted_typed, meant_typed, referred_typed, value_typed}
+use Rattle.pli_type_laws.proofs.Expressions.{IsMeaning, N, read_option, denoted_typed, meant_typed, referred_typed, value_typed}
 use Rattle.pli_type_laws.proofs.Expressions.{list_typed}
 use Rattle.pli_type_laws.proofs.Functions.{area_typed, area_given}
 use Rattle.pli_type_laws.proofs.Iterations.{Converts, conversions_hold, AreLimits, limits_range}
@@ -99,48 +97,44 @@ module _ (s : TypingContext) where
   area_put_typed (Some target) h (DenotesVariable r) k = source_put target h (area_of (DenotesVariable r)) (area_given s (DenotesVariable r) k)
   area_put_typed (Some target) h (DenotesResult v) k = tt
 
-module _ (is_based : ℕ → Bool) (based : ℕ → List Template) (areas : ℕ → Option Beginning) (meaning : ℕ → NamedAs) (s : TypingContext)
+module _ (based : ℕ → List Template) (areas : ℕ → Option Beginning) (meaning : ℕ → NamedAs) (s : TypingContext)
     (known : (at : ℕ) → IsMeaning s (meaning at)) where
   abbrev M : Naming
-  M = N is_based based areas meaning s known
+  M = N based areas meaning s known
 
-  abbrev L : Compiled
-  L = C is_based based areas meaning s known
-
-  pub condition_typed : (e : Expression) → later_expression L e ≡ false
+  pub condition_typed : (e : Expression)
       → OnRead (IsString 31 s OfBits) (condition M e)
-  condition_typed e l =
-      read_then (HasValue s) (IsString 31 s OfBits) (value_of M e) _ (value_typed is_based based areas meaning s known e l)
+  condition_typed e =
+      read_then (HasValue s) (IsString 31 s OfBits) (value_of M e) _ (value_typed based areas meaning s known e)
       (λ v h. read_option (IsString 31 s OfBits) WrongOperandType (first_token e) (truth_of v)
       (truth_typed s v.expression v.kind h))
 
-  item_typed : (e : Expression) → later_expression L e ≡ false → OnRead (IsPrinted s) (item M e)
-  item_typed e l =
-      read_then (HasValue s) (IsPrinted s) (value_of M e) _ (value_typed is_based based areas meaning s known e l)
+  item_typed : (e : Expression) → OnRead (IsPrinted s) (item M e)
+  item_typed e =
+      read_then (HasValue s) (IsPrinted s) (value_of M e) _ (value_typed based areas meaning s known e)
       (λ v h. read_option (IsPrinted s) CannotPrint (first_token e) (printed v)
       (printed_typed s (printed v) (printing_held s v h)))
 
-  pub items_typed : (es : List Expression) → list_any (later_expression L) es ≡ false
+  pub items_typed : (es : List Expression)
       → OnRead (AreItems 31 s) (items M es)
-  items_typed [] l = tt
-  items_typed (e ∷ es) l =
-      let parts : (later_expression L e ≡ false) × (list_any (later_expression L) es ≡ false) = or_parts _ _ l in
-      read_then (IsPrinted s) (AreItems 31 s) (item M e) _ (item_typed e parts.0)
-      (λ x h. read_then (AreItems 31 s) (AreItems 31 s) (items M es) _ (items_typed es parts.1) (λ xs k. (h, k)))
+  items_typed [] = tt
+  items_typed (e ∷ es) =
+      read_then (IsPrinted s) (AreItems 31 s) (item M e) _ (item_typed e)
+      (λ x h. read_then (AreItems 31 s) (AreItems 31 s) (items M es) _ (items_typed es) (λ xs k. (h, k)))
 
-  scalar_typed : (equals : ℕ) (target : Referent) → IsReferent s target → (e : Expression) → later_expression L e ≡ false
+  scalar_typed : (equals : ℕ) (target : Referent) → IsReferent s target → (e : Expression)
       → OnRead (IsTypedForm 31 s) (scalar_assigned M equals target e)
-  scalar_typed equals target placed e l =
+  scalar_typed equals target placed e =
       let d : Description = target.description in
-      read_then (HasValue s) (IsTypedForm 31 s) (value_of M e) _ (value_typed is_based based areas meaning s known e l)
+      read_then (HasValue s) (IsTypedForm 31 s) (value_of M e) _ (value_typed based areas meaning s known e)
       (λ v h. read_then (IsValueFor 31 s d) (IsTypedForm 31 s) (or_fault CannotAssign equals (converted 31 target.area d v)) _
       (read_option (IsValueFor 31 s d) CannotAssign equals (converted 31 target.area d v) (conversion_held s target.area placed.3 d v h))
       (λ x k. (d, placed.0, k)))
 
-  area_assigned_typed : (equals : ℕ) (target : Option Beginning) → IsAreaNamed 31 s target → (e : Expression) → later_expression L e ≡ false
+  area_assigned_typed : (equals : ℕ) (target : Option Beginning) → IsAreaNamed 31 s target → (e : Expression)
       → OnRead (IsTypedForm 31 s) (area_assigned M equals target e)
-  area_assigned_typed equals target h e l =
-      read_then (IsDenoted s) (IsTypedForm 31 s) (denoted M AsValue e) _ (denoted_typed is_based based areas meaning s known AsValue e l)
+  area_assigned_typed equals target h e =
+      read_then (IsDenoted s) (IsTypedForm 31 s) (denoted M AsValue e) _ (denoted_typed based areas meaning s known AsValue e)
       (λ d k. read_option (IsTypedForm 31 s) CannotAssign equals (area_put target d) (area_put_typed s target h d k))
 
   choice : (b : Bool) (r q : Result Form Fault) → (b ≡ true → OnRead (IsTypedForm 31 s) r) → OnRead (IsTypedForm 31 s) q
@@ -148,28 +142,28 @@ module _ (is_based : ℕ → Bool) (based : ℕ → List Template) (areas : ℕ 
   choice true r q a b = a refl
   choice false r q a b = b
 
-  variable_assigned_typed : (equals : ℕ) (target : Referent) → IsReferent s target → (e : Expression) → later_expression L e ≡ false
+  variable_assigned_typed : (equals : ℕ) (target : Referent) → IsReferent s target → (e : Expression)
       → OnRead (IsTypedForm 31 s) (variable_assigned M equals target e)
-  variable_assigned_typed equals target h e l =
+  variable_assigned_typed equals target h e =
       choice (is_aggregate target.description) _ _
       (λ aggregate. read_then (IsMeant s) (IsTypedForm 31 s) (meant M AsArgument e) (aggregate_assigned equals target)
-      (meant_typed is_based based areas meaning s known AsArgument e l) (aggregate_typed s equals target aggregate h))
+      (meant_typed based areas meaning s known AsArgument e) (aggregate_typed s equals target aggregate h))
       (choice (is_area target.description) _ _
       (λ area. area_assigned_typed equals (area_meant target.reference target.description)
-      (area_typed s target.reference target.description h.0) e l)
-      (scalar_typed equals target h e l))
+      (area_typed s target.reference target.description h.0) e)
+      (scalar_typed equals target h e))
 
-  assigned_typed : (at equals : ℕ) (d : Denoted) → IsDenoted s d → (e : Expression) → later_expression L e ≡ false
+  assigned_typed : (at equals : ℕ) (d : Denoted) → IsDenoted s d → (e : Expression)
       → OnRead (IsTypedForm 31 s) (assigned M at equals d e)
-  assigned_typed at equals (DenotesVariable target) h e l = variable_assigned_typed equals target h e l
-  assigned_typed at equals (DenotesResult v) h e l = tt
-  assigned_typed at equals DenotesEmpty h e l = tt
+  assigned_typed at equals (DenotesVariable target) h e = variable_assigned_typed equals target h e
+  assigned_typed at equals (DenotesResult v) h e = tt
+  assigned_typed at equals DenotesEmpty h e = tt
 
-  pub assignment_typed : (at : ℕ) (target : Reference) (equals : ℕ) (e : Expression) → later_reference L target ≡ false
-      → later_expression L e ≡ false → OnRead (IsTypedForm 31 s) (assignment M at target equals e)
-  assignment_typed at target equals e l m =
+  pub assignment_typed : (at : ℕ) (target : Reference) (equals : ℕ) (e : Expression)
+      → OnRead (IsTypedForm 31 s) (assignment M at target equals e)
+  assignment_typed at target equals e =
       read_then (IsDenoted s) (IsTypedForm 31 s) (referred M AsTarget target) _
-      (referred_typed is_based based areas meaning s known AsTarget target l) (λ d h. assigned_typed at equals d h e m)
+      (referred_typed based areas meaning s known AsTarget target) (λ d h. assigned_typed at equals d h e)
 
   -- calls
   no_function_typed : (p : NamedProcedure) (callable : IsCallable s p) (xs : TypedArguments) → ArePassed 31 s xs p.parameters
@@ -185,14 +179,14 @@ module _ (is_based : ℕ → Bool) (based : ℕ → List Template) (areas : ℕ 
       (arguments_fit s p at gs h) (λ xs fit. no_function_typed p k xs fit at p.returned refl)
   call_of_typed at other k gs h = tt
 
-  arguments_read : (a : Arguments) → later_arguments L a ≡ false → OnRead (AreArguments s) (arguments_typed M a)
-  arguments_read Absent l = tt
-  arguments_read (Given list) l = list_typed is_based based areas meaning s known [] list l
+  arguments_read : (a : Arguments) → OnRead (AreArguments s) (arguments_typed M a)
+  arguments_read Absent = tt
+  arguments_read (Given list) = list_typed based areas meaning s known [] list
 
-  pub call_is_typed : (name : Identifier) (a : Arguments) → later_arguments L a ≡ false
+  pub call_is_typed : (name : Identifier) (a : Arguments)
       → OnRead (IsTypedForm 31 s) (call_typed M name a)
-  call_is_typed name a l =
-      read_then (AreArguments s) (IsTypedForm 31 s) (arguments_typed M a) _ (arguments_read a l)
+  call_is_typed name a =
+      read_then (AreArguments s) (IsTypedForm 31 s) (arguments_typed M a) _ (arguments_read a)
       (λ gs h. call_of_typed name.at (meaning name.at) (known name.at) gs h)
 
   -- returns
@@ -220,11 +214,11 @@ module _ (is_based : ℕ → Bool) (based : ℕ → List Template) (areas : ℕ 
         (read_option (IsValueFor 31 s d) CannotAssign first (converted 31 area d v) (conversion_held s area here_there d v h))
         (λ x k. (sym begins, (d, value ∙ e, k)))
 
-    pub return_is_typed : (at : ℕ) (v : Option Expression) → later_part (later_expression L) v ≡ false
+    pub return_is_typed : (at : ℕ) (v : Option Expression)
         → OnRead (IsTypedForm 31 s) (return_typed M su at v)
-    return_is_typed at None l = without_value at su.value refl
-    return_is_typed at (Some e) l =
-        read_then (HasValue s) (IsTypedForm 31 s) (value_of M e) _ (value_typed is_based based areas meaning s known e l)
+    return_is_typed at None = without_value at su.value refl
+    return_is_typed at (Some e) =
+        read_then (HasValue s) (IsTypedForm 31 s) (value_of M e) _ (value_typed based areas meaning s known e)
         (λ v h. with_value at (first_token e) v h su.value refl)
 
   -- jumps
@@ -239,7 +233,7 @@ module _ (is_based : ℕ → Bool) (based : ℕ → List Template) (areas : ℕ 
     jump_typed a = tt
 
     pub goto_is_typed : (label : Identifier) → OnRead (IsTypedForm 31 s) (goto_typed M su label)
-    goto_is_typed label = read_option (IsTypedForm 31 s) NotYetBuilt label.at (jump su (meaning label.at)) (jump_typed (meaning label.at))
+    goto_is_typed label = read_option (IsTypedForm 31 s) BadGoto label.at (jump su (meaning label.at)) (jump_typed (meaning label.at))
 
   -- groups with a control variable
   limit_given : (v : TypedValue) (o : Option ℕ) → OnGiven (Near.IsNumber s v.expression) o
@@ -247,31 +241,29 @@ module _ (is_based : ℕ → Bool) (based : ℕ → List Template) (areas : ℕ 
   limit_given v (Some p) h = (h.0, h.1)
   limit_given v None h = tt
 
-  limit_typed : (e : Expression) → later_expression L e ≡ false → OnRead (IsNumber 31 s) (limit M e)
-  limit_typed e l =
-      read_then (HasValue s) (IsNumber 31 s) (value_of M e) _ (value_typed is_based based areas meaning s known e l)
+  limit_typed : (e : Expression) → OnRead (IsNumber 31 s) (limit M e)
+  limit_typed e =
+      read_then (HasValue s) (IsNumber 31 s) (value_of M e) _ (value_typed based areas meaning s known e)
       (λ v h. read_option (IsNumber 31 s) WrongOperandType (first_token e) (number_of 31 v)
       (limit_given v (precision_of 31 v.kind) (has_precision s v.expression v.kind h)))
 
-  possible_limit_typed : (o : Option Expression) → later_part (later_expression L) o ≡ false
+  possible_limit_typed : (o : Option Expression)
       → OnRead (IsPossibleNumber 31 s) (possible_limit M o)
-  possible_limit_typed None l = tt
-  possible_limit_typed (Some e) l =
-      read_then (IsNumber 31 s) (IsPossibleNumber 31 s) (limit M e) _ (limit_typed e l) (λ x h. h)
+  possible_limit_typed None = tt
+  possible_limit_typed (Some e) =
+      read_then (IsNumber 31 s) (IsPossibleNumber 31 s) (limit M e) _ (limit_typed e) (λ x h. h)
 
-  limits_typed : (range : Option Range) → later_part (later_range L) range ≡ false → OnRead (AreLimits s) (limits M range)
-  limits_typed (Some (tree.To to by)) l =
-      let parts : (later_expression L to ≡ false) × (later_part (later_expression L) by ≡ false) = or_parts _ _ l in
-      read_then (IsNumber 31 s) (AreLimits s) (limit M to) _ (limit_typed to parts.0)
-      (λ x h. read_then (IsPossibleNumber 31 s) (AreLimits s) (possible_limit M by) _ (possible_limit_typed by parts.1)
+  limits_typed : (range : Option Range) → OnRead (AreLimits s) (limits M range)
+  limits_typed (Some (tree.To to by)) =
+      read_then (IsNumber 31 s) (AreLimits s) (limit M to) _ (limit_typed to)
+      (λ x h. read_then (IsPossibleNumber 31 s) (AreLimits s) (possible_limit M by) _ (possible_limit_typed by)
       (λ y k. (h, k)))
-  limits_typed (Some (tree.By by to)) l =
-      let parts : (later_expression L by ≡ false) × (later_part (later_expression L) to ≡ false) = or_parts _ _ l in
-      read_then (IsNumber 31 s) (AreLimits s) (limit M by) _ (limit_typed by parts.0)
-      (λ x h. read_then (IsPossibleNumber 31 s) (AreLimits s) (possible_limit M to) _ (possible_limit_typed to parts.1)
+  limits_typed (Some (tree.By by to)) =
+      read_then (IsNumber 31 s) (AreLimits s) (limit M by) _ (limit_typed by)
+      (λ x h. read_then (IsPossibleNumber 31 s) (AreLimits s) (possible_limit M to) _ (possible_limit_typed to)
       (λ y k. (h, k)))
-  limits_typed (Some (tree.Repeat next)) l = tt
-  limits_typed None l = tt
+  limits_typed (Some (tree.Repeat next)) = tt
+  limits_typed None = tt
 
   -- the variable suits the limits
   abbrev Suits : TypedRange → Referent → Type 0
@@ -291,41 +283,38 @@ module _ (is_based : ℕ → Bool) (based : ℕ → List Template) (areas : ℕ 
   controls_typed at is_located range (DenotesResult v) h = tt
   controls_typed at is_located range DenotesEmpty h = tt
 
-  possible_condition_typed : (o : Option Expression) → later_part (later_expression L) o ≡ false
+  possible_condition_typed : (o : Option Expression)
       → OnRead (IsPossibleCondition 31 s) (possible_condition M o)
-  possible_condition_typed None l = tt
-  possible_condition_typed (Some e) l =
-      read_then (IsString 31 s OfBits) (IsPossibleCondition 31 s) (condition M e) _ (condition_typed e l) (λ x h. h)
+  possible_condition_typed None = tt
+  possible_condition_typed (Some e) =
+      read_then (IsString 31 s OfBits) (IsPossibleCondition 31 s) (condition M e) _ (condition_typed e) (λ x h. h)
 
-  next_typed : (r : Referent) → IsReferent s r → (c : Conversion) (e : Expression) → later_expression L e ≡ false
+  next_typed : (r : Referent) → IsReferent s r → (c : Conversion) (e : Expression)
       → OnRead (IsRange 31 s c r.description) (next_value M r e)
-  next_typed r placed c e l =
+  next_typed r placed c e =
       let d : Description = r.description in
-      read_then (HasValue s) (IsRange 31 s c d) (value_of M e) _ (value_typed is_based based areas meaning s known e l)
+      read_then (HasValue s) (IsRange 31 s c d) (value_of M e) _ (value_typed based areas meaning s known e)
       (λ v h. read_then (IsValueFor 31 s d) (IsRange 31 s c d)
       (or_fault CannotAssign (first_token e) (converted 31 r.area d v)) _
       (read_option (IsValueFor 31 s d) CannotAssign (first_token e) (converted 31 r.area d v) (conversion_held s r.area placed.3 d v h))
       (λ x k. k))
 
   turns_typed : (r : Referent) → IsReferent s r → (c : Conversion) (kept : TypedRange) (range : Option Range)
-      → later_part (later_range L) range ≡ false → IsRange 31 s c r.description kept
+      → IsRange 31 s c r.description kept
       → OnRead (IsRange 31 s c r.description) (with_repeat M r kept range)
-  turns_typed r placed c kept (Some (tree.Repeat next)) l h = next_typed r placed c next l
-  turns_typed r placed c kept (Some (tree.To to by)) l h = h
-  turns_typed r placed c kept (Some (tree.By by to)) l h = h
-  turns_typed r placed c kept None l h = h
+  turns_typed r placed c kept (Some (tree.Repeat next)) h = next_typed r placed c next
+  turns_typed r placed c kept (Some (tree.To to by)) h = h
+  turns_typed r placed c kept (Some (tree.By by to)) h = h
+  turns_typed r placed c kept None h = h
 
   pub iteration_typed : (temporary : ℕ) (variable : Reference) (equals : ℕ) (first : Expression) (range : Option Range)
-      (tested : Option Expression) → later_control L (tree.Iterate variable equals first range tested) ≡ false
+      (tested : Option Expression)
       → OnRead (IsIteration 31 s) (iteration M temporary variable equals first range tested)
-  iteration_typed temporary variable equals first range tested l =
-      let front : (_ ≡ false) × (later_part (later_expression L) tested ≡ false) = or_parts _ _ l in
-      let inner : (_ ≡ false) × (later_part (later_range L) range ≡ false) = or_parts _ _ front.0 in
-      let both : (later_reference L variable ≡ false) × (later_expression L first ≡ false) = or_parts _ _ inner.0 in
-      read_then (HasValue s) (IsIteration 31 s) (value_of M first) _ (value_typed is_based based areas meaning s known first both.1)
-      (λ v h. read_then (AreLimits s) (IsIteration 31 s) (limits M range) _ (limits_typed range inner.1)
+  iteration_typed temporary variable equals first range tested =
+      read_then (HasValue s) (IsIteration 31 s) (value_of M first) _ (value_typed based areas meaning s known first)
+      (λ v h. read_then (AreLimits s) (IsIteration 31 s) (limits M range) _ (limits_typed range)
       (λ kept k. read_then (IsDenoted s) (IsIteration 31 s) (referred M AsLocator variable) _
-      (referred_typed is_based based areas meaning s known AsLocator variable both.0)
+      (referred_typed based areas meaning s known AsLocator variable)
       (λ d g. read_then (Suits kept) (IsIteration 31 s) (controls (own_token variable) (has_locator variable) kept d) _
       (controls_typed (own_token variable) (has_locator variable) kept d g)
       (λ r m. read_then (Converts s r.description (unconverted r.description v)) (IsIteration 31 s)
@@ -333,9 +322,9 @@ module _ (is_based : ℕ → Bool) (based : ℕ → List Template) (areas : ℕ 
       (read_option (Converts s r.description (unconverted r.description v)) CannotAssign equals (conversion 31 r.area r.description v.kind)
       (conversions_hold s r.area m.0.3 r.description v h))
       (λ converts c. read_then (IsPossibleCondition 31 s) (IsIteration 31 s) (possible_condition M tested) _
-      (possible_condition_typed tested front.1)
+      (possible_condition_typed tested)
       (λ x w. read_then (IsRange 31 s converts r.description) (IsIteration 31 s)
       (with_repeat M r kept range) _
-      (turns_typed r m.0 converts kept range inner.1
+      (turns_typed r m.0 converts kept range
       (limits_range s r.description converts kept c.1 m.1 k))
       (λ turns t. (r.description, m.0.0, c.0, t, w))))))))

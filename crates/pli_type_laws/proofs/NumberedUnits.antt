@@ -13,7 +13,7 @@ use Rattle.pli_gen_emit.specs.TreeTranslation.{BlockTree, blocks_of_procedure, b
 use Rattle.pli_gen.specs.WellNumbered.{numbers_in, numbers_in_form, numbers_in_else, numbers_among, HasTurns, HaveRoom}
 use Rattle.pli_gen.specs.WellNumbered.{KeepApart, next_temporary, IsWellNumbered}
 use Rattle.pli_parse_expression.specs.Expressions.{Deeper}
-use Rattle.pli_type.specs.Checked.{in_unit, first_inside, external_of, unit_of, typed_as, checked, unless_unbuilt}
+use Rattle.pli_type.specs.Checked.{in_unit, first_inside, external_of, unit_of, typed_as, checked}
 use Rattle.pli_type.specs.Names.{NamedUnit}
 use Rattle.pli_type.specs.StatementTyping.{Surroundings, naming_at, block_at, leaves_nothing, assignment, items, condition, iteration}
 use Rattle.pli_type.specs.StatementTyping.{allocate_typed, free_typed, call_typed, goto_typed, return_typed, WithProcedures, alone, of_own, together, made, head_of}
@@ -21,7 +21,6 @@ use Rattle.pli_type.specs.StatementTyping.{procedure_of, on_unit_of, as_procedur
 use Rattle.pli_type.specs.StatementTyping.{statement_typed, body_typed, alternative_typed, statements_typed}
 use Rattle.pli_resolve.specs.TreeBlocks as blocks
 use Rattle.pli_type.specs.Temporaries.{Next, behind, limits_kept, based_among, temporaries_in, temporaries_of, temporaries_among, temporaries_behind}
-use Rattle.pli_type.specs.Unbuilt.{first_unbuilt}
 use Rattle.pli_type_laws.proofs.Counting.{same, below, below_next, below_bound, in_blocks, of_blocks, in_both, of_both}
 use Rattle.pli_type_laws.proofs.Counting.{blocks_placed, ordered_distinct}
 use Rattle.pli_type_laws.proofs.Denotations.{OnRead}
@@ -29,9 +28,10 @@ use Rattle.pli_type_laws.proofs.NumberedParts.{AreRoomy, roomy_both, blocks_with
 use Rattle.pli_type_laws.proofs.NumberedParts.{HereForm, HereStatement, HereElse, HereList, GoodForm, GoodStatement, GoodElse, GoodList}
 use Rattle.pli_type_laws.proofs.NumberedParts.{good_numbered, good_begin, good_procedure}
 use Rattle.pli_type_laws.proofs.Shapes.{IsSimple, simple_assignment, simple_goto, simple_call, simple_return, simple_free, IsAllocation, allocate_keeps, HasOwn, iteration_keeps}
-use Rattle.pli_type_laws.proofs.TypedParts.{OnTyped}
-use Rattle.pli_type_laws.proofs.UnitsNamed.{Given, ListNamed, Named, Placed, all_joined, all_parts, gives_all, list_named}
+use Rattle.pli_type_laws.proofs.TypedParts.{OnTyped, on_given, unit_given}
+use Rattle.pli_type_laws.proofs.UnitsNamed.{Given, ListNamed, Named, Placed, all_parts, gives_all, list_named}
 use Rattle.pli_type_laws.specs.TypedUnits.{TypedUnitsAreNumbered}
+use Rattle.pli_type_name_laws.proofs.InitialHeld.{all_behind}
 use Rattle.pli_type_name_laws.specs.NameFacts.{KnowsBased}
 use Rattle.pli_type_name_laws.specs.Nesting.{NestsWithin, BodyNests, ListNests, ElseNests}
 use Rattle.pli_type_name_laws.specs.Numbering.{IsNumbered, IsNumberedBody, AreNumbered, IsNumberedElse}
@@ -123,7 +123,7 @@ begin_good m i t a b c k l head (Err fs) few le e g = tt
 
 procedure_good : (u : NamedUnit) (parent : Option ℕ) (statement end : ℕ) (ss : Statements) (m i t a b c k l : ℕ)
     (r : Result (WithProcedures TypedStatements) (List Fault)) → i < 64 → b ≤ c
-    → OnTyped (GoodList i 0 (temporaries_among u.compiled.is_based ss) a b (suc k) l) r
+    → OnTyped (GoodList i 0 (temporaries_among u.is_based ss) a b (suc k) l) r
     → OnTyped (GoodForm m t t a c k l) (as_procedure typed.Null (procedure_of u parent k statement end ss) r)
 procedure_good u parent statement end ss m i t a b c k l (Ok y) few le g =
     good_procedure i m t a b c k l typed.Null (procedure_of u parent k statement end ss y.part) y.procedures refl (λ parent. refl)
@@ -132,7 +132,7 @@ procedure_good u parent statement end ss m i t a b c k l (Err fs) few le g = tt
 
 unit_good : (u : NamedUnit) (condition : Condition) (parent : Option ℕ) (statement : ℕ) (unit : Statement) (m i t a b c k l : ℕ)
     (r : Result (WithProcedures TypedStatements) (List Fault)) → i < 64 → b ≤ c
-    → OnTyped (GoodList i 0 (temporaries_among u.compiled.is_based (only unit)) a b (suc k) l) r
+    → OnTyped (GoodList i 0 (temporaries_among u.is_based (only unit)) a b (suc k) l) r
     → OnTyped (GoodForm m t t a c k l) (as_procedure (typed.On condition k) (on_unit_of u parent k statement unit) r)
 unit_good u condition parent statement unit m i t a b c k l (Ok y) few le g =
     good_procedure i m t a b c k l (typed.On condition k) (on_unit_of u parent k statement unit y.part) y.procedures refl (λ parent. refl)
@@ -244,7 +244,7 @@ module _ (u : NamedUnit) (knows : KnowsBased u) where
   mutual
     statement_good : (d : Bool) (m : ℕ) (s : Surroundings) (x : Next) (a : ℕ) (st : Statement) → m < 64 → NestsWithin d m st
         → IsNumbered a st
-        → OnTyped (GoodStatement m x.temporary (x.temporary + temporaries_in u.compiled.is_based st) a (a + count st) x.block
+        → OnTyped (GoodStatement m x.temporary (x.temporary + temporaries_in u.is_based st) a (a + count st) x.block
         (x.block + blocks.blocks_in st)) (statement_typed u s x st)
     statement_good d m s x a (Numbered number label at body) few n h =
         numbered_good m x.temporary _ a _ x.block _ number (body_typed u s x number at body) h.0
@@ -253,7 +253,7 @@ module _ (u : NamedUnit) (knows : KnowsBased u) where
 
     body_good : (d : Bool) (m : ℕ) (s : Surroundings) (x : Next) (number at a : ℕ) (body : Body) → m < 64 → BodyNests d m body
         → IsNumberedBody a body
-        → OnTyped (GoodForm m x.temporary (x.temporary + temporaries_of u.compiled.is_based body) a (a + body_count body) x.block
+        → OnTyped (GoodForm m x.temporary (x.temporary + temporaries_of u.is_based body) a (a + body_count body) x.block
         (x.block + blocks.blocks_of body)) (body_typed u s x number at body)
     body_good d m s x number at a (tree.Procedure heading ss end) few n h =
         deeper_in m (λ m. ListNests true m ss) _ n.1
@@ -262,7 +262,7 @@ module _ (u : NamedUnit) (knows : KnowsBased u) where
         (procedure_good u (Some (block_at s)) number end ss m i x.temporary a (a + list_count ss) (a + (list_count ss + 1)) x.block
         (suc x.block + blocks.blocks_among ss)
         (statements_typed u (in_procedure x.block (u.returned x.block) ss s) (inside x) ss) (omega (arith, few, e)) (omega arith)
-        (list_at i 0 (0 + temporaries_among u.compiled.is_based ss) _ a _ _ (suc x.block) _ _
+        (list_at i 0 (0 + temporaries_among u.is_based ss) _ a _ _ (suc x.block) _ _
         (statements_typed u (in_procedure x.block (u.returned x.block) ss s) (inside x) ss) (omega arith) refl refl
         (list_good true i (in_procedure x.block (u.returned x.block) ss s) (inside x) a ss (omega (arith, few, e)) g h.0))))
     body_good d m s x number at a (tree.Begin ss end) few n h =
@@ -272,21 +272,21 @@ module _ (u : NamedUnit) (knows : KnowsBased u) where
         (begin_good m i x.temporary a (a + list_count ss) (a + (list_count ss + 1)) x.block
         (suc x.block + blocks.blocks_among ss) (head_of u x.block number ss)
         (statements_typed u (in_begin x.block ss s) (inside x) ss) (omega (arith, few, e)) (omega arith) refl
-        (list_at i 0 (0 + temporaries_among u.compiled.is_based ss) _ a _ _ (suc x.block) _ _
+        (list_at i 0 (0 + temporaries_among u.is_based ss) _ a _ _ (suc x.block) _ _
         (statements_typed u (in_begin x.block ss s) (inside x) ss) (omega arith) refl refl
         (list_good true i (in_begin x.block ss s) (inside x) a ss (omega (arith, few, e)) g h.0))))
     body_good d m s x number at a (tree.Do None ss end) few n h =
         deeper_in m (λ m. ListNests false m ss) _ n
         (λ i e g. group_good m i x.temporary _ a (a + list_count ss) _ x.block _ (statements_typed u (in_group ss s) x ss) e
         (omega arith)
-        (list_at i x.temporary (x.temporary + temporaries_among u.compiled.is_based ss) _ a _ _ x.block _ _
+        (list_at i x.temporary (x.temporary + temporaries_among u.is_based ss) _ a _ _ x.block _ _
         (statements_typed u (in_group ss s) x ss) (omega arith) refl refl
         (list_good false i (in_group ss s) x a ss (omega (arith, few, e)) g h.0)))
     body_good d m s x number at a (tree.Do (Some (tree.While tested)) ss end) few n h =
         deeper_in m (λ m. ListNests false m ss) _ n
         (λ i e g. while_good m i x.temporary _ a (a + list_count ss) _ x.block _ (condition (naming_at u s) tested)
         (statements_typed u (in_group ss s) x ss) e (omega arith)
-        (list_at i x.temporary (x.temporary + temporaries_among u.compiled.is_based ss) _ a _ _ x.block _ _
+        (list_at i x.temporary (x.temporary + temporaries_among u.is_based ss) _ a _ _ x.block _ _
         (statements_typed u (in_group ss s) x ss) (omega arith) refl refl
         (list_good false i (in_group ss s) x a ss (omega (arith, few, e)) g h.0)))
     body_good d m s x number at a (tree.Do (Some (tree.Iterate variable equals first range tested)) ss end) few n h =
@@ -295,21 +295,21 @@ module _ (u : NamedUnit) (knows : KnowsBased u) where
         (iteration (naming_at u s) x.temporary variable equals first range tested)
         (statements_typed u (in_group ss s) (behind_limits range x) ss) e (omega arith) (omega arith)
         (iteration_keeps (naming_at u s) x.temporary variable equals first range tested)
-        (list_at i (x.temporary + suc (limits_kept range)) (x.temporary + suc (limits_kept range) + temporaries_among u.compiled.is_based ss) _ a _ _
+        (list_at i (x.temporary + suc (limits_kept range)) (x.temporary + suc (limits_kept range) + temporaries_among u.is_based ss) _ a _ _
         x.block _ _ (statements_typed u (in_group ss s) (behind_limits range x) ss) (omega arith) refl refl
         (list_good false i (in_group ss s) (behind_limits range x) a ss (omega (arith, few, e)) g h.0)))
     body_good d m s x number at a (tree.If tested consequence alternative) few n h =
         deeper_in m (λ m. NestsWithin false m consequence × ElseNests m alternative) _ n
         (λ i e g. form_at m x.temporary
-        (x.temporary + temporaries_in u.compiled.is_based consequence + temporaries_behind u.compiled.is_based alternative) _ a
+        (x.temporary + temporaries_in u.is_based consequence + temporaries_behind u.is_based alternative) _ a
         (a + count consequence + alternative_count alternative) _ x.block
         (x.block + blocks.blocks_in consequence + blocks.blocks_behind alternative) _
         (body_typed u s x number at (tree.If tested consequence alternative)) (omega arith) (omega arith) (omega arith)
-        (if_good m i x.temporary (x.temporary + temporaries_in u.compiled.is_based consequence) _ a (a + count consequence) _ x.block
+        (if_good m i x.temporary (x.temporary + temporaries_in u.is_based consequence) _ a (a + count consequence) _ x.block
         (x.block + blocks.blocks_in consequence) _ (condition (naming_at u s) tested) (statement_typed u s x consequence)
-        (alternative_typed u s (behind u.compiled.is_based x consequence) alternative) e (omega arith) (omega arith)
+        (alternative_typed u s (behind u.is_based x consequence) alternative) e (omega arith) (omega arith)
         (statement_good false i s x a consequence (omega (arith, few, e)) g.0 h.0)
-        (alternative_good i s (behind u.compiled.is_based x consequence) (a + count consequence) alternative (omega (arith, few, e)) g.1 h.1)))
+        (alternative_good i s (behind u.is_based x consequence) (a + count consequence) alternative (omega (arith, few, e)) g.1 h.1)))
     body_good d m s x number at a tree.Null few n h =
         own_good m x.temporary _ a (a + 0) x.block (x.block + 0) (Ok typed.Null) (omega arith) (omega arith) tt
     body_good d m s x number at a (tree.Declare declared) few n h =
@@ -320,8 +320,8 @@ module _ (u : NamedUnit) (knows : KnowsBased u) where
         own_good m x.temporary _ a (a + 0) x.block (x.block + 0) (assignment (naming_at u s) at target equals value) (omega arith)
         (omega arith) (simple_assignment (naming_at u s) at target equals value)
     body_good d m s x number at a (tree.Allocate list) few n h =
-        allocate_good m x.temporary (based_among u.compiled.is_based list) a (a + 0) x.block (x.block + 0) (allocate_typed (naming_at u s) x.temporary list) (omega arith)
-        (omega arith) (allocate_keeps (naming_at u s) u.compiled.is_based (knows (map (λ b. b.number) s.blocks)) x.temporary list)
+        allocate_good m x.temporary (based_among u.is_based list) a (a + 0) x.block (x.block + 0) (allocate_typed (naming_at u s) x.temporary list) (omega arith)
+        (omega arith) (allocate_keeps (naming_at u s) u.is_based (knows (map (λ b. b.number) s.blocks)) x.temporary list)
     body_good d m s x number at a (tree.Free list) few n h =
         own_good m x.temporary _ a (a + 0) x.block (x.block + 0) (free_typed (naming_at u s) list) (omega arith)
         (omega arith) (simple_free (naming_at u s) list)
@@ -339,7 +339,7 @@ module _ (u : NamedUnit) (knows : KnowsBased u) where
     body_good d m s x number at a (tree.On c (Numbered own label first inner)) few n h =
         let unit : Statement = Numbered own label first inner in
         let there : Surroundings = in_on_unit x.block (Numbered own label first inner) s in
-        let z : ℕ = 0 + temporaries_in u.compiled.is_based (Numbered own label first inner) in
+        let z : ℕ = 0 + temporaries_in u.is_based (Numbered own label first inner) in
         let b : ℕ = a + count (Numbered own label first inner) in
         let l : ℕ = suc x.block + blocks.blocks_in (Numbered own label first inner) in
         deeper_in m (λ m. NestsWithin false m unit) _ n
@@ -360,7 +360,7 @@ module _ (u : NamedUnit) (knows : KnowsBased u) where
 
     alternative_good : (m : ℕ) (s : Surroundings) (x : Next) (a : ℕ) (e : Alternative) → m < 64 → ElseNests m e
         → IsNumberedElse a e
-        → OnTyped (GoodElse m x.temporary (x.temporary + temporaries_behind u.compiled.is_based e) a (a + alternative_count e) x.block
+        → OnTyped (GoodElse m x.temporary (x.temporary + temporaries_behind u.is_based e) a (a + alternative_count e) x.block
         (x.block + blocks.blocks_behind e)) (alternative_typed u s x e)
     alternative_good m s x a tree.NoElse few n h =
         subst (λ l. GoodElse m x.temporary (x.temporary + 0) a (a + 0) x.block l (alone NoElse)) (omega arith)
@@ -371,7 +371,7 @@ module _ (u : NamedUnit) (knows : KnowsBased u) where
 
     pub list_good : (d : Bool) (m : ℕ) (s : Surroundings) (x : Next) (a : ℕ) (ss : Statements) → m < 64 → ListNests d m ss
         → AreNumbered a ss
-        → OnTyped (GoodList m x.temporary (x.temporary + temporaries_among u.compiled.is_based ss) a (a + list_count ss) x.block
+        → OnTyped (GoodList m x.temporary (x.temporary + temporaries_among u.is_based ss) a (a + list_count ss) x.block
         (x.block + blocks.blocks_among ss)) (statements_typed u s x ss)
     list_good d m s x a Ended few n h =
         subst (λ l. GoodList m x.temporary (x.temporary + 0) a (a + 0) x.block l (alone NoStatement)) (omega arith)
@@ -379,21 +379,21 @@ module _ (u : NamedUnit) (knows : KnowsBased u) where
         refl (λ parent. refl) ((λ j lt. tt), (λ used size u s. tt)))
     list_good d m s x a (Before (Numbered number label at body) more) few n h =
         list_at m x.temporary
-        (x.temporary + temporaries_in u.compiled.is_based (Numbered number label at body) + temporaries_among u.compiled.is_based more) _ a
+        (x.temporary + temporaries_in u.is_based (Numbered number label at body) + temporaries_among u.is_based more) _ a
         (a + count (Numbered number label at body) + list_count more) _ x.block
         (x.block + blocks.blocks_in (Numbered number label at body) + blocks.blocks_among more) _
         (statements_typed u s x (Before (Numbered number label at body) more)) (omega arith) (omega arith) (omega arith)
-        (put_good m x.temporary (x.temporary + temporaries_in u.compiled.is_based (Numbered number label at body)) _ a
+        (put_good m x.temporary (x.temporary + temporaries_in u.is_based (Numbered number label at body)) _ a
         (a + count (Numbered number label at body)) _ x.block (x.block + blocks.blocks_in (Numbered number label at body)) _ number
         (leaves_nothing body) (body_typed u s x number at body)
-        (statements_typed u s (behind u.compiled.is_based x (Numbered number label at body)) more) (omega arith) (omega arith)
+        (statements_typed u s (behind u.is_based x (Numbered number label at body)) more) (omega arith) (omega arith)
         (λ e. nothing_left u s x number at body e)
         (statement_good d m s x a (Numbered number label at body) few n.0 h.0)
-        (list_good d m s (behind u.compiled.is_based x (Numbered number label at body)) (a + count (Numbered number label at body)) more few n.1 h.1))
+        (list_good d m s (behind u.is_based x (Numbered number label at body)) (a + count (Numbered number label at body)) more few n.1 h.1))
 
   -- ---- the unit
 
-  module _ (a b l : ℕ) (y : WithProcedures TypedStatements) (g : GoodList 63 0 (temporaries_among u.compiled.is_based u.tree.statements) a b 1 l y)
+  module _ (a b l : ℕ) (y : WithProcedures TypedStatements) (g : GoodList 63 0 (temporaries_among u.is_based u.tree.statements) a b 1 l y)
       (names : (bs : List BlockTree) → Given bs (ListNamed bs 0) y) where
     abbrev Own : TypedProcedure
     Own = external_of u y.part
@@ -419,7 +419,7 @@ module _ (u : NamedUnit) (knows : KnowsBased u) where
     roomy : AreRoomy All
     roomy =
         roomy_both (blocks_of_procedure Own) (blocks_within y.procedures)
-        ((g.5.0 64 (omega arith), g.5.1 0 (temporaries_among u.compiled.is_based u.tree.statements) (omega arith) (omega arith)), g.3 0) g.4
+        ((g.5.0 64 (omega arith), g.5.1 0 (temporaries_among u.is_based u.tree.statements) (omega arith) (omega arith)), g.3 0) g.4
 
     all_loops : (bs : List BlockTree) → AreRoomy bs → AllByRecursion (λ b. HaveRoom 64 b.statements) bs
     all_loops [] h = tt
@@ -433,7 +433,7 @@ module _ (u : NamedUnit) (knows : KnowsBased u) where
     all_named =
         let placed = all_parts (Placed (by_number All)) (blocks_of_procedure Own) (blocks_within y.procedures) (blocks_placed All each) in
         let named = names (by_number All) (gives_all (by_number All) y.procedures placed.1) in
-        all_joined (Named (by_number All)) (blocks_of_procedure Own) (blocks_within y.procedures) (named.0.here, named.0.blocks 0) named.1
+        all_behind (Named (by_number All)) (blocks_of_procedure Own) (blocks_within y.procedures) (named.0.here, named.0.blocks 0) named.1
 
     well_numbered : IsWellNumbered (unit_of u y)
     well_numbered = record {
@@ -444,27 +444,22 @@ module _ (u : NamedUnit) (knows : KnowsBased u) where
       units = all_named;
     }
 
-  error_given : {A B : Type 0} {x : A} {y : B} (r : Result A B) → r ≡ Err y → r ≡ Ok x → ⊥
-  error_given r f e = absurd (cc)
-
-  given_same : {A B : Type 0} {x y : A} (r : Result A B) → r ≡ Ok x → r ≡ Ok y → x ≡ y
-  given_same r e f = cc
-
-  numbered_unit : (t : TypedUnit) (a b l : ℕ) (o : Option ℕ) (r : Result (WithProcedures TypedStatements) (List Fault))
-      → OnTyped (GoodList 63 0 (temporaries_among u.compiled.is_based u.tree.statements) a b 1 l) r
-      → ((bs : List BlockTree) → OnTyped (Given bs (ListNamed bs 0)) r) → unless_unbuilt o (typed_as u r) ≡ Ok t
+  numbered_unit : (t : TypedUnit) (a b l : ℕ) (r : Result (WithProcedures TypedStatements) (List Fault))
+      → OnTyped (GoodList 63 0 (temporaries_among u.is_based u.tree.statements) a b 1 l) r
+      → ((bs : List BlockTree) → OnTyped (Given bs (ListNamed bs 0)) r) → typed_as u r ≡ Ok t
       → IsWellNumbered t
-  numbered_unit t a b l None (Ok y) g names e = subst IsWellNumbered (given_same (Ok (unit_of u y)) refl e) (well_numbered a b l y g names)
-  numbered_unit t a b l None (Err fs) g names e = absurd (error_given _ refl e)
-  numbered_unit t a b l (Some at) r g names e = absurd (error_given _ refl e)
+  numbered_unit t a b l r g names e =
+      unit_given u IsWellNumbered r t
+      (λ y is. well_numbered a b l y (on_given (GoodList 63 0 (temporaries_among u.is_based u.tree.statements) a b 1 l) r y is g)
+      (λ bs. on_given (Given bs (ListNamed bs 0)) r y is (names bs))) e
 
   pub unit_numbered : (t : TypedUnit) (from : ℕ) → AreNumbered from u.tree.statements → ListNests true 63 u.tree.statements
       → checked u ≡ Ok t → IsWellNumbered t
   unfolding checked
   unit_numbered t from h n e =
-      numbered_unit t from _ _ (first_unbuilt u.compiled u.tree)
+      numbered_unit t from _ _
       (statements_typed u (in_unit (u.returned 0) u.tree.statements) first_inside u.tree.statements)
-      (list_at 63 0 (0 + temporaries_among u.compiled.is_based u.tree.statements) _ from _ _ 1 _ _
+      (list_at 63 0 (0 + temporaries_among u.is_based u.tree.statements) _ from _ _ 1 _ _
       (statements_typed u (in_unit (u.returned 0) u.tree.statements) first_inside u.tree.statements) (omega arith) refl refl
       (list_good true 63 (in_unit (u.returned 0) u.tree.statements) first_inside from u.tree.statements (omega arith) n h))
       (λ bs. list_named bs u (in_unit (u.returned 0) u.tree.statements) first_inside u.tree.statements) e

@@ -8,7 +8,7 @@ use Rattle.pli_base.specs.Statements as tree
 use Rattle.pli_base.specs.Statements.{Range, Allocation}
 use Rattle.pli_base.specs.Syntax.{Expression, Reference, Arguments}
 use Rattle.pli_base.specs.declared.code.Code.{Code}
-use Rattle.pli_base.specs.declared.code.Code.TheVariants.{CannotAllocateOrFree, CannotAssign, NotYetBuilt}
+use Rattle.pli_base.specs.declared.code.Code.TheVariants.{CannotAllocateOrFree, CannotAssign, BadGoto}
 use Rattle.pli_base.specs.declared.syntax.Identifier.{Identifier}
 use Rattle.pli_base.specs.declared.token.Fault.{Fault}
 use Rattle.pli_map.specs.Description.{Description}
@@ -125,7 +125,7 @@ simple_jump s (AProcedure p) = tt
 simple_jump s Untyped = tt
 
 pub simple_goto : (n : Naming) (s : Surroundings) (label : Identifier) → OnRead IsSimple (goto_typed n s label)
-simple_goto n s label = read_option IsSimple NotYetBuilt label.at (jump s (n.meaning label.at)) (simple_jump s (n.meaning label.at))
+simple_goto n s label = read_option IsSimple BadGoto label.at (jump s (n.meaning label.at)) (simple_jump s (n.meaning label.at))
 
 simple_call_of : (greatest at : ℕ) (a : NamedAs) (gs : List Argument) → OnRead IsSimple (call_of greatest at a gs)
 simple_call_of greatest at (AProcedure p) gs =

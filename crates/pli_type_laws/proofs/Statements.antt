@@ -8,7 +8,7 @@ use Rattle.pli_base.specs.declared.token.Fault.{Fault}
 use Rattle.pli_map.specs.Description.{Description}
 use Rattle.pli_meaning_typed.specs.TypedPrograms.{HasEnd, context_in}
 use Rattle.pli_resolve.specs.declared.block_numbers.ResolvedBlockKind.TheVariants as kinds
-use Rattle.pli_type.specs.Names.{NamedUnit, NamedAs, Compiled}
+use Rattle.pli_type.specs.Names.{NamedUnit, NamedAs}
 use Rattle.pli_type.specs.declared.beginning.Beginning.{Beginning}
 use Rattle.pli_type.specs.StatementTyping as source
 use Rattle.pli_type.specs.StatementTyping.{Enclosing, Surroundings, naming_at, block_at, leaves_nothing, assignment, items}
@@ -18,14 +18,12 @@ use Rattle.pli_type.specs.StatementTyping.{alone, lasting_alone, listed, only, s
 use Rattle.pli_type.specs.StatementTyping.{statement_typed, body_typed, alternative_typed, statements_typed}
 use Rattle.pli_resolve.specs.TreeBlocks as blocks
 use Rattle.pli_type.specs.Temporaries.{Next, behind}
-use Rattle.pli_type.specs.Unbuilt.{later_expression, later_control, or_else, token_if, later_statement}
-use Rattle.pli_type.specs.Unbuilt.{later_body, later_alternative, later_statements}
 use Rattle.pli_type_laws.proofs.Allocations.{allocate_is_typed, free_is_typed}
 use Rattle.pli_type_laws.proofs.BlocksKnown.{Within, within_self, within_both, within_behind, begun_count, Sits, sits_parts}
 use Rattle.pli_type_laws.proofs.BlocksKnown.{AreHome, home_labels, home_lasting, StandsDirectly, begin_no_procedure, unit_no_procedure}
 use Rattle.pli_type_laws.proofs.Contexts.{IsInside, Knows, around_self, group_known, label_known, known_as, areas_known, own_procedure, procedure_there}
 use Rattle.pli_type_laws.proofs.Contexts.{own_unit, unit_there, unit_known}
-use Rattle.pli_type_laws.proofs.Expressions.{IsMeaning, or_parts}
+use Rattle.pli_type_laws.proofs.Expressions.{IsMeaning}
 use Rattle.pli_type_laws.proofs.Forms.{condition_typed, items_typed, assignment_typed, call_is_typed, return_is_typed, goto_is_typed}
 use Rattle.pli_type_laws.proofs.Forms.{iteration_typed}
 use Rattle.pli_type_laws.proofs.TypedParts.{OnTyped, typed_map, has_front, has_back, covers_more, IsOurs, ours_both}
@@ -43,18 +41,6 @@ use Rattle.pli_type_tree.specs.ValueTypes.{OfBits}
 use Rattle.pli_type_tree.specs.WellTyped as trees
 use Rattle.pli_type_tree.specs.WellTyped.{TypingContext, AreAround, IsString, IsIteration, AreItems, IsTypedStatement, IsTypedForm}
 use Rattle.pli_type_tree.specs.WellTyped.{IsTypedElse, AreTypedStatements}
-
--- what is compiled
-some_none : {A : Type 0} {x : A} → Some x ≡ None → ⊥
-some_none e = absurd (cc)
-
-no_token : (b : Bool) (at : ℕ) → token_if b at ≡ None → b ≡ false
-no_token true at e = absurd (some_none e)
-no_token false at e = refl
-
-no_either : (o p : Option ℕ) → or_else o p ≡ None → (o ≡ None) × (p ≡ None)
-no_either (Some at) p e = absurd (some_none e)
-no_either None p e = (refl, e)
 
 -- ---- labels of typed lists
 
@@ -83,12 +69,12 @@ pub labels_kept : (u : NamedUnit) (s : Surroundings) (x : Next) (ss : Statements
 labels_kept u s x Ended = within_self []
 labels_kept u s x (Before (Numbered number None at body) more) =
     unlabelled (leaves_nothing body) number (source.labels_of more) (body_typed u s x number at body)
-    (statements_typed u s (behind u.compiled.is_based x (Numbered number None at body)) more)
-    (labels_kept u s (behind u.compiled.is_based x (Numbered number None at body)) more)
+    (statements_typed u s (behind u.is_based x (Numbered number None at body)) more)
+    (labels_kept u s (behind u.is_based x (Numbered number None at body)) more)
 labels_kept u s x (Before (Numbered number (Some label) at body) more) =
     labelled (leaves_nothing body) number (source.labels_of more) (body_typed u s x number at body)
-    (statements_typed u s (behind u.compiled.is_based x (Numbered number (Some label) at body)) more)
-    (labels_kept u s (behind u.compiled.is_based x (Numbered number (Some label) at body)) more)
+    (statements_typed u s (behind u.is_based x (Numbered number (Some label) at body)) more)
+    (labels_kept u s (behind u.is_based x (Numbered number (Some label) at body)) more)
 
 -- ---- where statements stand
 
@@ -115,9 +101,6 @@ module _ (program : ExternalProcedure) (is_based : ℕ → Bool) (based : List �
     (globals : List Global) where
   abbrev pub U : NamedUnit
   U = unit_with program is_based based areas meaning parameters returned automatic globals
-
-  abbrev L : Compiled
-  L = record { greatest = 31; is_based = is_based }
 
   abbrev All : List SourceBlock
   All = unit_blocks program
@@ -308,28 +291,24 @@ module _ (program : ExternalProcedure) (is_based : ℕ → Bool) (based : List �
         (labels_kept U (source.in_group ss s) x ss))
 
     mutual
-      statement_is_typed : (s : Surroundings) (x : Next) (st : Statement) → later_statement L st ≡ None
+      statement_is_typed : (s : Surroundings) (x : Next) (st : Statement)
           → AreHome All s.blocks → IsInside s.blocks → Sits All x.block (begun_in s.blocks x.block st)
           → (t : TypingContext) → Knows U t s
           → OnTyped (Typed U (IsTypedStatement 31 t) x.block (begun_in s.blocks x.block st)) (statement_typed U s x st)
-      statement_is_typed s x (Numbered number None at body) l home within sits t knows =
+      statement_is_typed s x (Numbered number label at body) home within sits t knows =
           typed_made U (IsTypedForm 31 t) (IsTypedStatement 31 t) (typed.Statement number) x.block _
-          (body_typed U s x number at body) (λ f h. h) (body_is_typed s x number at at body l home within sits t knows)
-      statement_is_typed s x (Numbered number (Some label) at body) l home within sits t knows =
-          typed_made U (IsTypedForm 31 t) (IsTypedStatement 31 t) (typed.Statement number) x.block _
-          (body_typed U s x number at body) (λ f h. h) (body_is_typed s x number label.at at body l home within sits t knows)
+          (body_typed U s x number at body) (λ f h. h) (body_is_typed s x number at body home within sits t knows)
 
-      body_is_typed : (s : Surroundings) (x : Next) (number first at : ℕ) (body : Body) → later_body L first body ≡ None
+      body_is_typed : (s : Surroundings) (x : Next) (number at : ℕ) (body : Body)
           → AreHome All s.blocks → IsInside s.blocks → Sits All x.block (begun_by s.blocks x.block number body)
           → (t : TypingContext) → Knows U t s
           → OnTyped (Typed U (IsTypedForm 31 t) x.block (begun_by s.blocks x.block number body)) (body_typed U s x number at body)
-      body_is_typed s x number first at tree.Null l home within sits t knows = (tt, tt, tt)
-      body_is_typed s x number first at (tree.Assign target equals value) l home within sits t knows =
-          let parts : (_ ≡ false) × (later_expression L value ≡ false) = or_parts _ _ (no_token _ first l) in
+      body_is_typed s x number at tree.Null home within sits t knows = (tt, tt, tt)
+      body_is_typed s x number at (tree.Assign target equals value) home within sits t knows =
           typed_own U (IsTypedForm 31 t) x.block (assignment (naming_at U s) at target equals value)
-          (assignment_typed is_based (based (numbers s)) (areas (numbers s)) (meaning (numbers s)) t (known s home t knows) at target equals value parts.0 parts.1)
-      body_is_typed s x number first at (tree.Declare declared) l home within sits t knows = (tt, tt, tt)
-      body_is_typed s x number first at (tree.Procedure heading ss end) l home within sits t knows =
+          (assignment_typed (based (numbers s)) (areas (numbers s)) (meaning (numbers s)) t (known s home t knows) at target equals value)
+      body_is_typed s x number at (tree.Declare declared) home within sits t knows = (tt, tt, tt)
+      body_is_typed s x number at (tree.Procedure heading ss end) home within sits t knows =
           block_ended typed.Null (Made s x.block number end ss _ sits.0 refl refl) (Within_it s x.block number end ss _ sits.0 refl refl)
           x.block t (record { kind = kinds.Procedure; statement = number; around = s.blocks; labels = source.labels_of ss }) _
           (statements_typed U (source.in_procedure x.block (returned x.block) ss s) (inside x) ss) tt (λ list. refl)
@@ -337,52 +316,44 @@ module _ (program : ExternalProcedure) (is_based : ℕ → Bool) (based : List �
           (with_list U (statements_typed U (source.in_procedure x.block (returned x.block) ss s) (inside x) ss)
           (Within_it s x.block number end ss _ sits.0 refl refl)
           (λ t. Knows U t (source.in_procedure x.block (returned x.block) ss s)) (suc x.block) _
-          (list_is_typed (source.in_procedure x.block (returned x.block) ss s) (inside x) ss l
+          (list_is_typed (source.in_procedure x.block (returned x.block) ss s) (inside x) ss
           ((_, sits.0, refl, within_self (source.labels_of ss), within_self (source.labels_of ss)), home) tt sits.1)
           (typed_map _ _ (statements_typed U (source.in_procedure x.block (returned x.block) ss s) (inside x) ss)
           (λ y f. entered s x.block number end ss _ sits.0 refl refl y.part f)
           (labels_kept U (source.in_procedure x.block (returned x.block) ss s) (inside x) ss)))
-      body_is_typed s x number first at (tree.Begin ss end) l home within sits t knows =
+      body_is_typed s x number at (tree.Begin ss end) home within sits t knows =
           begin_typed s x number ss t _ sits.0 (statements_typed U (source.in_begin x.block ss s) (inside x) ss)
           (with_list U (statements_typed U (source.in_begin x.block ss s) (inside x) ss)
           (λ list. trees.in_begin (head_of U x.block number ss) list t) (λ t. Knows U t (source.in_begin x.block ss s)) (suc x.block) _
-          (list_is_typed (source.in_begin x.block ss s) (inside x) ss l
+          (list_is_typed (source.in_begin x.block ss s) (inside x) ss
           ((_, sits.0, refl, within_self (source.labels_of ss), within_self (source.labels_of ss)), home) tt sits.1)
           (typed_map _ _ (statements_typed U (source.in_begin x.block ss s) (inside x) ss)
           (λ y f. begun s home t knows x.block number ss _ sits.0 refl y.part f)
           (labels_kept U (source.in_begin x.block ss s) (inside x) ss)))
-      body_is_typed s x number first at (tree.Do None ss end) l home within sits t knows =
+      body_is_typed s x number at (tree.Do None ss end) home within sits t knows =
           typed_made U (λ list. AreTypedStatements 31 (trees.in_group list t) list) (IsTypedForm 31 t) typed.Group x.block _
           (statements_typed U (source.in_group ss s) x ss) (λ list h. h)
           (group_typed s home t knows x ss _
-          (list_is_typed (source.in_group ss s) x ss ((no_either (token_if false first) (later_statements L ss) l).1) (home_labels All (source.labels_of ss) s.blocks home)
+          (list_is_typed (source.in_group ss s) x ss (home_labels All (source.labels_of ss) s.blocks home)
           (inside_group (source.labels_of ss) s.blocks within) sits))
-      body_is_typed s x number first at (tree.Do (Some (tree.While tested)) ss end) l home within sits t knows =
-          let parts : (token_if (later_expression L tested) first ≡ None) × (later_statements L ss ≡ None) = no_either _ _ l in
+      body_is_typed s x number at (tree.Do (Some (tree.While tested)) ss end) home within sits t knows =
           typed_with U (IsString 31 t OfBits) (λ list. AreTypedStatements 31 (trees.in_group list t) list) (IsTypedForm 31 t)
           typed.While x.block _ (condition (naming_at U s) tested) (statements_typed U (source.in_group ss s) x ss)
           (λ c list h k. (h, k))
-          (condition_typed is_based (based (numbers s)) (areas (numbers s)) (meaning (numbers s)) t (known s home t knows) tested (no_token _ first parts.0))
+          (condition_typed (based (numbers s)) (areas (numbers s)) (meaning (numbers s)) t (known s home t knows) tested)
           (group_typed s home t knows x ss _
-          (list_is_typed (source.in_group ss s) x ss parts.1 (home_labels All (source.labels_of ss) s.blocks home)
+          (list_is_typed (source.in_group ss s) x ss (home_labels All (source.labels_of ss) s.blocks home)
           (inside_group (source.labels_of ss) s.blocks within) sits))
-      body_is_typed s x number first at (tree.Do (Some (tree.Iterate variable equals start range tested)) ss end) l home within sits
+      body_is_typed s x number at (tree.Do (Some (tree.Iterate variable equals start range tested)) ss end) home within sits
           t knows =
-          let parts : (token_if (later_control L (tree.Iterate variable equals start range tested)) first ≡ None)
-          × (later_statements L ss ≡ None) = no_either _ _ l in
           typed_with U (IsIteration 31 t) (λ list. AreTypedStatements 31 (trees.in_group list t) list) (IsTypedForm 31 t)
           typed.Iterate x.block _ (iteration (naming_at U s) x.temporary variable equals start range tested)
           (statements_typed U (source.in_group ss s) (behind_limits range x) ss) (λ c list h k. (h, k))
-          (iteration_typed is_based (based (numbers s)) (areas (numbers s)) (meaning (numbers s)) t (known s home t knows) x.temporary variable equals start range tested
-          (no_token _ first parts.0))
+          (iteration_typed (based (numbers s)) (areas (numbers s)) (meaning (numbers s)) t (known s home t knows) x.temporary variable equals start range tested)
           (group_typed s home t knows (behind_limits range x) ss _
-          (list_is_typed (source.in_group ss s) (behind_limits range x) ss parts.1
+          (list_is_typed (source.in_group ss s) (behind_limits range x) ss
           (home_labels All (source.labels_of ss) s.blocks home) (inside_group (source.labels_of ss) s.blocks within) sits))
-      body_is_typed s x number first at (tree.If tested consequence alternative) l home within sits t knows =
-          let parts : (token_if (later_expression L tested) first ≡ None)
-          × (or_else (later_statement L consequence) (later_alternative L alternative) ≡ None) = no_either _ _ l in
-          let inner : (later_statement L consequence ≡ None) × (later_alternative L alternative ≡ None) =
-          no_either _ _ parts.1 in
+      body_is_typed s x number at (tree.If tested consequence alternative) home within sits t knows =
           let places : Sits All x.block (begun_in s.blocks x.block consequence)
           × Sits All (x.block + blocks.blocks_in consequence)
           (begun_behind s.blocks (x.block + blocks.blocks_in consequence) alternative) =
@@ -391,37 +362,35 @@ module _ (program : ExternalProcedure) (is_based : ℕ → Bool) (based : List �
           (λ c b. typed.If c b.0 b.1) x.block _ (condition (naming_at U s) tested)
           (together (λ y z. (y, z)) (statement_typed U s x consequence) (alternative_typed U s (behind is_based x consequence) alternative))
           (λ c b h k. (h, k.0, k.1))
-          (condition_typed is_based (based (numbers s)) (areas (numbers s)) (meaning (numbers s)) t (known s home t knows) tested (no_token _ first parts.0))
+          (condition_typed (based (numbers s)) (areas (numbers s)) (meaning (numbers s)) t (known s home t knows) tested)
           (typed_both U (IsTypedStatement 31 t) (IsTypedElse 31 t) (λ b. IsTypedStatement 31 t b.0 × IsTypedElse 31 t b.1)
           (λ y z. (y, z)) x.block (blocks.blocks_in consequence) _ _ (statement_typed U s x consequence)
           (alternative_typed U s (behind is_based x consequence) alternative) (begun_count s.blocks x.block consequence)
-          (λ y z h k. (h, k)) (statement_is_typed s x consequence inner.0 home within places.0 t knows)
-          (alternative_is_typed s (behind is_based x consequence) alternative inner.1 home within places.1 t knows))
-      body_is_typed s x number first at tree.Stop l home within sits t knows = (tt, tt, tt)
-      body_is_typed s x number first at (tree.Allocate list) l home within sits t knows =
+          (λ y z h k. (h, k)) (statement_is_typed s x consequence home within places.0 t knows)
+          (alternative_is_typed s (behind is_based x consequence) alternative home within places.1 t knows))
+      body_is_typed s x number at tree.Stop home within sits t knows = (tt, tt, tt)
+      body_is_typed s x number at (tree.Allocate list) home within sits t knows =
           typed_own U (IsTypedForm 31 t) x.block (allocate_typed (naming_at U s) x.temporary list)
-          (allocate_is_typed is_based (based (numbers s)) (areas (numbers s)) (meaning (numbers s)) t (known s home t knows) (facts.based (numbers s)) x.temporary list
-          (no_token _ first l))
-      body_is_typed s x number first at (tree.Free list) l home within sits t knows =
+          (allocate_is_typed (based (numbers s)) (areas (numbers s)) (meaning (numbers s)) t (known s home t knows) (facts.based (numbers s)) x.temporary list)
+      body_is_typed s x number at (tree.Free list) home within sits t knows =
           typed_own U (IsTypedForm 31 t) x.block (free_typed (naming_at U s) list)
-          (free_is_typed is_based (based (numbers s)) (areas (numbers s)) (meaning (numbers s)) t (known s home t knows) list (no_token _ first l))
-      body_is_typed s x number first at (tree.Call name arguments) l home within sits t knows =
+          (free_is_typed (based (numbers s)) (areas (numbers s)) (meaning (numbers s)) t (known s home t knows) list)
+      body_is_typed s x number at (tree.Call name arguments) home within sits t knows =
           typed_own U (IsTypedForm 31 t) x.block (call_typed (naming_at U s) name arguments)
-          (call_is_typed is_based (based (numbers s)) (areas (numbers s)) (meaning (numbers s)) t (known s home t knows) name arguments (no_token _ first l))
-      body_is_typed s x number first at (tree.Goto label) l home within sits t knows =
+          (call_is_typed (based (numbers s)) (areas (numbers s)) (meaning (numbers s)) t (known s home t knows) name arguments)
+      body_is_typed s x number at (tree.Goto label) home within sits t knows =
           typed_own U (IsTypedForm 31 t) x.block (goto_typed (naming_at U s) s label)
-          (goto_is_typed is_based (based (numbers s)) (areas (numbers s)) (meaning (numbers s)) t (known s home t knows) s
+          (goto_is_typed (based (numbers s)) (areas (numbers s)) (meaning (numbers s)) t (known s home t knows) s
           (λ n outward e. label_known U s.blocks t.blocks n outward knows.blocks e) label)
-      body_is_typed s x number first at (tree.Return value) l home within sits t knows =
+      body_is_typed s x number at (tree.Return value) home within sits t knows =
           typed_own U (IsTypedForm 31 t) x.block (return_typed (naming_at U s) s at value)
-          (return_is_typed is_based (based (numbers s)) (areas (numbers s)) (meaning (numbers s)) t (known s home t knows) (named s home t knows) s knows.begins knows.value at value
-          (no_token _ first l))
-      body_is_typed s x number first at (tree.Put skip list) l home within sits t knows =
+          (return_is_typed (based (numbers s)) (areas (numbers s)) (meaning (numbers s)) t (known s home t knows) (named s home t knows) s knows.begins knows.value at value)
+      body_is_typed s x number at (tree.Put skip list) home within sits t knows =
           typed_made U (AreItems 31 t) (IsTypedForm 31 t) (typed.Put skip) x.block [] (of_own (items (naming_at U s) list))
           (λ xs h. h)
           (typed_own U (AreItems 31 t) x.block (items (naming_at U s) list)
-          (items_typed is_based (based (numbers s)) (areas (numbers s)) (meaning (numbers s)) t (known s home t knows) list (no_token _ first l)))
-      body_is_typed s x number first at (tree.On c unit) l home within sits t knows =
+          (items_typed (based (numbers s)) (areas (numbers s)) (meaning (numbers s)) t (known s home t knows) list))
+      body_is_typed s x number at (tree.On c unit) home within sits t knows =
           let inner : Surroundings = source.in_on_unit x.block unit s in
           let r : Result (WithProcedures TypedStatements) (List Fault) = statements_typed U inner (inside x) (only unit) in
           block_ended (typed.On c x.block) (MadeUnit s x.block number unit _ sits.0 refl refl) (Within_unit s x.block number unit _ sits.0 refl refl)
@@ -434,32 +403,30 @@ module _ (program : ExternalProcedure) (is_based : ℕ → Bool) (based : List �
           (λ list h. unit_ours s x.block number unit _ sits.0 refl refl within list h)
           (with_list U r (Within_unit s x.block number unit _ sits.0 refl refl) (λ t. Knows U t inner) (suc x.block) _
           (λ t knows. only_typed t (suc x.block) _ unit (statement_typed U inner (inside x) unit)
-          (statement_is_typed inner (inside x) unit l (
+          (statement_is_typed inner (inside x) unit (
             (_, sits.0, refl, within_self (source.labels_of (only unit)), within_self (source.labels_of (only unit))),
             home_lasting All s.blocks home,
           ) tt sits.1 t knows))
           (typed_map _ _ r (λ y f. unit_entered s x.block number unit _ sits.0 refl refl y.part f)
           (labels_kept U inner (inside x) (only unit))))
-      body_is_typed s x number first at (tree.Revert c) l home within sits t knows = (tt, tt, tt)
-      body_is_typed s x number first at (tree.Signal c) l home within sits t knows = (tt, tt, tt)
+      body_is_typed s x number at (tree.Revert c) home within sits t knows = (tt, tt, tt)
+      body_is_typed s x number at (tree.Signal c) home within sits t knows = (tt, tt, tt)
 
-      alternative_is_typed : (s : Surroundings) (x : Next) (a : Alternative) → later_alternative L a ≡ None
+      alternative_is_typed : (s : Surroundings) (x : Next) (a : Alternative)
           → AreHome All s.blocks → IsInside s.blocks → Sits All x.block (begun_behind s.blocks x.block a)
           → (t : TypingContext) → Knows U t s
           → OnTyped (Typed U (IsTypedElse 31 t) x.block (begun_behind s.blocks x.block a)) (alternative_typed U s x a)
-      alternative_is_typed s x tree.NoElse l home within sits t knows = (tt, tt, tt)
-      alternative_is_typed s x (tree.Else st) l home within sits t knows =
+      alternative_is_typed s x tree.NoElse home within sits t knows = (tt, tt, tt)
+      alternative_is_typed s x (tree.Else st) home within sits t knows =
           typed_made U (IsTypedStatement 31 t) (IsTypedElse 31 t) Else x.block _ (statement_typed U s x st) (λ y h. h)
-          (statement_is_typed s x st l home within sits t knows)
+          (statement_is_typed s x st home within sits t knows)
 
-      pub list_is_typed : (s : Surroundings) (x : Next) (ss : Statements) → later_statements L ss ≡ None
+      pub list_is_typed : (s : Surroundings) (x : Next) (ss : Statements)
           → AreHome All s.blocks → IsInside s.blocks → Sits All x.block (begun_among s.blocks x.block ss)
           → (t : TypingContext) → Knows U t s
           → OnTyped (Typed U (AreTypedStatements 31 t) x.block (begun_among s.blocks x.block ss)) (statements_typed U s x ss)
-      list_is_typed s x Ended l home within sits t knows = (tt, tt, tt)
-      list_is_typed s x (Before (Numbered number label at body) more) l home within sits t knows =
-          let parts : (later_statement L (Numbered number label at body) ≡ None) × (later_statements L more ≡ None) =
-          no_either _ _ l in
+      list_is_typed s x Ended home within sits t knows = (tt, tt, tt)
+      list_is_typed s x (Before (Numbered number label at body) more) home within sits t knows =
           let places : Sits All x.block (begun_in s.blocks x.block (Numbered number label at body))
           × Sits All (x.block + blocks.blocks_in (Numbered number label at body))
           (begun_among s.blocks (x.block + blocks.blocks_in (Numbered number label at body)) more) =
@@ -471,5 +438,5 @@ module _ (program : ExternalProcedure) (is_based : ℕ → Bool) (based : List �
           (statements_typed U s (behind is_based x (Numbered number label at body)) more)
           (begun_count s.blocks x.block (Numbered number label at body))
           (λ y z h k. put_typed t (leaves_nothing body) y z h k)
-          (statement_is_typed s x (Numbered number label at body) parts.0 home within places.0 t knows)
-          (list_is_typed s (behind is_based x (Numbered number label at body)) more parts.1 home within places.1 t knows)
+          (statement_is_typed s x (Numbered number label at body) home within places.0 t knows)
+          (list_is_typed s (behind is_based x (Numbered number label at body)) more home within places.1 t knows)

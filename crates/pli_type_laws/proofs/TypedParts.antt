@@ -10,17 +10,30 @@ use Rattle.pli_base.specs.declared.token.Fault.{Fault}
 use Rattle.pli_meaning_tree.specs.TreeMeaning.{procedure_in}
 use Rattle.pli_meaning_typed.specs.TypedPrograms.{IsTypedProcedure}
 use Rattle.pli_resolve.specs.declared.block_numbers.ResolvedBlockKind.TheVariants as kinds
+use Rattle.pli_type.specs.Checked.{typed_as, unit_of}
 use Rattle.pli_type.specs.Names.{NamedUnit}
 use Rattle.pli_type.specs.StatementTyping.{WithProcedures, of_own, together, made}
 use Rattle.pli_type_laws.proofs.Denotations.{OnRead}
 use Rattle.pli_type_name_laws.specs.SourceBlocks.{SourceBlock, known_procedures}
-use Rattle.pli_type_tree.specs.TypedTree.{TypedProcedure, TypedStatements}
+use Rattle.pli_type_tree.specs.TypedTree.{TypedProcedure, TypedStatements, TypedUnit}
 use Rattle.pli_type_tree.specs.WellTyped.{KnownProcedure, TypingContext, AreTypedStatements}
 
 -- what is given, if there are no faults
 abbrev pub OnTyped : {A : Type 0} → (A → Type 0) → Result A (List Fault) → Type 0
 OnTyped P (Ok x) = P x
 OnTyped P (Err fs) = Unit {0}
+
+pub on_given : {A : Type 0} (P : A → Type 0) (r : Result A (List Fault)) (y : A) → r ≡ Ok y → OnTyped P r → P y
+on_given P r y e h = subst (OnTyped P) e h
+
+-- what holds of the unit of each list without faults holds of the unit that is given
+pub unit_given : (u : NamedUnit) (P : TypedUnit → Type 0) (r : Result (WithProcedures TypedStatements) (List Fault)) (t : TypedUnit)
+    → ((y : WithProcedures TypedStatements) → r ≡ Ok y → P (unit_of u y)) → typed_as u r ≡ Ok t → P t
+unit_given u P (Ok y) t h e = subst P (same (unit_of u y) t (Ok (unit_of u y)) refl e) (h y refl)
+  where
+    same : (x z : TypedUnit) (r : Result TypedUnit (List Fault)) → r ≡ Ok x → r ≡ Ok z → x ≡ z
+    same x z r e f = cc
+unit_given u P (Err fs) t h e = cc
 
 pub typed_map : {A : Type 0} (P Q : A → Type 0) (r : Result A (List Fault)) → ((x : A) → P x → Q x) → OnTyped P r → OnTyped Q r
 typed_map P Q (Ok x) g h = g x h

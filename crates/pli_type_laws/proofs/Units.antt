@@ -1,6 +1,6 @@
 -- Units are well typed.
 use Rattle.std.specs.Prelude.{◌≡◌, ℕ, ◌+◌, Option, Some, None, option_and_then, List, [], ◌∷◌, slice_get}
-use Rattle.std.specs.Prelude.{Result, Ok, Err, refl, Bool, true}
+use Rattle.std.specs.Prelude.{Result, Ok, refl, Bool, true}
 use Rattle.std.proofs.Common.{arith, sym, ap, ◌∙◌, subst}
 use Rattle.std.proofs.lemmas.Option.{same_Some, none-some}
 use Rattle.pli_base.specs.Statements.{ExternalProcedure}
@@ -10,16 +10,15 @@ use Rattle.pli_meaning_tree.specs.TreeMeaning.{procedure_in}
 use Rattle.pli_meaning_typed.specs.TypedPrograms.{IsTypedProcedure, IsTypedUnit, context_in}
 use Rattle.pli_resolve.specs.declared.block_numbers.ResolvedBlockKind.{ResolvedBlockKind}
 use Rattle.pli_resolve.specs.declared.block_numbers.ResolvedBlockKind.TheVariants as kinds
-use Rattle.pli_type.specs.Checked.{in_unit, first_inside, external_of, unit_of, typed_as, checked, unless_unbuilt}
-use Rattle.pli_type.specs.Names.{NamedUnit, NamedAs, Compiled}
+use Rattle.pli_type.specs.Checked.{in_unit, first_inside, external_of, unit_of, checked}
+use Rattle.pli_type.specs.Names.{NamedUnit, NamedAs}
 use Rattle.pli_type.specs.declared.beginning.Beginning.{Beginning}
 use Rattle.pli_type.specs.StatementTyping as source
 use Rattle.pli_type.specs.StatementTyping.{enclosing, WithProcedures, statements_typed}
-use Rattle.pli_type.specs.Unbuilt.{first_unbuilt, later_statements}
 use Rattle.pli_type_laws.proofs.BlocksKnown.{Within, within_self, Sits, sits_all, AreHome, StandsDirectly, AreDirect, direct_among, direct_at}
 use Rattle.pli_type_laws.proofs.Contexts.{Knows, own_procedure}
 use Rattle.pli_type_laws.proofs.Statements.{has_end, list_is_typed, labels_kept}
-use Rattle.pli_type_laws.proofs.TypedParts.{OnTyped, typed_map, Has, has_back, Covers, covers_more, covered, found_among, IsOurs}
+use Rattle.pli_type_laws.proofs.TypedParts.{OnTyped, on_given, unit_given, typed_map, Has, has_back, Covers, covers_more, covered, found_among, IsOurs}
 use Rattle.pli_type_laws.proofs.TypedParts.{AreOurs, ours_found, Typed, with_list}
 use Rattle.pli_type_laws.specs.TypedUnits.{TypedUnitsAreTyped, unit_with}
 use Rattle.pli_type_name_laws.specs.NameFacts.{NameFacts}
@@ -30,26 +29,17 @@ use Rattle.pli_type_tree.specs.TypedTree.{Global, TypedProcedure, TypedStatement
 use Rattle.pli_type_tree.specs.WellTyped as trees
 use Rattle.pli_type_tree.specs.WellTyped.{KnownProcedure, TypingContext, AreTypedStatements}
 
-given_same : {A B : Type 0} {x y : A} (r : Result A B) → r ≡ Ok x → r ≡ Ok y → x ≡ y
-given_same r e f = cc
-
 procedure_no_begin : kinds.Procedure ≡ kinds.Begin → ⊥
 procedure_no_begin e = absurd (cc)
 
 unit_no_begin : kinds.OnUnit ≡ kinds.Begin → ⊥
 unit_no_begin e = absurd (cc)
 
-error_given : {A B : Type 0} {x : A} {y : B} (r : Result A B) → r ≡ Err y → r ≡ Ok x → ⊥
-error_given r f e = absurd (cc)
-
 module _ (program : ExternalProcedure) (is_based : ℕ → Bool) (based : List ℕ → ℕ → List Template) (areas : List ℕ → ℕ → Option Beginning)
     (meaning : List ℕ → ℕ → NamedAs) (parameters : ℕ → List Description) (returned : ℕ → Option Description) (automatic : ℕ → List Template)
     (globals : List Global) where
   abbrev V : NamedUnit
   V = unit_with program is_based based areas meaning parameters returned automatic globals
-
-  abbrev L : Compiled
-  L = record { greatest = 31; is_based = is_based }
 
   abbrev All : List SourceBlock
   All = unit_blocks program
@@ -102,12 +92,11 @@ module _ (program : ExternalProcedure) (is_based : ℕ → Bool) (based : List �
     abbrev Inner : List SourceBlock
     Inner = begun_among (enclosing 0 program.statements ∷ []) 1 program.statements
 
-    list_typed : later_statements L program.statements ≡ None
-        → OnTyped (Typed V (λ list. AreTypedStatements 31 (Context list) list) 1 Inner) Result_of
-    list_typed l =
+    list_typed : OnTyped (Typed V (λ list. AreTypedStatements 31 (Context list) list) 1 Inner) Result_of
+    list_typed =
         with_list V Result_of Context (λ t. Knows V t (in_unit (returned 0) program.statements)) 1 Inner
         (list_is_typed program is_based based areas meaning parameters returned automatic globals facts direct
-        (in_unit (returned 0) program.statements) first_inside program.statements l home tt all_sit.1)
+        (in_unit (returned 0) program.statements) first_inside program.statements home tt all_sit.1)
         (typed_map _ _ Result_of (λ y f. entered y.part f) (labels_kept V (in_unit (returned 0) program.statements) first_inside program.statements))
 
     module _ (y : WithProcedures TypedStatements) (h : Typed V (λ list. AreTypedStatements 31 (Context list) list) 1 Inner y) where
@@ -190,19 +179,11 @@ module _ (program : ExternalProcedure) (is_based : ℕ → Bool) (based : List �
         typed = each_procedure;
       }
 
-    of_result : (t : TypedUnit) (r : Result (WithProcedures TypedStatements) (List Fault))
-        → OnTyped (Typed V (λ list. AreTypedStatements 31 (Context list) list) 1 Inner) r → typed_as V r ≡ Ok t → IsTypedUnit 31 t
-    of_result t (Ok y) h e = subst (IsTypedUnit 31) (given_same (Ok (unit_of V y)) refl e) (is_typed y h)
-    of_result t (Err fs) h e = absurd (error_given _ refl e)
-
-    of_built : (t : TypedUnit) (o : Option ℕ) → first_unbuilt L program ≡ o → unless_unbuilt o (typed_as V Result_of) ≡ Ok t
-        → IsTypedUnit 31 t
-    of_built t None none e = of_result t Result_of (list_typed none) e
-    of_built t (Some at) some e = absurd (error_given _ refl e)
-
     pub unit_is_typed_so : (t : TypedUnit) → checked V ≡ Ok t → IsTypedUnit 31 t
     unfolding checked
-    unit_is_typed_so t e = of_built t (first_unbuilt L program) refl e
+    unit_is_typed_so t e =
+        unit_given V (IsTypedUnit 31) Result_of t
+        (λ y is. is_typed y (on_given (Typed V (λ list. AreTypedStatements 31 (Context list) list) 1 Inner) Result_of y is list_typed)) e
 
 pub unit_is_typed : TypedUnitsAreTyped
 unit_is_typed program is_based based areas meaning parameters returned automatic globals facts nests t e =

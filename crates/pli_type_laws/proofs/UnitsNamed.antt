@@ -10,6 +10,7 @@ use Rattle.pli_base.specs.Statements.{Statement, Numbered, Body, Statements, End
 use Rattle.pli_base.specs.declared.token.Fault.{Fault}
 use Rattle.pli_gen_emit.specs.TreeTranslation.{BlockTree, blocks_of_procedure, procedure_block, blocks_in, blocks_of_form}
 use Rattle.pli_gen_emit.specs.TreeTranslation.{blocks_of_else, blocks_among}
+use Rattle.pli_gen.specs.laws.ListLaws.{all_front, all_back}
 use Rattle.pli_gen.specs.WellNumbered.{IsOnUnitIn, NamesUnits, NamesUnitsForm, NamesUnitsElse, NameUnits}
 use Rattle.pli_map.specs.Description.{Description}
 use Rattle.pli_program.specs.Program.{OnUnit}
@@ -25,20 +26,14 @@ use Rattle.pli_type_laws.proofs.Denotations.{OnRead}
 use Rattle.pli_type_laws.proofs.NumberedParts.{blocks_within}
 use Rattle.pli_type_laws.proofs.Shapes.{IsSimple, simple_assignment, simple_goto, simple_call, simple_return, simple_free}
 use Rattle.pli_type_laws.proofs.TypedParts.{OnTyped}
+use Rattle.pli_type_name_laws.proofs.InitialHeld.{all_behind}
 use Rattle.pli_type_tree.specs.TypedTree as typed
 use Rattle.pli_type_tree.specs.TypedTree.{AllocatedItem, Form, OtherWise, Else, TypedExpression, TypedProcedure, TypedStatement}
 use Rattle.pli_type_tree.specs.TypedTree.{TypedStatements, NoStatement}
 
--- ---- what holds of each of two lists
-
-pub all_joined : {A : Type 0} (P : A → Type 0) (xs ys : List A) → AllByRecursion P xs → AllByRecursion P ys → AllByRecursion P (xs ++ ys)
-all_joined P [] ys h k = k
-all_joined P (x ∷ xs) ys h k = (h.0, all_joined P xs ys h.1 k)
-
+-- what holds of two lists, one behind the other, holds of each
 pub all_parts : {A : Type 0} (P : A → Type 0) (xs ys : List A) → AllByRecursion P (xs ++ ys) → AllByRecursion P xs × AllByRecursion P ys
-all_parts P [] ys h = (tt, h)
-all_parts P (x ∷ xs) ys h =
-    let rest : AllByRecursion P xs × AllByRecursion P ys = all_parts P xs ys h.1 in ((h.0, rest.0), rest.1)
+all_parts P xs ys h = (all_front P xs ys h, all_back P xs ys h)
 
 -- the block of an ON-unit
 unit_kind : (f : TypedProcedure) → f.is_on_unit ≡ true → (procedure_block f).kind ≡ OnUnit
@@ -101,7 +96,7 @@ module _ (bs : List BlockTree) where
       → AllByRecursion Named (blocks_within (fs ++ gs))
   within_both fs gs h k =
       subst (AllByRecursion Named) (sym (flat_map-append blocks_of_procedure fs gs))
-      (all_joined Named (blocks_within fs) (blocks_within gs) h k)
+      (all_behind Named (blocks_within fs) (blocks_within gs) h k)
 
   given_made : {A B : Type 0} (P : A → Type 0) (Q : B → Type 0) (f : A → B) (r : Result (WithProcedures A) (List Fault))
       → ((x : A) → P x → Q (f x)) → OnTyped (Given P) r → OnTyped (Given Q) (made f r)
@@ -136,7 +131,7 @@ module _ (bs : List BlockTree) where
       all_parts Gives y.procedures (make y.part ∷ []) g in (
         k y.part parts.1.0,
         within_both y.procedures (make y.part ∷ []) (h parts.0).1
-            (all_joined Named (blocks_of_procedure (make y.part)) [] (j y.part (h parts.0).0) tt),
+            (all_behind Named (blocks_of_procedure (make y.part)) [] (j y.part (h parts.0).0) tt),
       )
   given_ended P Q left make (Err fs) k j h = tt
 
@@ -175,7 +170,7 @@ module _ (bs : List BlockTree) where
         record {
           here = ((h parts.0).0.here, (j parts.1).0.here);
           blocks = λ parent.
-              all_joined Named (blocks_in parent s.part) (blocks_of_else parent e.part) ((h parts.0).0.blocks parent)
+              all_behind Named (blocks_in parent s.part) (blocks_of_else parent e.part) ((h parts.0).0.blocks parent)
               ((j parts.1).0.blocks parent);
         },
         within_both s.procedures e.procedures (h parts.0).1 (j parts.1).1,
@@ -193,7 +188,7 @@ module _ (bs : List BlockTree) where
   before_named block true s ss h k = k
   before_named block false s ss h k = record {
     here = (h.here, k.here);
-    blocks = λ parent. all_joined Named (blocks_in parent s) (blocks_among parent ss) (h.blocks parent) (k.blocks parent);
+    blocks = λ parent. all_behind Named (blocks_in parent s) (blocks_among parent ss) (h.blocks parent) (k.blocks parent);
   }
 
   group_block : (labels : List ℕ) (es : List Enclosing) (begins : ℕ) (value : Option Description)
@@ -249,8 +244,8 @@ module _ (bs : List BlockTree) where
           (group_named s (behind_limits range x) ss (list_named (in_group ss s) (behind_limits range x) ss))
       body_named s x number at (tree.If tested consequence alternative) =
           if_named (block_at s) (condition (naming_at u s) tested) (statement_typed u s x consequence)
-          (alternative_typed u s (behind u.compiled.is_based x consequence) alternative) (statement_named s x consequence)
-          (alternative_named s (behind u.compiled.is_based x consequence) alternative)
+          (alternative_typed u s (behind u.is_based x consequence) alternative) (statement_named s x consequence)
+          (alternative_named s (behind u.is_based x consequence) alternative)
       body_named s x number at tree.Stop = own_named (block_at s) (Ok typed.Stop) tt
       body_named s x number at (tree.Allocate list) =
           allocate_named (block_at s) (all_allocated (naming_at u s) x.temporary list)
@@ -286,6 +281,6 @@ module _ (bs : List BlockTree) where
       list_named s x Ended = λ g. (record { here = tt; blocks = λ parent. tt }, tt)
       list_named s x (Before first more) =
           given_both (StatementNamed (block_at s)) (ListNamed (block_at s)) (ListNamed (block_at s)) (put_before (says_nothing first))
-          (statement_typed u s x first) (statements_typed u s (behind u.compiled.is_based x first) more)
+          (statement_typed u s x first) (statements_typed u s (behind u.is_based x first) more)
           (λ st ss h k. before_named (block_at s) (says_nothing first) st ss h k) (statement_named s x first)
-          (list_named s (behind u.compiled.is_based x first) more)
+          (list_named s (behind u.is_based x first) more)

@@ -1,2 +1,3 @@
+pub mod ConstantLaws
 pub mod ExpressionTyping
 pub mod TypedUnits

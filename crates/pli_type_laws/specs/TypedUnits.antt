@@ -36,7 +36,7 @@ abbrev pub unit_with : ExternalProcedure → (is_based : ℕ → Bool)
     → (automatic : (block : ℕ) → List Template) → (globals : List Global) → NamedUnit
 unit_with tree is_based based areas meaning parameters returned automatic globals = record {
   tree = tree;
-  compiled = record { greatest = 31; is_based = is_based };
+  is_based = is_based;
   naming = λ blocks. record {
     greatest = 31;
     based = based blocks;

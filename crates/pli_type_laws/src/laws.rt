@@ -1,4 +1,5 @@
 //! Laws of what the type checker gives.
+ghost use Rattle.pli_type_laws.specs.ConstantLaws.{ConstantsAreAsWritten};
 ghost use Rattle.pli_type_laws.specs.ExpressionTyping.{ConvertedIsHeld, PrintedIsString};
 ghost use Rattle.pli_type_laws.specs.TypedUnits.{CheckedIsTyped, TypedUnitsAreNumbered, TypedUnitsAreTyped};
 
@@ -8,6 +9,11 @@ ghost use Rattle.pli_type_laws.specs.TypedUnits.{CheckedIsTyped, TypedUnitsAreNu
 /// the items of ALLOCATE in them, are apart.
 pub fn typed_units_are_numbered()
     ensures { TypedUnitsAreNumbered }
+{}
+
+/// A law: the value of a constant within the limits of the language, as each constant of a text is, is what is written.
+pub fn constants_are_as_written()
+    ensures { ConstantsAreAsWritten }
 {}
 
 /// A law: a value of its type that is converted to the type of a variable can be assigned to it, where the area is

@@ -4,6 +4,6 @@
 mod laws;
 
 pub use laws::{
-    checked_is_typed, converted_is_held, printed_is_string, typed_units_are_numbered,
-    typed_units_are_typed,
+    checked_is_typed, constants_are_as_written, converted_is_held, printed_is_string,
+    typed_units_are_numbered, typed_units_are_typed,
 };

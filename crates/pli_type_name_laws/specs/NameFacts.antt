@@ -131,4 +131,4 @@ pub record NameFacts (u : NamedUnit) : Type 0 where
 -- each of them
 abbrev pub KnowsBased : NamedUnit → Type 0
 KnowsBased u =
-    (blocks : List ℕ) (at : ℕ) → names_based ((u.naming blocks).meaning at) ≡ u.compiled.is_based at
+    (blocks : List ℕ) (at : ℕ) → names_based ((u.naming blocks).meaning at) ≡ u.is_based at

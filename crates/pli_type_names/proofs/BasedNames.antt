@@ -7,15 +7,15 @@ use Rattle.pli_type.specs.Names.{NamedAs, NamedStorage, Begins, IsBased, AVariab
 use Rattle.pli_type.specs.NamedUnits.{is_based_whole, names_based}
 use Rattle.pli_type.proofs.BasedNames.{named_anywhere}
 use Rattle.pli_type_names.specs.SymbolMeaning.{IsMeantAs, is_way}
-use Rattle.pli_type_names.specs.UnitNaming.{Names, compiled_in, naming_in, unit_compiled}
+use Rattle.pli_type_names.specs.UnitNaming.{Names, based_in, naming_in}
 use Rattle.pli_type_names.specs.declared.naming.NamedAs.TheVariants as answers
 use Rattle.pli_type_names.specs.declared.naming.NamedProcedure.{NamedProcedure as Procedural}
 use Rattle.pli_type_names.specs.declared.naming.NamedVariable.{NamedVariable}
 use Rattle.pli_type_names.specs.views.StorageView.{storage_view}
 
 -- what a name means here says whether it is that of a BASED variable
-pub based_here : (n : Names) (at : ℕ) → names_based ((naming_in n).meaning at) ≡ (compiled_in n).is_based at
-unfolding naming_in unit_compiled
+pub based_here : (n : Names) (at : ℕ) → names_based ((naming_in n).meaning at) ≡ based_in n at
+unfolding naming_in based_in
 based_here n at =
     let r = resolved_unit_of (unit_view n.unit) in
     named_anywhere 31 r n.blocks [] (meaning_at r at)

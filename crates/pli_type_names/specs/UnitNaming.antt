@@ -1,5 +1,5 @@
 -- What the names of a unit mean, its procedures and its symbols, by its tree.
-use Rattle.std.specs.Prelude.{ℕ, List, ◌∷◌, drop, refl}
+use Rattle.std.specs.Prelude.{ℕ, Bool, List, ◌∷◌, drop, refl}
 use Rattle.std.specs.Coded.{Coded, code_by, coded×, coded_list, coded_ℕ}
 use Rattle.pli_base.specs.contracts.statement.Body.TheKnot.{coded-Procedure}
 use Rattle.pli_base.specs.declared.statement.Procedure.{Procedure}
@@ -7,7 +7,7 @@ use Rattle.pli_base.specs.views.StatementView.{unit_view}
 use Rattle.pli_resolve.specs.ResolvedUnits.{resolved_unit_of}
 use Rattle.pli_resolve.specs.Symbols.{Symbol}
 use Rattle.pli_type.specs.NamedUnits.{block_symbols, named_procedure, named_unit}
-use Rattle.pli_type.specs.Names.{Naming, Compiled, NamedProcedure}
+use Rattle.pli_type.specs.Names.{Naming, NamedProcedure}
 
 -- a unit, and the blocks around, the innermost first
 pub record Names : Type 0 where
@@ -32,13 +32,9 @@ outside n = record { unit = n.unit; blocks = drop 1 n.blocks }
 unfoldable pub naming_in : Names → Naming
 naming_in n = (named_unit 31 (resolved_unit_of (unit_view n.unit))).naming n.blocks
 
--- what is compiled is the same in all blocks
-unfoldable pub unit_compiled : Procedure → Compiled
-unit_compiled u = (named_unit 31 (resolved_unit_of (unit_view u))).compiled
-
--- what is compiled, in the unit of these names
-abbrev pub compiled_in : Names → Compiled
-compiled_in n = unit_compiled n.unit
+-- at which tokens the name of a BASED variable stands; this is the same in all blocks
+unfoldable pub based_in : Names → (at : ℕ) → Bool
+based_in n = (named_unit 31 (resolved_unit_of (unit_view n.unit))).is_based
 
 -- a block as a procedure: what its parameters are, what it gives, and the area that its RETURNS names
 unfoldable pub procedure_in : Names → (block : ℕ) → NamedProcedure

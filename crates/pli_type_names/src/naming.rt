@@ -8,7 +8,7 @@ ghost use Rattle.pli_map.specs.views.DescriptionView.{description_view};
 ghost use Rattle.pli_resolve.specs.ResolvedUnits.{resolved_unit_of};
 ghost use Rattle.pli_type_names.specs.SymbolMeaning.{IsMeantAs, IsProcedure};
 ghost use Rattle.pli_type_names.specs.Seen.{seen};
-ghost use Rattle.pli_type_names.specs.UnitNaming.{compiled_in, inside, naming_in, outside, procedure_in};
+ghost use Rattle.pli_type_names.specs.UnitNaming.{based_in, inside, naming_in, outside, procedure_in};
 ghost use Rattle.pli_type_names.specs.views.MeaningView.{answer_view};
 
 use crate::around::block_outward;
@@ -194,7 +194,7 @@ impl<'a> Naming<'a> {
     /// Whether the name at a token means a BASED variable, and no member of one. Tokens are counted from 0.
     #[tactic(auto, using(crate::proofs::BasedNames::based_here))]
     pub fn is_based(&self, at: u32) -> bool
-        ensures { result ≡ (compiled_in self.now).is_based at }
+        ensures { result ≡ based_in self.now at }
     {
         names_based(self.meaning(at))
     }

@@ -190,7 +190,7 @@ block_walked old e d new block is_on_unit begins value number ss list head place
     ∙ ap (λ a. statements_typed (unit_at old) (surroundings_of a) (next_at e) ss) in_it.around
     ∙ ap (λ n. statements_typed (unit_at old) (in_block old is_on_unit begins value ss) n ss) in_it.next in
     let nexts : next_at d ≡ behind_list (based_names old) (record { block = suc old.next.block; temporary = 0 }) ss =
-    w.next ∙ ap (λ (n : Names). behind_list (unit_named n.unit).compiled.is_based (next_at e) ss) in_it.naming
+    w.next ∙ ap (λ (n : Names). behind_list (unit_named n.unit).is_based (next_at e) ss) in_it.naming
     ∙ ap (λ n. behind_list (based_names old) n ss) in_it.next in
     record {
       walked = record {

@@ -1,19 +1,16 @@
 -- Lists of items, one after another.
-use Rattle.std.proofs.Common.{◌≡◌, ◌++◌, ◌+◌, ◌<◌, ◌≤◌, ℕ, [], ◌∷◌, List, Result, Ok, Err, map, drop, get_or, length, false, refl, ap, sym, ◌∙◌, append-nil, append_assoc}
-use Rattle.std.specs.List.{list_any}
+use Rattle.std.proofs.Common.{◌≡◌, ◌++◌, ◌+◌, ◌<◌, ◌≤◌, ℕ, [], ◌∷◌, List, Result, Ok, Err, map, drop, get_or, length, refl, ap, sym, ◌∙◌, append-nil, append_assoc}
 use Rattle.pli_base.specs.Results.{◌>>=◌}
 use Rattle.pli_base.specs.Syntax as tree
 use Rattle.pli_base.specs.declared.syntax.Expression.{Expression}
 use Rattle.pli_base.specs.declared.token.Fault.{Fault}
 use Rattle.pli_base.specs.views.SyntaxView as syntax
-use Rattle.pli_type.specs.Names.{Compiled, Naming}
+use Rattle.pli_type.specs.Names.{Naming}
 use Rattle.pli_type.specs.StatementTyping.{item, items}
-use Rattle.pli_type.specs.Unbuilt.{later_expression}
 use Rattle.pli_base.specs.answers.FailureAnswers.{Fails}
 use Rattle.pli_base.specs.declared.failure.Failure.{Failure}
 use Rattle.pli_base.specs.declared.failure.Failure.TheVariants as errors
 use Rattle.pli_type_tree.specs.TypedTree.{TypedExpression}
-use Rattle.pli_type_statement.proofs.NothingLater.{both_false}
 use Rattle.pli_type_statement.proofs.SearchLemmas.{front, past_lists}
 
 -- items in front of those that are left, unless one of these has a fault
@@ -38,13 +35,6 @@ item_faulty n xs f e es h = ap (λ r. behind xs (r >>= λ y. items n es >>= λ y
 pub none_behind : (r : Result (List TypedExpression) Fault) → behind [] r ≡ r
 none_behind (Ok ys) = refl
 none_behind (Err f) = refl
-
-pub item_built : (n : Compiled) (es : List Expression) (i : ℕ) (e : Expression) → e ≡ get_or es i e → i < length es
-    → list_any (later_expression n) (map syntax.expression_view (drop i es)) ≡ false
-    → (later_expression n (syntax.expression_view e) ≡ false)
-    × (list_any (later_expression n) (map syntax.expression_view (drop (i + 1) es)) ≡ false)
-item_built n es i e is lt h =
-    both_false _ _ (sym (front (λ ys. list_any (later_expression n) (map syntax.expression_view ys)) es i e is lt) ∙ h)
 
 pub item_typed : (n : Naming) (es : List Expression) (i : ℕ) (e : Expression) (xs ys : List TypedExpression)
     (x : TypedExpression) (whole : Result (List TypedExpression) Fault) → e ≡ get_or es i e → i < length es

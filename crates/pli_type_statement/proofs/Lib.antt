@@ -2,7 +2,6 @@ pub mod WalkEndLemmas
 pub mod Arrows
 pub mod BasedItems
 pub mod Blocks
-pub mod NothingLater
 pub mod RoomLeft
 pub mod CallLemmas
 pub mod ItemLists

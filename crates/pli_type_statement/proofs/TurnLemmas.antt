@@ -7,11 +7,10 @@ use Rattle.pli_base.specs.Syntax.{Expression}
 use Rattle.pli_base.specs.declared.statement.Statement.{Statement}
 use Rattle.pli_base.specs.declared.token.Fault.{Fault}
 use Rattle.pli_base.specs.views.StatementView as source
-use Rattle.pli_type.specs.Names.{Compiled, NamedUnit}
+use Rattle.pli_type.specs.Names.{NamedUnit}
 use Rattle.pli_type.specs.StatementTyping as spec
 use Rattle.pli_type.specs.StatementTyping.{Surroundings, WithProcedures, alone, of_own, together, made, put_before, leaves_nothing, body_typed, statement_typed, statements_typed, naming_at, items, put_form, condition, iteration}
 use Rattle.pli_type.specs.Temporaries.{Next, behind, kept_by, temporaries_of}
-use Rattle.pli_type.specs.Unbuilt.{later_statement, later_statements}
 use Rattle.pli_type_tree.specs.TypedTree as typed
 use Rattle.pli_type_tree.specs.TypedTree.{Form, TypedExpression, TypedStatement, TypedStatements, StatementThen, NoStatement}
 use Rattle.pli_type_tree.specs.declared.statement.TypedStatement as program
@@ -22,7 +21,6 @@ use Rattle.pli_type_statement.specs.Parts.{behind_body, behind_list, both, liste
 use Rattle.pli_type_statement.specs.Simple.{is_compound, simple_typed}
 use Rattle.pli_type_statement.specs.Walking.{IsPlaced, Walks, WalksBody, WalksList, unit_at, around, based_names, next_at}
 use Rattle.pli_type_statement.specs.declared.walk.TypingWalk.{TypingWalk}
-use Rattle.pli_type_statement.proofs.NothingLater.{list_built}
 use Rattle.pli_type_statement.proofs.SearchLemmas.{front}
 use Rattle.pli_type_statement.proofs.WalkLemmas.{as_typed, moved, then_walked, nothing_walked}
 
@@ -139,7 +137,7 @@ pub do_walked : (old mid new : TypingWalk) (number at : ℕ) (control : Option C
     → WalksBody old new number at (tree.Do control ss end) (both group_of header list)
 do_walked old mid new number at control ss end header list first second =
     as_typed old new _ _ _ _ _ _
-    (moved (λ u a x. behind_list u.compiled.is_based x ss) old mid _ first.back first.next ∙ same_next _ _ _ _ refl (omega arith))
+    (moved (λ u a x. behind_list u.is_based x ss) old mid _ first.back first.next ∙ same_next _ _ _ _ refl (omega arith))
     (do_group (unit_at old) (around old) (next_at old) number at control ss end) refl
     (then_walked group_of old mid new _ _ _ _ _ header list first second
     (moved (λ u s x. statements_typed u (spec.in_group ss s) x ss) old mid _ first.back first.next))
@@ -203,7 +201,7 @@ step_walked : (now mid new : TypingWalk) (s : Statement) (more : tree.Statements
     (both (put_before (leaves_nothing (source.body_view s.body))) t part)
 step_walked now mid new s more t part first second =
     as_typed now new _ _ _ _ _ _
-    (moved (λ u a x. behind_list u.compiled.is_based x more) now mid _ first.back first.next ∙ same_next _ _ _ _ (omega arith) (omega arith)) refl refl
+    (moved (λ u a x. behind_list u.is_based x more) now mid _ first.back first.next ∙ same_next _ _ _ _ (omega arith) (omega arith)) refl refl
     (then_walked (put_before (leaves_nothing (source.body_view s.body))) now mid new _ _ _ _ _ t part first second
     (moved (λ u a x. statements_typed u a x more) now mid _ first.back first.next))
 
@@ -225,14 +223,6 @@ goes_on_next old now mid complete kept still nothing ts us all ss i s t is lt sa
     (one_more complete nothing ts t part ∙ ap (λ b. in_front (complete && b) (ts ++ listed_if nothing t) part) (sym keeps)
     ∙ ap (λ b. in_front b (ts ++ listed_if nothing t) part) (sym stays) ∙ ap (λ vs. in_front still vs part) (sym puts))
     (goes new (both (put_before nothing) t part) step)
-
-pub next_built : (n : Compiled) (ss : List Statement) (i : ℕ) (s : Statement) → s ≡ get_or ss i s → i < length ss
-    → later_statements n (source.statements_view (drop i ss)) ≡ None
-    → (later_statement n (source.statement_view s) ≡ None)
-    × (later_statements n (source.statements_view (drop (i + 1) ss)) ≡ None)
-next_built n ss i s is lt h =
-    list_built n (source.statement_view s) (source.statements_view (drop (i + 1) ss))
-    (sym (front (λ ys. later_statements n (source.statements_view ys)) ss i s is lt) ∙ h)
 
 -- the end of the list
 

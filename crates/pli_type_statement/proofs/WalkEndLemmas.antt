@@ -1,5 +1,5 @@
 -- Where the walk over a unit begins, and what it has done at its end.
-use Rattle.std.proofs.Common.{◌≡◌, ◌≤◌, ◌∷◌, [], ℕ, List, Option, None, map}
+use Rattle.std.proofs.Common.{◌≡◌, ◌≤◌, ◌∷◌, [], ℕ, List, Option, map}
 use Rattle.std.proofs.Common.{ap, sym, ◌∙◌, refl, subst, arith}
 use Rattle.pli_base.specs.declared.statement.Procedure.{Procedure, out-Procedure}
 use Rattle.pli_base.specs.declared.statement.Statement.{Statement}
@@ -11,8 +11,7 @@ use Rattle.pli_resolve.specs.ResolvedUnits.{resolved_unit_of}
 use Rattle.pli_type.specs.Checked.{first_inside, in_unit}
 use Rattle.pli_type.specs.NamedUnits.{block_symbols, is_based, named_unit, templates_of}
 use Rattle.pli_type.specs.StatementTyping.{Enclosing, labels_of, statements_typed}
-use Rattle.pli_type.specs.Unbuilt.{first_unbuilt, later_statements}
-use Rattle.pli_type_names.specs.UnitNaming.{Names, compiled_in, inside, unit_compiled}
+use Rattle.pli_type_names.specs.UnitNaming.{Names, inside}
 use Rattle.pli_type_templates.specs.declared.unit_templates.UnitTemplates.{UnitTemplates}
 use Rattle.pli_type_templates.specs.views.UnitView.{automatic_at, based_at}
 use Rattle.pli_type_tree.specs.TypedTree.{Global, TypedStatements}
@@ -22,7 +21,7 @@ use Rattle.pli_type_statement.specs.Walking.{IsDeep, IsPlaced, Walks, WalksList,
 use Rattle.pli_type_statement.specs.declared.walk.TypingWalk.{TypingWalk}
 use Rattle.pli_type_statement.specs.views.AroundView.{around_view}
 use Rattle.pli_type_statement.proofs.Blocks.{same_templates}
-use Rattle.pli_type_statement.proofs.Units.{typed_list, unit_built}
+use Rattle.pli_type_statement.proofs.Units.{typed_list}
 use Rattle.pli_type_statement.proofs.WalkLemmas.{as_typed}
 
 -- a unit's name and the numbers of its PROCEDURE and END, by the parts of its tree
@@ -86,14 +85,6 @@ placed_first u w labels value t named is first automatic others based same = rec
   deep = subst IsDeep (sym is) (omega arith);
 }
 
-pub built_first : (u : Procedure) (n : Names) (ss : List Statement) → n ≡ first_names u
-    → ss ≡ (out-Procedure u).statements.items → first_unbuilt (unit_compiled u) (unit_view u) ≡ None
-    → later_statements (compiled_in n) (statements_view ss) ≡ None
-built_first u n ss named is built =
-    ap (λ (n : Names). later_statements (compiled_in n) (statements_view ss)) named
-    ∙ ap (λ xs. later_statements (unit_compiled u) (statements_view xs)) is
-    ∙ unit_built u built
-
 -- its statements
 abbrev pub all_of : Procedure → tree.Statements
 all_of u = statements_view (out-Procedure u).statements.items
@@ -104,13 +95,13 @@ pub whole_walked : (u : Procedure) (old new : TypingWalk) (ss : List Statement) 
     → value ≡ (unit_named u).returned 0
     → next_at old ≡ first_inside → ss ≡ (out-Procedure u).statements.items
     → WalksList old new (around old) (statements_view ss) list
-    → Walks TypedStatements old new (behind_list (unit_named u).compiled.is_based first_inside (all_of u)) (typed_list u (all_of u)) list
+    → Walks TypedStatements old new (behind_list (unit_named u).is_based first_inside (all_of u)) (typed_list u (all_of u)) list
 whole_walked u old new ss list value named is gives next same w =
     let ts = statements_view ss in
-    let f = (unit_named u).compiled.is_based in
+    let f = (unit_named u).is_based in
     as_typed old new (behind_list (based_names old) (next_at old) ts) (behind_list f first_inside (all_of u))
     (statements_typed (unit_at old) (around old) (next_at old) ts) (typed_list u (all_of u)) list list
-    (ap (λ (n : Names). behind_list (unit_named n.unit).compiled.is_based (next_at old) ts) named
+    (ap (λ (n : Names). behind_list (unit_named n.unit).is_based (next_at old) ts) named
     ∙ ap (λ x. behind_list f x ts) next ∙ ap (λ xs. behind_list f first_inside (statements_view xs)) same)
     (ap (λ (n : Names). statements_typed (unit_named n.unit) (around old) (next_at old) ts) named
     ∙ ap (λ a. statements_typed (unit_named u) (surroundings_of a) (next_at old) ts) is

@@ -10,7 +10,7 @@ use Rattle.pli_type.specs.Temporaries.{Next}
 use Rattle.pli_base.specs.answers.FailureAnswers.{Gives}
 use Rattle.pli_base.specs.declared.failure.Failure.{Failure}
 use Rattle.pli_base.specs.declared.failure.Failure.TheVariants as errors
-use Rattle.pli_type_names.specs.UnitNaming.{Names, compiled_in, naming_in, unit_compiled}
+use Rattle.pli_type_names.specs.UnitNaming.{Names, based_in, naming_in}
 use Rattle.pli_type_tree.specs.TypedTree.{TypedExpression, TypedStatement, TypedProcedure, OtherWise, If}
 use Rattle.pli_type_statement.specs.Around.{surroundings_of}
 use Rattle.pli_type_statement.specs.Parts.{unit_named, given, told, Adds, both, if_of, part_in, faults_in, IsKnown}
@@ -49,12 +49,12 @@ unfolding unit_named naming_in
 based_named n block = refl
 
 -- which names are those of BASED variables
-pub compiled_named : (n : Names) → (compiled_in n).is_based ≡ (unit_named n.unit).compiled.is_based
-unfolding unit_named unit_compiled
-compiled_named n = refl
+pub names_named : (n : Names) → based_in n ≡ (unit_named n.unit).is_based
+unfolding unit_named based_in
+names_named n = refl
 
 pub same_based : (old mid : TypingWalk) → mid.naming ≡ old.naming → based_names mid ≡ based_names old
-same_based old mid same = ap (λ (n : Names). (unit_named n.unit).compiled.is_based) same
+same_based old mid same = ap (λ (n : Names). (unit_named n.unit).is_based) same
 
 pub own_walked : {X Y E : Type 0} (old new : TypingWalk) (view : X → Y) (typed : Naming → Result Y Fault)
     (answer : Result X (Failure Fault)) (result : Result (Option X) E) (after : Next) → IsPlaced old

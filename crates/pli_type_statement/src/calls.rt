@@ -1,11 +1,10 @@
 //! CALL.
-ghost use Rattle.std.specs.Prelude.{◌≡◌, false, map};
+ghost use Rattle.std.specs.Prelude.{map};
 ghost use Rattle.pli_base.specs.views.SyntaxView as syntax;
 ghost use Rattle.pli_type.specs.StatementTyping as spec;
-ghost use Rattle.pli_type.specs.Unbuilt.{later_arguments};
 ghost use Rattle.pli_base.specs.answers.FailureAnswers.{Gives};
 ghost use Rattle.pli_type_expression.specs.views.TypingView.{argument_view};
-ghost use Rattle.pli_type_names.specs.UnitNaming.{compiled_in, naming_in};
+ghost use Rattle.pli_type_names.specs.UnitNaming.{naming_in};
 ghost use Rattle.pli_type_tree.specs.views.TypedView.{form_view};
 
 use pli_base::syntax::{Expression, Identifier};
@@ -21,7 +20,6 @@ fn call_arguments<'a>(
     naming: &Naming<'a>,
     list: &Option<Vec<Expression>>,
 ) -> Result<Vec<Argument<'a>>, TypeError>
-    requires { later_arguments (compiled_in naming.now) (syntax.arguments_view list.now) ≡ false }
     ensures { Gives (λ made. map argument_view made.items) result
         (spec.arguments_typed (naming_in naming.now) (syntax.arguments_view list.now)) }
 {
@@ -38,7 +36,6 @@ pub(crate) fn call(
     name: Identifier,
     list: &Option<Vec<Expression>>,
 ) -> Result<Form, TypeError>
-    requires { later_arguments (compiled_in naming.now) (syntax.arguments_view list.now) ≡ false }
     ensures { Gives form_view result (spec.call_typed (naming_in naming.now) name (syntax.arguments_view list.now)) }
 {
     let arguments = call_arguments(alloc, naming, list)?;

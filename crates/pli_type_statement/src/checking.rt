@@ -1,15 +1,11 @@
 //! The check of a unit.
-ghost use Rattle.std.specs.Prelude.{◌≡◌, [], ◌∷◌, None, option_map, Err, IfOk};
-ghost use Rattle.pli_base.specs.declared.code.Code.TheVariants.{NotYetBuilt};
+ghost use Rattle.std.specs.Prelude.{◌≡◌, option_map, IfOk};
 ghost use Rattle.pli_base.specs.views.StatementView as source;
 ghost use Rattle.pli_base.specs.views.StatementView.{unit_view};
 ghost use Rattle.pli_map.specs.views.DescriptionView.{description_view};
 ghost use Rattle.pli_resolve.specs.ResolvedUnits.{resolved_unit_of};
-ghost use Rattle.pli_type.specs.Checked.{may_begin};
 ghost use Rattle.pli_type.specs.NamedUnits.{checked_unit};
 ghost use Rattle.pli_type.specs.StatementTyping.{function_end, labels_of};
-ghost use Rattle.pli_type.specs.Unbuilt.{first_unbuilt};
-ghost use Rattle.pli_type_names.specs.UnitNaming.{compiled_in};
 ghost use Rattle.pli_type_statement.specs.Around.{outermost};
 ghost use Rattle.pli_type_statement.specs.Walking.{external_with, finished, unit_with};
 ghost use Rattle.pli_type_statement.specs.answers.Answers.{Checks};
@@ -19,38 +15,24 @@ ghost use Rattle.pli_type_tree.specs.views.TemplateView.{groups_view};
 ghost use Rattle.pli_type_tree.specs.views.TypedView as typed;
 
 use crate::labels::{ListLabels, labels_of};
-use crate::outer::{outer_signature, takes_nothing};
+use crate::outer::{may_begin, outer_signature};
 use crate::statement::type_statements;
 use crate::surroundings::Surroundings;
 use crate::walk::{Next, TypingWalk};
 use pli_base::statement::{Procedure, Statement};
-use pli_base::{Code, Failure, Fault};
+use pli_base::{Failure, Fault};
 use pli_map::Description;
 use pli_resolve::ResolvedUnit;
-use pli_type_names::{Naming, name_unit};
+use pli_type_names::name_unit;
 use pli_type_templates::templates;
 use pli_type_tree::{
     BlockHead, Signature, TypedProcedure, TypedStatement, TypedUnit, VariableGroup,
 };
-use pli_type_unbuilt::{first_unbuilt, is_main};
 use std::alloc::{AllocError, Global};
 
 /// Why a unit has no typed tree: all its faults of types, in the order of the text, one for each statement, and of an IF
-/// and a group one for what stands in front of the statements in them; or Z1 alone, at the first statement with a
-/// constant over the language's limits, which no text has; or want of memory.
+/// and a group one for what stands in front of the statements in them; or want of memory.
 pub type CheckError = Failure<Vec<Fault>>;
-
-/// Z1 at a token, alone.
-fn not_yet_built(alloc: Global, at: u32) -> Result<TypedUnit, CheckError>
-    ensures { Checks result (Err (record { code = NotYetBuilt; at = at } ∷ [])) }
-{
-    let mut faults = Vec::new(alloc);
-    faults.push(Fault {
-        code: Code::NotYetBuilt,
-        at,
-    })?;
-    Err(CheckError::Fault(faults))
-}
 
 /// In the list of the external procedure, which is block 0, and gives this if it is a function.
 fn in_unit<'a>(
@@ -83,13 +65,6 @@ fn function_end(value: &Option<Description>, end: u32) -> Option<u32>
         Some(_) => Some(end),
         None => None,
     }
-}
-
-/// Whether a program may begin with a unit, whose external procedure takes and gives this.
-fn may_begin(tree: &Procedure, signature: &Signature) -> bool
-    ensures { result ≡ may_begin (unit_view tree.now) (signature_view signature.now) }
-{
-    is_main(tree) && takes_nothing(signature)
 }
 
 /// The external procedure of a unit, which is block 0.
@@ -153,19 +128,14 @@ fn typed_unit(
     })
 }
 
-/// The typed tree of a unit without constants over the limits, or its faults of types.
-fn built<'a>(
-    alloc: Global,
-    unit: &'a ResolvedUnit<'a>,
-    naming: Naming<'a>,
-) -> Result<TypedUnit, CheckError>
-    requires same { naming ≡ record { unit = unit.now; blocks = [] } }
-    requires built { first_unbuilt (compiled_in naming) (unit_view unit.now) ≡ None }
+/// The typed tree of a resolved unit, or its faults of types.
+pub fn check(alloc: Global, unit: &ResolvedUnit<'_>) -> Result<TypedUnit, CheckError>
     ensures { Checks result (checked_unit (resolved_unit_of (unit_view unit.now))) }
 {
+    let undescribed = Description::Pointer;
+    let mut naming = name_unit(alloc, unit, &undescribed)?;
     let tree = unit.unit();
     let statements = tree.statements.as_slice();
-    let mut naming = naming;
     naming.enter(0)?;
     let mut templates = templates(alloc, unit)?;
     let variables = templates.take(alloc, 0);
@@ -191,18 +161,5 @@ fn built<'a>(
             let TypingWalk { faults, .. } = walk;
             Err(CheckError::Fault(faults))
         }
-    }
-}
-
-/// The typed tree of a resolved unit, or its faults of types. A unit with a constant over the limits has Z1 in their place
-/// (own).
-pub fn check(alloc: Global, unit: &ResolvedUnit<'_>) -> Result<TypedUnit, CheckError>
-    ensures { Checks result (checked_unit (resolved_unit_of (unit_view unit.now))) }
-{
-    let undescribed = Description::Pointer;
-    let naming = name_unit(alloc, unit, &undescribed)?;
-    match first_unbuilt(&naming) {
-        Some(at) => not_yet_built(alloc, at),
-        None => built(alloc, unit, naming),
     }
 }

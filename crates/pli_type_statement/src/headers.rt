@@ -1,10 +1,9 @@
 //! What controls a group.
-ghost use Rattle.std.specs.Prelude.{◌≡◌, ◌≤◌, false, option_map};
+ghost use Rattle.std.specs.Prelude.{◌≡◌, ◌≤◌, option_map};
 ghost use Rattle.pli_base.specs.views.StatementView.{control_view, range_view};
 ghost use Rattle.pli_type.specs.Temporaries as spec;
-ghost use Rattle.pli_type.specs.Unbuilt.{later_control, later_part};
 ghost use Rattle.pli_base.specs.answers.FailureAnswers.{Gives};
-ghost use Rattle.pli_type_names.specs.UnitNaming.{compiled_in, naming_in};
+ghost use Rattle.pli_type_names.specs.UnitNaming.{naming_in};
 ghost use Rattle.pli_type_statement.specs.Headers.{header_typed};
 ghost use Rattle.pli_type_statement.specs.views.HeaderView.{header_view};
 
@@ -48,14 +47,12 @@ pub(crate) fn kept_by(control: &Option<Control>) -> usize
 }
 
 /// What controls a group, whose temporaries begin with this one.
-#[tactic(auto, using(crate::proofs::NothingLater::iteration_built))]
 pub(crate) fn specified(
     alloc: Global,
     naming: &Naming<'_>,
     temporary: usize,
     control: &Option<Control>,
 ) -> Result<Header, TypeError>
-    requires { later_part (later_control (compiled_in naming.now)) (option_map control_view control.now) ≡ false }
     ensures { Gives header_view result (header_typed (naming_in naming.now) temporary (option_map control_view control.now)) }
 {
     match control {

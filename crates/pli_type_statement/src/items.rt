@@ -1,12 +1,9 @@
 //! Conditions, and items of PUT.
-ghost use Rattle.std.specs.Prelude.{◌≡◌, false, map};
-ghost use Rattle.std.specs.List.{list_any};
+ghost use Rattle.std.specs.Prelude.{map};
 ghost use Rattle.pli_base.specs.views.SyntaxView as syntax;
 ghost use Rattle.pli_type.specs.StatementTyping as spec;
-ghost use Rattle.pli_type.specs.Unbuilt.{later_expression};
-ghost use Rattle.pli_type.specs.views.ValueView.{value_view};
 ghost use Rattle.pli_base.specs.answers.FailureAnswers.{Gives};
-ghost use Rattle.pli_type_names.specs.UnitNaming.{compiled_in, naming_in};
+ghost use Rattle.pli_type_names.specs.UnitNaming.{naming_in};
 ghost use Rattle.pli_type_tree.specs.views.TypedView.{expression_view};
 
 use pli_base::syntax::Expression;
@@ -23,7 +20,6 @@ pub(crate) fn condition(
     naming: &Naming<'_>,
     expression: &Expression,
 ) -> Result<Box<TypedExpression>, TypeError>
-    requires { later_expression (compiled_in naming.now) (syntax.expression_view expression.now) ≡ false }
     ensures { Gives (λ x. expression_view x.value) result
         (spec.condition (naming_in naming.now) (syntax.expression_view expression.now)) }
 {
@@ -43,7 +39,6 @@ fn item(
     naming: &Naming<'_>,
     expression: &Expression,
 ) -> Result<TypedExpression, TypeError>
-    requires { later_expression (compiled_in naming.now) (syntax.expression_view expression.now) ≡ false }
     ensures { Gives expression_view result
         (spec.item (naming_in naming.now) (syntax.expression_view expression.now)) }
 {
@@ -60,7 +55,6 @@ pub(crate) fn items(
     naming: &Naming<'_>,
     expressions: &[Expression],
 ) -> Result<Vec<TypedExpression>, TypeError>
-    requires { list_any (later_expression (compiled_in naming.now)) (map syntax.expression_view expressions.now) ≡ false }
     ensures { Gives (λ items. map expression_view items.items) result
         (spec.items (naming_in naming.now) (map syntax.expression_view expressions.now)) }
 {

@@ -1,15 +1,14 @@
 //! Groups with a control variable.
-ghost use Rattle.std.specs.Prelude.{◌≡◌, false, option_map};
+ghost use Rattle.std.specs.Prelude.{◌≡◌, option_map};
 ghost use Rattle.std.specs.List.{list_any};
 ghost use Rattle.pli_base.specs.views.StatementView.{range_view};
 ghost use Rattle.pli_base.specs.views.SyntaxView as syntax;
 ghost use Rattle.pli_map.specs.views.DescriptionView.{description_view};
 ghost use Rattle.pli_type.specs.StatementTyping as spec;
-ghost use Rattle.pli_type.specs.Unbuilt.{later_expression, later_part, later_range, later_reference};
 ghost use Rattle.pli_type.specs.views.ValueView.{value_view};
 ghost use Rattle.pli_base.specs.answers.FailureAnswers.{Gives};
 ghost use Rattle.pli_type_expression.specs.views.TypingView.{denoted_view, referent_view};
-ghost use Rattle.pli_type_names.specs.UnitNaming.{compiled_in, naming_in};
+ghost use Rattle.pli_type_names.specs.UnitNaming.{naming_in};
 ghost use Rattle.pli_type_statement.specs.Iterations.{is_arrow, iteration_of, iteration_with, may_control};
 ghost use Rattle.pli_type_tree.specs.views.TypedView as typed;
 
@@ -32,7 +31,6 @@ fn limit(
     naming: &Naming<'_>,
     expression: &Expression,
 ) -> Result<TypedExpression, TypeError>
-    requires { later_expression (compiled_in naming.now) (syntax.expression_view expression.now) ≡ false }
     ensures { Gives typed.expression_view result
         (spec.limit (naming_in naming.now) (syntax.expression_view expression.now)) }
 {
@@ -52,7 +50,6 @@ fn possible_limit(
     naming: &Naming<'_>,
     expression: &Option<Expression>,
 ) -> Result<Option<TypedExpression>, TypeError>
-    requires { later_part (later_expression (compiled_in naming.now)) (option_map syntax.expression_view expression.now) ≡ false }
     ensures { Gives (option_map typed.expression_view) result
         (spec.possible_limit (naming_in naming.now) (option_map syntax.expression_view expression.now)) }
 {
@@ -68,7 +65,6 @@ fn limits(
     naming: &Naming<'_>,
     range: &Option<Range>,
 ) -> Result<TypedRange, TypeError>
-    requires { later_part (later_range (compiled_in naming.now)) (option_map range_view range.now) ≡ false }
     ensures { Gives typed.range_view result (spec.limits (naming_in naming.now) (option_map range_view range.now)) }
 {
     match range {
@@ -176,7 +172,6 @@ fn possible_condition(
     naming: &Naming<'_>,
     expression: &Option<Expression>,
 ) -> Result<Option<Box<TypedExpression>>, TypeError>
-    requires { later_part (later_expression (compiled_in naming.now)) (option_map syntax.expression_view expression.now) ≡ false }
     ensures { Gives (option_map (λ x. typed.expression_view x.value)) result
         (spec.possible_condition (naming_in naming.now) (option_map syntax.expression_view expression.now)) }
 {
@@ -193,7 +188,6 @@ fn next_value(
     control: &Referent<'_>,
     expression: &Expression,
 ) -> Result<Box<TypedRange>, TypeError>
-    requires { later_expression (compiled_in naming.now) (syntax.expression_view expression.now) ≡ false }
     ensures { Gives (λ range. typed.range_view range.value) result
         (spec.next_value (naming_in naming.now) (referent_view control.now) (syntax.expression_view expression.now)) }
 {
@@ -218,7 +212,6 @@ fn with_repeat(
     kept: Box<TypedRange>,
     range: &Option<Range>,
 ) -> Result<Box<TypedRange>, TypeError>
-    requires { later_part (later_range (compiled_in naming.now)) (option_map range_view range.now) ≡ false }
     ensures { Gives (λ range. typed.range_view range.value) result
         (spec.with_repeat (naming_in naming.now) (referent_view control.now) (typed.range_view kept.value)
         (option_map range_view range.now)) }
@@ -287,9 +280,6 @@ fn iterated(
     kept: Box<TypedRange>,
     variable: Box<Referent<'_>>,
 ) -> Result<Iteration, TypeError>
-    requires range { later_part (later_range (compiled_in naming.now)) (option_map range_view text.range.now) ≡ false }
-    requires condition { later_part (later_expression (compiled_in naming.now))
-        (option_map syntax.expression_view text.condition.now) ≡ false }
     ensures { Gives typed.iteration_view result
         (iteration_with (naming_in naming.now) temporary text.entry.equals (value_view start.value)
         (typed.range_view kept.value) (referent_view variable.entry.value) (option_map range_view text.entry.range.now)
@@ -319,11 +309,6 @@ pub(crate) fn iteration(
     temporary: usize,
     text: IterationText<'_>,
 ) -> Result<Iteration, TypeError>
-    requires variable { later_reference (compiled_in naming.now) (syntax.reference_view text.variable.now) ≡ false }
-    requires first { later_expression (compiled_in naming.now) (syntax.expression_view text.first.now) ≡ false }
-    requires range { later_part (later_range (compiled_in naming.now)) (option_map range_view text.range.now) ≡ false }
-    requires condition { later_part (later_expression (compiled_in naming.now))
-        (option_map syntax.expression_view text.condition.now) ≡ false }
     ensures { Gives typed.iteration_view result
         (spec.iteration (naming_in naming.now) temporary (syntax.reference_view text.entry.variable.now) text.entry.equals
         (syntax.expression_view text.entry.first.now) (option_map range_view text.entry.range.now)

@@ -1,11 +1,10 @@
 //! GOTO and RETURN.
-ghost use Rattle.std.specs.Prelude.{◌≡◌, false, map, option_map};
+ghost use Rattle.std.specs.Prelude.{◌≡◌, map, option_map};
 ghost use Rattle.pli_base.specs.views.SyntaxView as syntax;
 ghost use Rattle.pli_type.specs.StatementTyping as spec;
-ghost use Rattle.pli_type.specs.Unbuilt.{later_expression, later_part};
 ghost use Rattle.pli_type.specs.views.ValueView.{value_view};
 ghost use Rattle.pli_base.specs.answers.FailureAnswers.{Gives};
-ghost use Rattle.pli_type_names.specs.UnitNaming.{compiled_in, naming_in};
+ghost use Rattle.pli_type_names.specs.UnitNaming.{naming_in};
 ghost use Rattle.pli_type_statement.specs.Around.{surroundings_of};
 ghost use Rattle.pli_type_statement.specs.views.AroundView.{around_view};
 ghost use Rattle.pli_type_tree.specs.views.TypedView.{form_view};
@@ -20,8 +19,8 @@ use pli_type_names::{NamedAs, Naming};
 use pli_type_tree::Form;
 use std::alloc::Global;
 
-/// A GOTO, which leads to a label of a list that it stands in (X3.74); any other is not compiled yet, which is Z1 at
-/// the label.
+/// A GOTO, which leads to a label of a list that it stands in (X3.74). Any other is A11 at the label, as resolution has
+/// told already: no unit that is typed has one.
 pub(crate) fn jump(
     naming: &Naming<'_>,
     around: &Surroundings<'_>,
@@ -31,14 +30,14 @@ pub(crate) fn jump(
         (spec.goto_typed (naming_in naming.now) (surroundings_of (around_view around.now)) label) }
 {
     let NamedAs::Label(statement) = naming.meaning(label.at) else {
-        return Err(fault(Code::NotYetBuilt, label.at));
+        return Err(fault(Code::BadGoto, label.at));
     };
     match outward_to(around.lists.as_slice(), statement) {
         Some(outward) => Ok(Form::Goto {
             outward,
             label: statement,
         }),
-        None => Err(fault(Code::NotYetBuilt, label.at)),
+        None => Err(fault(Code::BadGoto, label.at)),
     }
 }
 
@@ -89,8 +88,7 @@ pub(crate) fn returned(
     at: u32,
     value: &Option<Expression>,
 ) -> Result<Form, TypeError>
-    requires blocks { naming.now.blocks ≡ map (λ b. b.number) (surroundings_of (around_view around.now)).blocks }
-    requires built { later_part (later_expression (compiled_in naming.now)) (option_map syntax.expression_view value.now) ≡ false }
+    requires { naming.now.blocks ≡ map (λ b. b.number) (surroundings_of (around_view around.now)).blocks }
     ensures { Gives form_view result
         (spec.return_typed (naming_in naming.now) (surroundings_of (around_view around.now)) at
         (option_map syntax.expression_view value.now)) }

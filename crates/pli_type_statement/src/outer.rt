@@ -1,10 +1,13 @@
-//! What the external procedure takes and gives.
+//! What the external procedure takes and gives, and whether a program may begin with it.
 ghost use Rattle.std.specs.Prelude.{◌≡◌, IfOk, map, option_map};
+ghost use Rattle.std.specs.List.{list_any};
+ghost use Rattle.pli_base.specs.views.StatementView.{option_view, unit_view};
 ghost use Rattle.pli_map.specs.views.DescriptionView.{description_view};
-ghost use Rattle.pli_type.specs.Checked.{outer_signature, takes_nothing};
+ghost use Rattle.pli_type.specs.Checked as spec;
 ghost use Rattle.pli_type_statement.specs.Parts.{unit_named};
 ghost use Rattle.pli_type_tree.specs.views.GlobalView.{signature_view};
 
+use pli_base::statement::{Procedure, ProcedureOption};
 use pli_map::Description;
 use pli_type_names::Naming;
 use pli_type_tree::Signature;
@@ -37,7 +40,7 @@ fn copy_of(
 /// What the external procedure of a unit takes, and what it gives if it is a function.
 #[tactic(auto, using(crate::proofs::Units::signature_found))]
 pub(crate) fn outer_signature(alloc: Global, naming: &Naming<'_>) -> Result<Signature, AllocError>
-    ensures { IfOk result (λ made. signature_view made ≡ outer_signature (unit_named naming.now.unit)) }
+    ensures { IfOk result (λ made. signature_view made ≡ spec.outer_signature (unit_named naming.now.unit)) }
 {
     let outer = naming.procedure(0);
     let parameters = copies(alloc, outer.parameters)?;
@@ -46,11 +49,40 @@ pub(crate) fn outer_signature(alloc: Global, naming: &Naming<'_>) -> Result<Sign
 }
 
 /// Whether a procedure takes nothing and gives nothing.
-pub(crate) fn takes_nothing(signature: &Signature) -> bool
-    ensures { result ≡ takes_nothing (signature_view signature.now) }
+fn takes_nothing(signature: &Signature) -> bool
+    ensures { result ≡ spec.takes_nothing (signature_view signature.now) }
 {
     match signature.parameters.as_slice() {
         [] => signature.result.is_none(),
         _ => false,
     }
+}
+
+/// Whether an option is OPTIONS(MAIN).
+fn is_main_option(option: &ProcedureOption) -> bool
+    ensures { result ≡ spec.is_main_option (option_view option.now) }
+{
+    matches!(option, ProcedureOption::Main)
+}
+
+/// Whether one of the options is OPTIONS(MAIN).
+fn any_main(options: &[ProcedureOption]) -> bool
+    ensures { result ≡ list_any (λ option. spec.is_main_option (option_view option)) options.now }
+{
+    options.iter().any(|option| is_main_option(option))
+}
+
+/// Whether a unit has OPTIONS(MAIN).
+#[tactic(auto, using(crate::proofs::Units::main_unit))]
+fn is_main(unit: &Procedure) -> bool
+    ensures { result ≡ spec.is_main (unit_view unit.now) }
+{
+    any_main(unit.options.as_slice())
+}
+
+/// Whether a program may begin with a unit, whose external procedure takes and gives this.
+pub(crate) fn may_begin(unit: &Procedure, signature: &Signature) -> bool
+    ensures { result ≡ spec.may_begin (unit_view unit.now) (signature_view signature.now) }
+{
+    is_main(unit) && takes_nothing(signature)
 }

@@ -1,13 +1,11 @@
 //! Statements without statements in them.
-ghost use Rattle.std.specs.Prelude.{◌≡◌, ℕ, None, false, map};
-ghost use Rattle.std.specs.List.{list_any};
+ghost use Rattle.std.specs.Prelude.{◌≡◌, ℕ, false, map};
 ghost use Rattle.pli_base.specs.views.StatementView as source;
 ghost use Rattle.pli_base.specs.views.SyntaxView as syntax;
-ghost use Rattle.pli_type.specs.Unbuilt.{later_body, later_expression};
 ghost use Rattle.pli_base.specs.answers.FailureAnswers.{Gives};
-ghost use Rattle.pli_type_names.specs.UnitNaming.{compiled_in, naming_in};
+ghost use Rattle.pli_type_names.specs.UnitNaming.{naming_in};
 ghost use Rattle.pli_type_statement.specs.Around.{surroundings_of};
-ghost use Rattle.pli_type_statement.specs.Simple.{put_typed, simple_typed};
+ghost use Rattle.pli_type_statement.specs.Simple.{is_compound, put_typed, simple_typed};
 ghost use Rattle.pli_type_statement.specs.views.AroundView.{around_view};
 ghost use Rattle.pli_type_templates.specs.views.UnitView.{based_at};
 ghost use Rattle.pli_type_tree.specs.views.TypedView.{form_view};
@@ -19,7 +17,6 @@ use crate::jumps::{jump, returned};
 use crate::surroundings::Surroundings;
 use pli_base::statement::Body;
 use pli_base::syntax::Expression;
-use pli_base::{Code, fault};
 use pli_type_allocation::{allocate, free};
 use pli_type_expression::TypeError;
 use pli_type_names::Naming;
@@ -34,7 +31,6 @@ fn put(
     skip: bool,
     expressions: &[Expression],
 ) -> Result<Form, TypeError>
-    requires { list_any (later_expression (compiled_in naming.now)) (map syntax.expression_view expressions.now) ≡ false }
     ensures { Gives form_view result
         (put_typed (naming_in naming.now) skip (map syntax.expression_view expressions.now)) }
 {
@@ -43,8 +39,7 @@ fn put(
 }
 
 /// A statement without statements in it, which begins at the token `at`, and the first of whose temporaries is this
-/// one. One with statements in it is Z1 there.
-#[tactic(auto, using(crate::proofs::NothingLater::assignment_built, crate::proofs::NothingLater::call_built, crate::proofs::NothingLater::return_built, crate::proofs::NothingLater::put_built, crate::proofs::NothingLater::allocate_built, crate::proofs::NothingLater::free_built))]
+/// one.
 pub(crate) fn simple(
     alloc: Global,
     naming: &Naming<'_>,
@@ -56,7 +51,7 @@ pub(crate) fn simple(
 ) -> Result<Form, TypeError>
     requires blocks { naming.now.blocks ≡ map (λ b. b.number) (surroundings_of (around_view around.now)).blocks }
     requires based { (block : ℕ) → based_at templates.now block ≡ (naming_in naming.now).based block }
-    requires built { (first : ℕ) × (later_body (compiled_in naming.now) first (source.body_view body.now) ≡ None) }
+    requires simple { is_compound (source.body_view body.now) ≡ false }
     ensures { Gives form_view result
         (simple_typed (naming_in naming.now) (surroundings_of (around_view around.now)) temporary at (source.body_view body.now)) }
 {
@@ -76,6 +71,10 @@ pub(crate) fn simple(
         Body::Goto(label) => jump(naming, around, *label),
         Body::Return(value) => returned(alloc, naming, around, at, value),
         Body::Put { skip, items } => put(alloc, naming, *skip, items.as_slice()),
-        _ => Err(fault(Code::NotYetBuilt, at)),
+        Body::Procedure(_)
+        | Body::Begin { .. }
+        | Body::Do { .. }
+        | Body::If { .. }
+        | Body::On { .. } => unreachable!(),
     }
 }

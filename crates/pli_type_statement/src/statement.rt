@@ -1,14 +1,11 @@
 //! Statements.
-ghost use Rattle.std.specs.Prelude.{◌≡◌, ◌≤◌, ℕ, ◌+◌, None, false, length, option_map, IfOk};
+ghost use Rattle.std.specs.Prelude.{◌≡◌, ◌≤◌, ◌+◌, None, false, length, option_map, IfOk};
 ghost use Rattle.pli_base.specs.views.StatementView as source;
 ghost use Rattle.pli_base.specs.views.SyntaxView as syntax;
 ghost use Rattle.pli_declare_outline.specs.Outlines.{regions_among, regions_in, regions_of};
 ghost use Rattle.pli_map.specs.views.DescriptionView.{description_view};
 ghost use Rattle.pli_type.specs.StatementTyping as spec;
 ghost use Rattle.pli_type.specs.Temporaries.{behind, kept_by, temporaries_of};
-ghost use Rattle.pli_type.specs.Unbuilt.{later_body, later_control, later_expression, later_part, later_statement, later_statements};
-ghost use Rattle.pli_type_names.specs.UnitNaming.{compiled_in};
-ghost use Rattle.pli_type_statement.specs.Around.{surroundings_of};
 ghost use Rattle.pli_type_statement.specs.Headers.{Header as PlainHeader, header_typed};
 ghost use Rattle.pli_type_statement.specs.Simple.{is_compound, simple_typed};
 ghost use Rattle.pli_type_statement.specs.Walking.{Finishes, HasRoom, IsPlaced, ended_as, in_block, unit_ended, Walks, WalksBlock, WalksBody, WalksList, around, based_names, next_at, unit_at};
@@ -59,7 +56,6 @@ fn type_simple(
     body: &Body,
 ) -> Result<Option<Form>, AllocError>
     requires placed { IsPlaced walk.old }
-    requires built { (first : ℕ) × (later_body (compiled_in walk.old.naming) first (source.body_view body.now) ≡ None) }
     requires simple { is_compound (source.body_view body.now) ≡ false }
     ensures walked { IfOk result (λ form. Walks plain.Form walk.old walk.new
         (record { block = walk.old.next.block; temporary = walk.old.next.temporary + temporaries_of (based_names walk.old) (source.body_view body.now) })
@@ -87,8 +83,7 @@ fn type_condition(
     walk: &mut TypingWalk<'_>,
     expression: &Expression,
 ) -> Result<Option<Box<TypedExpression>>, AllocError>
-    requires placed { IsPlaced walk.old }
-    requires built { later_expression (compiled_in walk.old.naming) (syntax.expression_view expression.now) ≡ false }
+    requires { IsPlaced walk.old }
     ensures { IfOk result (λ tested. Walks plain.TypedExpression walk.old walk.new (next_at walk.old)
         (spec.of_own (spec.condition (spec.naming_at (unit_at walk.old) (around walk.old)) (syntax.expression_view expression.now)))
         (option_map (λ x. expression_view x.value) tested)) }
@@ -103,8 +98,7 @@ fn type_header(
     walk: &mut TypingWalk<'_>,
     control: &Option<Control>,
 ) -> Result<Option<Header>, AllocError>
-    requires placed { IsPlaced walk.old }
-    requires built { later_part (later_control (compiled_in walk.old.naming)) (option_map source.control_view control.now) ≡ false }
+    requires { IsPlaced walk.old }
     ensures { IfOk result (λ header. Walks PlainHeader walk.old walk.new
         (record { block = walk.old.next.block; temporary = walk.old.next.temporary + kept_by (option_map source.control_view control.now) })
         (spec.of_own (header_typed (spec.naming_at (unit_at walk.old) (around walk.old)) walk.old.next.temporary
@@ -180,7 +174,6 @@ fn type_statement(
     statement: &Statement,
 ) -> Result<Option<TypedStatement>, AllocError>
     requires placed { IsPlaced walk.old }
-    requires built { later_statement (compiled_in walk.old.naming) (source.statement_view statement.now) ≡ None }
     requires room { HasRoom (next_at walk.old) (regions_in (source.statement_view statement.now)) }
     ensures { IfOk result (λ typed. Walks plain.TypedStatement walk.old walk.new
         (behind (based_names walk.old) (next_at walk.old) (source.statement_view statement.now))
@@ -201,7 +194,6 @@ fn type_body<'a>(
     body: &Body,
 ) -> Result<Option<Form>, AllocError>
     requires placed { IsPlaced walk.old }
-    requires built { (first : ℕ) × (later_body (compiled_in walk.old.naming) first (source.body_view body.now) ≡ None) }
     requires room { HasRoom (next_at walk.old) (regions_of (source.body_view body.now)) }
     ensures { IfOk result (λ form. WalksBody walk.old walk.new number at (source.body_view body.now) (option_map form_view form)) }
 {
@@ -274,7 +266,6 @@ fn type_block<'a>(
     statements: &[Statement],
 ) -> Result<TypedBlock, AllocError>
     requires placed { IsPlaced walk.old }
-    requires built { later_statements (compiled_in walk.old.naming) (source.statements_view statements.now) ≡ None }
     requires room { HasRoom (next_at walk.old) (1 + regions_among (source.statements_view statements.now)) }
     requires deep { begins ≤ 1 + length (around_view walk.old.surroundings).lists }
     ensures { IfOk result (λ block. WalksBlock walk.old walk.new
@@ -295,7 +286,6 @@ fn type_group(
     statements: &[Statement],
 ) -> Result<Option<Vec<TypedStatement>>, AllocError>
     requires placed { IsPlaced walk.old }
-    requires built { later_statements (compiled_in walk.old.naming) (source.statements_view statements.now) ≡ None }
     requires room { HasRoom (next_at walk.old) (regions_among (source.statements_view statements.now)) }
     ensures { IfOk result (λ typed. WalksList walk.old walk.new
         (spec.in_group (source.statements_view statements.now) (around walk.old)) (source.statements_view statements.now)
@@ -317,7 +307,6 @@ pub(crate) fn type_statements(
     statements: &[Statement],
 ) -> Result<Option<Vec<TypedStatement>>, AllocError>
     requires placed { IsPlaced walk.old }
-    requires built { later_statements (compiled_in walk.old.naming) (source.statements_view statements.now) ≡ None }
     requires room { HasRoom (next_at walk.old) (regions_among (source.statements_view statements.now)) }
     ensures { IfOk result (λ typed. WalksList walk.old walk.new (around walk.old) (source.statements_view statements.now)
         (option_map (λ list. statements_view list.items) typed)) }

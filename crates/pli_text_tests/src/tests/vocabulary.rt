@@ -66,8 +66,8 @@ fn codes_are_told() -> bool {
     Code::EndMissing.label() == "P9"
         && Code::EndMissing.text() == "END MISSING"
         && Code::BadInclude < Code::NoProcedure
-        && Code::NotYetBuilt.label() == "Z1"
-        && Code::NotYetBuilt < Code::NotAVariable
+        && Code::CannotPrint.label() == "T14"
+        && Code::GenerationTooLarge < Code::NotAVariable
 }
 
 #[test]

@@ -2,7 +2,7 @@
 use Rattle.std.specs.Prelude.{◌≡◌, ◌+◌, ℕ, true, Some, None, List, [], ◌∷◌, codes, Result, Ok, Err}
 use Rattle.pli_base.specs.Statements.{Statement, Numbered, Begin, Do, On, Revert, Signal, Goto}
 use Rattle.pli_base.specs.Statements.{Statements, Ended, Before}
-use Rattle.pli_base.specs.declared.code.Code.TheVariants.{NotYetBuilt}
+use Rattle.pli_base.specs.declared.code.Code.TheVariants.{BadGoto}
 use Rattle.pli_base.specs.declared.statement.Condition.TheVariants.{FixedOverflow}
 use Rattle.pli_base.specs.declared.token.Fault.{Fault}
 use Rattle.pli_type.specs.Checked.{in_unit, first_inside}
@@ -68,7 +68,7 @@ UnitsAreTyped =
           (StatementThen (typed.Statement 6 (typed.Revert FixedOverflow)) NoStatement)));
       procedures = unit_typed 0 1 3 (typed.Statement 4 (typed.Goto 1 2)) ∷ [];
     }))
-    × (typed_with 12 3 in_a_group ≡ Err (one NotYetBuilt 12))
+    × (typed_with 12 3 in_a_group ≡ Err (one BadGoto 12))
     × (typed_with 14 3 in_a_block
     ≡ Ok (record {
       part = StatementThen (typed.Statement 2 (typed.Group

@@ -22,7 +22,7 @@ use Rattle.pli_type.specs.ExpressionTypes.{width_of}
 use Rattle.pli_type.specs.Checked.{in_unit, first_inside}
 use Rattle.pli_type.specs.FunctionCalls.{Denoted, DenotesVariable}
 use Rattle.pli_type.specs.Names.{NamedAs, AVariable, AFunction, AProcedure, ALabel, Untyped, Naming}
-use Rattle.pli_type.specs.Names.{Begins, Compiled, NamedUnit}
+use Rattle.pli_type.specs.Names.{Begins, NamedUnit}
 use Rattle.pli_type.specs.NamedUnits.{names_based}
 use Rattle.pli_type.specs.References.{AsTarget}
 use Rattle.pli_type.specs.StatementTyping.{WithProcedures, statement_typed}
@@ -195,18 +195,15 @@ naming meanings = record {
   meaning = meaning_in meanings;
 }
 
--- what is compiled, where names mean such
-abbrev pub compiled : List (ℕ × NamedAs) → Compiled
-compiled meanings = record {
-  greatest = 31;
-  is_based = λ at. names_based (meaning_in meanings at);
-}
+-- which of them are names of BASED variables
+abbrev pub based_named : List (ℕ × NamedAs) → (at : ℕ) → Bool
+based_named meanings at = names_based (meaning_in meanings at)
 
 -- a unit of this tree, whose names mean the same in all its blocks, and which has no variables
 abbrev pub unit_of : ExternalProcedure → List (ℕ × NamedAs) → NamedUnit
 unit_of tree meanings = record {
   tree = tree;
-  compiled = compiled meanings;
+  is_based = based_named meanings;
   naming = λ blocks. naming meanings;
   parameters = λ block. [];
   returned = λ block. None;

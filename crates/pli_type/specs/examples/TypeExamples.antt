@@ -1,17 +1,21 @@
 -- Worked examples of types: precisions of numbers, kinds of strings, and in how many columns numbers are
 -- printed.
-use Rattle.std.specs.Prelude.{◌≡◌, Some, [], ◌∷◌, codes}
+use Rattle.std.specs.Prelude.{◌≡◌, true, false, pos, Some, [], ◌∷◌, codes}
 use Rattle.pli_base.specs.Syntax.{Referred, Parenthesized, Prefix, Infix, Named, Alone, Joined, Absent}
 use Rattle.pli_base.specs.Syntax.{Given, Empty, Listed}
+use Rattle.pli_base.specs.declared.syntax.ConstantValue.TheVariants.{Decimal, Binary, Characters, Bits}
 use Rattle.pli_base.specs.declared.syntax.InfixOperator.TheVariants as infixes
 use Rattle.pli_base.specs.declared.syntax.Joining.TheVariants.{Member}
 use Rattle.pli_base.specs.declared.syntax.PrefixOperator.TheVariants as prefixes
+use Rattle.pli_type.specs.ExpressionTypes.{literal_value}
 use Rattle.pli_type.specs.declared.expression_type.ExpressionType.TheVariants as types
 use Rattle.pli_type.specs.examples.ExampleTrees.{type_given, width_printed, called, named, text}
 use Rattle.pli_type.specs.examples.ExampleTrees.{of_bits, decimal, binary}
 use Rattle.pli_type.specs.examples.ExampleTrees.{x, n, i, v, a, s_b, abs, greatest, least, modulo, divide}
 use Rattle.pli_type.specs.examples.ExampleTrees.{sign}
 use Rattle.pli_type.specs.examples.ExampleTrees.{length_of, index, low_bound, substring}
+use Rattle.pli_value.specs.Value as values
+use Rattle.pli_value.specs.Value.{Number}
 
 -- A decimal constant, with prefix signs and parentheses, has the digits that are written; a binary one is
 -- FIXED BINARY
@@ -33,6 +37,22 @@ ConstantsAreDecimal =
     × (type_given [] (binary 5 3 0) ≡ Some (types.FixedBinary 3))
     -- -101B
     × (type_given [] (Prefix prefixes.Minus 0 (binary 5 3 1)) ≡ Some (types.FixedBinary 3))
+
+-- The value of a constant of a text is what is written; no text has one for which its type has no room
+abbrev pub ConstantsHaveRoom : Type 0
+ConstantsHaveRoom =
+    -- 0012
+    (literal_value 31 (Decimal 12 4) ≡ Number (pos 12))
+    -- 2147483647
+    × (literal_value 31 (Decimal 2147483647 10) ≡ Number (pos 2147483647))
+    -- 101B
+    × (literal_value 31 (Binary 5 3) ≡ Number (pos 5))
+    -- 'AB'
+    × (literal_value 31 (Characters (codes "AB")) ≡ values.Characters (codes "AB"))
+    -- '10'B
+    × (literal_value 31 (Bits (true ∷ false ∷ [])) ≡ values.Bits (true ∷ false ∷ []))
+    -- 99999999999
+    × (literal_value 31 (Decimal 99999999999 11) ≡ Number (pos 2147483647))
 
 -- A constant of p digits is an operand of 1 + 3.32p binary digits; a sum has one digit more than the longer
 -- operand, a product one more than both, and none more than 31; a sign keeps the precision

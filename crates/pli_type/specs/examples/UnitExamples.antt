@@ -1,11 +1,10 @@
--- Worked examples of whole units: Z1, initial values, and a typed unit.
+-- Worked examples of whole units: initial values, and a typed unit.
 use Rattle.std.specs.Prelude.{◌+◌, Bool, map, ◌≡◌, ℕ, true, false, pos, Some, None, Ok, Err, List, [], ◌∷◌}
 use Rattle.std.specs.Prelude.{codes}
-use Rattle.pli_base.specs.Declarations.{Simple, SimpleAttribute, Bit, Area}
+use Rattle.pli_base.specs.Declarations.{Simple, SimpleAttribute, Bit}
 use Rattle.pli_base.specs.Statements.{Main, Statement, Numbered, Body, Statements, Ended, Before}
-use Rattle.pli_base.specs.Statements.{Declare, Stop, Begin, On, Signal, Revert, If, NoElse, ExternalProcedure}
-use Rattle.pli_base.specs.declared.statement.Condition.TheVariants.{Area as AreaCondition}
-use Rattle.pli_base.specs.declared.code.Code.TheVariants.{NotYetBuilt, CannotAssign}
+use Rattle.pli_base.specs.Statements.{Declare, ExternalProcedure}
+use Rattle.pli_base.specs.declared.code.Code.TheVariants.{CannotAssign}
 use Rattle.pli_base.specs.declared.declaration.InitialValue.{InitialValue}
 use Rattle.pli_base.specs.declared.declaration.InitialValue.TheVariants as initial
 use Rattle.pli_map.specs.Description as described
@@ -13,10 +12,9 @@ use Rattle.pli_map.specs.Description.{Description, Structure, NoMembers, MemberT
 use Rattle.pli_type.specs.Checked.{checked}
 use Rattle.pli_type.specs.ExpressionTypes.{with_one}
 use Rattle.pli_type.specs.InitialScalars.{InitialItem, template_of, initial_scalars}
-use Rattle.pli_type.specs.Names.{NamedAs, NamedUnit}
-use Rattle.pli_type.specs.Unbuilt.{first_unbuilt}
-use Rattle.pli_type.specs.examples.ExampleTrees.{array, naming, compiled, called, alone_named, text}
-use Rattle.pli_type.specs.examples.ExampleTrees.{of_bits, assign, decimal, null, x}
+use Rattle.pli_type.specs.Names.{NamedUnit}
+use Rattle.pli_type.specs.examples.ExampleTrees.{array, naming, called, alone_named, text}
+use Rattle.pli_type.specs.examples.ExampleTrees.{of_bits, assign, x}
 use Rattle.pli_type_tree.specs.Templates.{InitialScalar}
 use Rattle.pli_type_tree.specs.TypedTree as typed
 use Rattle.pli_type_tree.specs.TypedTree.{TypedUnit, InSlot, Fit, Whole, Literal, NoStatement, StatementThen}
@@ -54,31 +52,6 @@ declare attributes =
 -- what a statement is
 abbrev pub body_of : Statement → Body
 body_of (Numbered number label at body) = body
-
--- no name means anything
-abbrev pub no_names : List (ℕ × NamedAs)
-no_names = []
-
--- `X = 99999999999;` from this token on, whose constant is over the limits: it has 11 digits
-abbrev pub over_limits : (number at : ℕ) → Statement
-over_limits number at =
-    assign number at (alone_named (codes "X") at) (at + 1) (decimal 99999999999 11 (at + 2))
-
--- such a statement, at its label; behind THEN; in an ON-unit; none in
--- `DCL X AREA; ; SIGNAL AREA; REVERT AREA; BEGIN; STOP; END;`
-abbrev pub FirstUnbuilt : Type 0
-FirstUnbuilt =
-    (first_unbuilt (compiled no_names)
-    (main (null 2 8 ∷ Numbered 3 (Some (called (codes "L") 9)) 11 (body_of (over_limits 3 11)) ∷ []))
-    ≡ Some 9)
-    × (first_unbuilt (compiled no_names)
-    (main (Numbered 2 None 8 (If (of_bits (codes "1") 9) (over_limits 3 11) NoElse) ∷ [])) ≡ Some 11)
-    × (first_unbuilt (compiled no_names) (main (Numbered 2 None 8 (On AreaCondition (over_limits 3 10)) ∷ []))
-    ≡ Some 10)
-    × (first_unbuilt (compiled no_names)
-    (main (declare (Area None ∷ []) ∷ null 3 12 ∷ Numbered 4 None 13 (Signal AreaCondition)
-    ∷ Numbered 5 None 16 (Revert AreaCondition)
-    ∷ Numbered 6 None 19 (Begin (Before (Numbered 7 None 21 Stop) Ended) 8) ∷ [])) ≡ None)
 
 -- FIXED BINARY values without a factor
 abbrev pub numbers : List ℕ → List InitialValue
@@ -128,7 +101,7 @@ InitialValues =
 abbrev pub with_x : List ℕ → List Statement → NamedUnit
 with_x tokens statements = record {
   tree = main (declare (Bit None ∷ []) ∷ statements);
-  compiled = compiled [];
+  is_based = λ at. false;
   naming = λ blocks. naming (map (λ at. (at, x)) tokens);
   parameters = λ block. [];
   returned = λ block. None;
@@ -171,11 +144,9 @@ typed_unit = record {
 }
 
 -- M: PROC OPTIONS(MAIN); DCL X BIT; X = '1'B; END M;
--- with two bad assignments in its place; with a bad one, and one of a constant over the limits
+-- with two bad assignments in its place
 abbrev pub CheckedUnits : Type 0
 CheckedUnits =
     (checked (with_x (12 ∷ []) (good_assignment 3 12 ∷ [])) ≡ Ok typed_unit)
     × (checked (with_x (12 ∷ 16 ∷ []) (bad_assignment 3 12 ∷ bad_assignment 4 16 ∷ []))
     ≡ Err (record { code = CannotAssign; at = 13 } ∷ record { code = CannotAssign; at = 17 } ∷ []))
-    × (checked (with_x (12 ∷ []) (bad_assignment 3 12 ∷ over_limits 4 16 ∷ []))
-    ≡ Err (record { code = NotYetBuilt; at = 16 } ∷ []))

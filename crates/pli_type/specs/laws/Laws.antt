@@ -1,14 +1,16 @@
 -- Laws of faults of types.
-use Rattle.std.specs.Prelude.{nat_le, Bool, ◌&&◌, IsTrue, List, [], ◌∷◌, Result, Ok, Err}
+use Rattle.std.specs.Prelude.{nat_le, Bool, true, ◌&&◌, IsTrue, List, [], ◌∷◌, Result, Ok, Err}
 use Rattle.pli_base.specs.Codes.{code_place}
 use Rattle.pli_base.specs.declared.code.Code.{Code}
+use Rattle.pli_base.specs.declared.code.Code.TheVariants.{BadGoto}
 use Rattle.pli_base.specs.declared.token.Fault.{Fault}
 use Rattle.pli_type.specs.Checked.{checked}
 use Rattle.pli_type.specs.Names.{NamedUnit}
 
--- a code of types, T1 to T14, or Z1, which stands before them in the order of diagnostics
+-- a code of types, T1 to T14, or A11, which typing has for a GOTO that leads nowhere
 abbrev pub is_of_types : Code → Bool
-is_of_types code = nat_le 43 (code_place code) && nat_le (code_place code) 57
+is_of_types BadGoto = true
+is_of_types code = nat_le 43 (code_place code) && nat_le (code_place code) 56
 
 -- each of these faults is of such a code
 abbrev pub AreOfTypes : List Fault → Type 0

@@ -2,43 +2,29 @@ use Rattle.std.proofs.Common.{◌<◌, ◌+◌, length, map, ap, ◌∙◌, arit
 use Rattle.std.proofs.lemmas.List.{map_push}
 use Rattle.pli_base.specs.views.StatementView.{allocation_view}
 use Rattle.pli_type.specs.AllocationTyping.{all_allocated}
-use Rattle.pli_type.specs.Unbuilt.{later_allocation}
 use Rattle.pli_type_expression.proofs.BindLemmas.{exits}
-use Rattle.pli_type_names.specs.UnitNaming.{compiled_in, naming_in}
+use Rattle.pli_type_names.specs.UnitNaming.{naming_in}
 use Rattle.pli_type_tree.specs.views.TypedView.{allocated_view}
 use Rattle.pli_type_allocation.proofs.AllocatedInTurn.{item_stops, item_typed, items_typed}
-use Rattle.pli_type_allocation.proofs.InTurn.{behind, each_built, none_behind}
+use Rattle.pli_type_allocation.proofs.InTurn.{behind, none_behind}
 use Rattle.pli_type_allocation.proofs.allocating.all_allocated.Goals as goal
 
 pub loop-item-init : goal.loop-item-init
 loop-item-init c =
     let whole = all_allocated (naming_in c.args.naming.now) c.args.temporary (map allocation_view c.args.items.now) in
-    record {
-      typed = ap (λ xs. behind (map allocated_view xs) whole) c.new-made.ensures.items ∙ none_behind whole;
-      built = c.requires.built;
-    }
-
-pub allocated-requires-clause-built : goal.allocated-requires-clause-built
-allocated-requires-clause-built c =
-    let l = c.loop-item in
-    (each_built (later_allocation (compiled_in c.args.naming.now)) allocation_view c.args.items.now l.item-index c.item-item.result c.item-item.is
-    (omega arith) l.invariant.built).0
+    ap (λ xs. behind (map allocated_view xs) whole) c.new-made.ensures.items ∙ none_behind whole
 
 pub loop-item-preserved : goal.loop-item-preserved
 loop-item-preserved c =
     let es = c.args.items.now in
     let l = c.loop-item in
     let inside : l.item-index < length es = omega arith in
-    record {
-      typed = item_typed (naming_in c.args.naming.now) es l.item-index c.item-item.result
-          (map allocated_view l.made.items) (map allocated_view c.push.new.self.items) (allocated_view c.in_ok-one.one) l.next c.in_ok-next.next _
-          c.item-item.is inside c.in_ok-one.ensures
-          (ap (map allocated_view) c.in_ok-push.ensures.items ∙ map_push allocated_view l.made.items c.in_ok-one.one)
-          (c.in_ok-next.ensures ∙ ap (λ k. l.next + k) c.kept_for-kept.ensures)
-          l.invariant.typed;
-      built = (each_built (later_allocation (compiled_in c.args.naming.now)) allocation_view es l.item-index c.item-item.result c.item-item.is
-          inside l.invariant.built).1;
-    }
+    item_typed (naming_in c.args.naming.now) es l.item-index c.item-item.result
+    (map allocated_view l.made.items) (map allocated_view c.push.new.self.items) (allocated_view c.in_ok-one.one) l.next c.in_ok-next.next _
+    c.item-item.is inside c.in_ok-one.ensures
+    (ap (map allocated_view) c.in_ok-push.ensures.items ∙ map_push allocated_view l.made.items c.in_ok-one.one)
+    (c.in_ok-next.ensures ∙ ap (λ k. l.next + k) c.kept_for-kept.ensures)
+    l.invariant
 
 pub returns-in_err-one : goal.returns-in_err-one
 returns-in_err-one c =
@@ -46,10 +32,10 @@ returns-in_err-one c =
     exits _ c.from_residual.result c.in_err-one.field-0.0 _ c.from_residual.ensures.1
     (item_stops (naming_in c.args.naming.now) c.args.items.now l.item-index c.item-item.result
     (map allocated_view l.made.items) l.next c.in_err-one.field-0.0 _ c.item-item.is (omega arith) c.in_err-one.ensures
-    l.invariant.typed)
+    l.invariant)
 
 pub returns : goal.returns
 returns c =
     let l = c.loop-item in
     items_typed (naming_in c.args.naming.now) c.args.items.now l.item-index (map allocated_view l.made.items) l.next _
-    (omega arith) l.invariant.typed
+    (omega arith) l.invariant

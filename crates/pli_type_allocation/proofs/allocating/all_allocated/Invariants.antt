@@ -1,17 +1,13 @@
-use Rattle.std.proofs.Common.{◌≡◌, false, map, drop}
-use Rattle.std.specs.List.{list_any}
+use Rattle.std.proofs.Common.{◌≡◌, map}
 use Rattle.pli_base.specs.views.StatementView.{allocation_view}
 use Rattle.pli_type.specs.AllocationTyping.{all_allocated}
-use Rattle.pli_type.specs.Unbuilt.{later_allocation}
-use Rattle.pli_type_names.specs.UnitNaming.{compiled_in, naming_in}
+use Rattle.pli_type_names.specs.UnitNaming.{naming_in}
 use Rattle.pli_type_tree.specs.views.TypedView.{allocated_view}
 use Rattle.pli_type_allocation.proofs.AllocatedInTurn.{left}
 use Rattle.pli_type_allocation.proofs.allocating.all_allocated.Given as goal
 
 -- those so far in front of those that are left
 abbrev pub invariant-loop-item : goal.invariant-loop-item
-invariant-loop-item l = record {
-  typed : left (naming_in l.naming) l.items l.item-index l.item-index (map allocated_view l.made.items) l.next
-      ≡ all_allocated (naming_in l.naming) l.temporary (map allocation_view l.items);
-  built : list_any (later_allocation (compiled_in l.naming)) (map allocation_view (drop l.item-index l.items)) ≡ false;
-}
+invariant-loop-item l =
+    left (naming_in l.naming) l.items l.item-index l.item-index (map allocated_view l.made.items) l.next
+    ≡ all_allocated (naming_in l.naming) l.temporary (map allocation_view l.items)

@@ -1,5 +1,4 @@
 use Rattle.std.proofs.Common.{rules, ◌≡◌, map, drop, length, false, [], Some, None, Ok, ap, ◌∙◌, sym, arith, Vec, Global}
-use Rattle.std.proofs.lemmas.Bool.{or_parts}
 use Rattle.pli_base.specs.views.SyntaxView as syntax
 use Rattle.pli_base.specs.Syntax.{Given}
 use Rattle.pli_base.specs.laws.SyntaxLaws.{reference_out}
@@ -8,10 +7,9 @@ use Rattle.pli_base.specs.declared.syntax.Expression.{Expression}
 use Rattle.pli_type.specs.ExpressionTypes as types
 use Rattle.pli_type.specs.FunctionCalls as calls
 use Rattle.pli_type.specs.References.{AsLocator, AsValue, NotLocated}
-use Rattle.pli_type.specs.Unbuilt.{later_expression, later_arguments, later_joined, later_list}
 use Rattle.pli_type.specs.views.ValueView.{value_view}
 use Rattle.pli_type.specs.Typing as typing
-use Rattle.pli_type_names.specs.UnitNaming.{compiled_in, naming_in}
+use Rattle.pli_type_names.specs.UnitNaming.{naming_in}
 use Rattle.pli_type_tree.specs.views.TypedView.{expression_view}
 use Rattle.pli_type_expression.specs.views.TypingView.{argument_view, denoted_view, locator_view, of_name, role_view, segment_view}
 use Rattle.pli_type_expression.proofs.BindLemmas.{exits, fails_as, fails_on, bind_ok}
@@ -24,7 +22,6 @@ use Rattle.pli_type_expression.specs.Segments.{next_segment, function_typed}
 use Rattle.pli_base.specs.declared.failure.Failure.TheVariants.{OutOfMemory}
 use Rattle.pli_type_expression.specs.declared.argument.Argument.{Argument}
 use Rattle.pli_type_tree.specs.declared.expression.TypedExpression.{TypedExpression}
-use Rattle.pli_type_expression.proofs.NothingLater.{item_built, part_built, reference_built, constant_built}
 use Rattle.pli_type_expression.proofs.LoopLemmas.{arguments_begin, argument_goes_on, argument_undenoted, arguments_end, subscripts_begin, subscript_goes_on, subscript_valueless, subscript_no_number, subscripts_end, part_goes_on, part_fails, parts_end}
 use Rattle.pli_type_expression.proofs.expression.+typed.Goals as goal
 
@@ -32,10 +29,7 @@ use Rattle.pli_type_expression.proofs.expression.+typed.Goals as goal
 
 pub all_arguments-loop-place-init : goal.all_arguments-loop-place-init
 all_arguments-loop-place-init t c =
-    record {
-      built = c.requires;
-      typed = arguments_begin (naming_in c.args.naming.now) (map role_view c.args.roles.now) c.args.list.now c.new-arguments.result.items c.new-arguments.ensures.items;
-    }
+    arguments_begin (naming_in c.args.naming.now) (map role_view c.args.roles.now) c.args.list.now c.new-arguments.result.items c.new-arguments.ensures.items
 
 pub all_arguments-offset_bounds-list-place : goal.all_arguments-offset_bounds-list-place
 all_arguments-offset_bounds-list-place t c = search rules
@@ -45,12 +39,12 @@ all_arguments-bounds-list-place t c = search rules
 
 pub all_arguments-denoted-requires : goal.all_arguments-denoted-requires
 all_arguments-denoted-requires t c =
-    (omega (arith, c.decreases, item_size c.args.list.now c.loop-place.place c.index-list-place.result (omega arith) c.index-list-place.is), (item_built (compiled_in c.args.naming.now) c.args.list.now c.loop-place.place c.index-list-place.result (omega arith) c.index-list-place.is c.loop-place.invariant.built).0)
+    omega (arith, c.decreases, item_size c.args.list.now c.loop-place.place c.index-list-place.result (omega arith) c.index-list-place.is)
 
 pub all_arguments-returns-in_err-argument : goal.all_arguments-returns-in_err-argument
 all_arguments-returns-in_err-argument t c =
     exits _ c.from_residual.result c.in_err-argument.field-0.0 _ c.from_residual.ensures.1
-    (fails_as c.in_err-argument.field-0.0 _ _ c.loop-place.invariant.typed
+    (fails_as c.in_err-argument.field-0.0 _ _ c.loop-place.invariant
     (argument_undenoted (naming_in c.args.naming.now) c.args.list.now c.loop-place.place c.index-list-place.result (omega arith) c.index-list-place.is
     (map role_view c.args.roles.now) c.loop-place.arguments.items (role_view c.role_at-role.result) c.in_err-argument.field-0.0 c.role_at-role.ensures c.in_err-argument.ensures))
 
@@ -68,38 +62,32 @@ all_arguments-loop-place-preserved t c =
     let m = denoted_view c.in_ok-argument.argument in
     let a : Argument = record { denoted = c.in_ok-argument.argument; written = c.number_written.result } in
     let same : argument_view a ≡ typing.argument (syntax.expression_view e) m = ap (λ w. record { denoted = m; written = w }) c.number_written.ensures in
-    record {
-      built = (item_built (compiled_in c.args.naming.now) c.args.list.now c.loop-place.place e (omega arith) c.index-list-place.is c.loop-place.invariant.built).1;
-      typed = c.loop-place.invariant.typed
-          ∙ argument_goes_on n c.args.list.now c.loop-place.place e (omega arith) c.index-list-place.is (map role_view c.args.roles.now) c.loop-place.arguments.items c.push.new.self.items
-          (role_view c.role_at-role.result) m a c.role_at-role.ensures c.in_ok-argument.ensures same c.in_ok-push.ensures.items;
-    }
+    c.loop-place.invariant
+    ∙ argument_goes_on n c.args.list.now c.loop-place.place e (omega arith) c.index-list-place.is (map role_view c.args.roles.now) c.loop-place.arguments.items c.push.new.self.items
+    (role_view c.role_at-role.result) m a c.role_at-role.ensures c.in_ok-argument.ensures same c.in_ok-push.ensures.items
 
 pub all_arguments-returns : goal.all_arguments-returns
 all_arguments-returns t c =
-    c.loop-place.invariant.typed
+    c.loop-place.invariant
     ∙ arguments_end (naming_in c.args.naming.now) c.args.list.now c.loop-place.place (omega arith) (drop c.loop-place.place (map role_view c.args.roles.now)) c.loop-place.arguments.items
 
 -- subscripts
 
 pub all_subscripts-loop-expression-init : goal.all_subscripts-loop-expression-init
 all_subscripts-loop-expression-init t c =
-    record {
-      built = c.requires;
-      typed = subscripts_begin (naming_in c.args.naming.now) c.args.list.now c.new-subscripts.result.items c.new-subscripts.ensures.items;
-    }
+    subscripts_begin (naming_in c.args.naming.now) c.args.list.now c.new-subscripts.result.items c.new-subscripts.ensures.items
 
 pub all_subscripts-offset_bounds-list-expression-index : goal.all_subscripts-offset_bounds-list-expression-index
 all_subscripts-offset_bounds-list-expression-index t c = search rules
 
 pub all_subscripts-value_of-requires : goal.all_subscripts-value_of-requires
 all_subscripts-value_of-requires t c =
-    (omega (arith, c.decreases, item_size c.args.list.now c.loop-expression.expression-index c.expression-item.result (omega arith) c.expression-item.is), (item_built (compiled_in c.args.naming.now) c.args.list.now c.loop-expression.expression-index c.expression-item.result (omega arith) c.expression-item.is c.loop-expression.invariant.built).0)
+    omega (arith, c.decreases, item_size c.args.list.now c.loop-expression.expression-index c.expression-item.result (omega arith) c.expression-item.is)
 
 pub all_subscripts-returns-in_err-value : goal.all_subscripts-returns-in_err-value
 all_subscripts-returns-in_err-value t c =
     exits _ c.from_residual.result c.in_err-value.field-0.0 _ c.from_residual.ensures.1
-    (fails_as c.in_err-value.field-0.0 _ _ c.loop-expression.invariant.typed
+    (fails_as c.in_err-value.field-0.0 _ _ c.loop-expression.invariant
     (subscript_valueless (naming_in c.args.naming.now) c.args.list.now c.loop-expression.expression-index c.expression-item.result (omega arith) c.expression-item.is
     c.loop-expression.subscripts.items c.in_err-value.field-0.0 c.in_err-value.ensures))
 
@@ -112,7 +100,7 @@ all_subscripts-loop-expression-smaller t c = search rules
 
 pub all_subscripts-returns : goal.all_subscripts-returns
 all_subscripts-returns t c =
-    c.loop-expression.invariant.typed
+    c.loop-expression.invariant
     ∙ subscripts_end (naming_in c.args.naming.now) c.args.list.now c.loop-expression.expression-index (omega arith) c.loop-expression.subscripts.items
 
 -- parts that are joined
@@ -128,29 +116,26 @@ continued-loop-part-smaller t c = search rules
 
 pub continued-with_part-requires : goal.continued-with_part-requires
 continued-with_part-requires t c =
-    (omega (arith, c.decreases, part_size c.args.joined.now c.loop-part.part-index c.part-item.result (omega arith) c.part-item.is), (part_built (compiled_in c.args.naming.now) c.args.joined.now c.loop-part.part-index c.part-item.result (omega arith) c.part-item.is c.loop-part.invariant.built).0)
+    omega (arith, c.decreases, part_size c.args.joined.now c.loop-part.part-index c.part-item.result (omega arith) c.part-item.is)
 
 pub continued-returns-in_err-segment : goal.continued-returns-in_err-segment
 continued-returns-in_err-segment t c =
     let n = naming_in c.args.naming.now in
     exits _ c.from_residual.result c.in_err-segment.field-0.0 _ c.from_residual.ensures.1
-    (fails_as c.in_err-segment.field-0.0 _ _ c.loop-part.invariant.last
+    (fails_as c.in_err-segment.field-0.0 _ _ c.loop-part.invariant
     (part_fails n (segment_view n c.loop-part.segment) c.args.joined.now c.loop-part.part-index c.part-item.result (omega arith) c.part-item.is c.in_err-segment.field-0.0 c.in_err-segment.ensures))
 
 pub continued-loop-part-preserved : goal.continued-loop-part-preserved
 continued-loop-part-preserved t c =
     let n = naming_in c.args.naming.now in
-    record {
-      built = (part_built (compiled_in c.args.naming.now) c.args.joined.now c.loop-part.part-index c.part-item.result (omega arith) c.part-item.is c.loop-part.invariant.built).1;
-      last = c.loop-part.invariant.last
-          ∙ part_goes_on n (segment_view n c.loop-part.segment) c.args.joined.now c.loop-part.part-index c.part-item.result (omega arith) c.part-item.is
-          (segment_view n c.in_ok-segment.segment) c.in_ok-segment.ensures;
-    }
+    c.loop-part.invariant
+    ∙ part_goes_on n (segment_view n c.loop-part.segment) c.args.joined.now c.loop-part.part-index c.part-item.result (omega arith) c.part-item.is
+    (segment_view n c.in_ok-segment.segment) c.in_ok-segment.ensures
 
 pub continued-returns : goal.continued-returns
 continued-returns t c =
     let n = naming_in c.args.naming.now in
-    c.loop-part.invariant.last
+    c.loop-part.invariant
     ∙ parts_end n (segment_view n c.loop-part.segment) c.args.joined.now c.loop-part.part-index (omega arith)
 
 pub all_subscripts-returns-in_err-one : goal.all_subscripts-returns-in_err-one
@@ -160,29 +145,23 @@ all_subscripts-returns-in_err-one t c =
     let e = c.in_err-one.field-0.0 in
     let v = value_view c.in_ok-value.value in
     exits _ c.from_residual-in_err-one.result e _ c.from_residual-in_err-one.ensures.1
-    (fails_as e _ _ c.loop-expression.invariant.typed (subscript_no_number n c.args.list.now c.loop-expression.expression-index x (omega arith) c.expression-item.is c.loop-expression.subscripts.items v e c.in_ok-value.ensures
-    (fails_as e _ _ (ap (λ g. typing.subscript_value g (typing.first_token (syntax.expression_view x)) v) (sym c.greatest.ensures)) c.in_err-one.ensures)))
+    (fails_as e _ _ c.loop-expression.invariant (subscript_no_number n c.args.list.now c.loop-expression.expression-index x (omega arith) c.expression-item.is c.loop-expression.subscripts.items v e c.in_ok-value.ensures
+    (fails_as e _ _ (ap (λ g. typing.subscript_value g (typing.first_token (syntax.expression_view x)) v) (sym c.greatest.ensures.value)) c.in_err-one.ensures)))
 
 pub all_subscripts-loop-expression-preserved : goal.all_subscripts-loop-expression-preserved
 all_subscripts-loop-expression-preserved t c =
     let n = naming_in c.args.naming.now in
     let x = c.expression-item.result in
     let v = value_view c.in_ok-value.value in
-    record {
-      built = (item_built (compiled_in c.args.naming.now) c.args.list.now c.loop-expression.expression-index x (omega arith) c.expression-item.is c.loop-expression.invariant.built).1;
-      typed = c.loop-expression.invariant.typed
-          ∙ subscript_goes_on n c.args.list.now c.loop-expression.expression-index x (omega arith) c.expression-item.is c.loop-expression.subscripts.items c.push.new.self.items
-          v c.in_ok-one.one c.in_ok-value.ensures
-          (ap (λ g. typing.subscript_value g (typing.first_token (syntax.expression_view x)) v) (sym c.greatest.ensures) ∙ c.in_ok-one.ensures)
-          c.in_ok-push.ensures.items;
-    }
+    c.loop-expression.invariant
+    ∙ subscript_goes_on n c.args.list.now c.loop-expression.expression-index x (omega arith) c.expression-item.is c.loop-expression.subscripts.items c.push.new.self.items
+    v c.in_ok-one.one c.in_ok-value.ensures
+    (ap (λ g. typing.subscript_value g (typing.first_token (syntax.expression_view x)) v) (sym c.greatest.ensures.value) ∙ c.in_ok-one.ensures)
+    c.in_ok-push.ensures.items
 
 pub begun-begun_with-requires : goal.begun-begun_with-requires
 begun-begun_with-requires t c =
-    let n = naming_in c.args.naming.now in (
-      omega (arith, c.decreases, ap (λ xs. list_size (syntax.expressions_view xs)) c.as_slice.ensures.value, ap (λ o. arguments_size (syntax.arguments_view o)) c.in-Some.is),
-      ap (λ xs. later_list (compiled_in c.args.naming.now) (syntax.expressions_view xs)) c.as_slice.ensures.value ∙ sym (ap (λ o. later_arguments (compiled_in c.args.naming.now) (syntax.arguments_view o)) c.in-Some.is) ∙ c.requires,
-    )
+    omega (arith, c.decreases, ap (λ xs. list_size (syntax.expressions_view xs)) c.as_slice.ensures.value, ap (λ o. arguments_size (syntax.arguments_view o)) c.in-Some.is)
 
 pub begun-returns-in-None : goal.begun-returns-in-None
 begun-returns-in-None t c =
@@ -199,31 +178,31 @@ begun-returns-in-Some t c =
 
 pub begun_with-all_subscripts-requires : goal.begun_with-all_subscripts-requires
 begun_with-all_subscripts-requires t c =
-    (omega (arith, c.decreases), c.requires)
+    omega (arith, c.decreases)
 
 pub begun_with-called-requires : goal.begun_with-called-requires
 begun_with-called-requires t c =
-    (omega (arith, c.decreases), c.requires)
+    omega (arith, c.decreases)
 
 pub begun_with-all_arguments-requires : goal.begun_with-all_arguments-requires
 begun_with-all_arguments-requires t c =
-    (omega (arith, c.decreases), c.requires)
+    omega (arith, c.decreases)
 
 pub begun_with-all_arguments-requires-in-Procedure : goal.begun_with-all_arguments-requires-in-Procedure
 begun_with-all_arguments-requires-in-Procedure t c =
-    (omega (arith, c.decreases), c.requires)
+    omega (arith, c.decreases)
 
 pub begun_with-all_arguments-requires-in-Label : goal.begun_with-all_arguments-requires-in-Label
 begun_with-all_arguments-requires-in-Label t c =
-    (omega (arith, c.decreases), c.requires)
+    omega (arith, c.decreases)
 
 pub called-all_arguments-requires : goal.called-all_arguments-requires
 called-all_arguments-requires t c =
-    (omega (arith, c.decreases), c.requires)
+    omega (arith, c.decreases)
 
 pub called-all_arguments-requires-2 : goal.called-all_arguments-requires-2
 called-all_arguments-requires-2 t c =
-    (omega (arith, c.decreases), c.requires)
+    omega (arith, c.decreases)
 
 pub begun_with-returns-in_err-subscripts-in-Variable : goal.begun_with-returns-in_err-subscripts-in-Variable
 begun_with-returns-in_err-subscripts-in-Variable t c =
@@ -345,14 +324,11 @@ called-returns t c =
     let gs = map argument_view c.in_ok-arguments.arguments.items in
     gives_as value_view c.function_called.result _ _
     (call_typed n c.args.function c.args.at xs (Some (map role_view c.in-Some.roles.now)) given gs c.in_ok-arguments.ensures
-    ∙ ap (λ g. calls.or_bad_argument c.args.at (calls.of_arguments g c.args.function gs)) (sym c.greatest.ensures)) c.function_called.ensures
+    ∙ ap (λ g. calls.or_bad_argument c.args.at (calls.of_arguments g c.args.function gs)) (sym c.greatest.ensures.value)) c.function_called.ensures
 
 pub subscripts_in-all_subscripts-requires : goal.subscripts_in-all_subscripts-requires
 subscripts_in-all_subscripts-requires t c =
-    let n = naming_in c.args.naming.now in (
-      omega (arith, c.decreases, ap (λ xs. list_size (syntax.expressions_view xs)) c.as_slice.ensures.value, ap (λ o. arguments_size (syntax.arguments_view o)) c.in-Some.is),
-      ap (λ xs. later_list (compiled_in c.args.naming.now) (syntax.expressions_view xs)) c.as_slice.ensures.value ∙ sym (ap (λ o. later_arguments (compiled_in c.args.naming.now) (syntax.arguments_view o)) c.in-Some.is) ∙ c.requires,
-    )
+    omega (arith, c.decreases, ap (λ xs. list_size (syntax.expressions_view xs)) c.as_slice.ensures.value, ap (λ o. arguments_size (syntax.arguments_view o)) c.in-Some.is)
 
 pub subscripts_in-returns-in-None : goal.subscripts_in-returns-in-None
 subscripts_in-returns-in-None t c =
@@ -367,11 +343,11 @@ subscripts_in-returns-in-Some t c =
 
 pub with_part-subscripts_in-requires : goal.with_part-subscripts_in-requires
 with_part-subscripts_in-requires t c =
-    (omega (arith, c.decreases), c.requires)
+    omega (arith, c.decreases)
 
 pub with_part-begun-requires : goal.with_part-begun-requires
 with_part-begun-requires t c =
-    (omega (arith, c.decreases), c.requires)
+    omega (arith, c.decreases)
 
 pub with_part-returns-in-Err : goal.with_part-returns-in-Err
 with_part-returns-in-Err t c =
@@ -425,14 +401,12 @@ with_part-returns-in_ok-locator-in-Located t c =
 pub referred-begun-requires : goal.referred-begun-requires
 referred-begun-requires t c =
     let r = c.args.reference.now in
-    (omega (arith, c.decreases, ap reference_size (reference_out r)), (reference_built (compiled_in c.args.naming.now) r c.requires).0)
+    omega (arith, c.decreases, ap reference_size (reference_out r))
 
 pub referred-continued-requires : goal.referred-continued-requires
 referred-continued-requires t c =
-    let r = c.args.reference.now in (
-      omega (arith, c.decreases, ap reference_size (reference_out r), ap (λ xs. parts_size (syntax.joined_view xs)) c.as_slice-joined.ensures.value),
-      ap (λ xs. later_joined (compiled_in c.args.naming.now) (syntax.joined_view xs)) c.as_slice-joined.ensures.value ∙ (reference_built (compiled_in c.args.naming.now) r c.requires).1,
-    )
+    let r = c.args.reference.now in
+    omega (arith, c.decreases, ap reference_size (reference_out r), ap (λ xs. parts_size (syntax.joined_view xs)) c.as_slice-joined.ensures.value)
 
 pub referred-returns-in_err-first : goal.referred-returns-in_err-first
 referred-returns-in_err-first t c =
@@ -457,13 +431,8 @@ referred-returns t c =
 
 pub value_of-infixed-requires : goal.value_of-infixed-requires
 value_of-infixed-requires t c =
-    let n = compiled_in c.args.naming.now in
     let size = λ (e : Expression). expression_size (syntax.expression_view e) in
-    let later = λ (e : Expression). later_expression n (syntax.expression_view e) in
-    let parts = or_parts (later c.in-Infix.left.value) (later c.in-Infix.right.value) (sym (ap later c.in-Infix.is) ∙ c.requires) in (
-      omega (arith, c.decreases, ap size c.in-Infix.is, ap size c.deref.ensures, ap size c.deref-in-Infix.ensures),
-      (ap later c.deref.ensures ∙ parts.0, ap later c.deref-in-Infix.ensures ∙ parts.1),
-    )
+    omega (arith, c.decreases, ap size c.in-Infix.is, ap size c.deref.ensures, ap size c.deref-in-Infix.ensures)
 
 pub value_of-returns-in-Infix : goal.value_of-returns-in-Infix
 value_of-returns-in-Infix t c =
@@ -477,7 +446,8 @@ value_of-returns-in-Infix t c =
     c.infixed.ensures
 
 pub value_denoted-denoted-requires : goal.value_denoted-denoted-requires
-value_denoted-denoted-requires t c = (omega (arith, c.decreases), c.requires)
+value_denoted-denoted-requires t c =
+    omega (arith, c.decreases)
 
 pub value_denoted-returns-in_err-denoted : goal.value_denoted-returns-in_err-denoted
 value_denoted-returns-in_err-denoted t c =
@@ -496,17 +466,13 @@ value_denoted-returns t c =
 
 pub denoted-referred-requires : goal.denoted-referred-requires
 denoted-referred-requires t c =
-    (omega (arith, c.decreases, ap (λ e. expression_size (syntax.expression_view e)) c.in-Reference.is), sym (ap (λ e. later_expression (compiled_in c.args.naming.now) (syntax.expression_view e)) c.in-Reference.is) ∙ c.requires)
+    omega (arith, c.decreases, ap (λ e. expression_size (syntax.expression_view e)) c.in-Reference.is)
 
 pub denoted-returns-in-Reference : goal.denoted-returns-in-Reference
 denoted-returns-in-Reference t c =
     let n = naming_in c.args.naming.now in
     let role = role_view c.args.role in
     gives_as denoted_view c.referred.result _ _ (ap (λ e. typing.denoted n role (syntax.expression_view e)) c.in-Reference.is) c.referred.ensures
-
-pub denoted-constant-requires : goal.denoted-constant-requires
-denoted-constant-requires t c =
-    constant_built c.args.naming.now.unit c.in-Constant.value (sym (ap (λ e. later_expression (compiled_in c.args.naming.now) (syntax.expression_view e)) c.in-Constant.is) ∙ c.requires)
 
 pub denoted-returns-in_err-literal-in-Constant : goal.denoted-returns-in_err-literal-in-Constant
 denoted-returns-in_err-literal-in-Constant t c =
@@ -516,12 +482,13 @@ pub denoted-returns-in_ok-literal-in-Constant : goal.denoted-returns-in_ok-liter
 denoted-returns-in_ok-literal-in-Constant t c =
     let n = naming_in c.args.naming.now in
     let role = role_view c.args.role in
-    ap (λ e. typing.denoted n role (syntax.expression_view e)) c.in-Constant.is ∙ ap (λ v. Ok (calls.DenotesResult v)) (sym c.in_ok-literal-in-Constant.ensures)
+    ap (λ e. typing.denoted n role (syntax.expression_view e)) c.in-Constant.is
+    ∙ ap (λ g. Ok (calls.DenotesResult (types.constant g c.in-Constant.value))) (sym c.greatest.ensures.value)
+    ∙ ap (λ v. Ok (calls.DenotesResult v)) (sym c.in_ok-literal-in-Constant.ensures)
 
 pub denoted-value_of-requires : goal.denoted-value_of-requires
 denoted-value_of-requires t c =
-    let n = compiled_in c.args.naming.now in
-    (omega (arith, c.decreases, ap (λ e. expression_size (syntax.expression_view e)) c.in-Parenthesized.is, ap (λ e. expression_size (syntax.expression_view e)) c.deref.ensures), ap (λ e. later_expression n (syntax.expression_view e)) c.deref.ensures ∙ sym (ap (λ e. later_expression n (syntax.expression_view e)) c.in-Parenthesized.is) ∙ c.requires)
+    omega (arith, c.decreases, ap (λ e. expression_size (syntax.expression_view e)) c.in-Parenthesized.is, ap (λ e. expression_size (syntax.expression_view e)) c.deref.ensures)
 
 pub denoted-returns-in_err-value-in-Parenthesized : goal.denoted-returns-in_err-value-in-Parenthesized
 denoted-returns-in_err-value-in-Parenthesized t c =
@@ -544,8 +511,7 @@ denoted-returns-in_ok-value-in-Parenthesized t c =
 
 pub denoted-prefixed-requires : goal.denoted-prefixed-requires
 denoted-prefixed-requires t c =
-    let n = compiled_in c.args.naming.now in
-    (omega (arith, c.decreases, ap (λ e. expression_size (syntax.expression_view e)) c.in-Prefix.is, ap (λ e. expression_size (syntax.expression_view e)) c.deref-in-Prefix.ensures), ap (λ e. later_expression n (syntax.expression_view e)) c.deref-in-Prefix.ensures ∙ sym (ap (λ e. later_expression n (syntax.expression_view e)) c.in-Prefix.is) ∙ c.requires)
+    omega (arith, c.decreases, ap (λ e. expression_size (syntax.expression_view e)) c.in-Prefix.is, ap (λ e. expression_size (syntax.expression_view e)) c.deref-in-Prefix.ensures)
 
 pub denoted-returns-in-Prefix : goal.denoted-returns-in-Prefix
 denoted-returns-in-Prefix t c =
@@ -559,13 +525,11 @@ denoted-returns-in-Prefix t c =
 
 pub denoted-value_of-requires-in-Infix : goal.denoted-value_of-requires-in-Infix
 denoted-value_of-requires-in-Infix t c =
-    let n = compiled_in c.args.naming.now in
-    (omega (arith, c.decreases, ap (λ e. expression_size (syntax.expression_view e)) c.in-Infix.is, ap (λ e. expression_size (syntax.expression_view e)) c.deref-in-Infix.ensures), ap (λ e. later_expression n (syntax.expression_view e)) c.deref-in-Infix.ensures ∙ (or_parts (later_expression n (syntax.expression_view c.in-Infix.left.value)) (later_expression n (syntax.expression_view c.in-Infix.right.value)) (sym (ap (λ e. later_expression n (syntax.expression_view e)) c.in-Infix.is) ∙ c.requires)).0)
+    omega (arith, c.decreases, ap (λ e. expression_size (syntax.expression_view e)) c.in-Infix.is, ap (λ e. expression_size (syntax.expression_view e)) c.deref-in-Infix.ensures)
 
 pub denoted-value_of-requires-in-Infix-2 : goal.denoted-value_of-requires-in-Infix-2
 denoted-value_of-requires-in-Infix-2 t c =
-    let n = compiled_in c.args.naming.now in
-    (omega (arith, c.decreases, ap (λ e. expression_size (syntax.expression_view e)) c.in-Infix.is, ap (λ e. expression_size (syntax.expression_view e)) c.deref-in-Infix-2.ensures), ap (λ e. later_expression n (syntax.expression_view e)) c.deref-in-Infix-2.ensures ∙ (or_parts (later_expression n (syntax.expression_view c.in-Infix.left.value)) (later_expression n (syntax.expression_view c.in-Infix.right.value)) (sym (ap (λ e. later_expression n (syntax.expression_view e)) c.in-Infix.is) ∙ c.requires)).1)
+    omega (arith, c.decreases, ap (λ e. expression_size (syntax.expression_view e)) c.in-Infix.is, ap (λ e. expression_size (syntax.expression_view e)) c.deref-in-Infix-2.ensures)
 
 pub denoted-returns-in_err-left_value-in-Infix : goal.denoted-returns-in_err-left_value-in-Infix
 denoted-returns-in_err-left_value-in-Infix t c =
@@ -608,7 +572,7 @@ denoted-returns-in_err-combined-in-Infix t c =
     (fails_as e _ _ (ap (λ e. typing.denoted n role (syntax.expression_view e)) b.is)
     (infix_refused n role b.operator b.at left right v w e (sym (ap here c.deref-in-Infix.ensures) ∙ c.in_ok-left_value-in-Infix.ensures)
     (sym (ap here c.deref-in-Infix-2.ensures) ∙ c.in-Ok.ensures)
-    (fails_as e _ _ (ap (λ g. typing.or_fault WrongOperandType b.at (types.infix_value g b.operator v w)) (sym c.greatest.ensures)) c.in_err-combined-in-Infix.ensures)))
+    (fails_as e _ _ (ap (λ g. typing.or_fault WrongOperandType b.at (types.infix_value g b.operator v w)) (sym c.greatest-in-Infix.ensures.value)) c.in_err-combined-in-Infix.ensures)))
 
 pub denoted-returns-in_ok-combined-in-Infix : goal.denoted-returns-in_ok-combined-in-Infix
 denoted-returns-in_ok-combined-in-Infix t c =
@@ -623,4 +587,4 @@ denoted-returns-in_ok-combined-in-Infix t c =
     ap (λ e. typing.denoted n role (syntax.expression_view e)) b.is
     ∙ infix_typed n role b.operator b.at left right v w (value_view c.in_ok-combined-in-Infix.combined) (sym (ap here c.deref-in-Infix.ensures) ∙ c.in_ok-left_value-in-Infix.ensures)
     (sym (ap here c.deref-in-Infix-2.ensures) ∙ c.in-Ok.ensures)
-    (ap (λ g. typing.or_fault WrongOperandType b.at (types.infix_value g b.operator v w)) (sym c.greatest.ensures) ∙ c.in_ok-combined-in-Infix.ensures)
+    (ap (λ g. typing.or_fault WrongOperandType b.at (types.infix_value g b.operator v w)) (sym c.greatest-in-Infix.ensures.value) ∙ c.in_ok-combined-in-Infix.ensures)

@@ -1,8 +1,7 @@
-use Rattle.std.proofs.Common.{◌≡◌, ◌+◌, false, drop, map}
+use Rattle.std.proofs.Common.{◌≡◌, ◌+◌, drop, map}
 use Rattle.pli_base.specs.views.SyntaxView.{expression_view, expressions_view, joined_view, reference_view, arguments_view}
 use Rattle.pli_type.specs.Typing.{all_subscripts, all_arguments}
-use Rattle.pli_type.specs.Unbuilt.{later_list, later_joined}
-use Rattle.pli_type_names.specs.UnitNaming.{compiled_in, naming_in}
+use Rattle.pli_type_names.specs.UnitNaming.{naming_in}
 use Rattle.pli_type_tree.specs.views.TypedView as typed
 use Rattle.pli_type_expression.specs.Segments.{last_segment}
 use Rattle.pli_type_expression.specs.views.TypingView.{argument_view, role_view, segment_view}
@@ -14,31 +13,22 @@ use Rattle.pli_type_expression.proofs.expression.+typed.Given as goal
 abbrev pub invariant-continued-loop-part : goal.invariant-continued-loop-part
 invariant-continued-loop-part l =
     let n = naming_in l.naming in
-    record {
-      built : later_joined (compiled_in l.naming) (joined_view (drop l.part-index l.joined)) ≡ false;
-      last : last_segment n (segment_view n l.fn.first) (joined_view l.joined)
-          ≡ last_segment n (segment_view n l.segment) (joined_view (drop l.part-index l.joined));
-    }
+    last_segment n (segment_view n l.fn.first) (joined_view l.joined)
+    ≡ last_segment n (segment_view n l.segment) (joined_view (drop l.part-index l.joined))
 
 -- the subscripts so far, and those that are left
 abbrev pub invariant-all_subscripts-loop-expression : goal.invariant-all_subscripts-loop-expression
 invariant-all_subscripts-loop-expression l =
     let n = naming_in l.naming in
-    record {
-      built : later_list (compiled_in l.naming) (expressions_view (drop l.expression-index l.list)) ≡ false;
-      typed : all_subscripts n (expressions_view l.list)
-          ≡ subscripts_with n (map typed.expression_view l.subscripts.items) (expressions_view (drop l.expression-index l.list));
-    }
+    all_subscripts n (expressions_view l.list)
+    ≡ subscripts_with n (map typed.expression_view l.subscripts.items) (expressions_view (drop l.expression-index l.list))
 
 -- the arguments so far, and those that are left
 abbrev pub invariant-all_arguments-loop-place : goal.invariant-all_arguments-loop-place
 invariant-all_arguments-loop-place l =
     let n = naming_in l.naming in
-    record {
-      built : later_list (compiled_in l.naming) (expressions_view (drop l.place l.list)) ≡ false;
-      typed : all_arguments n (map role_view l.roles) (expressions_view l.list)
-          ≡ arguments_with n (drop l.place (map role_view l.roles)) (map argument_view l.arguments.items) (expressions_view (drop l.place l.list));
-    }
+    all_arguments n (map role_view l.roles) (expressions_view l.list)
+    ≡ arguments_with n (drop l.place (map role_view l.roles)) (map argument_view l.arguments.items) (expressions_view (drop l.place l.list))
 
 -- each call is for something smaller, or for the same with less left to do
 

@@ -1,19 +1,10 @@
-use Rattle.std.proofs.Common.{option_map, ap, sym, ◌∙◌}
-use Rattle.pli_base.specs.views.SyntaxView as syntax
-use Rattle.pli_type.specs.Unbuilt.{later_expression, later_part}
 use Rattle.pli_type.specs.views.ValueView.{value_view}
 use Rattle.pli_type_expression.proofs.BindLemmas.{exits}
-use Rattle.pli_type_names.specs.UnitNaming.{compiled_in}
 use Rattle.pli_type_statement.specs.Around.{surroundings_of}
 use Rattle.pli_type_statement.specs.views.AroundView.{around_view}
 use Rattle.pli_type_tree.specs.views.TypedView.{form_view}
 use Rattle.pli_type_statement.proofs.CallLemmas.{return_fails, return_goes_on}
 use Rattle.pli_type_statement.proofs.jumps.returned.Goals as goal
-
-pub value_of-requires : goal.value_of-requires
-value_of-requires c =
-    ap (λ v. later_part (later_expression (compiled_in c.args.naming.now)) (option_map syntax.expression_view v)) (sym c.in-Some.is)
-    ∙ c.requires.built
 
 pub returns-in_err-value-in-Some : goal.returns-in_err-value-in-Some
 returns-in_err-value-in-Some c =

@@ -8,18 +8,15 @@ use Rattle.pli_declare_outline.specs.Outlines.{regions_among, regions_else, regi
 use Rattle.pli_map.specs.views.DescriptionView.{description_view}
 use Rattle.pli_type.specs.StatementTyping as spec
 use Rattle.pli_type.specs.Temporaries.{behind}
-use Rattle.pli_type.specs.Unbuilt.{later_alternative, later_body, later_statement, later_statements}
-use Rattle.pli_type_names.specs.UnitNaming.{Names, compiled_in}
 use Rattle.pli_type_tree.specs.TypedTree as plain
 use Rattle.pli_type_tree.specs.declared.statement.TypedStatement.{TypedStatement}
 use Rattle.pli_type_tree.specs.views.TypedView.{form_view, statement_view, statements_view}
 use Rattle.pli_type_statement.specs.Walking.{HasRoom, WalksBlock, WalksBody, WalksList, in_block, around, based_names, next_at, unit_at}
 use Rattle.pli_type_statement.specs.views.HeaderView.{header_view}
 use Rattle.pli_type_statement.proofs.Blocks.{begin_walked, block_placed, block_walked, group_placed, group_walked, in_group_around, procedure_answer, returned_is, unit_answer}
-use Rattle.pli_type_statement.proofs.NothingLater.{statement_built, only_built, do_built, if_built}
 use Rattle.pli_type_statement.proofs.RoomLeft.{room_behind, room_controlled, room_else, room_first, room_if, room_inside, room_next, room_unit}
 use Rattle.pli_type_statement.proofs.SizeLemmas.{statement_size, body_size, list_size, alternative_size, item_size}
-use Rattle.pli_type_statement.proofs.TurnLemmas.{all_walked, do_walked, goes_on_first, goes_on_next, if_next_none, if_next_some, in_front, next_built, none_walked, simple_answer}
+use Rattle.pli_type_statement.proofs.TurnLemmas.{all_walked, do_walked, goes_on_first, goes_on_next, if_next_none, if_next_some, in_front, none_walked, simple_answer}
 use Rattle.pli_type_statement.proofs.WalkLemmas.{as_typed, if_walked, made_walked, back_then, moved, nothing_walked, same_based}
 use Rattle.pli_type_statement.proofs.statement.+typed.Goals as goal
 use Rattle.pli_type_statement.proofs.statement.+typed.Goals.{type_statements-then-complete, type_statements-else-complete, type_statements-then-complete-2, type_statements-else-complete-2}
@@ -27,18 +24,7 @@ use Rattle.pli_type_statement.proofs.statement.+typed.Goals.{type_statements-the
 -- statements
 
 pub type_statement-type_body-requires : goal.type_statement-type_body-requires
-type_statement-type_body-requires t c =
-    let s = c.args.statement.now in
-    let n = c.args.walk.now.naming in (
-      omega (arith, c.decreases),
-      (
-        c.requires.placed,
-        (
-          statement_built (compiled_in n) s.number s.label s.at (source.body_view s.body) c.requires.built,
-          c.requires.room,
-        ),
-      ),
-    )
+type_statement-type_body-requires t c = (omega (arith, c.decreases), (c.requires.placed, c.requires.room))
 
 pub type_statement-returns : goal.type_statement-returns
 type_statement-returns t c =
@@ -53,10 +39,7 @@ type_block-type_statements-requires t c =
       omega (arith, c.decreases),
       (
         block_placed c.args.walk.now _ c.in_ok-block.block c.args.is_on_unit _ _ _ c.requires.deep c.requires.placed c.in_ok-block.ensures,
-        (
-          subst (λ (n : Names). later_statements (compiled_in n) ss ≡ None) (sym c.in_ok-block.ensures.naming) c.requires.built,
-          subst (λ x. HasRoom x (regions_among ss)) (sym c.in_ok-block.ensures.next) (room_inside (next_at c.args.walk.now) (regions_among ss) c.requires.room),
-        ),
+        subst (λ x. HasRoom x (regions_among ss)) (sym c.in_ok-block.ensures.next) (room_inside (next_at c.args.walk.now) (regions_among ss) c.requires.room),
       ),
     )
 
@@ -67,7 +50,6 @@ type_block-returns t c =
 
 pub type_body-type_block-requires : goal.type_body-type_block-requires
 type_body-type_block-requires t c =
-    let n = c.args.walk.now.naming in
     let p = c.in-Procedure.procedure in
     let ss = source.statements_view c.as_slice-statements.result.now in
     let h = (source.unit_view p).heading in
@@ -78,13 +60,7 @@ type_body-type_block-requires t c =
       omega (arith, c.decreases, ap body_size is),
       (
         c.requires.placed,
-        (
-          ap (later_body (compiled_in n) c.requires.built.0) (sym is) ∙ c.requires.built.1,
-          (
-            subst (λ b. HasRoom (next_at c.args.walk.now) (regions_of b)) is c.requires.room,
-            omega arith,
-          ),
-        ),
+        (subst (λ b. HasRoom (next_at c.args.walk.now) (regions_of b)) is c.requires.room, omega arith),
       ),
     )
 
@@ -104,7 +80,6 @@ type_body-returns-in_ok-block-in-Procedure t c =
 
 pub type_body-type_block-requires-in-Begin : goal.type_body-type_block-requires-in-Begin
 type_body-type_block-requires-in-Begin t c =
-    let n = c.args.walk.now.naming in
     let b = c.in-Begin in
     let ss = source.statements_view c.as_slice.result.now in
     let is : source.body_view c.args.body.now ≡ tree.Begin ss b.end =
@@ -113,11 +88,8 @@ type_body-type_block-requires-in-Begin t c =
       (
         c.requires.placed,
         (
-          ap (later_body (compiled_in n) c.requires.built.0) (sym is) ∙ c.requires.built.1,
-          (
-            subst (λ b. HasRoom (next_at c.args.walk.now) (regions_of b)) is c.requires.room,
-            omega (arith, c.requires.placed.deep),
-          ),
+          subst (λ b. HasRoom (next_at c.args.walk.now) (regions_of b)) is c.requires.room,
+          omega (arith, c.requires.placed.deep),
         ),
       ),
     )
@@ -136,7 +108,6 @@ type_body-returns-in_ok-block-in-Begin t c =
 
 pub type_body-type_block-requires-in-On : goal.type_body-type_block-requires-in-On
 type_body-type_block-requires-in-On t c =
-    let n = c.args.walk.now.naming in
     let b = c.in-On in
     let s = source.statement_view c.deref-in-On.result.now in
     let is : source.body_view c.args.body.now ≡ tree.On b.condition s =
@@ -146,13 +117,9 @@ type_body-type_block-requires-in-On t c =
       (
         c.requires.placed,
         (
-          ap (later_statements (compiled_in n)) list
-              ∙ only_built (compiled_in n) s (ap (later_body (compiled_in n) c.requires.built.0) (sym is) ∙ c.requires.built.1),
-          (
-            subst (λ ss. HasRoom (next_at c.args.walk.now) (1 + regions_among ss)) (sym list)
-                (room_unit (next_at c.args.walk.now) _ b.condition s is c.requires.room),
-            omega arith,
-          ),
+          subst (λ ss. HasRoom (next_at c.args.walk.now) (1 + regions_among ss)) (sym list)
+              (room_unit (next_at c.args.walk.now) _ b.condition s is c.requires.room),
+          omega arith,
         ),
       ),
     )
@@ -174,36 +141,22 @@ type_body-returns-in_ok-block-in-On t c =
 
 -- groups
 
-pub type_body-type_header-requires-clause-placed : goal.type_body-type_header-requires-clause-placed
-type_body-type_header-requires-clause-placed t c = c.requires.placed
-
-pub type_body-type_header-requires-clause-built : goal.type_body-type_header-requires-clause-built
-type_body-type_header-requires-clause-built t c =
-    let n = c.args.walk.now.naming in
-    let b = c.in-Do in
-    let is = ap source.body_view b.is ∙ laws.do_made b.control b.statements b.end in
-    (do_built (compiled_in n) c.requires.built.0 (option_map source.control_view b.control) (source.statements_view b.statements.items) b.end
-    (ap (later_body (compiled_in n) c.requires.built.0) (sym is) ∙ c.requires.built.1)).0
+pub type_body-type_header-requires : goal.type_body-type_header-requires
+type_body-type_header-requires t c = c.requires.placed
 
 pub type_body-type_group-requires : goal.type_body-type_group-requires
 type_body-type_group-requires t c =
-    let n = c.args.walk.now.naming in
     let b = c.in-Do in
     let ss = source.statements_view c.as_slice-in-Do.result.now in
     let is : source.body_view c.args.body.now ≡ tree.Do (option_map source.control_view b.control) ss b.end =
     ap source.body_view b.is ∙ laws.do_made b.control b.statements b.end
-    ∙ ap (λ xs. tree.Do (option_map source.control_view b.control) (source.statements_view xs) b.end) (sym c.as_slice-in-Do.ensures.value) in
-    let built = (do_built (compiled_in n) c.requires.built.0 (option_map source.control_view b.control) ss b.end
-    (ap (later_body (compiled_in n) c.requires.built.0) (sym is) ∙ c.requires.built.1)).1 in (
+    ∙ ap (λ xs. tree.Do (option_map source.control_view b.control) (source.statements_view xs) b.end) (sym c.as_slice-in-Do.ensures.value) in (
       omega (arith, c.decreases, ap body_size is),
       (
         c.in_ok-header-in-Do.ensures.back.placed,
-        (
-          subst (λ (n : Names). later_statements (compiled_in n) ss ≡ None) (sym c.in_ok-header-in-Do.ensures.back.naming) built,
-          subst (λ x. HasRoom x (regions_among ss)) (sym c.in_ok-header-in-Do.ensures.next)
-              (room_controlled (next_at c.args.walk.now) (option_map source.control_view b.control) (regions_among ss)
-              (subst (λ b. HasRoom (next_at c.args.walk.now) (regions_of b)) is c.requires.room)),
-        ),
+        subst (λ x. HasRoom x (regions_among ss)) (sym c.in_ok-header-in-Do.ensures.next)
+            (room_controlled (next_at c.args.walk.now) (option_map source.control_view b.control) (regions_among ss)
+            (subst (λ b. HasRoom (next_at c.args.walk.now) (regions_of b)) is c.requires.room)),
       ),
     )
 
@@ -226,10 +179,7 @@ type_group-type_statements-requires t c = (
   omega (arith, c.decreases),
   (
     group_placed c.args.walk.now _ c.in_ok-labels.labels.items c.requires.placed refl (in_group_around c.args.walk.now.surroundings c.enter.new.self _ _ refl c.in_ok-enter.ensures.lists c.enter.ensures.begins c.enter.ensures.value) refl refl,
-    (
-      c.requires.built,
-      c.requires.room,
-    ),
+    c.requires.room,
   ),
 )
 
@@ -243,55 +193,33 @@ type_group-returns t c =
 
 -- an IF
 
-pub type_body-type_condition-requires-clause-placed : goal.type_body-type_condition-requires-clause-placed
-type_body-type_condition-requires-clause-placed t c = c.requires.placed
-
-pub type_body-type_condition-requires-clause-built : goal.type_body-type_condition-requires-clause-built
-type_body-type_condition-requires-clause-built t c =
-    let n = c.args.walk.now.naming in
-    let b = c.in-If in
-    let is = ap source.body_view b.is ∙ laws.if_made b.condition b.consequence b.alternative in
-    (if_built (compiled_in n) c.requires.built.0 (syntax.expression_view b.condition) (source.statement_view b.consequence.value) (laws.boxed_view b.alternative)
-    (ap (later_body (compiled_in n) c.requires.built.0) (sym is) ∙ c.requires.built.1)).condition
+pub type_body-type_condition-requires : goal.type_body-type_condition-requires
+type_body-type_condition-requires t c = c.requires.placed
 
 pub type_body-type_statement-requires : goal.type_body-type_statement-requires
 type_body-type_statement-requires t c =
-    let n = c.args.walk.now.naming in
     let b = c.in-If in
-    let is = ap source.body_view b.is ∙ laws.if_made b.condition b.consequence b.alternative in
-    let parts = if_built (compiled_in n) c.requires.built.0 (syntax.expression_view b.condition) (source.statement_view b.consequence.value) (laws.boxed_view b.alternative)
-    (ap (later_body (compiled_in n) c.requires.built.0) (sym is) ∙ c.requires.built.1) in
-    let back = c.in_ok-tested-in-If.ensures.back in (
+    let is = ap source.body_view b.is ∙ laws.if_made b.condition b.consequence b.alternative in (
       omega (arith, c.decreases, ap body_size is, ap (λ s. statement_size (source.statement_view s)) c.deref.ensures),
       (
-        back.placed,
-        (
-          ap (λ (n : Names). later_statement (compiled_in n) (source.statement_view c.deref.result.now)) back.naming ∙ ap (λ s. later_statement (compiled_in n) (source.statement_view s)) c.deref.ensures ∙ parts.consequence,
-          room_first (next_at c.type_condition.new.walk) (regions_in (source.statement_view c.deref.result.now)) (regions_else (laws.boxed_view b.alternative))
-              (room_if (next_at c.args.walk.now) _ _ (syntax.expression_view b.condition) (source.statement_view b.consequence.value) _ (laws.boxed_view b.alternative) is
-              c.in_ok-tested-in-If.ensures.next (ap source.statement_view c.deref.ensures) c.requires.room),
-        ),
+        c.in_ok-tested-in-If.ensures.back.placed,
+        room_first (next_at c.type_condition.new.walk) (regions_in (source.statement_view c.deref.result.now)) (regions_else (laws.boxed_view b.alternative))
+            (room_if (next_at c.args.walk.now) _ _ (syntax.expression_view b.condition) (source.statement_view b.consequence.value) _ (laws.boxed_view b.alternative) is
+            c.in_ok-tested-in-If.ensures.next (ap source.statement_view c.deref.ensures) c.requires.room),
       ),
     )
 
 pub type_body-type_statement-requires-in-Some : goal.type_body-type_statement-requires-in-Some
 type_body-type_statement-requires-in-Some t c =
-    let n = c.args.walk.now.naming in
     let b = c.in-If in
-    let is = ap source.body_view b.is ∙ laws.if_made b.condition b.consequence b.alternative in
-    let parts = if_built (compiled_in n) c.requires.built.0 (syntax.expression_view b.condition) (source.statement_view b.consequence.value) (laws.boxed_view b.alternative)
-    (ap (later_body (compiled_in n) c.requires.built.0) (sym is) ∙ c.requires.built.1) in
-    let naming = c.in_ok-typed-in-If.ensures.back.naming ∙ c.in_ok-tested-in-If.ensures.back.naming in (
+    let is = ap source.body_view b.is ∙ laws.if_made b.condition b.consequence b.alternative in (
       omega (arith, c.decreases, ap body_size is, ap (λ a. alternative_size (laws.boxed_view a)) c.in-Some.is, ap (λ s. statement_size (source.statement_view s)) c.deref-in-Some.ensures),
       (
         c.in_ok-typed-in-If.ensures.back.placed,
-        (
-          ap (λ (n : Names). later_statement (compiled_in n) (source.statement_view c.deref-in-Some.result.now)) naming ∙ ap (λ s. later_statement (compiled_in n) (source.statement_view s)) c.deref-in-Some.ensures ∙ ap (λ a. later_alternative (compiled_in n) (laws.boxed_view a)) (sym c.in-Some.is) ∙ parts.alternative,
-          room_else _ _ _ (source.statement_view c.deref.result.now) (laws.boxed_view b.alternative) (source.statement_view c.in-Some.statement.value) _ c.in_ok-typed-in-If.ensures.next
-              (ap laws.boxed_view c.in-Some.is) (ap source.statement_view c.deref-in-Some.ensures)
-              (room_if (next_at c.args.walk.now) _ _ (syntax.expression_view b.condition) (source.statement_view b.consequence.value) _ (laws.boxed_view b.alternative) is
-              c.in_ok-tested-in-If.ensures.next (ap source.statement_view c.deref.ensures) c.requires.room),
-        ),
+        room_else _ _ _ (source.statement_view c.deref.result.now) (laws.boxed_view b.alternative) (source.statement_view c.in-Some.statement.value) _ c.in_ok-typed-in-If.ensures.next
+            (ap laws.boxed_view c.in-Some.is) (ap source.statement_view c.deref-in-Some.ensures)
+            (room_if (next_at c.args.walk.now) _ _ (syntax.expression_view b.condition) (source.statement_view b.consequence.value) _ (laws.boxed_view b.alternative) is
+            c.in_ok-tested-in-If.ensures.next (ap source.statement_view c.deref.ensures) c.requires.room),
       ),
     )
 
@@ -310,31 +238,24 @@ type_statements-loop-statement-init t c =
       back = record { naming = refl; around = refl; globals = refl; placed = c.requires.placed };
       goes = λ new part w. subst (λ ts. WalksList c.args.walk.now new (around c.args.walk.now) (source.statements_view c.args.statements.now) (in_front true (map statement_view ts) part))
           (sym c.new-typed.ensures.items) (goes_on_first c.args.walk.now (source.statements_view c.args.statements.now) new part w);
-      built = c.requires.built;
       room = c.requires.room;
     }
 
 pub type_statements-type_statement-requires : goal.type_statements-type_statement-requires
 type_statements-type_statement-requires t c =
-    let n = c.args.walk.now.naming in
     let ss = c.args.statements.now in
     let l = c.loop-statement in
-    let inside : l.statement-index < length ss = omega arith in
-    let built = (next_built (compiled_in n) ss l.statement-index c.statement-item.result c.statement-item.is inside l.invariant.built).0 in (
+    let inside : l.statement-index < length ss = omega arith in (
       omega (arith, c.decreases, item_size ss l.statement-index c.statement-item.result inside c.statement-item.is),
       (
         l.invariant.back.placed,
-        (
-          ap (λ (n : Names). later_statement (compiled_in n) (source.statement_view c.statement-item.result)) l.invariant.back.naming ∙ built,
-          room_first (next_at l.walk) (regions_in (source.statement_view c.statement-item.result)) (regions_among (source.statements_view (drop (l.statement-index + 1) ss)))
-              (room_next (next_at l.walk) ss l.statement-index c.statement-item.result c.statement-item.is inside l.invariant.room),
-        ),
+        room_first (next_at l.walk) (regions_in (source.statement_view c.statement-item.result)) (regions_among (source.statements_view (drop (l.statement-index + 1) ss)))
+            (room_next (next_at l.walk) ss l.statement-index c.statement-item.result c.statement-item.is inside l.invariant.room),
       ),
     )
 
 pub type_statements-loop-statement-preserved : goal.type_statements-loop-statement-preserved
 type_statements-loop-statement-preserved t c =
-    let n = c.args.walk.now.naming in
     let ss = c.args.statements.now in
     let l = c.loop-statement in
     let i = l.statement-index in
@@ -349,7 +270,6 @@ type_statements-loop-statement-preserved t c =
           (map statement_view c.keep.new.statements.items) (source.statements_view ss) ss i s (option_map statement_view c.in_ok-kept.kept)
           c.statement-item.is inside c.leaves_nothing-leaves_nothing.ensures c.in_ok-is_kept.ensures.kept both c.in_ok-is_kept.ensures.statements
           c.in_ok-kept.ensures l.invariant.goes;
-      built = (next_built (compiled_in n) ss i s c.statement-item.is inside l.invariant.built).1;
       room = subst (λ x. HasRoom x (regions_among (source.statements_view (drop (i + 1) ss)))) (sym c.in_ok-kept.ensures.next)
           (room_behind (based_names l.walk) (next_at l.walk) (source.statement_view s) _ (room_next (next_at l.walk) ss i s c.statement-item.is inside l.invariant.room));
     }

@@ -1,8 +1,6 @@
-use Rattle.std.proofs.Common.{◌≡◌, ◌+◌, None, map, drop}
+use Rattle.std.proofs.Common.{◌+◌, map, drop}
 use Rattle.pli_base.specs.views.StatementView as source
 use Rattle.pli_declare_outline.specs.Outlines.{regions_among}
-use Rattle.pli_type.specs.Unbuilt.{later_statements}
-use Rattle.pli_type_names.specs.UnitNaming.{compiled_in}
 use Rattle.pli_type_tree.specs.views.TypedView.{statement_view}
 use Rattle.pli_type_statement.specs.Walking.{HasRoom, IsBack, next_at}
 use Rattle.pli_type_statement.proofs.SizeLemmas.{statement_size, body_size, list_size}
@@ -15,7 +13,6 @@ invariant-type_statements-loop-statement l = record {
   back : IsBack l.initial.walk l.walk;
   goes : GoesOn l.initial.walk l.walk l.complete (map statement_view l.typed.items) (source.statements_view l.statements)
       (source.statements_view (drop l.statement-index l.statements));
-  built : later_statements (compiled_in l.initial.walk.naming) (source.statements_view (drop l.statement-index l.statements)) ≡ None;
   room : HasRoom (next_at l.walk) (regions_among (source.statements_view (drop l.statement-index l.statements)));
 }
 

@@ -6,12 +6,9 @@ use Rattle.pli_type_tree.specs.views.TypedView.{expression_view}
 use Rattle.pli_type_statement.proofs.WalkLemmas.{own_walked}
 use Rattle.pli_type_statement.proofs.statement.type_condition.Goals as goal
 
-pub condition-tested-requires : goal.condition-tested-requires
-condition-tested-requires c = c.requires.built
-
 pub returns : goal.returns
 returns c =
     own_walked c.args.walk.now _ (λ (x : Box TypedExpression Global). expression_view x.value) (λ n. spec.condition n (syntax.expression_view c.args.expression.now)) c.condition-tested.result c.noted.result _
-    c.requires.placed c.condition-tested.ensures c.noted.ensures.part c.noted.ensures.faults c.noted.ensures.known
-    (record { naming = refl; around = refl; globals = refl; placed = record { blocks = c.requires.placed.blocks; templates = c.requires.placed.templates; based = c.requires.placed.based; deep = c.requires.placed.deep } })
+    c.requires c.condition-tested.ensures c.noted.ensures.part c.noted.ensures.faults c.noted.ensures.known
+    (record { naming = refl; around = refl; globals = refl; placed = record { blocks = c.requires.blocks; templates = c.requires.templates; based = c.requires.based; deep = c.requires.deep } })
     refl refl

@@ -4,7 +4,7 @@ use Rattle.pli_type.specs.Temporaries.{temporaries_of}
 use Rattle.pli_type_tree.specs.views.TypedView.{form_view}
 use Rattle.pli_type_statement.specs.Simple.{simple_typed}
 use Rattle.pli_type_statement.specs.Walking.{around}
-use Rattle.pli_type_statement.proofs.WalkLemmas.{based_named, compiled_named, own_walked}
+use Rattle.pli_type_statement.proofs.WalkLemmas.{based_named, names_named, own_walked}
 use Rattle.pli_type_statement.proofs.statement.type_simple.Goals as goal
 
 pub simple-form-requires-clause-blocks : goal.simple-form-requires-clause-blocks
@@ -13,8 +13,8 @@ simple-form-requires-clause-blocks c = c.requires.placed.blocks
 pub simple-form-requires-clause-based : goal.simple-form-requires-clause-based
 simple-form-requires-clause-based c = λ block. c.requires.placed.based block ∙ based_named c.args.walk.now.naming block
 
-pub simple-form-requires-clause-built : goal.simple-form-requires-clause-built
-simple-form-requires-clause-built c = c.requires.built
+pub simple-form-requires-clause-simple : goal.simple-form-requires-clause-simple
+simple-form-requires-clause-simple c = c.requires.simple
 
 pub returns-clause-walked : goal.returns-clause-walked
 returns-clause-walked c =
@@ -24,4 +24,4 @@ returns-clause-walked c =
     (record { naming = refl; around = refl; globals = refl; placed = record { blocks = c.requires.placed.blocks; templates = c.requires.placed.templates; based = c.requires.placed.based; deep = c.requires.placed.deep } })
     refl (ap (λ t. record { block = w.next.block; temporary = t })
     (c.in_ok-walk.ensures ∙ ap (λ k. w.next.temporary + k)
-    (c.kept_in.ensures ∙ ap (λ f. temporaries_of f (source.body_view c.args.body.now)) (compiled_named w.naming))))
+    (c.kept_in.ensures ∙ ap (λ f. temporaries_of f (source.body_view c.args.body.now)) (names_named w.naming))))

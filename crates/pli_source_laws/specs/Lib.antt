@@ -1,2 +1,0 @@
-pub mod CompiledSources
-pub mod Sources
