@@ -142,7 +142,7 @@ pub fn allocate_in<'m>(
     if size > BLOCK_BYTES {
         return storage.refuse_in(area, description);
     }
-    let initial = first_bytes(alloc, description, scalars, laid)?;
+    let initial = first_bytes(alloc, storage, description, scalars, laid)?;
     storage.allocate_in(area, description, Some(initial))
 }
 

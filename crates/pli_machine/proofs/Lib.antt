@@ -3,6 +3,7 @@ pub mod DecodedLemmas
 pub mod MoveLemmas
 pub mod OverLemmas
 pub mod PassLemmas
+pub mod PointerLemmas
 pub mod PutLemmas
 pub mod RunLemmas
 pub mod SlotLemmas

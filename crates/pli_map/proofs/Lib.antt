@@ -14,6 +14,7 @@ pub mod Places
 pub mod ScalarLawsHold
 pub mod ScalarParts
 pub mod ScalarPlaces
+pub mod ScalarsAmong
 pub mod StoredLawsHold
 pub mod StoredNumbers
 pub mod SubscriptLawsHold

@@ -1,5 +1,5 @@
 //! Descriptions of storage: types, bounds and structure as a tree. Names do not stand in them.
-ghost use Rattle.std.specs.Prelude.{◌≡◌, ◌↔◌, ◌<◌, ◌≤◌, IfOk, IfSome, IsTrue};
+ghost use Rattle.std.specs.Prelude.{◌≡◌, ◌↔◌, ◌<◌, ◌≤◌, true, IfOk, IfSome, IsTrue};
 ghost use Rattle.pli_map.specs.Sizes.{extent_of};
 ghost use Rattle.pli_map.specs.Parts.{distance_of};
 ghost use Rattle.pli_map.specs.views.DescriptionView.{description_view, members_view};
@@ -118,6 +118,51 @@ impl Description {
     }
 }
 
+impl Description {
+    ghost use Rattle.std.specs.Prelude.{◌≡◌, ◌↔◌, IsTrue};
+    ghost use Rattle.pli_map.specs.views.DescriptionView.{description_view};
+
+    /// The same as `equals`; structures of scalars alone take the short way.
+    #[inline]
+    pub fn is_same(&self, other: &Description) -> bool
+        ensures { IsTrue result ↔ (description_view self.now ≡ description_view other.now) }
+    {
+        if are_same_structures(self, other) {
+            return true;
+        }
+        self.equals(other)
+    }
+}
+
+/// Whether both are structures of the same scalars. What has other members is left open.
+#[inline(always)]
+fn are_same_structures(left: &Description, right: &Description) -> bool
+    ensures { result ≡ true → description_view left.now ≡ description_view right.now }
+{
+    match (left, right) {
+        (Description::Structure(members), Description::Structure(others)) => {
+            are_all_same(members, others)
+        }
+        _ => false,
+    }
+}
+
+/// Whether members are the same scalars, one behind another.
+#[inline(always)]
+fn are_all_same(left: &[Description], right: &[Description]) -> bool
+    ensures { result ≡ true → members_view left.now ≡ members_view right.now }
+{
+    if left.len() != right.len() {
+        return false;
+    }
+    for i in 0..left.len() {
+        if !are_same_scalars(&left[i], &right[i]) {
+            return false;
+        }
+    }
+    true
+}
+
 impl PartialEq for Description {
     ghost use Rattle.std.specs.Cmp.{on_per, partial_equiv_from_equiv};
     ghost use Rattle.std.specs.Ordering.{on};
@@ -140,6 +185,23 @@ impl Eq for Description {
     ghost laws = { on_equiv description_view same_equivalence };
 }
 
+/// Whether both are the same scalar: numbers of one precision, strings of one kind and length, pointers or offsets. What
+/// is no scalar is left open.
+#[inline(always)]
+pub fn are_same_scalars(left: &Description, right: &Description) -> bool
+    ensures { result ≡ true → description_view left.now ≡ description_view right.now }
+{
+    match (left, right) {
+        (Description::FixedBinary(has), Description::FixedBinary(wanted)) => *has == *wanted,
+        (Description::Varying(has), Description::Varying(wanted)) => *has == *wanted,
+        (Description::Character(has), Description::Character(wanted)) => *has == *wanted,
+        (Description::Bit(has), Description::Bit(wanted)) => *has == *wanted,
+        (Description::Pointer, Description::Pointer) => true,
+        (Description::Offset, Description::Offset) => true,
+        _ => false,
+    }
+}
+
 fn same_bounds(left: &[Bounds], right: &[Bounds]) -> bool
     ensures { IsTrue result ↔ (left.now ≡ right.now) }
 {
@@ -154,11 +216,23 @@ fn all_equal(left: &[Description], right: &[Description]) -> bool
         return false;
     }
     for i in 0..left.len() {
-        if !left[i].equals(&right[i]) {
+        if !is_equal(&left[i], &right[i]) {
             return false;
         }
     }
     true
+}
+
+/// Whether two descriptions are equal, scalars at once.
+#[inline(always)]
+#[cycle(equals)]
+fn is_equal(left: &Description, right: &Description) -> bool
+    ensures { IsTrue result ↔ (description_view left.now ≡ description_view right.now) }
+{
+    if are_same_scalars(left, right) {
+        return true;
+    }
+    left.equals(right)
 }
 
 #[cycle(copy)]

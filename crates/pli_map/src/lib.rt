@@ -14,7 +14,7 @@ mod stored;
 mod table;
 mod values;
 
-pub use description::{Bounds, Description};
+pub use description::{Bounds, Description, are_same_scalars};
 pub use extents::{FAR, far_size};
 pub use laws::{
     areas_are_rounded, elements_are_in_row_major_order, elements_are_within_bounds,
@@ -24,7 +24,7 @@ pub use laws::{
 };
 pub use layout::{Layout, SIZE_LIMIT};
 pub use parts::{PathStep, PlacedPart, place};
-pub use scalars::{first_scalar, is_aggregate, is_area, is_scalar, scalars_in};
+pub use scalars::{first_scalar, is_aggregate, is_area, is_scalar, scalars_in, stands_among};
 pub use sizes::{alignment, fixed_binary_size, measure, size};
 pub use stored::{load_value, store_value};
 pub use table::Table;

@@ -1,12 +1,14 @@
 //! The scalars of a description, and which of them are those of a part.
-ghost use Rattle.std.specs.Prelude.{◌≡◌, ◌+◌, ◌*◌, ◌/◌, ◌%◌, ◌≤◌, min, nat_lt, if◌then◌else◌, None, option_map};
+ghost use Rattle.std.specs.Prelude.{◌≡◌, ◌+◌, ◌*◌, ◌/◌, ◌%◌, ◌≤◌, ◌<◌, min, nat_lt, true, if◌then◌else◌, IfSome, None, option_map};
+ghost use Rattle.std.specs.Option.{is_some};
+ghost use Rattle.pli_map.specs.Description.{Structure};
 ghost use Rattle.pli_map.specs.Scalars.{is_aggregate, is_area, is_scalar, scalars_in, scalars_among, stands_here, first_scalar, scalar_behind};
-ghost use Rattle.pli_map.specs.Sizes.{count_of, stride_of};
+ghost use Rattle.pli_map.specs.Sizes.{alignment_of, count_of, size_of, stride_of};
 ghost use Rattle.pli_map.specs.views.DescriptionView.{description_view, members_view};
 
-use crate::description::{Bounds, Description};
+use crate::description::{Bounds, Description, are_same_scalars};
 use crate::extents::{every_element, far_size, far_stride};
-use crate::sizes::alignment;
+use crate::sizes::{alignment, fixed_binary_size};
 
 /// Whether a description is an array or a structure.
 #[inline]
@@ -93,6 +95,51 @@ fn stands_here(whole: &Description, offset: u32, part: &Description) -> bool
     ensures { result ≡ stands_here (description_view whole.now) offset (description_view part.now) }
 {
     offset == 0 && whole == part
+}
+
+/// Whether a scalar stands so many bytes behind the beginning of a structure of these members, behind other scalars alone;
+/// `false` leaves it open. Takes no memory, and time for the members that stand before it.
+pub fn stands_among(members: &[Description], offset: u32, part: &Description) -> bool
+    ensures { result ≡ true → is_some (first_scalar (Structure (members_view members.now)) offset (description_view part.now)) ≡ true }
+{
+    let wanted = u64::from(offset);
+    let mut at: u64 = 0;
+    for member in members {
+        let Some(room) = scalar_room(member) else {
+            return false;
+        };
+        let start = at.next_multiple_of(room.1);
+        if wanted == start && room.0 > 0 {
+            return are_same_scalars(member, part);
+        }
+        at = start + room.0;
+        if wanted < at {
+            return false;
+        }
+    }
+    false
+}
+
+/// How many bytes a scalar takes, and its alignment; `None` for what is none.
+#[inline(always)]
+#[tactic(auto, using(crate::proofs::Alignments::alignment_positive, crate::proofs::Alignments::alignment_small))]
+fn scalar_room(description: &Description) -> Option<(u64, u64)>
+    ensures size { IfSome result (λ r. r.0 ≡ size_of (description_view description.now)) }
+    ensures alignment { IfSome result (λ r. r.1 ≡ alignment_of (description_view description.now)) }
+    ensures bounds { IfSome result (λ r. (r.0 ≤ 65537) × (0 < r.1) × (r.1 ≤ 8)) }
+{
+    match description {
+        Description::FixedBinary(precision) => {
+            let bytes = u64::from(fixed_binary_size(u32::from(*precision)));
+            Some((bytes, bytes))
+        }
+        Description::Character(length) => Some((u64::from(*length), 1)),
+        Description::Varying(length) => Some((2 + u64::from(*length), 2)),
+        Description::Bit(length) => Some((u64::from(length.div_ceil(8)), 1)),
+        Description::Pointer => Some((8, 4)),
+        Description::Offset => Some((4, 4)),
+        Description::Area(_) | Description::Array { .. } | Description::Structure(_) => None,
+    }
 }
 
 #[cycle(first_scalar)]

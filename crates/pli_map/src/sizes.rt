@@ -48,6 +48,7 @@ fn members_alignment(members: &[Description]) -> u32
 }
 
 /// The bytes of FIXED BINARY of so many digits, which are its alignment too: 2 up to 15, 4 up to 31, and else 8 (own).
+#[inline(always)]
 pub fn fixed_binary_size(precision: u32) -> u32
     ensures { result ≡ number_bytes precision }
 {

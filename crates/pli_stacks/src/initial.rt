@@ -19,6 +19,9 @@ use pli_store::{Made, Place, Storage, StoreFault};
 use pli_type_tree::InitialScalar;
 use std::alloc::{AllocError, Global};
 
+/// How many bytes a generation of a CONTROLLED variable takes at most that is copied from bytes laid once (own).
+const FEW: u64 = 4096;
+
 /// Puts initial values in the place of those of their scalars, one after another. One that its scalar may not hold is
 /// left out.
 fn put_all(bytes: &mut [u8], description: &Description, scalars: &[InitialScalar])
@@ -58,21 +61,56 @@ pub fn initial_bytes(
     Ok(bytes)
 }
 
-/// The same, copied where they are laid. The description takes no more bytes than may live.
+/// The same where they are no more than 4,096, and else nothing.
+pub fn few_bytes(
+    alloc: Global,
+    description: &Description,
+    scalars: &[InitialScalar],
+) -> Result<Option<Vec<u8>>, AllocError>
+    ensures { IfOk result (λ laid. IfSome laid (λ bytes. IsLaid (record { description = description_view description.now; initial = map initial_view scalars.now }) bytes.items)) }
+{
+    if far_size(description) > FEW {
+        return Ok(None);
+    }
+    let bytes = initial_bytes(alloc, description, scalars)?;
+    Ok(Some(bytes))
+}
+
+/// Lays down what a variable begins with, which is copied where it is laid.
+fn begin(
+    bytes: &mut [u8],
+    description: &Description,
+    scalars: &[InitialScalar],
+    laid: Option<&[u8]>,
+)
+    requires size { length bytes.old ≡ size_of (description_view description.now) }
+    requires limit { size_of (description_view description.now) ≤ 16777216 }
+    requires laid { IfSome laid (λ bytes. IsLaid (record { description = description_view description.now; initial = map initial_view scalars.now }) bytes.now) }
+    ensures { IsLaid (record { description = description_view description.now; initial = map initial_view scalars.now }) bytes.new }
+{
+    match laid {
+        Some(laid) => bytes.copy_from_slice(laid),
+        None => lay_initial(bytes, description, scalars),
+    }
+}
+
+/// The bytes with which a variable begins, copied where they are laid, in memory that generations have left that have
+/// ended. The description takes no more bytes than may live.
 pub fn first_bytes(
     alloc: Global,
+    storage: &mut Storage<'_>,
     description: &Description,
     scalars: &[InitialScalar],
     laid: Option<&[u8]>,
 ) -> Result<Vec<u8>, AllocError>
     requires limit { size_of (description_view description.now) ≤ 16777216 }
     requires laid { IfSome laid (λ bytes. IsLaid (record { description = description_view description.now; initial = map initial_view scalars.now }) bytes.now) }
-    ensures { IfOk result (λ bytes. IsLaid (record { description = description_view description.now; initial = map initial_view scalars.now }) bytes.items) }
+    ensures laid { IfOk result (λ bytes. IsLaid (record { description = description_view description.now; initial = map initial_view scalars.now }) bytes.items) }
+    ensures same { SameStorage storage.old storage.new }
 {
-    match laid {
-        Some(bytes) => Vec::from_slice(alloc, bytes),
-        None => initial_bytes(alloc, description, scalars),
-    }
+    let mut first = storage.spare_bytes(alloc, far_size(description) as usize)?;
+    begin(&mut first, description, scalars, laid);
+    Ok(first)
 }
 
 /// Makes a generation of this description. Its scalars begin with these initial values, and those without one as their
@@ -93,9 +131,29 @@ pub fn make_initial<'m>(
         (with_storage storage.old w)) }
     ensures err { OnErr result (SameStorage storage.old storage.new) }
 {
+    match laid {
+        Some(bytes) => storage.make_copy(alloc, description, made, bytes),
+        None => make_anew(alloc, storage, description, made, scalars),
+    }
+}
+
+/// The same where nothing was laid before.
+fn make_anew<'m>(
+    alloc: Global,
+    storage: &mut Storage<'m>,
+    description: &'m Description,
+    made: Made,
+    scalars: &[InitialScalar],
+) -> Result<Place<'m>, StoreFault>
+    ensures answer { (w : World) → Answered place_view result (with_storage storage.old w) (with_storage storage.new w)
+        (made_of (description_view description.now) (made_view made)
+        (with_initial (scalars_at (description_view description.now)) (map initial_view scalars.now) (first_values (description_view description.now)))
+        (with_storage storage.old w)) }
+    ensures err { OnErr result (SameStorage storage.old storage.new) }
+{
     if !storage.has_room(description) {
         return Err(StoreFault::Raised(RunError::StorageLimit));
     }
-    let initial = first_bytes(alloc, description, scalars, laid)?;
+    let initial = first_bytes(alloc, storage, description, scalars, None)?;
     storage.make(description, made, Some(initial))
 }

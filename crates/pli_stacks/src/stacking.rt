@@ -57,7 +57,7 @@ pub fn push_made<'m>(
         stack.description,
         Made::Controlled,
         stack.initial,
-        None,
+        stack.laid_bytes(),
     )?;
     stack.places.push_reserved(place);
     Ok(place)

@@ -8,6 +8,7 @@ ghost use Rattle.pli_world.specs.World.{World};
 ghost use Rattle.pli_store.specs.answers.Answered.{Answered};
 ghost use Rattle.pli_store.specs.views.StorageView.{SameStorage, place_view, with_storage};
 
+use crate::initial::few_bytes;
 use crate::stack::Stack;
 use crate::stacking::{count_of, newest_in, pop_newest, push_made};
 use pli_map::Description;
@@ -51,9 +52,11 @@ impl<'m> Stacks<'m> {
         ensures err { OnErr result (stacks_view self.new ≡ stacks_view self.old) }
     {
         let number = self.stacks.len();
+        let laid = few_bytes(alloc, description, initial)?;
         self.stacks.push(Stack {
             description,
             initial,
+            laid,
             places: Vec::new(alloc),
         })?;
         Ok(number)

@@ -6,13 +6,16 @@ pub mod CopiedBytes
 pub mod CopyLemmas
 pub mod EndingLemmas
 pub mod HeldScalars
+pub mod KnownLemmas
 pub mod LivingTargets
 pub mod MakingLemmas
 pub mod PartAnswers
 pub mod PlaceLemmas
+pub mod PointerBytes
 pub mod PutAnswers
 pub mod PutsSaid
 pub mod ReadParts
 pub mod RisingNumbers
+pub mod SameStorages
 pub mod Searches
 pub mod StandingParts

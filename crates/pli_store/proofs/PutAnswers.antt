@@ -1,5 +1,5 @@
 -- What is answered where a number is put at a place, and where characters are put behind others.
-use Rattle.std.proofs.Common.{◌≡◌, ℕ, Bool, true, false, List, [], ◌∷◌, ◌++◌, length, subst, ap, ◌∙◌, sym}
+use Rattle.std.proofs.Common.{◌≡◌, ℕ, Bool, true, false, List, [], ◌∷◌, ◌++◌, length, refl, subst, ap, ◌∙◌, sym}
 use Rattle.std.proofs.lemmas.Bool.{le-leb}
 use Rattle.pli_map.specs.Description.{Description, Varying}
 use Rattle.pli_map.specs.Scalars.{is_scalar}
@@ -23,9 +23,13 @@ module _ (old new : Storage) (p : Place) (part : GenerationPart) (d : Descriptio
       (subst (λ e. ValuesPut (storage_view old) (storage_view new) part e (v ∷ [])) (sym is) put)
       ∙ ap (λ m. Yields tt (record w { storage = storage_view new; made = m })) (sym same)
 
+  -- only what is put has to be a value that the part may hold
+  pub value_is_put_where : (b : Bool) (v : Value) → (b ≡ true → holds d v ≡ true) → ValuesPutOrSame b (storage_view old) (storage_view new) part d (v ∷ []) → ValuePut b old new p v
+  value_is_put_where true v fits put = stored_new v (fits refl) put
+  value_is_put_where false v fits put = record { storage = put; made = same }
+
   pub value_is_put : (b : Bool) (v : Value) → holds d v ≡ true → ValuesPutOrSame b (storage_view old) (storage_view new) part d (v ∷ []) → ValuePut b old new p v
-  value_is_put true v fits put = stored_new v fits put
-  value_is_put false v fits put = record { storage = put; made = same }
+  value_is_put b v fits put = value_is_put_where b v (λ e. fits) put
 
 pub is_appended : (old new : Storage) (p : Place) (part : GenerationPart) (greatest : ℕ) → p.description ≡ Varying greatest → made_count new ≡ made_count old
     → LeadsTo (storage_view old) p part → (b : Bool) (more : List ℕ) (room : ℕ)

@@ -4,5 +4,6 @@ pub mod Blocks
 pub mod Found
 pub mod Inhabited
 pub mod Kept
+pub mod Known
 pub mod LedOn
 pub mod Puts

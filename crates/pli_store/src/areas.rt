@@ -79,7 +79,9 @@ impl<'m> Storage<'m> {
             return Err(StoreFault::NoRule);
         };
         let at = self.area_at(area)?;
-        match place_block(&mut self.generations[at], description, &bytes)? {
+        let placed = place_block(&mut self.generations[at], description, &bytes)?;
+        self.spare.keep(bytes);
+        match placed {
             Some(position) => Ok(Locator::Pointer {
                 generation: area.generation,
                 position,

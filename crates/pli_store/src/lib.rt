@@ -2,7 +2,7 @@
 //! description lies at its offset; one that is an area has blocks.
 //!
 //! `place` says where references lead, `part` which bytes of a generation stand there, `living` what lives at a
-//! position of a generation; `storage` reads, puts, copies, makes and ends, by `putting` and `copying`, which change
+//! position of a generation, `known` which parts of a whole need no search; `storage` reads, puts, copies, makes and ends, by `putting` and `copying`, which change
 //! bytes; `bits` tells a lone bit from its byte, `pointers` a pointer from its bytes; `spare` keeps memory for
 //! generations to come. `blocks` changes the blocks of one generation, `places_in_blocks` reads, puts and copies there,
 //! and `areas` allocates, frees, empties and assigns.
@@ -14,6 +14,7 @@ mod blocks;
 mod copying;
 mod fault;
 mod generation;
+mod known;
 mod living;
 mod part;
 mod place;
@@ -25,6 +26,7 @@ mod storage;
 
 pub use fault::StoreFault;
 pub use generation::Made;
+pub use known::KnownPart;
 pub use living::Target;
 pub use place::Place;
 pub use storage::Storage;

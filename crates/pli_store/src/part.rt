@@ -4,9 +4,9 @@ ghost use Rattle.std.specs.Option.{is_some};
 ghost use Rattle.pli_map.specs.Description as tree;
 ghost use Rattle.pli_map.specs.Scalars.{first_scalar};
 ghost use Rattle.pli_map.specs.Sizes.{number_bytes, size_of};
-ghost use Rattle.pli_map.specs.views.DescriptionView.{description_view};
+ghost use Rattle.pli_map.specs.views.DescriptionView.{description_view, members_view};
 
-use pli_map::{Bounds, Description, first_scalar};
+use pli_map::{Bounds, Description, are_same_scalars, first_scalar, stands_among};
 
 /// Where a part stands: the index of its generation among those that live, and its offset there, in bytes.
 #[derive(Clone, Copy)]
@@ -34,17 +34,6 @@ pub fn greatest_length(description: &Description) -> Option<u16>
     match description {
         Description::Varying(greatest) => Some(*greatest),
         _ => None,
-    }
-}
-
-/// Whether a description is of a number of so many binary digits.
-#[inline(always)]
-pub fn is_number_of(description: &Description, precision: u8) -> bool
-    ensures { result ≡ true → description_view description.now ≡ tree.FixedBinary precision }
-{
-    match description {
-        Description::FixedBinary(has) => *has == precision,
-        _ => false,
     }
 }
 
@@ -101,19 +90,12 @@ pub fn is_number_at(whole: &Description, size: usize, offset: usize, precision: 
     }
 }
 
-/// Whether both are numbers of one precision, or strings of one length: the second then stands where the
-/// first begins.
+/// Whether both are the same scalar: the second then stands where the first begins.
 #[inline(always)]
-fn are_same_scalars(whole: &Description, part: &Description) -> bool
+fn is_itself(whole: &Description, part: &Description) -> bool
     ensures { result ≡ true → is_some (first_scalar (description_view whole.now) 0 (description_view part.now)) ≡ true }
 {
-    match (whole, part) {
-        (Description::FixedBinary(has), Description::FixedBinary(wanted)) => *has == *wanted,
-        (Description::Varying(has), Description::Varying(wanted)) => *has == *wanted,
-        (Description::Character(has), Description::Character(wanted)) => *has == *wanted,
-        (Description::Bit(has), Description::Bit(wanted)) => *has == *wanted,
-        _ => false,
-    }
+    are_same_scalars(whole, part)
 }
 
 /// Whether an element begins so many bytes behind the beginning of an array of so many that each take so many bytes.
@@ -146,13 +128,22 @@ fn is_bit_in(bounds: Bounds, offset: u32) -> bool
     is_element(bounds.extent(), offset, 1)
 }
 
-/// Whether a part of this description stands so many bytes behind the beginning of a whole. A number and a string of
-/// characters that stand alone, and a number and one bit in an array of one dimension, take the short way.
+/// Whether a scalar stands so many bytes behind the beginning of a structure of these members; `false` leaves it open.
+#[inline]
+fn is_member(members: &[Description], offset: u32, part: &Description) -> bool
+    ensures { result ≡ true → is_some (first_scalar (tree.Structure (members_view members.now)) offset (description_view part.now)) ≡ true }
+{
+    stands_among(members, offset, part)
+}
+
+/// Whether a part of this description stands so many bytes behind the beginning of a whole. A scalar that stands alone,
+/// one that is a member of a structure behind other scalars, and a number and one bit in an array of one dimension, take
+/// the short way.
 #[inline(always)]
 pub fn is_part(whole: &Description, offset: u32, part: &Description) -> bool
     ensures { result ≡ is_some (first_scalar (description_view whole.now) offset (description_view part.now)) }
 {
-    if offset == 0 && are_same_scalars(whole, part) {
+    if offset == 0 && is_itself(whole, part) {
         return true;
     }
     match (whole, part) {
@@ -168,6 +159,9 @@ pub fn is_part(whole: &Description, offset: u32, part: &Description) -> bool
             Description::Bit(1) if bounds.len() == 1 => is_bit_in(bounds[0], offset),
             _ => first_scalar(whole, offset, part).is_some(),
         },
+        (Description::Structure(members), _) => {
+            is_member(members, offset, part) || first_scalar(whole, offset, part).is_some()
+        }
         _ => first_scalar(whole, offset, part).is_some(),
     }
 }

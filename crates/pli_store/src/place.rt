@@ -7,7 +7,7 @@ ghost use Rattle.pli_world.specs.World.{led_on};
 use pli_map::Description;
 
 /// How many bytes behind the beginning a reference leads at most (own).
-const OFFSET_LIMIT: u32 = 1_000_000;
+pub const OFFSET_LIMIT: u32 = 1_000_000;
 
 /// Where a reference leads: into a generation, there into the block of an area at a position (0 outside areas), so many
 /// bytes behind its beginning, to a part of this description. The generation or the block had this whole description

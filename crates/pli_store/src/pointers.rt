@@ -1,9 +1,11 @@
 //! Pointers, in bytes where they lie.
-ghost use Rattle.std.specs.Prelude.{◌≡◌, drop, length, IfSome};
+ghost use Rattle.std.specs.Prelude.{◌≡◌, ◌≤◌, drop, length, true, IfSome};
 ghost use Rattle.byteorder.specs.Endian.{big_number};
+ghost use Rattle.pli_bytes.specs.Changes.{IsPut, PutOrSame};
 ghost use Rattle.pli_bytes.specs.Contents.{value_in};
 ghost use Rattle.pli_map.specs.Description as tree;
 ghost use Rattle.pli_map.specs.StoredValues as stored;
+ghost use Rattle.pli_map.specs.Values.{holds};
 ghost use Rattle.pli_value.specs.Value.{Located};
 
 use byteorder::{BigEndian, ByteOrder};
@@ -42,4 +44,58 @@ pub fn pointer_at(bytes: &[u8], offset: usize) -> Option<Locator>
         return None;
     }
     Some(pointer_of(&rest[..POINTER_SIZE]))
+}
+
+/// The two numbers that a pointer is in its bytes; `None` for what none is.
+#[inline(always)]
+fn numbers_of(locator: Locator) -> Option<(u32, u32)>
+    ensures numbers { IfSome result (λ n. stored.pointer_of n.0 n.1 ≡ locator) }
+    ensures held { IfSome result (λ n. holds tree.Pointer (Located locator) ≡ true) }
+{
+    match locator {
+        Locator::Null => Some((0, 0)),
+        Locator::Pointer {
+            generation,
+            position,
+        } => Some((generation.checked_add(1)?, position)),
+        Locator::Offset(_) => None,
+    }
+}
+
+/// The two numbers of a pointer put into the first eight bytes.
+#[inline(always)]
+fn put_numbers(bytes: &mut [u8], first: u32, second: u32)
+    requires { 8 ≤ length bytes.old }
+    ensures { IsPut tree.Pointer (Located (stored.pointer_of first second)) 0 bytes.old bytes.new }
+{
+    BigEndian::write_u32(bytes, first);
+    BigEndian::write_u32(&mut bytes[4..], second);
+}
+
+/// A pointer put where a scalar of POINTER lies; where the bytes end before it does, and for an offset, nothing changes.
+#[inline]
+pub fn put_pointer_at(bytes: &mut [u8], offset: usize, locator: Locator) -> bool
+    ensures put { PutOrSame result tree.Pointer (Located locator) offset bytes.old bytes.new }
+    ensures held { result ≡ true → holds tree.Pointer (Located locator) ≡ true }
+{
+    if offset > bytes.len() {
+        return false;
+    }
+    put_first_pointer(&mut bytes[offset..], locator)
+}
+
+/// The same of the scalar with which the bytes begin.
+#[inline(always)]
+fn put_first_pointer(bytes: &mut [u8], locator: Locator) -> bool
+    ensures put { PutOrSame result tree.Pointer (Located locator) 0 bytes.old bytes.new }
+    ensures held { result ≡ true → holds tree.Pointer (Located locator) ≡ true }
+{
+    let Some((first, second)) = numbers_of(locator) else {
+        return false;
+    };
+    if bytes.len() < POINTER_SIZE {
+        return false;
+    }
+    put_numbers(bytes, first, second);
+    true
 }

@@ -1,19 +1,20 @@
 //! Values put into generations.
 ghost use Rattle.std.specs.Prelude.{◌≡◌, ◌∷◌, [], map, true};
-ghost use Rattle.pli_map.specs.Description.{FixedBinary, Varying, Bit};
+ghost use Rattle.pli_map.specs.Description.{FixedBinary, Varying, Bit, Pointer};
 ghost use Rattle.pli_map.specs.Values.{holds};
 ghost use Rattle.pli_map.specs.views.DescriptionView.{description_view};
 ghost use Rattle.pli_store.specs.answers.Found.{PartStands};
 ghost use Rattle.pli_store.specs.answers.Puts.{ValuesPut, ValuesPutOrSame, LengthenedOrSame};
 ghost use Rattle.pli_store.specs.views.GenerationView.{generation_view};
-ghost use Rattle.pli_value.specs.Value.{value_view, Number, Bits};
+ghost use Rattle.pli_value.specs.Value.{value_view, Number, Bits, Located};
 
 use crate::bits::put_bit_at;
 use crate::generation::Generation;
 use crate::part::GenerationPart;
+use crate::pointers::put_pointer_at;
 use pli_bytes::{append_at, put_number_at, put_value_at};
 use pli_map::Description;
-use pli_value::{Value, number};
+use pli_value::{Locator, Value, number};
 
 /// Whether a number of so many binary digits may be this.
 #[inline(always)]
@@ -65,6 +66,22 @@ pub fn put_bit(generations: &mut Vec<Generation<'_>>, part: GenerationPart, bit:
 {
     let generation = &mut generations[part.at];
     put_bit_at(&mut generation.bytes, part.offset, bit)
+}
+
+/// The same of a pointer; `false` where it has no room, and for an offset.
+#[inline(always)]
+pub fn put_pointer(
+    generations: &mut Vec<Generation<'_>>,
+    part: GenerationPart,
+    locator: Locator,
+) -> bool
+    requires { PartStands (map generation_view generations.old.items) part Pointer }
+    ensures held { result ≡ true → holds Pointer (Located locator) ≡ true }
+    ensures put { ValuesPutOrSame result (map generation_view generations.old.items) (map generation_view generations.new.items)
+        part Pointer (Located locator ∷ []) }
+{
+    let generation = &mut generations[part.at];
+    put_pointer_at(&mut generation.bytes, part.offset, locator)
 }
 
 /// Puts characters behind those of a string of CHARACTER VARYING of so many at most, where both are no more than that and

@@ -7,7 +7,7 @@ use std::alloc::{AllocError, Global};
 const KEPT_LIMIT: usize = 1000;
 
 /// How many bytes a generation takes at most whose memory is kept (own).
-const KEPT_BYTES: usize = 64;
+const KEPT_BYTES: usize = 256;
 
 /// Memory of small generations. What stood in it means nothing.
 #[derive(Drop)]

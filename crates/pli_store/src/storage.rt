@@ -1,8 +1,8 @@
 //! Storage: the generations that live.
-ghost use Rattle.std.specs.Prelude.{◌≡◌, ◌≤◌, ◌++◌, List, ◌∷◌, [], length, map, true, false, None, IfSome, MatchOption, MatchResult, OnErr};
+ghost use Rattle.std.specs.Prelude.{◌≡◌, ◌≤◌, ◌++◌, List, ◌∷◌, [], length, map, true, false, None, IfOk, IfSome, MatchOption, MatchResult, OnErr};
 ghost use Rattle.std.specs.Option.{option_map};
 ghost use Rattle.pli_bytes.specs.Contents.{values_of};
-ghost use Rattle.pli_map.specs.Description.{FixedBinary};
+ghost use Rattle.pli_map.specs.Description.{FixedBinary, Pointer};
 ghost use Rattle.pli_map.specs.Scalars.{scalars_of};
 ghost use Rattle.pli_map.specs.Sizes.{size_of};
 ghost use Rattle.pli_map.specs.Values.{are_held};
@@ -13,7 +13,7 @@ ghost use Rattle.pli_world.specs.Storage.{generation_in, live_bytes, without};
 ghost use Rattle.pli_world.specs.Targets.{target_at};
 ghost use Rattle.pli_world.specs.World.{World, Yields, held, stored, copied, made_of, dummy_of, in_newest};
 ghost use Rattle.pli_store.specs.answers.Answered.{Answered};
-ghost use Rattle.pli_store.specs.answers.Begins.{Begins};
+ghost use Rattle.pli_store.specs.answers.Begins.{Begins, BeginsWith};
 ghost use Rattle.pli_store.specs.answers.Found.{StandsAt, Leads, LeadsTo};
 ghost use Rattle.pli_store.specs.answers.Kept.{rise};
 ghost use Rattle.pli_store.specs.views.GenerationView.{generation_view, made_view};
@@ -25,15 +25,15 @@ use crate::fault::StoreFault;
 use crate::generation::{Generation, Made};
 use crate::living::Target;
 use crate::part::{
-    GenerationPart, greatest_length, is_number_at, is_number_of, is_one_bit, is_part, is_pointer,
+    GenerationPart, greatest_length, is_number_at, is_one_bit, is_part, is_pointer,
     number_precision,
 };
 use crate::place::Place;
 use crate::pointers::pointer_at;
-use crate::putting::{holds_number, lengthen, put_bit, put_number, put_value};
+use crate::putting::{holds_number, lengthen, put_bit, put_number, put_pointer, put_value};
 use crate::spare::SpareBytes;
 use pli_bytes::{number_at, put_value_at, text_at, value_at};
-use pli_map::{Description, far_size, holds, is_area, is_scalar};
+use pli_map::{Description, are_same_scalars, far_size, holds, is_area, is_scalar};
 use pli_run::RunError;
 use pli_value::{Locator, Value};
 use std::alloc::{AllocError, Global};
@@ -54,7 +54,7 @@ pub struct Storage<'m> {
     /// How many bytes live.
     pub(crate) live: u32,
     /// What generations have left that have ended.
-    spare: SpareBytes,
+    pub(crate) spare: SpareBytes,
     ghost counted: { live ≡ live_bytes (map generation_view generations.items) },
     ghost limited: { live ≤ 16777216 },
     ghost rising: { rise 0 (map generation_view generations.items) made ≡ true },
@@ -92,6 +92,7 @@ impl<'m> Storage<'m> {
     }
 
     /// Where the generation of a number stands, if those that live are spread evenly over their numbers: a guess.
+    #[inline]
     pub(crate) fn even_guess(&self, number: u32) -> usize {
         let Some(first) = self.generations.first() else {
             return 0;
@@ -100,11 +101,14 @@ impl<'m> Storage<'m> {
             return 0;
         };
         let span = u64::from(last.number.saturating_sub(first.number));
+        let ahead = u64::from(number.saturating_sub(first.number));
+        let steps = self.generations.len().saturating_sub(1) as u64;
+        if span == steps {
+            return ahead as usize;
+        }
         if span == 0 {
             return 0;
         }
-        let ahead = u64::from(number.saturating_sub(first.number));
-        let steps = self.generations.len().saturating_sub(1) as u64;
         (ahead.saturating_mul(steps) / span) as usize
     }
 
@@ -156,11 +160,10 @@ impl<'m> Storage<'m> {
         })
     }
 
-    /// Where the generation stands that is a number to which a place leads, if it stands where it was made: no search
+    /// Where the generation stands that is a scalar to which a place leads, if it stands where it was made: no search
     /// is needed then.
     #[inline(always)]
-    fn lone(&self, place: Place<'_>, precision: u8) -> Option<usize>
-        requires { description_view place.description.now ≡ FixedBinary precision }
+    fn lone(&self, place: Place<'_>) -> Option<usize>
         ensures { IfSome result (λ at. LeadsTo (storage_view self.now) (place_view place.entry) (record { at = at; offset = 0 })) }
     {
         let at = place.hint as usize;
@@ -168,7 +171,7 @@ impl<'m> Storage<'m> {
         if generation.number != place.generation || place.position != 0 || place.offset != 0 {
             return None;
         }
-        if !is_number_of(generation.description, precision) {
+        if !are_same_scalars(generation.description, place.description) {
             return None;
         }
         Some(at)
@@ -251,7 +254,7 @@ impl<'m> Storage<'m> {
             ≡ Yields (Number x) (with_storage self.now w)) }
     {
         let precision = number_precision(place.description)?;
-        match self.lone(place, precision) {
+        match self.lone(place) {
             Some(at) => number_at(&self.generations[at].bytes, 0, precision),
             None => self.far_number(place, precision),
         }
@@ -273,8 +276,21 @@ impl<'m> Storage<'m> {
         }
     }
 
+    /// The pointer that the place of a scalar of POINTER holds, which is not alone.
+    #[inline(never)]
+    fn far_pointer(&self, place: Place<'_>) -> Option<Locator>
+        requires { description_view place.description.now ≡ Pointer }
+        ensures { (w : World) → IfSome result (λ l. held (place_view place.entry) (with_storage self.now w)
+            ≡ Yields (Located l) (with_storage self.now w)) }
+    {
+        match self.part(place) {
+            Ok(part) => pointer_at(&self.generations[part.at].bytes, part.offset),
+            Err(_fault) => None,
+        }
+    }
+
     /// The pointer that the place of a scalar of POINTER holds; `None` where it holds none, or nothing, and for a place
-    /// in a block, of which `held` tells.
+    /// in a block, of which `held` tells. That of a pointer alone is found at once.
     #[inline]
     pub fn pointer_at(&self, place: Place<'_>) -> Option<Locator>
         ensures { (w : World) → IfSome result (λ l. held (place_view place.entry) (with_storage self.now w)
@@ -283,9 +299,9 @@ impl<'m> Storage<'m> {
         if !is_pointer(place.description) {
             return None;
         }
-        match self.part(place) {
-            Ok(part) => pointer_at(&self.generations[part.at].bytes, part.offset),
-            Err(_fault) => None,
+        match self.lone(place) {
+            Some(at) => pointer_at(&self.generations[at].bytes, 0),
+            None => self.far_pointer(place),
         }
     }
 
@@ -395,7 +411,7 @@ impl<'m> Storage<'m> {
         let Some(precision) = number_precision(place.description) else {
             return false;
         };
-        match self.lone(place, precision) {
+        match self.lone(place) {
             Some(at) => {
                 self.put_number_in(place, GenerationPart { at, offset: 0 }, precision, number)
             }
@@ -415,6 +431,32 @@ impl<'m> Storage<'m> {
         match self.part(place) {
             Ok(part) => put_bit(&mut self.generations, part, bit),
             Err(_fault) => false,
+        }
+    }
+
+    /// The part that is a scalar to which a place leads, outside areas; one alone is found at once.
+    #[inline(always)]
+    fn scalar_part(&self, place: Place<'_>) -> Option<GenerationPart>
+        ensures { IfSome result (λ part. LeadsTo (storage_view self.now) (place_view place.entry) part) }
+    {
+        match self.lone(place) {
+            Some(at) => Some(GenerationPart { at, offset: 0 }),
+            None => self.part(place).ok(),
+        }
+    }
+
+    /// A pointer put at the place of a scalar of POINTER; where it is not, nothing has changed, and `stored` tells why.
+    /// That of a pointer alone is found at once.
+    #[inline]
+    pub fn put_pointer(&mut self, place: Place<'_>, locator: Locator) -> bool
+        ensures { ValuePut result self.old self.new (place_view place.entry) (Located locator) }
+    {
+        if !is_pointer(place.description) {
+            return false;
+        }
+        match self.scalar_part(place) {
+            Some(part) => put_pointer(&mut self.generations, part, locator),
+            None => false,
         }
     }
 
@@ -465,6 +507,15 @@ impl<'m> Storage<'m> {
         self.size_within(description).is_some()
     }
 
+    /// So many bytes, whatever they are, in memory that generations have left that have ended, if there is any.
+    #[inline]
+    pub fn spare_bytes(&mut self, alloc: Global, size: usize) -> Result<Vec<u8>, AllocError>
+        ensures size { IfOk result (λ bytes. length bytes.items ≡ size) }
+        ensures same { SameStorage self.old self.new }
+    {
+        self.spare.take(alloc, size)
+    }
+
     /// A new generation, which begins with these bytes, an area without blocks; without bytes where its scalars may not
     /// hold what they should begin with. `StorageLimit` where there is no room for it; else `NoRule` where there are no
     /// bytes, or `OutOfMemory`. After an error nothing has changed.
@@ -487,6 +538,31 @@ impl<'m> Storage<'m> {
             Some(bytes) => self.add(description, made, bytes),
             None => Err(StoreFault::NoRule),
         }
+    }
+
+    /// A new generation, which begins with a copy of these bytes, an area without blocks. `StorageLimit` where there is no
+    /// room for it, or `OutOfMemory`. After an error nothing has changed. Takes memory only where none is left of those
+    /// that have ended.
+    #[inline]
+    pub fn make_copy(
+        &mut self,
+        alloc: Global,
+        description: &'m Description,
+        made: Made,
+        bytes: &[u8],
+    ) -> Result<Place<'m>, StoreFault>
+        requires { length bytes.now ≡ size_of (description_view description.now) }
+        ensures answer { (w : World) (vs : List plain.Value) → BeginsWith (description_view description.now) bytes.now vs
+            → Answered place_view result (with_storage self.old w) (with_storage self.new w)
+            (made_of (description_view description.now) (made_view made) vs (with_storage self.old w)) }
+        ensures err { OnErr result (SameStorage self.old self.new) }
+    {
+        let Some(size) = self.size_within(description) else {
+            return Err(StoreFault::Raised(RunError::StorageLimit));
+        };
+        let mut own = self.spare.take(alloc, size)?;
+        own.copy_from_slice(bytes);
+        self.add(description, made, own)
     }
 
     /// A new generation for a dummy argument, which begins with a value, and which the newest activation has to note

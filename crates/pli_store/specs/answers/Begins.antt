@@ -7,7 +7,11 @@ use Rattle.pli_map.specs.Scalars.{scalars_of}
 use Rattle.pli_map.specs.Values.{are_held}
 use Rattle.pli_value.specs.Value.{Value}
 
+-- the bytes of a description hold these values, which its scalars may hold
+abbrev pub BeginsWith : Description → List ℕ → List Value → Type 0
+BeginsWith d bytes vs = (values_of d bytes ≡ vs) × (are_held (scalars_of d) vs ≡ true)
+
 -- the bytes of a description hold these values; without bytes, its scalars may not hold them
 abbrev pub Begins : Description → Option (Vec ℕ) → List Value → Type 0
-Begins d (Some bytes) vs = (values_of d bytes.items ≡ vs) × (are_held (scalars_of d) vs ≡ true)
+Begins d (Some bytes) vs = BeginsWith d bytes.items vs
 Begins d None vs = are_held (scalars_of d) vs ≡ false

@@ -6,7 +6,8 @@ use Rattle.pli_world.specs.Storage.{Automatic}
 use Rattle.pli_world.specs.World.{made_of, made_all, further, in_newest, with_slot}
 use Rattle.pli_store.specs.views.StorageView.{place_view, with_storage}
 use Rattle.pli_machine_activations.specs.views.MachineView.{activations_of, world_of}
-use Rattle.pli_machine_activations.proofs.MadeVariables.{answer_ends, further_ends, same_storage}
+use Rattle.pli_machine_activations.proofs.MadeVariables.{answer_ends, further_ends}
+use Rattle.pli_store.proofs.SameStorages.{same_storage}
 use Rattle.pli_machine_activations.proofs.variables.make_variable.Goals as goal
 
 pub returns-in_ok-add_slot-in-Ok-clause-made : goal.returns-in_ok-add_slot-in-Ok-clause-made

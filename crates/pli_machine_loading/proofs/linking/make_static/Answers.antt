@@ -6,7 +6,8 @@ use Rattle.pli_world.specs.Storage.{Static, Place}
 use Rattle.pli_world.specs.World.{Standing, Lies, World, Answer, Yields, further, made_of}
 use Rattle.pli_store.specs.views.StorageView.{place_view}
 use Rattle.pli_machine_loading.specs.answers.MadeGlobals.{world_at}
-use Rattle.pli_machine_activations.proofs.MadeVariables.{answer_ends, further_ends, same_storage}
+use Rattle.pli_machine_activations.proofs.MadeVariables.{answer_ends, further_ends}
+use Rattle.pli_store.proofs.SameStorages.{same_storage}
 use Rattle.pli_machine_loading.proofs.linking.make_static.Goals as goal
 
 -- what is made lies where it was made

@@ -47,21 +47,32 @@ invariant_of-self c =
     c.place_block.ensures.err) in
     record { counted = c.args.self.now.counted ∙ sym kept.counted; limited = c.args.self.now.limited; rising = kept.rising }
 
-pub returns-in_err-position-clause-err : goal.returns-in_err-position-clause-err
-returns-in_err-position-clause-err c =
+pub invariant_of-self-2 : goal.invariant_of-self-2
+invariant_of-self-2 c =
+    let items = c.args.self.now.generations.items in
+    let d = description_view c.args.description.now in
+    let g = c.index_mut.result.now in
+    let here = area_here items (place_view c.args.area) c.in_ok-at.at c.in_ok-at.ensures g c.index_mut.ensures.value in
+    let kept = blocks_kept items c.in_ok-at.at g c.place_block.new.generation here c.args.self.now.made c.args.self.now.rising
+    (placed_others g c.place_block.new.generation c.place_block.result (λ position. placed position d (values_of d c.deref.result.now)) c.place_block.ensures.blocks
+    c.place_block.ensures.err) in
+    record { counted = c.args.self.now.counted ∙ sym kept.counted; limited = c.args.self.now.limited; rising = kept.rising }
+
+pub returns-in_err-placed-clause-err : goal.returns-in_err-placed-clause-err
+returns-in_err-placed-clause-err c =
     let items = c.args.self.now.generations.items in
     let g = c.index_mut.result.now in
     let here = area_here items (place_view c.args.area) c.in_ok-at.at c.in_ok-at.ensures g c.index_mut.ensures.value in
-    said_of_err c.from_residual-in_err-position.result
-    (record { storage = nothing_said items c.in_ok-at.at g c.place_block.new.generation here c.in_err-position.ensures.err; made = refl })
+    said_of_err c.from_residual-in_err-placed.result
+    (record { storage = nothing_said items c.in_ok-at.at g c.place_block.new.generation here c.in_err-placed.ensures.err; made = refl })
 
 pub returns-in_default-clause-answer : goal.returns-in_default-clause-answer
 returns-in_default-clause-answer c = λ w vs begins.
     let d = description_view c.args.description.now in
     allocated_misfit (place_view c.args.area) (with_storage c.args.self.now w) d vs (begins_misfit d c.args.initial vs c.in_default.not-Some begins)
 
-pub returns-in-Some-2-clause-answer : goal.returns-in-Some-2-clause-answer
-returns-in-Some-2-clause-answer c = λ w vs begins.
+pub returns-in-Some-placed-clause-answer : goal.returns-in-Some-placed-clause-answer
+returns-in-Some-placed-clause-answer c = λ w vs begins.
     let items = c.args.self.now.generations.items in
     let p = place_view c.args.area in
     let at = c.in_ok-at.at in
@@ -71,24 +82,24 @@ returns-in-Some-2-clause-answer c = λ w vs begins.
     let read = c.index_mut.ensures.value in
     let before = with_storage c.args.self.now w in
     let d = description_view c.args.description.now in
-    let position = c.in-Some-2.position in
+    let position = c.in-Some-placed.position in
     let bytes = c.deref.result.now in
     let held = rw c.in-Some.is at begins in
     let sized : length c.in-Some.bytes.items ≡ size_of d = rw c.in-Some.is at c.requires in
     let same : bytes ≡ c.in-Some.bytes.items = c.deref.ensures.value in
     let fit : place_in (size_of s.generation.description) s.generation.blocks (size_of d) ≡ Some position =
     subst (λ (x : Generation). place_in (size_of x.description) x.blocks (size_of d) ≡ Some position) (sym (area_is items p at s g read))
-    (ap (place_in (size_of (generation_view g).description) (generation_view g).blocks) (sym (ap length same ∙ sized)) ∙ sym c.in_ok-position.ensures.position ∙ c.in-Some-2.is) in
+    (ap (place_in (size_of (generation_view g).description) (generation_view g).blocks) (sym (ap length same ∙ sized)) ∙ sym c.in_ok-placed.ensures.position ∙ c.in-Some-placed.is) in
     let change : List Block → List Block = placed (Some position) d vs in
     let changed : BlocksChanged g new change =
     subst (λ v. BlocksChanged g new (placed (Some position) d v)) (ap (values_of d) same ∙ held.0)
-    (subst (λ o. BlocksChanged g new (placed o d (values_of d bytes))) c.in-Some-2.is c.in_ok-position.ensures.blocks) in
+    (subst (λ o. BlocksChanged g new (placed o d (values_of d bytes))) c.in-Some-placed.is c.in_ok-placed.ensures.blocks) in
     allocated_placed p before d vs held.1 at s position fit
     ∙ ap (λ gs. Yields (Pointer p.generation position) (record before { storage = gs }))
     (sym (blocks_said items at g new (area_here items p at s g read) c.args.self.now.made c.args.self.now.rising change changed p.generation (area_number items p at s g read)))
 
-pub returns-clause-answer : goal.returns-clause-answer
-returns-clause-answer c = λ w vs begins.
+pub returns-in-None-clause-answer : goal.returns-in-None-clause-answer
+returns-in-None-clause-answer c = λ w vs begins.
     let items = c.args.self.now.generations.items in
     let p = place_view c.args.area in
     let at = c.in_ok-at.at in
@@ -100,14 +111,14 @@ returns-clause-answer c = λ w vs begins.
     let same : c.deref.result.now ≡ c.in-Some.bytes.items = c.deref.ensures.value in
     let full : place_in (size_of s.generation.description) s.generation.blocks (size_of d) ≡ None =
     subst (λ (x : Generation). place_in (size_of x.description) x.blocks (size_of d) ≡ None) (sym (area_is items p at s g c.index_mut.ensures.value))
-    (ap (place_in (size_of (generation_view g).description) (generation_view g).blocks) (sym (ap length same ∙ sized)) ∙ sym c.in_ok-position.ensures.position ∙ c.in-None.is) in
+    (ap (place_in (size_of (generation_view g).description) (generation_view g).blocks) (sym (ap length same ∙ sized)) ∙ sym c.in_ok-placed.ensures.position ∙ c.in-None.is) in
     allocated_full p (with_storage c.args.self.now w) d vs held.1 at s full
 
-pub returns-clause-err : goal.returns-clause-err
-returns-clause-err c =
+pub returns-in-None-clause-err : goal.returns-in-None-clause-err
+returns-in-None-clause-err c =
     let items = c.args.self.now.generations.items in
     let g = c.index_mut.result.now in
     let d = description_view c.args.description.now in
     let here = area_here items (place_view c.args.area) c.in_ok-at.at c.in_ok-at.ensures g c.index_mut.ensures.value in
-    let changed = subst (λ o. BlocksChanged g c.place_block.new.generation (placed o d (values_of d c.deref.result.now))) c.in-None.is c.in_ok-position.ensures.blocks in
+    let changed = subst (λ o. BlocksChanged g c.place_block.new.generation (placed o d (values_of d c.deref.result.now))) c.in-None.is c.in_ok-placed.ensures.blocks in
     record { storage = nothing_said items c.in_ok-at.at g c.place_block.new.generation here changed.says; made = refl }

@@ -2,7 +2,6 @@ use Rattle.std.proofs.Common.{◌≡◌, true, length, Some, slice_get, refl, sy
 use Rattle.std.specs.Option.{is_some}
 use Rattle.std.proofs.lemmas.Bool.{ltb-true}
 use Rattle.std.proofs.lemmas.Option.{slice_get_read}
-use Rattle.pli_map.specs.Description.{FixedBinary}
 use Rattle.pli_map.specs.Scalars.{first_scalar}
 use Rattle.pli_map.specs.views.DescriptionView.{description_view}
 use Rattle.pli_map.proofs.ScalarLawsHold.{whole_found}
@@ -21,9 +20,9 @@ returns c =
     ap (λ xs. slice_get xs place.hint) (sym c.deref.ensures.value)
     ∙ slice_get_read c.deref.result.now (length c.deref.result.now) place.hint g refl (ltb-true place.hint (length c.deref.result.now) (sym c.in_ok-generation.ensures.lookup.0)) c.in_ok-generation.ensures.lookup.1 in
     let stands = subst (λ n. StandsAt (storage_view c.args.self.now) n place.hint) c.if-generation-place.false (stands_at items c.args.self.now.made c.args.self.now.rising place.hint g here) in
-    let whole : description_view g.description.now ≡ FixedBinary c.args.precision = c.if-not-is_number_of.ensures refl in
-    let found : is_some (first_scalar (description_view g.description.now) 0 (description_view place.description.now)) ≡ true =
-    rw (whole, c.requires) (ap is_some (whole_found (FixedBinary c.args.precision))) in
+    let whole = description_view g.description.now in
+    let found : is_some (first_scalar whole 0 (description_view place.description.now)) ≡ true =
+    subst (λ d. is_some (first_scalar whole 0 d) ≡ true) (c.if-not-are_same_scalars.ensures refl) (ap is_some (whole_found whole)) in
     let first : place.offset ≡ 0 = c.if-place-ne0-2.false in
     subst (λ o. LeadsTo (storage_view c.args.self.now) (place_view place) (record { at = place.hint; offset = o })) first
     (leads_to items (place_view place) place.hint stands c.if-place-ne0.false g here (rw first found))

@@ -1,0 +1,86 @@
+-- Known parts of generations to which locators lead.
+use Rattle.std.proofs.Common.{◌≡◌, ℕ, ◌≤◌, ◌+◌, true, nat_eq, List, length, map, get_or, Option, Some, None, IfSome, option_and_then, if◌then◌else◌, refl, sym, ap, subst, ◌∙◌, arith}
+use Rattle.std.specs.Option.{is_some}
+use Rattle.std.proofs.lemmas.Option.{same_Some, slice_get_read}
+use Rattle.pli_map.specs.Description.{Description}
+use Rattle.pli_map.specs.Same.{same}
+use Rattle.pli_map.specs.Scalars.{first_scalar}
+use Rattle.pli_map.specs.views.DescriptionView.{description_view}
+use Rattle.pli_map.proofs.ScalarPlaces.{itself}
+use Rattle.pli_run.specs.declared.ending.RunError.TheVariants.{DescriptionMismatch}
+use Rattle.pli_value.specs.declared.locator.Locator.{Locator}
+use Rattle.pli_value.specs.declared.locator.Locator.TheVariants.{Pointer}
+use Rattle.pli_value.specs.Value.{Value}
+use Rattle.pli_world.specs.Locating.{based, located, unless_ended, unless_other}
+use Rattle.pli_world.specs.Storage as plain
+use Rattle.pli_world.specs.Storage.{Place, field_of}
+use Rattle.pli_world.specs.Targets.{Target, target_at, target_in, whole_at}
+use Rattle.pli_world.specs.World.{World, Yields, Raises, further, held, led_on}
+use Rattle.pli_world.specs.laws.OperationLaws.{led_near}
+use Rattle.pli_store.specs.answers.Found.{LeadsTo, StandsAt}
+use Rattle.pli_store.specs.answers.Known.{IsOutside, ReadBy}
+use Rattle.pli_store.specs.declared.generation.Generation.{Generation}
+use Rattle.pli_store.specs.declared.known.KnownPart.{KnownPart}
+use Rattle.pli_store.specs.declared.storage.Storage.{Storage}
+use Rattle.pli_store.specs.views.GenerationView.{generation_view}
+use Rattle.pli_store.specs.views.StorageView.{storage_view, with_storage}
+use Rattle.pli_store.proofs.PartAnswers.{number_found}
+use Rattle.pli_store.proofs.PlaceLemmas.{leads_to, within_store}
+use Rattle.pli_store.proofs.Searches.{stands_in_view}
+
+-- what holds in each world of what there is, holds of it in each world
+pub some_each : {W X : Type 0} (r : Option X) {P : W → X → Type 0} {Q : X → Type 0} → ((w : W) → IfSome r (P w)) → ((x : X) → ((w : W) → P w x) → Q x) → IfSome r Q
+some_each None each so = tt
+some_each (Some x) each so = so x each
+
+-- what stands in the list is what is read in the store
+pub generation_described : (items : List Generation) (number at : ℕ) (s : StandsAt (map generation_view items) number at) (g : Generation) → g ≡ get_or items at g
+    → s.generation.description ≡ (generation_view g).description
+generation_described items number at s g read =
+    let here = slice_get_read items (length items) at g refl (within_store items number at s) read in
+    ap (λ (x : plain.Generation). x.description) (same_Some s.generation (generation_view g) (sym s.stands ∙ stands_in_view items at g here))
+
+module _ (s : Storage) (k : KnownPart) (l : Locator) (at : ℕ) (o : IsOutside (storage_view s) l (description_view k.whole.now) at) where
+  -- the place of the whole, and that of the part
+  abbrev whole_place : Place
+  whole_place = whole_at o.number 0 (description_view k.whole.now)
+
+  abbrev pub part_place : Place
+  part_place = field_of k.offset (description_view k.description.now) whole_place
+
+  -- what lives there is the whole
+  lives : target_at o.number 0 (storage_view s) ≡ Some (record { place = whole_place; made = o.stands.generation.made })
+  lives =
+      ap (option_and_then (target_in 0)) o.stands.found
+      ∙ ap (λ n. Some (record { place = whole_at n 0 o.stands.generation.description; made = o.stands.generation.made })) (number_found (storage_view s) o.number o.stands.generation o.stands.found)
+      ∙ ap (λ d. Some (record { place = whole_at o.number 0 d; made = o.stands.generation.made })) o.described
+
+  pub leads_there : (w : World) → based (description_view k.whole.now) l (with_storage s w) ≡ Yields whole_place (with_storage s w)
+  unfolding based located
+  leads_there w =
+      let d = description_view k.whole.now in
+      let v = with_storage s w in
+      let target : Target = record { place = whole_place; made = o.stands.generation.made } in
+      ap (λ m. based d m v) o.is
+      ∙ ap (λ t. further (further (unless_ended t v) (unless_other d)) (λ t w. Yields t.place w)) lives
+      ∙ ap (λ b. further {A = Target} (if b then Yields target v else Raises DescriptionMismatch v) (λ t w. Yields t.place w)) (itself d)
+
+  pub leads_on : (w : World) → led_on k.offset (description_view k.description.now) whole_place w ≡ Yields part_place w
+  leads_on w = led_near k.offset (description_view k.description.now) whole_place w (omega (arith, k.near))
+
+  -- the part's place leads to the part of the generation
+  pub part_leads : (g : Generation) → g ≡ get_or s.generations.items at g → LeadsTo (storage_view s) part_place (record { at = at; offset = k.offset })
+  part_leads g read =
+      let items = s.generations.items in
+      let here = slice_get_read items (length items) at g refl (within_store items o.number at o.stands) read in
+      let whole = description_view k.whole.now in
+      let part = description_view k.description.now in
+      let described : (generation_view g).description ≡ whole = sym (generation_described items o.number at o.stands g read) ∙ o.described in
+      let begins : 0 + k.offset ≡ k.offset = omega arith in
+      subst (λ n. LeadsTo (storage_view s) part_place (record { at = at; offset = n })) begins
+      (leads_to items part_place at o.stands refl g here
+      (ap (λ d. is_some (first_scalar d (0 + k.offset) part)) described ∙ ap (λ n. is_some (first_scalar whole n part)) begins ∙ k.stands))
+
+  -- what it holds is read by the locator
+  pub read_by : (v : Value) → ((w : World) → held part_place (with_storage s w) ≡ Yields v (with_storage s w)) → ReadBy s l k v
+  read_by v holds = record { whole = whole_place; part = part_place; leads = leads_there; led = leads_on; holds = holds }

@@ -1,0 +1,8 @@
+use Rattle.pli_store.specs.views.StorageView.{place_view}
+use Rattle.pli_store.proofs.ReadParts.{pointer_read}
+use Rattle.pli_store.proofs.storage.Storage.far_pointer.Goals as goal
+
+pub returns-in-Ok : goal.returns-in-Ok
+returns-in-Ok c = λ w.
+    pointer_read c.args.self.now (place_view c.args.place) c.in-Ok.part c.in-Ok.ensures c.index.result.now c.index.ensures c.deref.result.now c.deref.ensures.value w
+    c.requires c.pointer_at.result c.pointer_at.ensures

@@ -1,0 +1,25 @@
+use Rattle.std.proofs.Common.{◌≡◌, ap, ◌∙◌, subst, arith}
+use Rattle.pli_bytes.specs.Contents.{values_of}
+use Rattle.pli_map.specs.Scalars.{scalars_of}
+use Rattle.pli_map.specs.Values.{are_held}
+use Rattle.pli_map.specs.views.DescriptionView.{description_view}
+use Rattle.pli_world.specs.World.{made_of}
+use Rattle.pli_store.specs.answers.Answered.{Answered}
+use Rattle.pli_store.specs.views.GenerationView.{made_view}
+use Rattle.pli_store.specs.views.StorageView.{place_view, with_storage}
+use Rattle.pli_store.proofs.storage.Storage.make_copy.Goals as goal
+
+pub returns-in_default-clause-answer : goal.returns-in_default-clause-answer
+returns-in_default-clause-answer c = λ w vs begins. c.in_default.ensures w (made_view c.args.made) vs
+
+pub copy_from_slice-requires : goal.copy_from_slice-requires
+copy_from_slice-requires c = omega (arith, c.in_ok-own.own.ok.0, c.in_ok-own.ensures, c.in-Some.ensures.0, c.requires)
+
+pub returns-clause-answer : goal.returns-clause-answer
+returns-clause-answer c = λ w vs begins.
+    let d = description_view c.args.description.now in
+    let values : values_of d c.copy_from_slice.new.self.items ≡ vs = ap (values_of d) c.copy_from_slice.ensures.items ∙ begins.0 in
+    let before = with_storage c.args.self.now w in
+    let after = with_storage c.add.new.self w in
+    subst (λ us. Answered place_view c.add.result before after (made_of d (made_view c.args.made) us before)) values
+    (c.add.ensures.answer w (ap (are_held (scalars_of d)) values ∙ begins.1))

@@ -1,0 +1,24 @@
+use Rattle.std.proofs.Common.{length, refl, arith}
+use Rattle.pli_value.specs.Value.{Located}
+use Rattle.pli_store.proofs.KnownLemmas.{part_leads, part_place, read_by, some_each}
+use Rattle.pli_store.proofs.PlaceLemmas.{within_store}
+use Rattle.pli_store.proofs.ReadParts.{pointer_read}
+use Rattle.pli_store.proofs.storage.Storage.pointer_by.Goals as goal
+
+pub index-requires : goal.index-requires
+index-requires c =
+    let o = c.in_ok-at.ensures in
+    let inside = within_store c.args.self.now.generations.items o.number c.in_ok-at.at o.stands in
+    omega (arith, inside)
+
+-- what is read there is what the part's place holds in every world, so the locator reads it
+pub returns : goal.returns
+returns c =
+    let s = c.args.self.now in
+    let k = c.args.part.now in
+    let o = c.in_ok-at.ensures in
+    let at = c.in_ok-at.at in
+    some_each c.pointer_at.result
+    (λ w. pointer_read s (part_place s k c.args.locator at o) (record { at = at; offset = k.offset }) (part_leads s k c.args.locator at o c.index.result.now c.index.ensures) c.index.result.now c.index.ensures c.deref.result.now c.deref.ensures.value w
+    (c.if-not-is_pointer.ensures refl) c.pointer_at.result c.pointer_at.ensures)
+    (λ x holds. read_by s k c.args.locator at o (Located x) holds)

@@ -1,0 +1,99 @@
+//! Parts that are known to stand in a whole, found by a pointer to that.
+ghost use Rattle.std.specs.Prelude.{◌≡◌, ◌≤◌, true, IfSome};
+ghost use Rattle.std.specs.Option.{is_some};
+ghost use Rattle.pli_map.specs.Scalars.{first_scalar};
+ghost use Rattle.pli_map.specs.views.DescriptionView.{description_view};
+
+use crate::part::{is_part, is_pointer, number_precision};
+use crate::place::OFFSET_LIMIT;
+use crate::pointers::pointer_at;
+use crate::storage::Storage;
+use pli_bytes::number_at;
+use pli_map::Description;
+use pli_value::Locator;
+
+/// A part of a whole description, of which it is known that it stands there.
+#[derive(Clone, Copy)]
+pub struct KnownPart<'m> {
+    pub whole: &'m Description,
+    /// How many bytes it stands behind the beginning of the whole.
+    pub offset: u32,
+    pub description: &'m Description,
+    ghost near: { offset ≤ 1000000 },
+    ghost stands: { is_some (first_scalar (description_view whole.now) offset (description_view description.now)) ≡ true },
+}
+
+impl<'m> KnownPart<'m> {
+    /// The part of this description so many bytes behind the beginning of a whole; `None` where none stands there, and more
+    /// than 1,000,000 bytes behind it.
+    pub fn new(
+        whole: &'m Description,
+        offset: u32,
+        description: &'m Description,
+    ) -> Option<KnownPart<'m>>
+        ensures whole { IfSome result (λ k. description_view k.whole.now ≡ description_view whole.now) }
+        ensures offset { IfSome result (λ k. k.offset ≡ offset) }
+        ensures part { IfSome result (λ k. description_view k.description.now ≡ description_view description.now) }
+    {
+        if offset > OFFSET_LIMIT || !is_part(whole, offset, description) {
+            return None;
+        }
+        Some(KnownPart {
+            whole,
+            offset,
+            description,
+        })
+    }
+}
+
+impl<'m> Storage<'m> {
+    ghost use Rattle.pli_store.specs.answers.Known.{IsOutside, ReadBy};
+    ghost use Rattle.pli_store.specs.views.StorageView.{storage_view};
+    ghost use Rattle.pli_value.specs.Value.{Number, Located};
+
+    /// Where the generation stands to which a locator leads, if it leads to the whole of one of this description.
+    #[inline(always)]
+    fn outside(&self, locator: Locator, whole: &Description) -> Option<usize>
+        ensures { IfSome result (IsOutside (storage_view self.now) locator (description_view whole.now)) }
+    {
+        let Locator::Pointer {
+            generation,
+            position,
+        } = locator
+        else {
+            return None;
+        };
+        if position != 0 {
+            return None;
+        }
+        let at = self.find(generation, self.even_guess(generation))?;
+        if self.generations[at].description.is_same(whole) {
+            Some(at)
+        } else {
+            None
+        }
+    }
+
+    /// The number that a known part holds of what a locator leads to; `None` where it holds none, or the locator does
+    /// not lead to a generation of the whole description.
+    #[inline]
+    pub fn number_by(&self, locator: Locator, part: &KnownPart<'_>) -> Option<i64>
+        ensures { IfSome result (λ x. ReadBy self.now locator part.now (Number x)) }
+    {
+        let precision = number_precision(part.description)?;
+        let at = self.outside(locator, part.whole)?;
+        number_at(&self.generations[at].bytes, part.offset as usize, precision)
+    }
+
+    /// The same of a pointer.
+    #[inline]
+    pub fn pointer_by(&self, locator: Locator, part: &KnownPart<'_>) -> Option<Locator>
+        ensures { IfSome result (λ l. ReadBy self.now locator part.now (Located l)) }
+    {
+        if !is_pointer(part.description) {
+            return None;
+        }
+        let at = self.outside(locator, part.whole)?;
+        pointer_at(&self.generations[at].bytes, part.offset as usize)
+    }
+}
