@@ -4,9 +4,6 @@ use Rattle.std.specs.List.{find}
 use Rattle.std.specs.Option.{option_map, MatchOption}
 use Rattle.std.proofs.lemmas.Bool.{cases_lt, lt-ltb, le-ltb, le-leb, lt-leb}
 use Rattle.pli_area.specs.Areas.{Block, Blocks, Hole, IsArea, IsApart, IsLeast, IsFull, rounded, start_of, end_of, end_from, Stand, hole_between, holes_from, first_fit}
-use Rattle.pli_area.specs.Held.{gap_in}
-use Rattle.pli_area.specs.declared.header.Header.{Header}
-use Rattle.pli_area.specs.views.AreaView.{blocks_of, header_end}
 
 -- the first place from one on with so much room before the next block, or before the capacity
 gap_from : (room capacity from : ℕ) → List Block → Option ℕ
@@ -14,18 +11,16 @@ gap_from room capacity from [] = cond (nat_le (from + room) capacity) (Some from
 gap_from room capacity from (b ∷ bs) = cond (nat_le (from + room) (start_of b)) (Some from) (gap_from room capacity (end_of b) bs)
 
 -- where the first hole begins that is long enough
-hole_start : (room : ℕ) → List Hole → Option ℕ
+abbrev pub hole_start : (room : ℕ) → List Hole → Option ℕ
 hole_start room holes = option_map (λ h. h.start) (find (λ h. nat_le room h.room) holes)
 
 -- ---- holes and places
 
-hole_first : (room from to : ℕ) (holes : List Hole) → 8 ≤ room → from + room ≤ to → hole_start room (hole_between from to holes) ≡ Some from
-unfolding hole_start
+pub hole_first : (room from to : ℕ) (holes : List Hole) → 8 ≤ room → from + room ≤ to → hole_start room (hole_between from to holes) ≡ Some from
 hole_first room from to holes big fits =
     rw (lt-ltb from to (omega (arith, big, fits)), le-leb room (to - from) (omega (arith, fits))) refl
 
-hole_passed : (room from to : ℕ) (holes : List Hole) → to < from + room → hole_start room (hole_between from to holes) ≡ hole_start room holes
-unfolding hole_start
+pub hole_passed : (room from to : ℕ) (holes : List Hole) → to < from + room → hole_start room (hole_between from to holes) ≡ hole_start room holes
 hole_passed room from to holes short =
     elim (cases_lt from to) [
       | inl some ↦ rw (lt-ltb from to some, lt-leb room (to - from) (omega (arith, some, short))) refl
@@ -33,7 +28,7 @@ hole_passed room from to holes short =
     ]
 
 holes_are_gaps : (room capacity from : ℕ) (bs : List Block) → 8 ≤ room → hole_start room (holes_from from capacity bs) ≡ gap_from room capacity from bs
-unfolding gap_from hole_start
+unfolding gap_from
 holes_are_gaps room capacity from [] big =
     elim (cases_lt capacity (from + room)) [
       | inl short ↦ hole_passed room from capacity [] short ∙ sym (rw (lt-leb (from + room) capacity short) refl)
@@ -46,13 +41,7 @@ holes_are_gaps room capacity from (b ∷ bs) big =
       | inr fits ↦ hole_first room from (start_of b) rest big fits ∙ sym (rw (le-leb (from + room) (start_of b) fits) refl)
     ]
 
-gaps_alike : (bytes : List ℕ) (room capacity from : ℕ) (hs : List Header) → gap_from room capacity from (blocks_of bytes hs) ≡ gap_in room capacity from hs
-unfolding gap_from
-gaps_alike bytes room capacity from [] = refl
-gaps_alike bytes room capacity from (h ∷ hs) =
-    ap (λ o. cond (nat_le (from + room) (h.position - 8)) (Some from) o) (gaps_alike bytes room capacity (header_end h) hs)
-
-mapped : (f : ℕ → ℕ) (test : Hole → Bool) (holes : List Hole) → option_map (λ h. f h.start) (find test holes) ≡ option_map f (option_map (λ h. h.start) (find test holes))
+pub mapped : (f : ℕ → ℕ) (test : Hole → Bool) (holes : List Hole) → option_map (λ h. f h.start) (find test holes) ≡ option_map f (option_map (λ h. h.start) (find test holes))
 mapped f test holes = by (find test holes)
   where
     by : (o : Option Hole) → option_map (λ h. f h.start) o ≡ option_map f (option_map (λ h. h.start) o)
@@ -60,14 +49,8 @@ mapped f test holes = by (find test holes)
     by (Some h) = refl
 
 first_fit_is : (a : Blocks) (size : ℕ) → first_fit a size ≡ option_map (λ from. from + 8) (gap_from (8 + rounded size) a.capacity 0 a.blocks)
-unfolding hole_start
 first_fit_is a size =
     mapped (λ from. from + 8) (λ h. nat_le (8 + rounded size) h.room) (holes_from 0 a.capacity a.blocks) ∙ ap (option_map (λ from. from + 8)) (holes_are_gaps (8 + rounded size) a.capacity 0 a.blocks (omega arith))
-
--- what a walk over the headers finds is the first fit
-pub fit_is : (bytes : List ℕ) (capacity size : ℕ) (hs : List Header) → first_fit (record { capacity = capacity; blocks = blocks_of bytes hs }) size ≡ option_map (λ from. from + 8) (gap_in (8 + rounded size) capacity 0 hs)
-fit_is bytes capacity size hs =
-    first_fit_is (record { capacity = capacity; blocks = blocks_of bytes hs }) size ∙ ap (option_map (λ from. from + 8)) (gaps_alike bytes (8 + rounded size) capacity 0 hs)
 
 -- ---- the first is the least
 
@@ -78,7 +61,7 @@ before_all size position from (b ∷ bs) s low =
     let above = s.0 in
     (inl (omega (arith, above, low)), before_all size position (end_of b) bs s.3 (omega (arith, above, low)))
 
-stands_above : (from : ℕ) (bs : List Block) → Stand from bs → from ≤ end_from from bs
+pub stands_above : (from : ℕ) (bs : List Block) → Stand from bs → from ≤ end_from from bs
 stands_above from [] s = omega arith
 stands_above from (b ∷ bs) s =
     let e = stands_above (end_of b) bs s.3 in

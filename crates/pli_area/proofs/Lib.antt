@@ -1,8 +1,10 @@
-pub mod AreaAnswers
-pub mod BytesLemmas
-pub mod FieldAnswers
+pub mod Allocations
+pub mod Assignments
+pub mod BitLemmas
+pub mod BlockBytes
+pub mod BlockHoles
 pub mod FirstFits
-pub mod HeaderLemmas
-pub mod HoleLemmas
-pub mod Searches
-pub mod Walks
+pub mod HeldLemmas
+pub mod MarkLemmas
+pub mod Releases
+pub mod Writings

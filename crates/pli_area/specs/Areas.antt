@@ -1,8 +1,11 @@
 -- Areas: storage of a fixed capacity in which blocks are placed and taken away (own).
 use Rattle.std.specs.Prelude.{◌≡◌, ◌+◌, ◌-◌, ◌*◌, ◌/◌, ◌%◌, ◌^◌, ◌<◌, ◌≤◌, ◌⊎◌, ℕ, nat_eq, nat_lt, nat_le}
-use Rattle.std.specs.Prelude.{Option, Some, None, List, [], ◌∷◌, ◌++◌, length, take, drop, find}
+use Rattle.std.specs.Prelude.{Option, Some, None, List, [], ◌∷◌, length, take, drop, find}
 use Rattle.std.specs.Prelude.{if◌then◌else◌}
 use Rattle.std.specs.Option.{option_map, option_map_or}
+pub use Rattle.pli_holes.specs.declared.hole.Hole.{Hole}
+pub use Rattle.pli_holes.specs.Holes.{hole_between, looked_at}
+pub use Rattle.pli_region.specs.Words.{overwritten}
 
 -- a block: where its bytes begin, the number of its description, how many bytes it has, and these
 pub record Block : Type 0 where
@@ -11,10 +14,12 @@ pub record Block : Type 0 where
   pub size : ℕ
   pub bytes : List ℕ
 
--- an area: how many bytes it has, and its blocks in rising positions
+-- an area: how many bytes it has, its blocks in rising positions, and how many holes its last allocation
+-- looked at
 pub record Blocks : Type 0 where
   pub capacity : ℕ
   pub blocks : List Block
+  pub visited : ℕ
 
 -- ---- what a block covers
 
@@ -80,15 +85,7 @@ IsFull a size = (position : ℕ) → Allows a size position → ⊥
 
 -- ---- holes
 
--- a hole: a longest stretch that no block covers, so many bytes long
-pub record Hole : Type 0 where
-  pub start : ℕ
-  pub room : ℕ
-
--- the hole between two places, if they differ, before the others
-abbrev pub hole_between : (from to : ℕ) → List Hole → List Hole
-hole_between from to holes =
-    if nat_lt from to then record { start = from; room = to - from } ∷ holes else holes
+-- a hole is a longest stretch that no block covers
 
 -- the holes from a place to the capacity
 abbrev pub holes_from : (from capacity : ℕ) → List Block → List Hole
@@ -102,6 +99,10 @@ holes a = holes_from 0 a.capacity a.blocks
 -- the position in the first hole that is long enough for a block of this size with its header
 abbrev pub first_fit : Blocks → (size : ℕ) → Option ℕ
 first_fit a size = option_map (λ h. h.start + 8) (find (λ h. nat_le (8 + rounded size) h.room) (holes a))
+
+-- how many holes are looked at for a block of this size: those up to the one that it gets, else all
+abbrev pub holes_visited : Blocks → (size : ℕ) → ℕ
+holes_visited a size = looked_at (8 + rounded size) (holes a)
 
 -- ---- blocks by their positions
 
@@ -119,10 +120,6 @@ with_block (c ∷ cs) b = if nat_lt b.position c.position then b ∷ c ∷ cs el
 abbrev pub without_block : List Block → (position : ℕ) → List Block
 without_block [] position = []
 without_block (b ∷ bs) position = if nat_eq b.position position then bs else b ∷ without_block bs position
-
--- a list with other bytes from a place on
-abbrev pub overwritten : List ℕ → (at : ℕ) → (new : List ℕ) → List ℕ
-overwritten old at new = take at old ++ new ++ drop (at + length new) old
 
 -- with other bytes in the block at a position, from a place on
 abbrev pub with_bytes : List Block → (position at : ℕ) → (new : List ℕ) → List Block

@@ -1,6 +1,6 @@
 pub mod Areas
 pub mod Held
-pub mod HoleNumbers
+pub mod MarkBits
 pub mod examples
 pub mod laws
 pub mod views

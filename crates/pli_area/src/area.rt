@@ -2,12 +2,12 @@
 ghost use Rattle.std.specs.Prelude.{◌≡◌, ◌+◌, ◌%◌, ◌<◌, ◌≤◌, [], length, None, ℕ, IsSome, IfSome, IfOk, OnOk, OnErr};
 ghost use Rattle.std.specs.Option.{option_map};
 ghost use Rattle.std.specs.Result.{result_ok};
-ghost use Rattle.pli_area.specs.Areas.{IsArea, IsLeast, IsFull, IsAdded, HasBytes, first_fit, block_at, without_block, with_bytes, bytes_at, extent};
+ghost use Rattle.pli_area.specs.Areas.{IsArea, IsLeast, IsFull, IsAdded, HasBytes, first_fit, holes_visited, block_at, without_block, with_bytes, bytes_at, extent};
 
-use crate::bytes::{read_from, write_in};
-use crate::header::{HEADER_SIZE, Header, end_of_last, put_header, rounded, take_over};
-use crate::holes::{fill, merge, only_hole, take_over_holes};
-use crate::search::{first_gap, place_of};
+use crate::header::{HEADER_SIZE, extent_without, put_header, room_of};
+use crate::marks::{Marks, is_marked};
+use pli_holes::Chain;
+use pli_region::Region;
 use std::alloc::{AllocError, Global};
 use std::marker::Model;
 use thiserror::Error;
@@ -31,30 +31,35 @@ pub struct Block {
     pub size: u32,
 }
 
-/// An area: a fixed number of bytes, in which blocks are placed and taken away (own). Contracts see its capacity and
-/// its blocks in rising positions. All memory that it will ever need is taken when it is made: no other call takes any.
+/// An area: a fixed number of bytes, in which blocks are placed and taken away (own). Contracts see its capacity, its
+/// blocks in rising positions, and how many holes its last allocation looked at. Blocks with their headers and holes
+/// lie side by side in one region. All memory that it will ever need is taken when it is made: no other call takes any.
 #[derive(Drop)]
 pub struct Area {
-    capacity: u32,
-    headers: Vec<Header>,
-    /// How many headers lie before each hole.
-    holes: Vec<usize>,
-    bytes: Vec<u8>,
+    region: Region,
+    /// Where headers are. No byte of the region can say so, since blocks may have any bytes.
+    marks: Marks,
+    chain: Chain,
+    /// Where the last block ends, 0 without one.
+    extent: u32,
+    /// How many blocks there are.
+    count: u32,
+    /// How many holes the last allocation looked at.
+    visited: u32,
 }
 
 impl Model for Area {
-    ghost use Rattle.std.specs.Prelude.{vec_capacity};
+    ghost use Rattle.std.specs.Prelude.{length};
     ghost use Rattle.pli_area.specs.Areas.{Blocks};
 
     ghost Value = { Blocks };
 
     ghost use Rattle.pli_area.specs.Held.{IsHeld};
-    ghost use Rattle.pli_area.specs.views.AreaView.{blocks_of};
+    ghost use Rattle.pli_area.specs.views.AreaView.{blocks_from};
 
-    ghost view = { λ a. record { capacity = a.capacity; blocks = blocks_of a.bytes.items a.headers.items } };
+    ghost view = { λ a. record { capacity = length a.region; blocks = blocks_from a.region 0 a.marks; visited = a.visited } };
 
-    ghost invariant = { λ a. IsHeld a.capacity a.headers.items (vec_capacity a.headers) a.holes.items
-        (vec_capacity a.holes) a.bytes.items };
+    ghost invariant = { λ a. IsHeld a.region a.marks a.chain.first a.extent a.count };
 }
 
 impl Area {
@@ -65,16 +70,18 @@ impl Area {
         requires { capacity % 8 ≡ 0 }
         ensures capacity { IfOk result (λ area. area.capacity ≡ capacity) }
         ensures blocks { IfOk result (λ area. area.blocks ≡ []) }
+        ensures visited { IfOk result (λ area. area.visited ≡ 0) }
     {
-        let headers = Vec::with_capacity(alloc, capacity as usize / 8)?;
-        let mut holes = Vec::with_capacity(alloc, capacity as usize / 16 + 1)?;
-        only_hole(&mut holes, capacity);
-        let bytes = vec![in alloc; 0; capacity as usize]?;
+        let mut region = Region::new(alloc, capacity)?;
+        let marks = Marks::new(alloc, capacity as usize / 8)?;
+        let chain = Chain::whole(&mut region);
         Ok(Area {
-            capacity,
-            headers,
-            holes,
-            bytes,
+            region,
+            marks,
+            chain,
+            extent: 0,
+            count: 0,
+            visited: 0,
         })
     }
 
@@ -82,11 +89,12 @@ impl Area {
     pub fn stands(&self)
         ensures { IsArea self.now }
     {
-        let _ = &self.bytes;
+        let _ = &self.extent;
     }
 
     /// Places a block at the least position that fits, and answers it. What its bytes are at first is not said. `Full`
-    /// where no position fits, and then nothing changes. Looks at holes alone until it finds one.
+    /// where no position fits, and then nothing changes but how many holes were looked at. Looks at holes alone until it
+    /// finds one.
     pub fn allocate(&mut self, description: u32, size: u32) -> Result<u32, Full>
         ensures place { result_ok result ≡ first_fit self.old size }
         ensures least { IfOk result (λ position. IsLeast self.old size position) }
@@ -94,51 +102,57 @@ impl Area {
         ensures full { OnErr result (IsFull self.old size) }
         ensures unchanged { OnErr result (self.new.blocks ≡ self.old.blocks) }
         ensures capacity { self.new.capacity ≡ self.old.capacity }
+        ensures visited { self.new.visited ≡ holes_visited self.old size }
     {
-        let room = HEADER_SIZE + rounded(size);
-        let Some(gap) = first_gap(&self.headers, &self.holes, room, self.capacity) else {
+        let room = room_of(size);
+        let taken = self.chain.take(&mut self.region, room);
+        self.visited = taken.looked_at;
+        let Some(start) = taken.place else {
             return Err(Full);
         };
-        let position = (gap.from + HEADER_SIZE) as u32;
-        let header = Header {
-            position,
-            description,
-            size,
-        };
-        put_header(&mut self.headers, gap.index, header);
-        fill(&mut self.holes, gap.index, gap.is_left);
-        Ok(position)
+        put_header(&mut self.region, start, description, size);
+        self.marks.set(start as usize / 8, true);
+        self.extent = self.extent.max((start as usize + room) as u32);
+        self.count += 1;
+        Ok(start + HEADER_SIZE)
     }
 
     /// Takes the block at a position away; the holes beside it and what it covered become one. `NotLive` where no block
-    /// is there, and then nothing changes.
+    /// is there, and then nothing changes. Passes the holes before the block.
     pub fn release(&mut self, position: u32) -> Result<(), NotLive>
         ensures live { OnOk result (IsSome (block_at self.old.blocks position)) }
         ensures released { OnOk result (self.new.blocks ≡ without_block self.old.blocks position) }
         ensures not_live { OnErr result (block_at self.old.blocks position ≡ None) }
         ensures unchanged { OnErr result (self.new.blocks ≡ self.old.blocks) }
         ensures capacity { self.new.capacity ≡ self.old.capacity }
+        ensures visited { self.new.visited ≡ self.old.visited }
     {
-        let Some(index) = place_of(&self.headers, position) else {
+        if !is_marked(&self.marks, position) {
             return Err(NotLive);
-        };
-        self.headers.remove(index);
-        merge(&mut self.holes, index);
+        }
+        let start = position - HEADER_SIZE;
+        let room = room_of(self.region.word(start + 4)) as u32;
+        let hole = self.chain.give_back(&mut self.region, start, room);
+        self.marks.set(start as usize / 8, false);
+        self.extent = extent_without(self.extent, start + room, hole.start);
+        self.count -= 1;
         Ok(())
     }
 
-    /// What the block at a position is, or `None` where no block is there, whatever bytes stand there. Takes time
-    /// logarithmic in the blocks.
+    /// What the block at a position is, or `None` where no block is there, whatever bytes stand there. Takes the same
+    /// time for any position.
     pub fn find(&self, position: u32) -> Option<Block>
         ensures block { option_map described result ≡ option_map of_block (block_at self.now.blocks position) }
         ensures bytes { IfSome result (λ found. (at count : ℕ) → at + count ≤ found.size
             → HasBytes self.now.blocks position at count) }
     {
-        let index = place_of(&self.headers, position)?;
-        let header = self.headers[index];
+        if !is_marked(&self.marks, position) {
+            return None;
+        }
+        let start = position - HEADER_SIZE;
         Some(Block {
-            description: header.description,
-            size: header.size,
+            description: self.region.word(start),
+            size: self.region.word(start + 4),
         })
     }
 
@@ -147,7 +161,7 @@ impl Area {
         requires { HasBytes self.now.blocks position at (length into.old) }
         ensures { into.new ≡ bytes_at self.now.blocks position at (length into.old) }
     {
-        read_from(&self.bytes, position as usize + at as usize, into);
+        self.region.read_into(position + at, into);
     }
 
     /// Writes bytes into the block at a position, from the byte `at` of the block on, the first being 0.
@@ -155,40 +169,43 @@ impl Area {
         requires { HasBytes self.old.blocks position at (length from.now) }
         ensures blocks { self.new.blocks ≡ with_bytes self.old.blocks position at from.now }
         ensures capacity { self.new.capacity ≡ self.old.capacity }
+        ensures visited { self.new.visited ≡ self.old.visited }
     {
-        write_in(&mut self.bytes, position as usize + at as usize, from);
+        self.region.write_from(position + at, from);
     }
 
     /// Takes all blocks away.
     pub fn empty(&mut self)
         ensures blocks { self.new.blocks ≡ [] }
         ensures capacity { self.new.capacity ≡ self.old.capacity }
+        ensures visited { self.new.visited ≡ self.old.visited }
     {
-        self.headers.clear();
-        only_hole(&mut self.holes, self.capacity);
+        self.marks.clear();
+        self.chain = Chain::whole(&mut self.region);
+        self.extent = 0;
+        self.count = 0;
     }
 
     /// Puts the blocks of another area in the place of all, at the same positions. `Full` where the other's extent
-    /// passes the capacity, and then nothing changes. Takes time linear in that extent.
+    /// passes the capacity, and then nothing changes. Copies the bytes below that extent and the marks; passes no hole.
     pub fn assign(&mut self, source: &Area) -> Result<(), Full>
         ensures fits { OnOk result (extent source.now.blocks ≤ self.old.capacity) }
         ensures assigned { OnOk result (self.new.blocks ≡ source.now.blocks) }
         ensures full { OnErr result (self.old.capacity < extent source.now.blocks) }
         ensures unchanged { OnErr result (self.new.blocks ≡ self.old.blocks) }
         ensures capacity { self.new.capacity ≡ self.old.capacity }
+        ensures visited { self.new.visited ≡ self.old.visited }
     {
-        let extent = end_of_last(&source.headers);
-        if extent > self.capacity as usize {
+        let extent = source.extent;
+        if extent > self.region.len() {
             return Err(Full);
         }
-        take_over(&mut self.headers, &source.headers);
-        take_over_holes(
-            &mut self.holes,
-            &source.holes,
-            source.headers.len(),
-            extent < self.capacity as usize,
-        );
-        write_in(&mut self.bytes, 0, &source.bytes[..extent]);
+        self.region.copy_from(&source.region, 0, 0, extent);
+        Chain::put_last(&mut self.region, extent);
+        self.marks.take_over(&source.marks, extent as usize / 8);
+        self.chain = source.chain;
+        self.extent = extent;
+        self.count = source.count;
         Ok(())
     }
 
@@ -196,20 +213,28 @@ impl Area {
     pub fn extent(&self) -> u32
         ensures { result ≡ extent self.now.blocks }
     {
-        end_of_last(&self.headers) as u32
+        self.extent
     }
 
     /// How many blocks there are.
     pub fn count(&self) -> u32
         ensures { result ≡ length self.now.blocks }
     {
-        self.headers.len() as u32
+        self.count
     }
 
     /// How many bytes the area has.
     pub fn capacity(&self) -> u32
         ensures { result ≡ self.now.capacity }
     {
-        self.capacity
+        self.region.len()
+    }
+
+    /// How many holes the last allocation looked at: those up to the one that it took, all of them where it was full; 0
+    /// before the first.
+    pub fn visited(&self) -> u32
+        ensures { result ≡ self.now.visited }
+    {
+        self.visited
     }
 }

@@ -1,72 +1,37 @@
-//! Headers of blocks: where each is, and what it is.
-ghost use Rattle.std.specs.Prelude.{◌≡◌, ◌+◌, ◌-◌, ◌≤◌, ◌<◌, ◌^◌, ◌∷◌, [], length, take, drop, insert, remove, vec_len, vec_capacity};
-ghost use Rattle.pli_area.specs.Areas.{rounded};
-ghost use Rattle.pli_area.specs.views.AreaView.{header_end, headers_end};
+//! Headers of blocks: a word for the description and one for the size, before the block's bytes.
+ghost use Rattle.std.specs.Prelude.{◌≡◌, ◌+◌, ◌^◌, ◌<◌, ◌≤◌, length, nat_eq, if◌then◌else◌};
+ghost use Rattle.pli_area.specs.Areas.{overwritten, rounded};
+ghost use Rattle.pli_region.specs.Words.{bytes_of};
+
+use pli_region::Region;
 
 /// How many bytes a block covers before its position (own).
-pub(crate) const HEADER_SIZE: usize = 8;
+pub(crate) const HEADER_SIZE: u32 = 8;
 
-/// The header of a block: where the block's bytes begin, the number of its description, how many bytes it has.
-#[derive(Clone, Copy)]
-pub(crate) struct Header {
-    pub(crate) position: u32,
-    pub(crate) description: u32,
-    pub(crate) size: u32,
+/// How many bytes a block of a size covers: its header, and its size rounded up to a multiple of 8.
+pub(crate) fn room_of(size: u32) -> usize
+    ensures { result ≡ 8 + rounded size }
+{
+    HEADER_SIZE as usize + (size as usize).div_ceil(8) * 8
 }
 
-impl Header {
-    ghost use Rattle.std.specs.Prelude.{◌≡◌, ◌-◌, ◌≤◌};
-    ghost use Rattle.pli_area.specs.views.AreaView.{header_end};
+/// Writes the header that begins at a place.
+pub(crate) fn put_header(region: &mut Region, start: u32, description: u32, size: u32)
+    requires inside { start + 8 ≤ length region.old }
+    requires small { length region.old < 2 ^ 32 }
+    ensures { region.new ≡ overwritten (overwritten region.old start (bytes_of description)) (start + 4) (bytes_of size) }
+{
+    region.set_word(start, description);
+    region.set_word(start + 4, size);
+}
 
-    /// Where what the block covers begins.
-    pub(crate) fn start(self) -> usize
-        requires { 8 ≤ self.position }
-        ensures { result ≡ self.position - 8 }
-    {
-        self.position as usize - HEADER_SIZE
+/// Where the last block ends once a block is taken away that ended at `end`, where the hole that it left begins at
+/// `hole`.
+pub(crate) fn extent_without(extent: u32, end: u32, hole: u32) -> u32
+    ensures { result ≡ (if nat_eq end extent then hole else extent) }
+{
+    if end == extent {
+        return hole;
     }
-
-    /// Where what the block covers ends.
-    pub(crate) fn end(self) -> usize
-        ensures { result ≡ header_end self }
-    {
-        self.position as usize + rounded(self.size)
-    }
-}
-
-/// A size rounded up to a multiple of 8.
-pub(crate) fn rounded(size: u32) -> usize
-    ensures { result ≡ rounded size }
-{
-    (size as usize).div_ceil(8) * 8
-}
-
-/// Puts a header among others, where room for one more is reserved.
-pub(crate) fn put_header(headers: &mut Vec<Header>, at: usize, header: Header)
-    requires inside { at ≤ vec_len headers.old }
-    requires reserved { vec_len headers.old < vec_capacity headers.old }
-    ensures items { headers.new.items ≡ insert headers.old.items at header }
-    ensures reserved { vec_capacity headers.old ≤ vec_capacity headers.new }
-{
-    let _ = headers.insert(at, header);
-}
-
-/// Puts other headers in the place of all, where room for them is reserved.
-pub(crate) fn take_over(headers: &mut Vec<Header>, others: &[Header])
-    requires { length others.now ≤ vec_capacity headers.old }
-    ensures items { headers.new.items ≡ others.now }
-    ensures reserved { vec_capacity headers.old ≤ vec_capacity headers.new }
-{
-    headers.clear();
-    let _ = headers.extend_from_slice(others);
-}
-
-/// Where the last block ends, 0 without one.
-pub(crate) fn end_of_last(headers: &[Header]) -> usize
-    ensures { result ≡ headers_end 0 headers.now }
-{
-    match headers.last() {
-        Some(header) => header.end(),
-        None => 0,
-    }
+    extent
 }

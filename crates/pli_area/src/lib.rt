@@ -2,11 +2,9 @@
 #![tactic(auto)]
 
 mod area;
-mod bytes;
 mod header;
-mod holes;
 mod laws;
-mod search;
+mod marks;
 
 pub use area::{Area, Block, Full, NotLive};
 pub use laws::{first_hole_is_least, worked_examples};

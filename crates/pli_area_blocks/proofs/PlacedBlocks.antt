@@ -53,7 +53,7 @@ module _ (ds : List Description) (a : area.Blocks) (known : AreKnown ds a.blocks
   known_placed (Err f) new blocks same = subst (AreKnown ds) (sym same) known
 
   pub place_is : (o : Option ℕ) → o ≡ area.first_fit a (length bytes)
-      → area.first_fit (record { capacity = a.capacity; blocks = map taken_by (map (block_view ds) a.blocks) }) (size_of (described ds number)) ≡ o
+      → area.first_fit (record { capacity = a.capacity; blocks = map taken_by (map (block_view ds) a.blocks); visited = 0 }) (size_of (described ds number)) ≡ o
   place_is o fit = sym (fit ∙ ap (area.first_fit a) size ∙ fit_view ds a.capacity a.blocks (size_of (described ds number)) known)
 
   pub placed_view : (position : ℕ) (new : List area.Block) (vs : List Value)

@@ -3,7 +3,7 @@ use Rattle.std.proofs.Common.{◌≡◌, ◌≢◌, ℕ, zero, suc, drop_of_leng
 use Rattle.std.proofs.lemmas.Option.{none-some, same_Some}
 use Rattle.pli_area.specs.Areas as area
 use Rattle.pli_area.specs.Areas.{rounded, overwritten, IsApart, IsArea, IsFull, IsLeast}
-use Rattle.pli_area.proofs.BytesLemmas.{length-overwritten}
+use Rattle.pli_area.proofs.BlockBytes.{count_over}
 use Rattle.pli_area.proofs.FirstFits.{first_is_least}
 use Rattle.pli_world.specs.Areas.{taken_by, with_block, without_block}
 use Rattle.pli_world.specs.Storage.{block_at, with_block_values}
@@ -153,7 +153,7 @@ module _ (ds : List Description) where
   -- other bytes in a block, as many
   one_written : (c : area.Block) (at : ℕ) (new : List ℕ) → IsKnown ds c → at + length new ≤ c.size → IsKnown ds (record c { bytes = overwritten c.bytes at new })
   one_written c at new known fits =
-      let counted = known.2 in (known.0, known.1, length-overwritten c.bytes at new (omega (arith, counted, fits)) ∙ counted)
+      let counted = known.2 in (known.0, known.1, count_over c.bytes at new (omega (arith, counted, fits)) ∙ counted)
 
   pub known_written : (bs : List area.Block) (p at : ℕ) (new : List ℕ) (b : area.Block) → AreKnown ds bs → area.block_at bs p ≡ Some b
       → at + length new ≤ b.size → AreKnown ds (area.with_bytes bs p at new)
@@ -181,8 +181,8 @@ module _ (ds : List Description) where
       ∙ ap (λ n. area.holes_from (b.position + rounded n) capacity (map taken_by (map (block_view ds) bs))) (first_known b bs known).1)
 
   pub fit_view : (capacity : ℕ) (bs : List area.Block) (size : ℕ) → AreKnown ds bs
-      → area.first_fit (record { capacity = capacity; blocks = bs }) size
-      ≡ area.first_fit (record { capacity = capacity; blocks = map taken_by (map (block_view ds) bs) }) size
+      → area.first_fit (record { capacity = capacity; blocks = bs; visited = 0 }) size
+      ≡ area.first_fit (record { capacity = capacity; blocks = map taken_by (map (block_view ds) bs); visited = 0 }) size
   fit_view capacity bs size known =
       ap (λ hs. option_map (λ (h : area.Hole). h.start + 8) (find (λ h. nat_le (8 + rounded size) h.room) hs)) (holes_view 0 capacity bs known)
 

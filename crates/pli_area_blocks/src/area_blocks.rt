@@ -39,8 +39,8 @@ impl<'m> AreaBlocks<'m> {
         Ok(AreaBlocks { area, descriptions })
     }
 
-    /// The whole description of the block at a position; `None` where no block is there. Takes time logarithmic in the
-    /// blocks.
+    /// The whole description of the block at a position; `None` where no block is there. Takes the same time for any
+    /// position.
     pub fn whole_at(&self, position: u32) -> Option<&'m Description>
         ensures { option_map (λ d. description_view d.now) result
             ≡ option_map (λ (b : Block). b.description) (block_at (blocks_view self.now) position) }

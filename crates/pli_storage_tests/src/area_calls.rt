@@ -25,6 +25,7 @@ pub(crate) enum Call<'a> {
     Extent,
     Count,
     Capacity,
+    Visited,
 }
 
 /// What a call answers.
@@ -106,5 +107,6 @@ pub(crate) fn answer_of(rt: &impl Abort, alloc: Global, area: &mut Area, call: C
         Call::Extent => Answer::Number(u64::from(area.extent())),
         Call::Count => Answer::Number(u64::from(area.count())),
         Call::Capacity => Answer::Number(u64::from(area.capacity())),
+        Call::Visited => Answer::Number(u64::from(area.visited())),
     }
 }

@@ -39,6 +39,8 @@ impl ModelBlock {
 pub(crate) struct AreaModel {
     capacity: u32,
     pub(crate) blocks: Vec<ModelBlock>,
+    /// How many holes the last allocation looked at.
+    visited: u64,
 }
 
 impl AreaModel {
@@ -46,6 +48,7 @@ impl AreaModel {
         AreaModel {
             capacity,
             blocks: Vec::new(alloc),
+            visited: 0,
         }
     }
 
@@ -92,6 +95,17 @@ impl AreaModel {
             .find(|start| self.is_free(*start, start.saturating_add(room)))
     }
 
+    /// How many holes begin up to a place, each at 0 or where a block ends.
+    fn holes_up_to(&self, last: u64) -> u64 {
+        let mut count = u64::from(self.is_free(0, 8));
+        for block in &self.blocks {
+            if block.end <= last && self.is_free(block.end, block.end.saturating_add(8)) {
+                count = count.saturating_add(1);
+            }
+        }
+        count
+    }
+
     /// Places a block, and answers its position, if there is room.
     pub(crate) fn allocate(
         &mut self,
@@ -101,7 +115,9 @@ impl AreaModel {
         size: u32,
     ) -> Option<u32> {
         let room = 8 + u64::from(size).div_ceil(8) * 8;
-        let start = self.first_free(room)?;
+        let first = self.first_free(room);
+        self.visited = self.holes_up_to(first.unwrap_or(u64::from(self.capacity)));
+        let start = first?;
         let position = u32::try_from(start.saturating_add(8)).expect(rt, "a position");
         let block = ModelBlock {
             position,
@@ -184,6 +200,7 @@ impl AreaModel {
             Call::Extent => Answer::Number(self.extent()),
             Call::Count => Answer::Number(self.count() as u64),
             Call::Capacity => Answer::Number(u64::from(self.capacity)),
+            Call::Visited => Answer::Number(self.visited),
         }
     }
 }

@@ -50,7 +50,7 @@ impl AreaPair {
 
     /// Fails unless both have the same blocks with the same bytes.
     pub(crate) fn agree(&mut self, rt: &impl Abort, alloc: Global) {
-        for call in [Call::Capacity, Call::Count, Call::Extent] {
+        for call in [Call::Capacity, Call::Count, Call::Extent, Call::Visited] {
             self.answer(rt, alloc, call);
         }
         for number in 0..self.model.count() {

@@ -40,7 +40,9 @@ impl Numbers {
 fn allocate(rt: &impl Abort, alloc: Global, numbers: &mut Numbers, area: &mut AreaPair) {
     let (description, size) = (numbers.any(), numbers.size(area));
     let call = Call::Allocate(description, size);
-    if let Answer::Position(position) = area.answer(rt, alloc, call) {
+    let answer = area.answer(rt, alloc, call);
+    area.answer(rt, alloc, Call::Visited);
+    if let Answer::Position(position) = answer {
         let bytes = numbers.bytes(rt, alloc, size);
         area.answer(rt, alloc, Call::Write(position, 0, &bytes));
     }
@@ -93,8 +95,8 @@ fn sequence(rt: &impl Abort, alloc: Global, numbers: &mut Numbers, count: u32, e
     }
 }
 
-/// How many sequences a test makes: 102,000 in all six.
-const SEQUENCES: u32 = 17_000;
+/// How many sequences a test makes: 1,008,000 in all six.
+const SEQUENCES: u32 = 168_000;
 
 /// Makes the sequences of a test, on so many areas of at most 8 times so many bytes.
 fn sequences(rt: &impl Abort, alloc: Global, seed: u64, count: u32, eighths: u8) {

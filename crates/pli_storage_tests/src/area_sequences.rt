@@ -22,6 +22,11 @@ new 64; allocate 8 => 8; allocate 8 => 24; allocate 8 => 40; allocate 8 => 56; a
 release 8 => done; release 24 => done; B new 32; B assign A => full; release 40 => done; release 56 => done
 count => 0; extent => 0; allocate 8 => 8; allocate 8 => 24; B assign A => done; B count => 2; B extent => 32
 B allocate 0 => full
+// an allocation tells how many holes it looked at, where no hole is long enough all of them
+new 64; visited => 0; allocate 8 => 8; allocate 8 => 24; allocate 8 => 40; allocate 8 => 56; visited => 1
+release 8 => done; release 40 => done; visited => 1; allocate 16 => full; visited => 2; release 24 => done
+visited => 2; allocate 40 of 2 => 8; visited => 1; allocate 0 => full; visited => 0; B new 64; B visited => 0
+B allocate 48 => 8; B assign A => done; B visited => 1; empty; visited => 0; allocate 57 => full; visited => 1
 // of two holes that are long enough the first is taken, although the second fits exactly
 new 80; allocate 24 => 8; allocate 8 => 40; allocate 8 => 56; allocate 8 => 72; release 8 => done
 release 56 => done; allocate 8 of 2 => 8; allocate 8 => 24; allocate 8 => 56; allocate 0 => full

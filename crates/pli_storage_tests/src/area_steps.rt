@@ -25,6 +25,7 @@ fn call_of<'a>(rt: &impl Abort, words: &[&'a str]) -> Call<'a> {
         ["extent"] => Call::Extent,
         ["count"] => Call::Count,
         ["capacity"] => Call::Capacity,
+        ["visited"] => Call::Visited,
         _ => panic!(rt; "no call"),
     }
 }

@@ -1,4 +1,4 @@
-//! Tests of areas, of storage, and of storage by locators.
+//! Tests of regions, of areas, of storage, and of storage by locators.
 //!
 //! `area_..` make calls on an area and on a plain one beside it; the others on storage, in which areas are, and on
 //! plain storage. `numbers` gives random numbers, `steps` reads worked sequences.
@@ -34,6 +34,8 @@ mod numbers;
 mod pairs;
 #[cfg(test)]
 mod random;
+#[cfg(test)]
+mod regions;
 #[cfg(test)]
 mod shapes;
 #[cfg(test)]

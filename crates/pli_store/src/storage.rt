@@ -113,7 +113,7 @@ impl<'m> Storage<'m> {
     }
 
     /// What lives at a position of a generation, at 0 the generation; `None` where nothing does. Takes time logarithmic
-    /// in the generations and in the blocks.
+    /// in the generations.
     pub fn living(&self, generation: u32, position: u32) -> Option<Target<'m>>
         ensures { option_map target_view result ≡ target_at generation position (storage_view self.now) }
     {

@@ -30,7 +30,7 @@ taken_by b =
 
 -- an area by what its blocks take
 abbrev pub room_in : (capacity : ℕ) → List Block → area.Blocks
-room_in capacity bs = record { capacity = capacity; blocks = map taken_by bs }
+room_in capacity bs = record { capacity = capacity; blocks = map taken_by bs; visited = 0 }
 
 -- the position of one block more, of so many bytes: the least that fits
 abbrev pub place_in : (capacity : ℕ) → List Block → (size : ℕ) → Option ℕ

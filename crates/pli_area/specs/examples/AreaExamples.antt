@@ -1,6 +1,7 @@
 -- Worked examples of areas.
 use Rattle.std.specs.Prelude.{◌≡◌, ℕ, Some, None, List, [], ◌∷◌, length}
-use Rattle.pli_area.specs.Areas.{Block, Blocks, first_fit, extent, holes, block_at, with_block, without_block}
+use Rattle.pli_area.specs.Areas.{Block, Blocks, first_fit, holes_visited, extent, holes, block_at}
+use Rattle.pli_area.specs.Areas.{with_block, without_block}
 use Rattle.pli_area.specs.Areas.{with_bytes, bytes_at}
 
 -- a block of 8 bytes of description 1
@@ -11,18 +12,22 @@ block position bytes = record { position = position; description = 1; size = 8; 
 abbrev pub eight : (first : ℕ) → List ℕ
 eight first = first ∷ 2 ∷ 3 ∷ 4 ∷ 5 ∷ 6 ∷ 7 ∷ 8 ∷ []
 
+-- an area of so many bytes with these blocks
+abbrev pub with_blocks : (capacity : ℕ) → List Block → Blocks
+with_blocks capacity blocks = record { capacity = capacity; blocks = blocks; visited = 0 }
+
 -- an area of 32 bytes with no block, with one, with two, and with the second alone
 abbrev pub no_block : Blocks
-no_block = record { capacity = 32; blocks = [] }
+no_block = with_blocks 32 []
 
 abbrev pub one_block : Blocks
-one_block = record { capacity = 32; blocks = with_block [] (block 8 (eight 1)) }
+one_block = with_blocks 32 (with_block [] (block 8 (eight 1)))
 
 abbrev pub two_blocks : Blocks
-two_blocks = record { capacity = 32; blocks = with_block one_block.blocks (block 24 (eight 9)) }
+two_blocks = with_blocks 32 (with_block one_block.blocks (block 24 (eight 9)))
 
 abbrev pub second_block : Blocks
-second_block = record { capacity = 32; blocks = without_block two_blocks.blocks 8 }
+second_block = with_blocks 32 (without_block two_blocks.blocks 8)
 
 -- 32 bytes hold two blocks of 8 bytes, at 8 and 24, and then not one of a single byte
 abbrev pub TwoBlocksFit : Type 0
@@ -39,16 +44,28 @@ SecondIsLeft = (length second_block.blocks ≡ 1) × (extent second_block.blocks
 -- without both one hole is left, where a block of 16 bytes fits, and nothing is live at 24
 abbrev pub HolesJoin : Type 0
 HolesJoin =
-    (holes (record { capacity = 32; blocks = without_block second_block.blocks 24 })
+    (holes (with_blocks 32 (without_block second_block.blocks 24))
     ≡ record { start = 0; room = 32 } ∷ [])
-    × (first_fit (record { capacity = 32; blocks = without_block second_block.blocks 24 }) 16 ≡ Some 8)
+    × (first_fit (with_blocks 32 (without_block second_block.blocks 24)) 16 ≡ Some 8)
     × (block_at (without_block second_block.blocks 24) 24 ≡ None)
+
+-- a block of 8 bytes with any
+abbrev pub some_block : (position : ℕ) → Block
+some_block position = block position (eight 0)
+
+-- 64 bytes with blocks at 24 and 56: both holes of 16 bytes are looked at for a block of 16, and none is long
+-- enough; with the second alone the first hole is
+abbrev pub HolesAreVisited : Type 0
+HolesAreVisited = (first_fit (with_blocks 64 (some_block 24 ∷ some_block 56 ∷ [])) 16 ≡ None)
+    × (holes_visited (with_blocks 64 (some_block 24 ∷ some_block 56 ∷ [])) 16 ≡ 2)
+    × (first_fit (with_blocks 64 (some_block 56 ∷ [])) 40 ≡ Some 8)
+    × (holes_visited (with_blocks 64 (some_block 56 ∷ [])) 40 ≡ 1)
 
 -- a size of 0 takes a header alone, one of 9 takes 16 bytes, and blocks stand in order whichever came first
 abbrev pub SizesAreRounded : Type 0
-SizesAreRounded = (first_fit (record { capacity = 8; blocks = [] }) 0 ≡ Some 8)
-    × (first_fit (record { capacity = 16; blocks = [] }) 9 ≡ None)
-    × (first_fit (record { capacity = 24; blocks = [] }) 9 ≡ Some 8)
+SizesAreRounded = (first_fit (with_blocks 8 []) 0 ≡ Some 8)
+    × (first_fit (with_blocks 16 []) 9 ≡ None)
+    × (first_fit (with_blocks 24 []) 9 ≡ Some 8)
     × (with_block second_block.blocks (block 8 (eight 1)) ≡ two_blocks.blocks)
 
 -- bytes written into a block are read there, and nowhere else

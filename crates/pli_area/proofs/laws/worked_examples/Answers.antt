@@ -7,6 +7,7 @@ returns c = record {
   two_blocks_fit = (refl, refl, refl);
   second_is_left = (refl, refl, refl, refl, refl);
   holes_join = (refl, refl, refl);
+  holes_are_visited = (refl, refl, refl, refl);
   sizes_are_rounded = (refl, refl, refl, refl);
   bytes_stay = (refl, refl);
 }

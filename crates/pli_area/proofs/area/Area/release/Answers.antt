@@ -1,72 +1,81 @@
-use Rattle.std.proofs.Common.{◌≤◌, ◌∙◌, [], refl, length, ap, sym, subst, arith}
-use Rattle.std.proofs.lemmas.Option.{slice_get_within}
-use Rattle.pli_area.specs.Areas.{without_block}
-use Rattle.pli_area.specs.Held.{IsAbsent, IsPlace}
-use Rattle.pli_area.specs.HoleNumbers.{holes_in}
-use Rattle.pli_area.specs.views.AreaView.{blocks_of, Lie, headers_end}
-use Rattle.pli_area.proofs.AreaAnswers.{block_there}
-use Rattle.pli_area.proofs.FieldAnswers.{released, released_within, released_known, released_few}
-use Rattle.pli_area.proofs.HeaderLemmas.{counted, not_found}
+use Rattle.std.proofs.Common.{◌+◌, ◌-◌, ◌/◌, ◌∙◌, set, false, length, ap, refl, sym, subst, arith}
+use Rattle.pli_area.specs.Areas.{Hole, holes_from, rounded}
+use Rattle.pli_area.specs.Held.{IsHeld}
+use Rattle.pli_area.specs.views.AreaView.{blocks_from}
+use Rattle.pli_area.proofs.HeldLemmas.{not_marked}
+use Rattle.pli_area.proofs.Releases.{live_above, live_below, live_block, live_end, live_in_use, live_mark, released_blocks, released_held, some_block}
 use Rattle.pli_area.proofs.area.Area.release.Goals as goal
 
-pub returns-in_default-clause-not_live : goal.returns-in_default-clause-not_live
-returns-in_default-clause-not_live c =
-    let absent = subst (λ hs. IsAbsent hs c.args.position) c.deref.ensures.value c.in_default.ensures in
-    rw (← c.self.view_is) (not_found c.self.inside.bytes.items c.self.inside.headers.items c.args.position absent)
+pub returns-then-not-is_marked-clause-not_live : goal.returns-then-not-is_marked-clause-not_live
+returns-then-not-is_marked-clause-not_live c =
+    rw (← c.self.view_is) (not_marked c.self.inside.region c.self.inside.marks c.args.position (sym c.is_marked.ensures ∙ c.if-not-is_marked.true))
 
-pub remove-requires : goal.remove-requires
-remove-requires c =
-    let place = c.in-Some.ensures in
-    let inside = slice_get_within c.deref.result.now c.in-Some.index place.header place.stands in
-    let length = c.deref.ensures.len in
-    omega (arith, inside, length)
+pub overflow_sub-start : goal.overflow_sub-start
+overflow_sub-start c = live_above c.self.invariant c.args.position (sym c.is_marked.ensures ∙ c.if-not-is_marked.false)
 
-pub merge-requires-clause-few : goal.merge-requires-clause-few
-merge-requires-clause-few c =
-    let held = c.self.invariant in
-    let place = c.in-Some.ensures in
-    let inside = slice_get_within c.deref.result.now c.in-Some.index place.header place.stands in
-    let count = counted 0 c.self.inside.headers.items held.lie in
-    omega (arith, inside, ap length c.deref.ensures.value, count, held.within, held.small)
+pub word-requires : goal.word-requires
+word-requires c =
+    let live = sym c.is_marked.ensures ∙ c.if-not-is_marked.false in
+    let above = live_above c.self.invariant c.args.position live in
+    let below = live_below c.self.invariant c.args.position live in
+    omega (arith, above, below)
 
-pub merge-requires-clause-reserved : goal.merge-requires-clause-reserved
-merge-requires-clause-reserved c =
-    let held = c.self.invariant in
-    let place = subst (λ hs. IsPlace hs c.args.position c.in-Some.index) c.deref.ensures.value c.in-Some.ensures in
-    let few = released_few c.self.inside.capacity c.self.inside.headers.items c.self.inside.holes.items held.lie held.within held.known c.in-Some.index place.header place.stands in
-    omega (arith, few, held.holes_fit)
+pub overflow_cast-room : goal.overflow_cast-room
+overflow_cast-room c =
+    let live = sym c.is_marked.ensures ∙ c.if-not-is_marked.false in
+    let room = c.room_of-room.ensures ∙ ap (λ n. 8 + rounded n) c.word.ensures in
+    let end = live_end c.self.invariant c.args.position live c.room_of-room.result room in
+    omega (arith, end, c.self.invariant.small)
+
+pub give_back-hole-requires : goal.give_back-hole-requires
+give_back-hole-requires c =
+    let live = sym c.is_marked.ensures ∙ c.if-not-is_marked.false in
+    let room = c.room_of-room.ensures ∙ ap (λ n. 8 + rounded n) c.word.ensures in
+    live_in_use c.self.invariant c.args.position live c.room_of-room.result room
+
+pub set-requires : goal.set-requires
+set-requires c = live_mark c.self.invariant c.args.position (sym c.is_marked.ensures ∙ c.if-not-is_marked.false)
+
+pub overflow_add-start-2 : goal.overflow_add-start-2
+overflow_add-start-2 c =
+    let live = sym c.is_marked.ensures ∙ c.if-not-is_marked.false in
+    let room = c.room_of-room.ensures ∙ ap (λ n. 8 + rounded n) c.word.ensures in
+    let end = live_end c.self.invariant c.args.position live c.room_of-room.result room in
+    omega (arith, end, c.self.invariant.small)
+
+pub overflow_sub-self : goal.overflow_sub-self
+overflow_sub-self c = some_block c.self.invariant c.args.position (sym c.is_marked.ensures ∙ c.if-not-is_marked.false)
 
 pub invariant_of-self : goal.invariant_of-self
 invariant_of-self c =
+    let f = c.self.inside in
     let held = c.self.invariant in
-    let capacity = c.self.inside.capacity in
-    let headers = c.self.inside.headers.items in
-    let index = c.in-Some.index in
-    let place = subst (λ hs. IsPlace hs c.args.position index) c.deref.ensures.value c.in-Some.ensures in
-    let items = c.remove.ensures.items in
-    record {
-      aligned = held.aligned;
-      small = held.small;
-      lie = subst (λ hs. Lie 0 hs) (sym items) (released capacity headers c.self.inside.holes.items held.lie held.within held.known index place.header place.stands []).lie;
-      within = subst (λ hs. headers_end 0 hs ≤ capacity) (sym items) (released_within capacity headers c.self.inside.holes.items held.lie held.within held.known index place.header place.stands);
-      headers_fit = omega (arith, held.headers_fit, c.remove.ensures.capacity);
-      known = c.merge.ensures.items ∙ released_known capacity headers c.self.inside.holes.items held.lie held.within held.known index place.header place.stands ∙ ap (holes_in capacity 0 0) (sym items);
-      holes_fit = omega (arith, held.holes_fit, c.merge.ensures.reserved);
-      counted = held.counted;
-    }
+    let live = sym c.is_marked.ensures ∙ c.if-not-is_marked.false in
+    let room = c.room_of-room.ensures ∙ ap (λ n. 8 + rounded n) c.word.ensures in
+    let holes = holes_from 0 (length f.region) (blocks_from f.region 0 f.marks) in
+    let given = c.give_back-hole.ensures in
+    let begin = ap (λ (h : Hole). h.start) (given.hole holes held.spelled) in
+    let kept = released_held held c.args.position live c.room_of-room.result room c.give_back-hole.new.region (given.kept holes held.spelled) c.give_back-hole.new.self.first c.give_back-hole.result.start (given.spelled holes held.spelled) begin in
+    subst (λ marks. IsHeld c.give_back-hole.new.region marks c.give_back-hole.new.self.first c.extent_without-self-inside.result (f.count - 1)) (sym c.set.ensures)
+    (subst (λ n. IsHeld c.give_back-hole.new.region (set f.marks ((c.args.position - 8) / 8) false) c.give_back-hole.new.self.first n (f.count - 1)) (sym c.extent_without-self-inside.ensures) kept)
 
 pub returns-clause-live : goal.returns-clause-live
 returns-clause-live c =
-    let headers = c.self.inside.headers.items in
-    let place = subst (λ hs. IsPlace hs c.args.position c.in-Some.index) c.deref.ensures.value c.in-Some.ensures in
-    let there = block_there c.self.inside.bytes.items headers c.self.invariant.lie c.args.position c.in-Some.index place in
+    let there = live_block c.self.invariant c.args.position (sym c.is_marked.ensures ∙ c.if-not-is_marked.false) in
     rw (← c.self.view_is, there) refl
 
 pub returns-clause-released : goal.returns-clause-released
 returns-clause-released c =
+    let f = c.self.inside in
     let held = c.self.invariant in
-    let headers = c.self.inside.headers.items in
-    let bytes = c.self.inside.bytes.items in
-    let place = subst (λ hs. IsPlace hs c.args.position c.in-Some.index) c.deref.ensures.value c.in-Some.ensures in
-    let blocks = (released c.self.inside.capacity headers c.self.inside.holes.items held.lie held.within held.known c.in-Some.index place.header place.stands bytes).blocks in
-    rw (← c.self.view_is) (ap (blocks_of bytes) c.remove.ensures.items ∙ sym blocks ∙ ap (without_block (blocks_of bytes headers)) place.here)
+    let live = sym c.is_marked.ensures ∙ c.if-not-is_marked.false in
+    let room = c.room_of-room.ensures ∙ ap (λ n. 8 + rounded n) c.word.ensures in
+    let holes = holes_from 0 (length f.region) (blocks_from f.region 0 f.marks) in
+    rw (← c.self.view_is) (ap (blocks_from c.give_back-hole.new.region 0) c.set.ensures
+    ∙ released_blocks held c.args.position live c.room_of-room.result room c.give_back-hole.new.region (c.give_back-hole.ensures.kept holes held.spelled))
+
+pub returns-clause-capacity : goal.returns-clause-capacity
+returns-clause-capacity c =
+    let f = c.self.inside in
+    let holes = holes_from 0 (length f.region) (blocks_from f.region 0 f.marks) in
+    rw (← c.self.view_is) (c.give_back-hole.ensures.kept holes c.self.invariant.spelled).count

@@ -1,6 +1,0 @@
-use Rattle.std.proofs.Common.{◌≡◌, ◌++◌, map, take, drop}
-use Rattle.pli_area.specs.HoleNumbers.{raised}
-use Rattle.pli_area.proofs.holes.raise.Given as goal
-
-abbrev pub invariant-loop-hole : goal.invariant-loop-hole
-invariant-loop-hole l = l.holes ≡ map (raised l.number) (take l.hole-index l.fn.holes) ++ drop l.hole-index l.fn.holes

@@ -1,0 +1,5 @@
+mod Bytes
+mod Copied
+mod Leases
+mod Opens
+mod Sharing

@@ -1,0 +1,4 @@
+pub mod Held
+pub mod Lends
+pub mod Ownership
+pub mod Words
