@@ -2,13 +2,17 @@
 
 mod bytes;
 mod calls;
+mod damaged;
 mod decks;
 mod devices;
 mod exact;
+mod found;
 mod machine;
 mod outcome;
+mod rows;
 mod serving;
 mod statuses;
+mod written;
 
 use std::process::Abort;
 

@@ -30,3 +30,7 @@ not_in_area = (refl, refl)
 pub areas_fault : example.AreasFault
 unfolding nothing entered made_of stepped left_by at_statement parts_held parts_stored held stored static_place area_found allocated_in block_made copied pointer_in pointer_within
 areas_fault = (refl, refl, refl, refl, refl)
+
+pub copies_fail : example.CopiesFail
+unfolding nothing entered made_of stepped left_by at_statement parts_held parts_stored held stored copied static_place area_found allocated_in block_made located based place_by emptied error_at
+copies_fail = (refl, refl)

@@ -1,7 +1,7 @@
 //! Laws of runs: they hold of every program, also of one that no compiler makes.
 ghost use Rattle.pli_machine_step.specs.laws.Laws.{EveryRunEnds, OneFrameEach, OneOutcome, RunsGoOn};
 ghost use Rattle.pli_machine_step.specs.examples.AreaExamples.{BlockPrints, OffsetPrints, BlocksEnd, AreaIsFull};
-ghost use Rattle.pli_machine_step.specs.examples.AreaExamples.{NotInArea, AreasFault};
+ghost use Rattle.pli_machine_step.specs.examples.AreaExamples.{NotInArea, AreasFault, CopiesFail};
 ghost use Rattle.pli_machine_step.specs.examples.MachineExamples.{SmallestStops, SmallestEnds, GotoLeaves};
 ghost use Rattle.pli_machine_step.specs.examples.MachineExamples.{GotoStops, CallStops, JumpsGoOn, JumpsFault};
 ghost use Rattle.pli_machine_step.specs.examples.MachineExamples.{TurnsStop, TooMany, ManyStop, EndFaults};
@@ -39,11 +39,11 @@ pub fn every_run_ends()
     ensures { EveryRunEnds }
 {}
 
-/// Worked examples: steps, a GOTO out of a call, jumps without a step, the limit of activations, the kinds of
-/// blocks, the code's end, an argument by place, dummy arguments that end, a function's value, a loop, an element and a part of a string that are
-/// there and that are not, how far a place is led on, a comparison, bits printed, a line ended, a variable that is made
-/// once, a call of another unit's procedure and a variable that both units have, the generations of a CONTROLLED one,
-/// BASED ones by their pointers, blocks of areas and offsets.
+/// Worked examples: steps, a GOTO out of a call, jumps without a step, the limit of activations, the kinds of blocks, the
+/// code's end, an argument by place, dummy arguments that end, a function's value, a loop, an element and a part of a
+/// string that are there and that are not, how far a place is led on, a comparison, bits printed, a line ended, a variable
+/// that is made once, a call of another unit's procedure and a variable that both units have, the generations of a
+/// CONTROLLED one, BASED ones by their pointers, blocks of areas and offsets, and places that have ended and are copied.
 pub fn worked_examples()
     ensures smallest_stops { SmallestStops }
     ensures smallest_ends { SmallestEnds }
@@ -98,4 +98,5 @@ pub fn worked_examples()
     ensures area_is_full { AreaIsFull }
     ensures not_in_area { NotInArea }
     ensures areas_fault { AreasFault }
+    ensures copies_fail { CopiesFail }
 {}

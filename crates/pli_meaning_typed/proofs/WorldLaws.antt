@@ -516,12 +516,11 @@ module _ (units : List TypedUnit) (s : Shape) (ss : List Shape) where
   copied_answers d source target w sound none from to =
       let alike : same source.description target.description ≡ true =
       (same_decides source.description target.description).1 (from.described ∙ sym to.described) in
-      let both : not (is_area source.description) && same source.description target.description ≡ true =
-      ap (λ e. not (is_area e) && same source.description target.description) from.described
-      ∙ ap (λ b. not b && same source.description target.description) none ∙ alike in
-      subst (λ b. Answers units (Kept w) (if b then further (parts_held source w) (λ vs w. parts_stored target vs w) else Wrong)) (sym both)
-      (further_answers units (HeldAt w d) (Kept w) (parts_held source w) (λ vs w. parts_stored target vs w)
-      (parts_held_answers d source w sound from) (λ vs v h. put vs v h))
+      further_answers units (HeldAt w d) (Kept w) (parts_held source w) _ (parts_held_answers d source w sound from)
+      (λ vs v h. subst (λ b. Answers units (Kept w) (if b then Wrong
+      else if same source.description target.description then parts_stored target vs v else further (used target v) (λ c w. Wrong)))
+      (sym (ap is_area from.described ∙ none))
+      (subst (λ b. Answers units (Kept w) (if b then parts_stored target vs v else further (used target v) (λ c w. Wrong))) (sym alike) (put vs v h)))
     where
       put : (vs : List Value) (v : World) → HeldAt w d vs v → Answers units (Kept w) (parts_stored target vs v)
       put vs v h =

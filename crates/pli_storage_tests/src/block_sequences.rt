@@ -64,12 +64,12 @@ held #0+0:n15 => 5; address #0 => ^0+0; free n15 ^0 => E5; based a60 ^1 => ^1+0;
 make a60 => 0; in 0 few 4 0 => ^0+8; based few ^0+8 => ^0+8; held #0+0:n15 => 4; held #0+2:n15 => 0
 held #0+4:n15 => wrong; held #0+1:n15 => wrong; store #0+2:n15 9; held #0+2:n15 => 9; store #0+4:n15 1 => wrong
 held #0+0:n15 => 4
-// aggregates are copied out of a block, into one, and from one to another; the source is looked at first
+// aggregates are copied out of a block, into one, and from one to another; the source is looked at whole first
 make a60 => 0; make two => 1; in 0 two 4 5 => ^0+8; in 0 two 6 0 => ^0+24; based two ^0+8 => ^0+8; copy #0 1
 held 1+0:n15 => 4; held 1+2:n15 => 5; based two ^0+24 => ^0+24; copy 1 #1; held #1+0:n15 => 4; held #1+2:n15 => 5
 store #1+0:n15 8; copy #1 #0; held #0+0:n15 => 8; held #0+2:n15 => 5; in 0 few 1 0 => ^0+40; based few ^0+40 => ^0+40
-copy #0 #2 => wrong; free two ^0+8; copy #0 1 => E4; copy 1 #0 => E4; in 0 n15 7 => ^0+8; copy #0 1 => E5
-held 1+0:n15 => 4
+copy #0 #2 => wrong; free two ^0+8; copy #0 1 => E4; copy 1 #0 => E4; copy #0 #2 => E4; copy #2 #0 => E4
+copy 0 #0 => wrong; in 0 n15 7 => ^0+8; copy #0 1 => E5; copy #2 #0 => E5; held 1+0:n15 => 4
 // a place in a block is that of no area: dead where the block is, or another variable's
 make a60 => 0; in 0 n15 1 => ^0+8; based n15 ^0+8 => ^0+8; empty #0 => wrong; in #0 n15 2 => wrong; assign #0 0 => wrong
 offset #0 null => wrong; free n15 ^0+8; empty #0 => E4; in #0 n15 2 => E4; assign #0 0 => E4; assign 0 #0 => E4

@@ -268,11 +268,14 @@ impl<'m> Model<'m> {
         target: Spot,
     ) -> Result<Answer, Answer> {
         let described = self.values.shape(rt, source.shape);
-        if is_area(&described.description) || source.shape != target.shape {
+        let from = self.find(rt, source)?;
+        if is_area(&described.description) {
             return Err(Answer::Wrong);
         }
-        let from = self.find(rt, source)?;
         let to = self.find(rt, target)?;
+        if source.shape != target.shape {
+            return Err(Answer::Wrong);
+        }
         self.values.move_to(rt, from, to, described.count);
         Ok(Answer::Done)
     }

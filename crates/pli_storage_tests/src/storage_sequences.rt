@@ -76,7 +76,8 @@ make links ^2+4 @8 7 => wrong; held 0+0:p => wrong; room p => yes; room address 
 make a16 => 0; held 0 => wrong; number 0 => none; text 0 => none; store 0 0 => wrong; put 0 0 => no; copy 0 0 => wrong
 make a16 1 => wrong; dummy a16 0 => wrong; make yard => 1; held 1+0:c1 => ' '; held 1+8:a16 => wrong; held 1+24:n15 => 0
 make yard 'A' 7 => 2; copy 2 1; held 1+0:c1 => 'A'; held 1+24:n15 => 7; copy 1+8:a16 0 => wrong
-make yard 'A' 1 7 => wrong; make yard 'A' => wrong; end 0; held 0 => E4; store 0 0 => E4; copy 0 0 => wrong
+make yard 'A' 1 7 => wrong; make yard 'A' => wrong; end 0; held 0 => E4; store 0 0 => E4; copy 0 0 => E4
+copy 1 0 => E4; copy 0 1 => E4
 // numbers of two bytes
 make n1 => 0; put 0 1 => yes; held 0 => 1; put 0 -1 => yes; held 0 => -1; put 0 2 => no; put 0 -2 => no
 store 0 2 => wrong; held 0 => -1; make n15 => 1; put 1 32767 => yes; number 1 => 32767; put 1 -32767 => yes
@@ -199,7 +200,7 @@ held 0+4:c1 => 'B'; held 0+6:n15 => 2; held 0+8:c1 => 'C'; held 0+10:n15 => 3; m
 append 1 'D' 9 => yes; held 1 => 'ABCD'
 // the source is looked at before the target
 make n15 1 => 0; make n15 2 => 1; end 0; copy 0 1 => E4; held 1 => 2; copy 1 0 => E4; copy 0+1:n15 1 => E4
-copy 1+1:n15 0 => wrong; copy 0 1+1:n15 => E4; copy 1 1+1:n15 => wrong; copy 0 1+0:n31 => wrong; held 1 => 2
+copy 1+1:n15 0 => wrong; copy 0 1+1:n15 => E4; copy 1 1+1:n15 => wrong; copy 0 1+0:n31 => E4; held 1 => 2
 // more bytes than are moved at once
 make strip => 0; make strip => 1; put 0+0:n31 1 => yes; put 0+252:n31 2 => yes; put 0+256:n31 3 => yes
 put 0+508:n31 4 => yes; put 0+512:n31 5 => yes; put 0+764:n31 6 => yes; put 0+768:n31 7 => yes; put 0+796:n31 8 => yes

@@ -132,14 +132,15 @@ module _ (p : Place) (w : World) where
 
 -- ---- copies
 
-module _ (source target : Place) (w : World) (part : is_area source.description ≡ false) (equal : same source.description target.description ≡ true) where
+module _ (source target : Place) (w : World) where
   pub copied_refused : {T U : Type 0} (view : T → List Value) (other : U → Unit {0}) (after : World) (f : StoreFault)
       → Answered view (Err f) w w (parts_held source w) → Answered other (Err f) w after (copied source target w)
   unfolding copied
-  copied_refused view other after (Raised e) a = rw (part, equal, a) refl
-  copied_refused view other after NoRule a = rw (part, equal, a) refl
+  copied_refused view other after (Raised e) a = rw a refl
+  copied_refused view other after NoRule a = rw a refl
   copied_refused view other after OutOfMemory a = tt
 
-  pub copied_by_bytes : (vs : List Value) → parts_held source w ≡ Yields vs w → copied source target w ≡ parts_stored target vs w
+  pub copied_by_bytes : is_area source.description ≡ false → same source.description target.description ≡ true → (vs : List Value)
+      → parts_held source w ≡ Yields vs w → copied source target w ≡ parts_stored target vs w
   unfolding copied
-  copied_by_bytes vs a = rw (part, equal, a) refl
+  copied_by_bytes part equal vs a = rw (a, part, equal) refl

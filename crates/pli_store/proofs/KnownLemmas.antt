@@ -1,15 +1,12 @@
 -- Known parts of generations to which locators lead.
-use Rattle.std.proofs.Common.{◌≡◌, ℕ, ◌≤◌, ◌+◌, true, nat_eq, List, length, map, get_or, Option, Some, None, IfSome, option_and_then, if◌then◌else◌, refl, sym, ap, subst, ◌∙◌, arith}
+use Rattle.std.proofs.Common.{◌≡◌, ℕ, ◌+◌, List, length, map, get_or, Option, Some, None, IfSome, option_and_then, if◌then◌else◌, refl, sym, ap, subst, ◌∙◌, arith}
 use Rattle.std.specs.Option.{is_some}
 use Rattle.std.proofs.lemmas.Option.{same_Some, slice_get_read}
-use Rattle.pli_map.specs.Description.{Description}
-use Rattle.pli_map.specs.Same.{same}
 use Rattle.pli_map.specs.Scalars.{first_scalar}
 use Rattle.pli_map.specs.views.DescriptionView.{description_view}
 use Rattle.pli_map.proofs.ScalarPlaces.{itself}
 use Rattle.pli_run.specs.declared.ending.RunError.TheVariants.{DescriptionMismatch}
 use Rattle.pli_value.specs.declared.locator.Locator.{Locator}
-use Rattle.pli_value.specs.declared.locator.Locator.TheVariants.{Pointer}
 use Rattle.pli_value.specs.Value.{Value}
 use Rattle.pli_world.specs.Locating.{based, located, unless_ended, unless_other}
 use Rattle.pli_world.specs.Storage as plain

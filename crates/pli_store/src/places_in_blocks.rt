@@ -2,6 +2,7 @@
 ghost use Rattle.std.specs.Prelude.{◌≡◌, ◌≢◌, ℕ, false, length, IfOk, OnErr};
 ghost use Rattle.std.specs.Global.{Vec};
 ghost use Rattle.pli_bytes.specs.Contents.{values_of};
+ghost use Rattle.pli_map.specs.Same.{same};
 ghost use Rattle.pli_map.specs.Scalars.{is_area};
 ghost use Rattle.pli_map.specs.Sizes.{size_of};
 ghost use Rattle.pli_map.specs.views.DescriptionView.{description_view};
@@ -17,7 +18,7 @@ use crate::part::is_part;
 use crate::place::Place;
 use crate::storage::Storage;
 use pli_bytes::{put_value_at, value_at};
-use pli_map::{Description, holds, is_scalar};
+use pli_map::{Description, holds, is_area, is_scalar};
 use pli_run::RunError;
 use pli_value::Value;
 use std::alloc::Global;
@@ -163,6 +164,26 @@ impl<'m> Storage<'m> {
         }
         put_value_at(&mut bytes, 0, place.description, value);
         self.put_part_bytes(place, &bytes)
+    }
+
+    /// Why what one place holds is not put at another, where that is of another description or the first is an area's.
+    /// `DeadLocator` where a generation or a block has ended, `DescriptionMismatch` where a block has another whole
+    /// description, first of the source; else `NoRule`, for the source before the target is looked at.
+    pub(crate) fn refuse_copy(&self, source: Place<'_>, target: Place<'_>) -> Result<(), StoreFault>
+        requires { is_area (description_view source.description.now) ≡ false
+            → same (description_view source.description.now) (description_view target.description.now) ≡ false }
+        ensures { (w : World) → Answered (λ _. tt) result (with_storage self.now w) (with_storage self.now w)
+            (copied (place_view source.entry) (place_view target.entry) (with_storage self.now w)) }
+    {
+        let whole = self.whole_of(source)?;
+        if is_area(source.description) {
+            return Err(StoreFault::NoRule);
+        }
+        if !is_part(whole, source.offset, source.description) {
+            return Err(StoreFault::NoRule);
+        }
+        let _other = self.whole_of(target)?;
+        Err(StoreFault::NoRule)
     }
 
     /// What one place holds put at another of an equal description, which is no area's, by its bytes.

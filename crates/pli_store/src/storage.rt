@@ -460,20 +460,20 @@ impl<'m> Storage<'m> {
         }
     }
 
-    /// What one place holds put at another of an equal description; the source is looked at first. `NoRule` where the
-    /// descriptions differ or a place leads to no part, `DeadLocator` where a generation or a block has ended,
-    /// `DescriptionMismatch` where a block has another whole description; then nothing has changed. Takes memory only
-    /// where a place lies in a block.
+    /// What one place holds put at another of an equal description; the source is looked at whole, and then the target.
+    /// `DeadLocator` where a generation or a block has ended, `DescriptionMismatch` where a block has another whole
+    /// description, `NoRule` where a place leads to no part, the source is an area, or the descriptions differ; then
+    /// nothing has changed. Takes memory only where a place lies in a block.
     pub fn copied(&mut self, source: Place<'_>, target: Place<'_>) -> Result<(), StoreFault>
         ensures answer { (w : World) → Answered (λ _. tt) result (with_storage self.old w) (with_storage self.new w)
             (copied (place_view source.entry) (place_view target.entry) (with_storage self.old w)) }
         ensures err { OnErr result (SameStorage self.old self.new) }
     {
         if is_area(source.description) {
-            return Err(StoreFault::NoRule);
+            return self.refuse_copy(source, target);
         }
         if !source.description.equals(target.description) {
-            return Err(StoreFault::NoRule);
+            return self.refuse_copy(source, target);
         }
         if source.position != 0 || target.position != 0 {
             return self.copied_bytes(source, target);

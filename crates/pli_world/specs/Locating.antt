@@ -1,6 +1,6 @@
 -- Storage by locators (X3.53): what a locator leads to, BASED variables outside areas and in them, ADDR, and
 -- pointers as offsets and back.
-use Rattle.std.specs.Prelude.{ℕ, nat_eq, Bool, true, false, ◌&&◌, Option, Some, None, List, [], ◌∷◌}
+use Rattle.std.specs.Prelude.{nat_eq, Bool, true, false, ◌&&◌, Option, Some, None, List, [], ◌∷◌}
 use Rattle.std.specs.Prelude.{if◌then◌else◌}
 use Rattle.pli_run.specs.declared.ending.RunError.TheVariants.{NullLocator, DeadLocator, DescriptionMismatch}
 use Rattle.pli_map.specs.Description.{Description}

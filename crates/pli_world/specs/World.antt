@@ -179,12 +179,14 @@ stored p v w =
     further (used p w) (λ c w. if holds p.description v then parts_stored p (v ∷ []) w else Wrong)
 
 -- what one place holds put at another of an equal description, which is no area's: the source is looked at
--- first
+-- whole, and then the target. It is wrong to copy an area, or to a place of another description, where these
+-- places are not dead
 unfoldable pub copied : (source target : Place) → World → Answer Unit
 copied source target w =
-    if not (is_area source.description) && same source.description target.description
-    then further (parts_held source w) (λ vs w. parts_stored target vs w)
-    else Wrong
+    further (parts_held source w)
+    (λ vs w. if is_area source.description then Wrong
+    else if same source.description target.description then parts_stored target vs w
+    else further (used target w) (λ c w. Wrong))
 
 -- a generation ends
 abbrev pub generation_ended : (generation : ℕ) → World → World

@@ -70,32 +70,55 @@ fn ends_so(alloc: Global, (session, wanted): Row, limits: Limits) -> bool {
     result == Ok(AfterCommand::End) && bytes.as_slice() == wanted
 }
 
-/// Whether the first run fails where so many calls of the writer, of the reader or so many reads are made.
-fn fails_after(alloc: Global, calls: u32) -> bool {
-    let puts = Limits {
-        puts: calls,
-        ..AMPLE
-    };
+/// How many bytes the answers to so many commands of the first run have.
+static ENDS: [usize; 8] = [0, 3, 6, 9, 12, 18, 40, 53];
+
+/// How many bytes a read of the first run moves.
+const PIECE: usize = 15;
+
+/// How many commands of the first run end within so many reads.
+fn commands_within(reads: u32) -> usize {
+    let (session, _) = FIRST_RUN;
+    let taken = (reads as usize).saturating_mul(PIECE).min(session.len());
+    session[..taken]
+        .iter()
+        .filter(|byte| **byte == b'\n')
+        .count()
+}
+
+/// Whether the first run fails so where only so many reads succeed, and just the commands that end in them are answered.
+fn breaks_off(alloc: Global, calls: u32, limits: Limits, fault: ServeFault) -> bool {
+    let (session, answers) = FIRST_RUN;
+    let (result, bytes) = served(alloc, session, limits);
+    let wanted = ENDS.get(commands_within(calls)).copied();
+    result == Err(fault) && answers.starts_with(bytes.as_slice()) && wanted == Some(bytes.len())
+}
+
+/// Whether the first run breaks off so where so many calls of the reader succeed, and where so many reads are allowed.
+fn breaks_off_after(alloc: Global, calls: u32) -> bool {
     let takes = Limits {
-        piece: 15,
+        piece: PIECE,
         takes: calls,
         ..AMPLE
     };
     let reads = Limits {
-        piece: 15,
+        piece: PIECE,
         reads: u64::from(calls),
         ..AMPLE
     };
-    fails_so(alloc, FIRST_RUN, puts, ServeFault::WriteFailed)
-        && fails_so(alloc, FIRST_RUN, takes, ServeFault::ReadFailed)
-        && fails_so(alloc, FIRST_RUN, reads, ServeFault::TooManyReads)
+    breaks_off(alloc, calls, takes, ServeFault::ReadFailed)
+        && breaks_off(alloc, calls, reads, ServeFault::TooManyReads)
 }
 
 #[test]
 fn failing_devices(rt: HostRuntime) {
     let alloc = rt.alloc();
-    for calls in 0..10u32 {
-        assert!(rt; fails_after(alloc, calls));
+    for calls in 0..11u32 {
+        assert!(rt; breaks_off_after(alloc, calls));
+    }
+    for puts in 0..10u32 {
+        let limits = Limits { puts, ..AMPLE };
+        assert!(rt; fails_so(alloc, FIRST_RUN, limits, ServeFault::WriteFailed));
     }
     let limits = Limits {
         piece: 4096,

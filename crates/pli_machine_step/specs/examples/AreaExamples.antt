@@ -96,3 +96,12 @@ AreasFault =
     × Fault (Global 2 ∷ Load ∷ Global 0 ∷ ToPointer ∷ [])
     × Fault (Global 4 ∷ AllocateInArea made_as_five 0 ∷ [])
     × Fault (Global 0 ∷ AllocateInArea (record { description = Area 8; initial = [] }) 0 ∷ [])
+
+-- from a block that has ended nothing is copied, nor to it, also where what the other place has is of another
+-- description
+abbrev pub CopiesFail : Type 0
+CopiesFail =
+    FailBy 64 error.DeadLocator
+    (with_block (Global 2 ∷ Global 2 ∷ Load ∷ Based (FixedBinary 15) ∷ Global 0 ∷ EmptyArea ∷ Copy ∷ []))
+    × FailBy 64 error.DeadLocator
+    (with_block (Global 2 ∷ Load ∷ Based (FixedBinary 15) ∷ Global 0 ∷ EmptyArea ∷ Global 2 ∷ Copy ∷ []))

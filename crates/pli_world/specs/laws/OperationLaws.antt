@@ -1,10 +1,9 @@
 -- Each operation keeps what it should: a lemma for each.
-use Rattle.std.specs.Prelude.{ℕ, suc, ◌+◌, ◌-◌, nat_eq, nat_le, nat_lt, Bool, true, false, not, ◌&&◌}
+use Rattle.std.specs.Prelude.{ℕ, suc, ◌+◌, ◌-◌, nat_eq, nat_le, nat_lt, Bool, true, false, ◌&&◌}
 use Rattle.std.specs.Prelude.{Option, ◌*◌, ◌-ℤ◌, int_le, unsigned_abs}
 use Rattle.std.specs.Prelude.{Some, None, List, [], ◌∷◌, ◌++◌, length, slice_get, if◌then◌else◌, refl}
 use Rattle.std.proofs.Common.{◌≡◌, ◌<◌, ◌≤◌, sym, ap, ◌∙◌, subst, arith, append_assoc, append-nil, le-leb}
 use Rattle.std.proofs.lemmas.Bool.{lt-leb}
-use Rattle.pli_base.specs.declared.statement.Condition.{Condition}
 use Rattle.pli_map.specs.Description.{Description}
 use Rattle.pli_run.specs.Print.{print}
 use Rattle.pli_run.specs.declared.ending.RunError.TheVariants.{StorageLimit, SubscriptRange}
@@ -44,7 +43,7 @@ use Rattle.pli_world.specs.World.{made_as, made_once, with_shared, with_static, 
 use Rattle.pli_world.specs.World.{dummy_of, printed, line_ended}
 use Rattle.pli_world.specs.Areas.{place_in, end_of_blocks, with_block, is_whole_area, area_found, with_area}
 use Rattle.pli_world.specs.Areas.{put_at, allocated_in, emptied, assigned, is_within, offset_in, pointer_in}
-use Rattle.pli_world.specs.Conditions.{is_newest, established, reverted, signalled}
+use Rattle.pli_world.specs.Conditions.{is_newest, established, reverted}
 use Rattle.pli_world.specs.Targets.{Target, target_at}
 use Rattle.pli_world.specs.Locating.{unless_ended, unless_other, located, based, pointer_to, based_allocated}
 use Rattle.pli_world.specs.Locating.{ended, is_allocated, based_freed, is_whole_of, addressed, locator_of}
@@ -204,9 +203,18 @@ storing_keeps p x w =
 pub copying_keeps : CopyingKeeps
 unfolding copied
 copying_keeps source target w =
-    guarded (height w) w (not (is_area source.description) && same source.description target.description) _
-    (further_follows (height w) (height w) w (parts_held source w) _ (parts_held_keep source w) refl
-    (λ vs v f. behind (height w) w v _ f (parts_stored_keep target vs v)))
+    further_follows (height w) (height w) w (parts_held source w) _ (parts_held_keep source w) refl
+    (λ vs v f. behind (height w) w v _ f
+    (by vs v (is_area source.description) (same source.description target.description)))
+  where
+    by : (vs : List Value) (v : World) (area alike : Bool)
+        → AnswerFollows (height v) v (if area then Wrong else if alike then parts_stored target vs v
+        else further (used target v) (λ c w. Wrong))
+    by vs v true alike = tt
+    by vs v false true = parts_stored_keep target vs v
+    by vs v false false =
+        further_follows (height v) (height v) v (used target v) (λ c w. Wrong) (using_keeps target v) refl
+        (λ c u f. tt)
 
 -- a place is led on to the limit, and no further
 pub led_near : (offset : ℕ) (d : Description) (p : Place) (w : World) → p.offset + offset ≤ offset_limit

@@ -160,3 +160,6 @@ returns-clause-not_in_area c = areas.not_in_area
 
 pub returns-clause-areas_fault : goal.returns-clause-areas_fault
 returns-clause-areas_fault c = areas.areas_fault
+
+pub returns-clause-copies_fail : goal.returns-clause-copies_fail
+returns-clause-copies_fail c = areas.copies_fail

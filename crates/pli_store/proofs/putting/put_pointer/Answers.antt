@@ -1,4 +1,4 @@
-use Rattle.std.proofs.Common.{[], ◌∷◌, refl}
+use Rattle.std.proofs.Common.{refl}
 use Rattle.pli_map.specs.Description.{Pointer}
 use Rattle.pli_value.specs.Value.{Located}
 use Rattle.pli_store.proofs.PutsSaid.{put_or_same}

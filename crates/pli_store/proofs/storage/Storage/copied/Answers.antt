@@ -10,32 +10,26 @@ use Rattle.pli_store.specs.answers.Found.{PartStands}
 use Rattle.pli_store.specs.answers.Puts.{ValuesPut}
 use Rattle.pli_store.specs.views.GenerationView.{generation_view}
 use Rattle.pli_store.specs.views.StorageView.{place_view, storage_view, with_storage}
-use Rattle.pli_store.proofs.CopyLemmas.{copied_area, copied_other, copied_from_none, copied_to_none, copied_done}
+use Rattle.pli_store.proofs.CopyLemmas.{copied_from_none, copied_to_none, copied_done}
 use Rattle.pli_store.proofs.PartAnswers.{kept_put}
 use Rattle.pli_store.proofs.StandingParts.{part_lives}
 use Rattle.pli_store.proofs.storage.Storage.copied.Goals as goal
 use Rattle.pli_store.proofs.storage.Storage.copied.Goals.{After-copy_part}
 
-pub returns-then-is_area-clause-answer : goal.returns-then-is_area-clause-answer
-returns-then-is_area-clause-answer c = λ w.
-    copied_area (place_view c.args.source) (place_view c.args.target) (with_storage c.args.self.now w) (sym c.is_area.ensures ∙ c.if-is_area.true)
+pub refuse_copy-requires : goal.refuse_copy-requires
+refuse_copy-requires c = λ none. let both = sym (sym c.is_area.ensures ∙ c.if-is_area.true) ∙ none in cc
 
-pub returns-then-not-equals-clause-answer : goal.returns-then-not-equals-clause-answer
-returns-then-not-equals-clause-answer c = λ w.
+pub refuse_copy-requires-then-not-equals : goal.refuse_copy-requires-then-not-equals
+refuse_copy-requires-then-not-equals c = λ none.
     let d = description_view c.args.source.description.now in
     let e = description_view c.args.target.description.now in
-    let told = same_from_decides c.equals.result (same d e) c.equals.ensures (same_decides d e) in
-    copied_other (place_view c.args.source) (place_view c.args.target) (with_storage c.args.self.now w) (sym c.is_area.ensures ∙ c.if-is_area.false) (sym told ∙ c.if-not-equals.true)
+    sym (same_from_decides c.equals.result (same d e) c.equals.ensures (same_decides d e)) ∙ c.if-not-equals.true
 
 pub returns-in_err-from-clause-answer : goal.returns-in_err-from-clause-answer
 returns-in_err-from-clause-answer c = λ w.
-    let d = description_view c.args.source.description.now in
-    let e = description_view c.args.target.description.now in
-    let told = same_from_decides c.equals.result (same d e) c.equals.ensures (same_decides d e) in
     let p = err_from_is_err_and c.from_residual.result c.from_residual.ensures.1 in
     let before = with_storage c.args.self.now w in
-    rw (p.1, p.2) (copied_from_none {T = Unit {0}} (λ x. tt) (place_view c.args.source) (place_view c.args.target) before before c.if-source-ne0.false c.in_err-from.field-0.0 (sym c.is_area.ensures ∙ c.if-is_area.false)
-    (sym told ∙ c.if-not-equals.false) c.in_err-from.ensures)
+    rw (p.1, p.2) (copied_from_none {T = Unit {0}} (λ x. tt) (place_view c.args.source) (place_view c.args.target) before before c.if-source-ne0.false c.in_err-from.field-0.0 c.in_err-from.ensures)
 
 pub returns-in_err-to-clause-answer : goal.returns-in_err-to-clause-answer
 returns-in_err-to-clause-answer c = λ w.

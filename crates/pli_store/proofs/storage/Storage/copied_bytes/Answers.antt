@@ -16,10 +16,8 @@ pub returns-in_err-bytes-clause-answer : goal.returns-in_err-bytes-clause-answer
 returns-in_err-bytes-clause-answer c = λ w.
     let p = err_from_is_err_and c.from_residual.result c.from_residual.ensures.1 in
     let d = description_view c.args.source.description.now in
-    let e = description_view c.args.target.description.now in
-    let equal : same d e ≡ true = (same_decides d e).1 c.requires.same in
     let before = with_storage c.args.self.now w in
-    rw (p.1, p.2) (copied_refused (place_view c.args.source) (place_view c.args.target) before c.requires.part equal
+    rw (p.1, p.2) (copied_refused (place_view c.args.source) (place_view c.args.target) before
     {U = Unit {0}} (λ (bytes : Vec ℕ). values_of d bytes.items) (λ x. tt) before c.in_err-bytes.field-0.0 (c.in_err-bytes.ensures.held w))
 
 pub put_part_bytes-requires : goal.put_part_bytes-requires

@@ -1,4 +1,4 @@
-use Rattle.std.proofs.Common.{length, ap, sym, ◌∙◌, arith}
+use Rattle.std.proofs.Common.{ap, ◌∙◌, arith}
 use Rattle.pli_value.specs.declared.locator.Locator.TheVariants.{Pointer}
 use Rattle.pli_store.proofs.PlaceLemmas.{within_store}
 use Rattle.pli_store.proofs.KnownLemmas.{generation_described}

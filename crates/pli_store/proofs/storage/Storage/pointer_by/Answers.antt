@@ -1,4 +1,4 @@
-use Rattle.std.proofs.Common.{length, refl, arith}
+use Rattle.std.proofs.Common.{refl, arith}
 use Rattle.pli_value.specs.Value.{Located}
 use Rattle.pli_store.proofs.KnownLemmas.{part_leads, part_place, read_by, some_each}
 use Rattle.pli_store.proofs.PlaceLemmas.{within_store}

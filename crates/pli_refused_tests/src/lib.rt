@@ -1,0 +1,5 @@
+//! Tests of what is kept where memory is refused.
+#![tactic(auto)]
+
+#[cfg(test)]
+mod tests;
