@@ -1,3 +1,4 @@
+mod Appended
 mod AttributesMet
 mod BlocksOutwards
 mod Goodness
