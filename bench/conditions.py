@@ -171,11 +171,11 @@ class Conditions:
         """What raises a condition, or may do so."""
         number = self.chosen(["1"], ["I"], ["J"], ["N"], ["L"], ["Z_"] if self.leaves() in ("procedure", "function") else ["K"])
         return self.chosen(
-            ["(", "2147483647", "+", *number, ")"],
-            ["(", *number, "*", "2147483647", ")"],
-            ["(", "-", "2147483647", "-", *number, ")"],
+            ["(", "9223372036854775807", "+", *number, ")"],
+            ["(", *number, "*", "9223372036854775807", ")"],
+            ["(", "-", "9223372036854775807", "-", *number, ")"],
             ["MOD", "(", *number, ",", self.chosen("0", "K", "L"), ")"],
-            ["DIVIDE", "(", *number, ",", self.chosen("0", "J", "L"), ",", self.chosen("3", "15", "31"), ")"],
+            ["DIVIDE", "(", *number, ",", self.chosen("0", "J", "L"), ",", self.chosen("3", "15", "31", "63"), ")"],
             ["DIVIDE", "(", "30000", ",", *number, ",", self.chosen("3", "7"), ")"],
         )
 

@@ -1,5 +1,5 @@
 #!/usr/bin/env python3
-"""damaged.py [--write]: what is wrong with some 26,000 damaged modules, by a plain reader of decks and modules of its own.
+"""damaged.py [--write]: what is wrong with some 32,000 damaged modules, by a plain reader of decks and modules of its own.
 
 The reader is written from docs/FORMAT.md alone: it reads from the front on, byte by byte, and looks at the limits at the end. It shares nothing
 with the compiler. The modules are those that the tests of damaged.rt in crates/pli_bench_tests make, of the modules that
@@ -36,7 +36,10 @@ OPERANDS = {
     0x30: "2g", 0x31: "2g", 0x32: "2g", 0x33: "2t", 0x34: "2t 2i", 0x35: "2D", 0x38: "1c 2b", 0x39: "1c", 0x3A: "1c", 0x3D: "2", 0x3E: "2",
 }  # fmt: skip
 LAST_INSTRUCTION = 0x3F
-RANGES = {"e": (1, 13), "p": (1, 31), "k": (0, 5), "c": (0, 2), "l": (-32767, 32767)}
+RANGES = {"e": (1, 13), "k": (0, 5), "c": (0, 2), "l": (-32767, 32767)}
+
+# The versions, each with the bytes of a number as a value, and the greatest precision.
+VERSIONS = {1: (4, 31), 2: (8, 63)}
 
 
 sys.setrecursionlimit(10 * MOST_LEVELS)
@@ -76,12 +79,15 @@ class Bytes:
     def list(self, read):
         return [read() for _ in range(self.number(2))]
 
-    def begin(self, letters):
+    def begin(self, letters, versions):
+        """The letters and the version, which is one of these."""
         if self.left[:4] != letters:
             raise Fault(1)
         self.take(4)
-        if self.number(1) != 1:
+        version = self.number(1)
+        if version not in versions:
             raise Fault(2)
+        return version
 
     def end(self):
         if self.left:
@@ -89,11 +95,11 @@ class Bytes:
 
 
 class Deck:
-    """A deck, whose bytes are all that is given."""
+    """A deck of one of these versions, whose bytes are all that is given."""
 
-    def __init__(self, given):
+    def __init__(self, given, versions=VERSIONS):
         self.bytes = given = Bytes(given)
-        given.begin(b"PLID")
+        self.number_size, self.most_digits = VERSIONS[given.begin(b"PLID", versions)]
         given.name()
         given.number(1, 0, 1)
         self.described = self.signature()
@@ -120,7 +126,7 @@ class Deck:
         if level > MOST_LEVELS:
             raise Fault(5)
         if tag == 1:
-            return tag, given.number(1, 1, 31)
+            return tag, given.number(1, 1, self.most_digits)
         if tag < 5:
             return tag, given.number(2, 1, 32767)
         if tag == 7:
@@ -144,7 +150,7 @@ class Deck:
         given = self.bytes
         tag = given.number(1, 1, 5)
         if tag == 1:
-            return tag, given.number(4, -(2**31) + 1, signed=True)
+            return tag, given.number(self.number_size, 1 - 2**self.most_digits, signed=True)
         if tag == 2:
             return tag, len(given.take(given.number(2, 0, 32767)))
         if tag == 3:
@@ -182,7 +188,8 @@ class Deck:
         given, named = self.bytes, []
         for operand in OPERANDS.get(given.number(1, 1, LAST_INSTRUCTION), "").split():
             size, kind = int(operand[0]), operand[1:]
-            named.append((kind, given.number(size, *RANGES.get(kind, ()), signed=kind == "l")))
+            within = (1, self.most_digits) if kind == "p" else RANGES.get(kind, ())
+            named.append((kind, given.number(size, *within, signed=kind == "l")))
         return named
 
     def look_at_jumps(self):
@@ -225,7 +232,8 @@ def extent(description):
     """The size and the alignment of a description."""
     tag, *rest = description
     if tag == 1:
-        return (2, 2) if rest[0] <= 15 else (4, 4)
+        size = 2 if rest[0] <= 15 else 4 if rest[0] <= 31 else 8
+        return size, size
     if tag == 2:
         return rest[0], 1
     if tag == 3:
@@ -284,7 +292,7 @@ class Module:
 
     def __init__(self, given):
         self.bytes = given = Bytes(given)
-        given.begin(b"PLIM")
+        self.version = given.begin(b"PLIM", VERSIONS)
         units = given.number(2, 1, 999)
         main = given.number(2)
         self.externals, before = [], b""
@@ -302,7 +310,7 @@ class Module:
     def unit(self):
         given = self.bytes
         given.name()
-        deck = Deck(given.take(given.number(4)))
+        deck = Deck(given.take(given.number(4)), {self.version})
         outer = [kind for kind, _ in deck.globals if kind > 1]
         count = given.number(2)
         if count != len(outer):

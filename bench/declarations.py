@@ -71,7 +71,7 @@ GRAMMAR = """
         | ! ~ character numbers | ! ~ PTR bits | ! ~ fixed BIN nulls | ! ~ fixed BIN characters
     fixed = FIXED | 3x FIXED precision
     binary = BIN | 3x BIN precision
-    precision = ( 15 ) | ( 31 ) | ( 3 ) | ( 101B ) | ( 16 , 0 ) | ! ( 0 ) | ! ( 32 ) | ! ( 100000B )
+    precision = ( 15 ) | ( 31 ) | ( 63 ) | ( 3 ) | ( 101B ) | ( 32 , 0 ) | ! ( 0 ) | ! ( 64 ) | ! ( 1000000B )
     character = CHAR length
     bit = BIT length
     length = 3x | ( 5 ) | ( 80 ) | ( 1000 ) | ( 32767 ) | ! ( 0 ) | ! ( 32768 )
@@ -79,7 +79,7 @@ GRAMMAR = """
     storage = STATIC | AUTO | CTL | BASED | EXT | INT | ~ STATIC EXT | ~ CTL EXT | ! ~ STATIC CTL | ! ~ AUTO EXT | ! EXT INT
         | ! ~ BASED EXT | ! INT INT
     numbers = 6x INIT ( number ) | INIT ( number , number ) | INIT ( ( 3 ) number ) | INIT ( ( 2 ) 1 , number )
-    number = 1 | 7 | - 7 | 32767 | + 101B | ! 32768 | ! 999999
+    number = 1 | 7 | - 7 | 32767 | + 101B | ! 32768 | ! 999999 | ! 9223372036854775807
     characters = 5x INIT ( 'ABC' ) | INIT ( 'A' , '' )
     bits = 5x INIT ( '1'B ) | INIT ( 'F0'B4 , ''B )
     nulls = 5x INIT ( NULL ) | INIT ( NULL ( ) , NULL )

@@ -32,7 +32,8 @@ NO_VARIABLE = {"ENTRY", "BUILTIN"}
 LEVEL_1_ONLY = STORAGE | SCOPE | NO_VARIABLE
 NOT_OF_PARAMETERS = LEVEL_1_ONLY | {"INITIAL"}
 
-MOST = {"FIXED": 31, "BINARY": 31, "CHARACTER": 32_767, "BIT": 32_767, "AREA": 1_000_000}
+MOST_DIGITS = 63
+MOST = {"FIXED": MOST_DIGITS, "BINARY": MOST_DIGITS, "CHARACTER": 32_767, "BIT": 32_767, "AREA": 1_000_000}
 MOST_DIMENSIONS = 8
 MOST_LEVEL = 255
 MOST_PARAMETERS = 64
@@ -157,7 +158,7 @@ class Description:
     def element(self):
         """Size and alignment of one element of a type."""
         if self.data == {"number"}:
-            return (2, 2) if self.precision() <= 15 else (4, 4)
+            return number_size(self.precision())
         if self.data == {"characters"}:
             length = self.number("CHARACTER", 1)
             return (2 + length, 2) if "VARYING" in self.has else (length, 1)
@@ -173,6 +174,12 @@ def dimensions_of(parts):
     if parts and parts[0][0] == "dimensions":
         return parts[0][1:], parts[1:]
     return (), parts
+
+
+def number_size(precision):
+    """Size and alignment of a number of so many binary digits."""
+    size = 2 if precision <= 15 else 4 if precision <= 31 else 8
+    return size, size
 
 
 def rounded(size, alignment):
@@ -266,7 +273,7 @@ class Item(Named):
             return data <= {"locator", "offset"}
         if constant.startswith("'"):
             return data <= {"characters" if constant.endswith("'") else "bits"}
-        return data <= {"number"} and abs(value(constant)) < 2 ** min(self.description.precision(), 31)
+        return data <= {"number"} and abs(value(constant)) < 2 ** min(self.description.precision(), MOST_DIGITS)
 
     def size_is_known(self):
         return not 3 <= min(self.codes(), default=99) <= 7 and all(member.size_is_known() for member in self.members)

@@ -30,7 +30,7 @@ FOLDERS = ["examples", "units", "conditions", "storage"]
 
 # The variables that each program has, with their kinds: a number, characters or bits, and how one is written.
 VARIABLES = """
-    DCL ( I , J , K ) FIXED BIN ( 15 ) , N FIXED BIN ( 31 ) INIT ( 5 ) , L FIXED BIN ( 3 ) ;
+    DCL ( I , J , K ) FIXED BIN ( 15 ) , N FIXED BIN ( 31 ) INIT ( 5 ) , L FIXED BIN ( 3 ) , WIDE FIXED BIN ( 63 ) INIT ( 4294967295 ) ;
     DCL C CHAR ( 4 ) INIT ( 'ABCD' ) , V CHAR ( 6 ) VAR INIT ( 'XY' ) , D CHAR ( 3 ) STATIC ;
     DCL B BIT ( 4 ) INIT ( '1010'B ) , F BIT STATIC INIT ( '1'B ) ;
     DCL A ( 3 ) FIXED BIN ( 15 ) INIT ( 1 , - 2 , 3 ) , M ( 0 : 1 , 2 ) CHAR ( 2 ) INIT ( 'P' , 'QR' , 'QR' ) , A2 ( 3 ) FIXED BIN ( 15 ) ;
@@ -55,7 +55,7 @@ HANG = """
 """.split()
 AREAS = """
     DCL W1 AREA ( 69 ) , W2 AREA ( 56 ) , W3 AREA ( 48 ) CTL , ( O1 , O2 ) OFFSET ( W1 ) , O3 ( 2 ) OFFSET ( W2 ) STATIC INIT ( NULL ) , O4 OFFSET , O5 OFFSET ( W3 ) ;
-    DCL E1 FIXED BIN ( 15 ) BASED ( O1 ) INIT ( 3 ) , E2 ( 2 ) CHAR ( 3 ) BASED , 1 E3 BASED ( O2 ) , 2 E4 FIXED BIN ( 31 ) INIT ( 8 ) , 2 E5 OFFSET ( W1 ) , 1 E6 , 2 E7 FIXED BIN ( 31 ) , 2 E8 OFFSET ;
+    DCL E1 FIXED BIN ( 15 ) BASED ( O1 ) INIT ( 3 ) , E2 ( 2 ) CHAR ( 3 ) BASED , 1 E3 BASED ( O2 ) , 2 E4 FIXED BIN ( 63 ) INIT ( 8 ) , 2 E5 OFFSET ( W1 ) , 1 E6 , 2 E7 FIXED BIN ( 63 ) , 2 E8 OFFSET ;
 """.split()
 HEAP = """
     HEAP : PROC ( Z , W , U ) RETURNS ( OFFSET ( W1 ) ) ; DCL Z AREA ( 50 ) , W OFFSET ( Z ) , U FIXED BIN ( 15 ) , E FIXED BIN ( 15 ) BASED ( W ) , R PTR , Y OFFSET ( W1 ) ;
@@ -66,7 +66,7 @@ ROUTINES = """
     ADD1 : PROC ( Z ) ; DCL Z FIXED BIN ( 15 ) ; Z = Z + 1 ; PUT LIST ( Z ) ; END ADD1 ;
     CAT : PROC ( Z , W ) RETURNS ( CHAR ( 5 ) VAR ) ; DCL Z CHAR ( 4 ) , W CHAR ( 3 ) VAR ; IF LENGTH ( W ) = 0 THEN RETURN ( Z ) ; W = '' ;
         RETURN ( W || Z ) ; END CAT ;
-    FACT : PROC ( Z ) RETURNS ( FIXED BIN ( 31 ) ) ; DCL Z FIXED BIN ( 15 ) ; IF Z < 2 THEN RETURN ( 1 ) ;
+    FACT : PROC ( Z ) RETURNS ( FIXED BIN ( 63 ) ) ; DCL Z FIXED BIN ( 15 ) ; IF Z < 2 THEN RETURN ( 1 ) ;
         RETURN ( Z * FACT ( Z - 1 ) ) ; END FACT ;
     ODD : PROC ( Z ) RETURNS ( BIT ) ; DCL Z FIXED BIN ( 15 ) , W FIXED BIN ( 15 ) STATIC INIT ( 0 ) ; W = W + 1 ; N = N + W ;
         IF Z = 13 THEN GOTO AWAY ; IF Z = 11 THEN ; ELSE RETURN ( MOD ( Z , 2 ) = 1 ) ; END ODD ;
@@ -112,7 +112,7 @@ class Grower:
         return [{"number": self.number_constant, "characters": self.characters_constant, "bits": self.bits_constant}[kind]()]
 
     def number_constant(self):
-        return self.chosen("0", "1", "2", "3", "7", "12", "007", "101B", "30000", "2147483647", "1B")
+        return self.chosen("0", "1", "2", "3", "7", "12", "007", "101B", "30000", "2147483647", "4294967296", "9223372036854775807", "1B")
 
     def characters_constant(self):
         return self.chosen("''", "'A'", "'BC'", "'DE F'", "'QR'", "' '", "'A''B'")
@@ -125,7 +125,7 @@ class Grower:
 
     def variable(self, kind):
         if kind == "number":
-            return self.chosen(["I"], ["J"], ["K"], ["N"], ["L"], ["A", "(", *self.subscript(3), ")"], ["S", ".", "X"], ["X"],
+            return self.chosen(["I"], ["J"], ["K"], ["N"], ["L"], ["WIDE"], ["A", "(", *self.subscript(3), ")"], ["S", ".", "X"], ["X"],
                                ["T", "(", *self.subscript(2), ")", ".", "P"], ["P", "(", *self.subscript(2), ")"])
         if kind == "characters":
             return self.chosen(["C"], ["V"], ["D"], ["M", "(", self.chosen("0", "1"), ",", *self.subscript(2), ")"],
@@ -142,7 +142,7 @@ class Grower:
             lambda: ["(", *e(), self.chosen("+", "-"), *e(), ")", "*", *self.leaf("number")],
             lambda: [self.chosen("ABS", "SIGN"), "(", *e(), ")"],
             lambda: [self.chosen("MAX", "MIN", "MOD"), "(", *e(), ",", *e(), ")"],
-            lambda: ["DIVIDE", "(", *e(), ",", *e(), ",", "0" if self.slip() else self.chosen("3", "15", "31", "+" if self.slip() else "10"), ")"],
+            lambda: ["DIVIDE", "(", *e(), ",", *e(), ",", "0" if self.slip() else self.chosen("3", "15", "31", "63", "+" if self.slip() else "10"), ")"],
             lambda: ["LENGTH", "(", *e(self.chosen("characters", "bits")), ")"],
             lambda: self.index(depth),
             lambda: [self.chosen("LBOUND", "HBOUND"), "(", *self.chosen(["A", ")", ",", "1"], ["M", ",", "2"], ["M", ",", "1"], ["T", ",", "1"], ["S", ".", "Y", ",", "1"])[:9], ")"]

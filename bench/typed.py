@@ -10,7 +10,7 @@ from math import prod
 import faults
 import reader
 
-MOST_DIGITS = 31
+MOST_DIGITS = faults.MOST_DIGITS
 
 # What is asked again and again of what has been declared.
 remembered = lru_cache(maxsize=8192)
@@ -236,7 +236,7 @@ def size_of(description):
             end, greatest = faults.rounded(end, alignment) + size, max(greatest, alignment)
         return end, greatest
     if kind == NUMBER:
-        return (2, 2) if given <= 15 else (4, 4)
+        return faults.number_size(given)
     if kind == VARYING:
         return 2 + given, 2
     if kind in (POINTER, OFFSET):

@@ -26,6 +26,7 @@ FEW_STEPS, MANY_STEPS = 40, 5000
 # The variables of each unit, as runs.py has them; @ stands where words of storage may.
 DECLARED = """
     I @ FIXED BIN ( 15 ) | J @ FIXED BIN ( 15 ) INIT ( 2 ) | K @ FIXED BIN ( 15 ) | N @ FIXED BIN ( 31 ) INIT ( 5 ) | L @ FIXED BIN ( 3 )
+    WIDE @ FIXED BIN ( 63 ) INIT ( 4294967295 )
     C @ CHAR ( 4 ) INIT ( 'ABCD' ) | V CHAR ( 6 ) VAR @ INIT ( 'XY' ) | D CHAR ( 3 ) @ | B BIT ( 4 ) @ INIT ( '1010'B ) | F BIT INIT ( '1'B ) @
     A ( 3 ) FIXED BIN ( 15 ) @ INIT ( 1 , - 2 , 3 ) | M ( 0 : 1 , 2 ) @ CHAR ( 2 ) INIT ( 'P' , 'QR' , 'QR' ) | A2 ( 3 ) @ FIXED BIN ( 15 )
     1 S @ , 2 X FIXED BIN ( 31 ) INIT ( 7 ) , 2 Y ( 2 ) BIT ( 3 ) | 1 S2 @ , 2 X1 FIXED BIN ( 31 ) , 2 Y1 ( 2 ) BIT ( 3 ) INIT ( '11'B )
@@ -37,7 +38,7 @@ DECLARED = [declared.split() for declared in DECLARED if declared.strip()]
 SIGNATURES = {
     "ADD1": (["FIXED BIN ( 15 )"], None),
     "CAT": (["CHAR ( 4 )", "CHAR ( 3 ) VAR"], "CHAR ( 5 ) VAR"),
-    "FACT": (["FIXED BIN ( 15 )"], "FIXED BIN ( 31 )"),
+    "FACT": (["FIXED BIN ( 15 )"], "FIXED BIN ( 63 )"),
     "ODD": (["FIXED BIN ( 15 )"], "BIT"),
     "FILL": (["( 3 ) FIXED BIN ( 15 )", "FIXED BIN ( 15 )"], None),
     "DOWN": (["FIXED BIN ( 15 )"], None),

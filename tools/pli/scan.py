@@ -2,7 +2,7 @@
 import re
 from collections import namedtuple
 
-GREATEST_NUMBER = 2147483647
+GREATEST_NUMBER = 2**63 - 1
 
 
 class Token(namedtuple("Token", "kind text spelled source line column")):
@@ -21,7 +21,7 @@ PIECE = re.compile(
     | (?P<bits>(?:'[01]*'B1?|'[0-3]*'B2|'[0-7]*'B3|'[0-9A-F]*'B4)(?![A-Z0-9_$]))
     | (?P<X6>'(?:[^'\n]|'')*+'B[A-Z0-9_$]*)
     | (?P<string>'(?:[^'\n]|'')*+') | (?P<X2>')
-    | (?P<number>[0-9]{1,10}(?![A-Z0-9_$.])) | (?P<binary>[01]{1,31}B(?![A-Z0-9_$.])) | (?P<X4>[0-9][A-Z0-9_$.]*)
+    | (?P<number>[0-9]{1,19}(?![A-Z0-9_$.])) | (?P<binary>[01]{1,63}B(?![A-Z0-9_$.])) | (?P<X4>[0-9][A-Z0-9_$.]*)
     | (?P<name>[A-Z][A-Z0-9_$]{0,30}(?![A-Z0-9_$])) | (?P<X5>[A-Z][A-Z0-9_$]*)
     | (?P<sign>->|\|\||<=|>=|[\^~][=<>]|[-+*(),.;:=<>&|^~%])
     | (?P<X3>.)""",

@@ -33,7 +33,7 @@ def unused(unit, items):
 
 def cut(item, token, sign=""):
     """What is wrong with a constant that goes to an item, if it is sure."""
-    characters, most = item.size(CHARACTER, 1), 2 ** min(item.size(NUMBER, 15), 31) - 1
+    characters, most = item.size(CHARACTER, 1), 2 ** min(item.size(NUMBER, 15), 63) - 1
     if token.kind == "string" and item.has(CHARACTER) and len(token.text[1:-1].replace("''", "'")) > characters:
         yield token, f"this constant is cut: {item.name} has {characters} character{'s' * (characters > 1)}"
     if token.kind in ("number", "binary") and item.has(NUMBER):

@@ -22,7 +22,7 @@ X4  DCL X FIXED BIN(15); X = @2.5;
     numbers with a point or an exponent; count the smallest part
 X4  DCL X FIXED BIN(15); X = @2E5;
     numbers with a point or an exponent; count the smallest part
-X4  DCL X FIXED BIN(15); X = @99999999999;
+X4  DCL X FIXED BIN(15); X = @99999999999999999999;
 I4  @%PAGE;
     preprocessor statements other than %INCLUDE; write one %INCLUDE for each member
 P2  @SELECT; WHEN(1) ; END;
@@ -70,16 +70,16 @@ P4  DCL X FIXED BIN(15) INIT(1 @+ 2);
 P4  DCL (X @FIXED, Y) BIN(15);
     attributes within a list of names; write them behind the list, or an item for each name
 P4  DCL F ENTRY(@FLOAT);
-    FLOAT; write FIXED BIN(31) and count the smallest part
+    FLOAT; write FIXED BIN(63) and count the smallest part
 P4  S: PROC(X @FIXED BIN(15)); END;
     attributes in a list of parameters; write DCL X .. in the procedure
 P4  PUT LIST @1;
 P5  DCL X FIXED @DEC(5);
-    DEC; write FIXED BIN(p), with up to 31 binary digits
+    DEC; write FIXED BIN(p), with up to 63 binary digits
 P5  DCL X @FLOAT;
-    FLOAT; write FIXED BIN(31) and count the smallest part
+    FLOAT; write FIXED BIN(63) and count the smallest part
 P5  DCL X @COMPLEX;
-    COMPLEX; write FIXED BIN(31) and count the smallest part
+    COMPLEX; write FIXED BIN(63) and count the smallest part
 P5  DCL X @PICTURE '999';
     PICTURE; write CHAR(n), and edit by SUBSTR and ||
 P5  DCL X FIXED BIN(15) @DEFINED Y;
@@ -125,7 +125,7 @@ P11  DO FOREVER@; END;
     FOREVER; write DO WHILE('1'B)
 P11  DO I@; END;
 P12  DCL F ENTRY RETURNS(@FLOAT);
-    FLOAT; write FIXED BIN(31) and count the smallest part
+    FLOAT; write FIXED BIN(63) and count the smallest part
 P13  DCL X CHAR(@*);
     * extents; write the length or the bounds
 P13  DCL N FIXED BIN(15), X(@N) BIT;

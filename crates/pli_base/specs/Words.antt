@@ -74,7 +74,3 @@ name_first _ = None
 -- a name with its token
 abbrev pub SpellsIdentifier : ℕ → Tokens → Identifier → Type 0
 SpellsIdentifier p ts i = (ts ≡ Word i.name ∷ []) × (i.at ≡ p)
-
--- the precision of the FIXED BINARY variables that can be declared
-abbrev pub declared_precision : ℕ
-declared_precision = 31

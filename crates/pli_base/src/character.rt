@@ -25,9 +25,9 @@ pub fn is_name_character(byte: u8) -> bool
     is_letter(byte) || is_digit(byte) || matches!(byte, b'_' | b'$')
 }
 
-/// The value of at most 18 decimal digits.
+/// The value of at most 19 decimal digits.
 pub fn decimal_value(digits: &[u8]) -> u64
-    requires count { length digits.now ≤ 18 }
+    requires count { length digits.now ≤ 19 }
     requires form { IsTrue (list_all is_digit digits.now) }
     ensures value { result ≡ value_in 10 digits.now }
     ensures below { result < 10 ^ length digits.now }

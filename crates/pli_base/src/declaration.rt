@@ -13,15 +13,15 @@ use std::alloc::{AllocError, Global};
 #[derive(Clone, Copy)]
 pub struct Integer {
     pub negative: bool,
-    pub value: u32,
+    pub value: u64,
 }
 
 impl Integer {
     /// The number that it spells.
-    pub fn number(self) -> i64
+    pub fn number(self) -> i128
         ensures { result ≡ integer_of self }
     {
-        let value = i64::from(self.value);
+        let value = i128::from(self.value);
         if self.negative { 0 - value } else { value }
     }
 }
@@ -36,7 +36,7 @@ pub struct WrittenBounds {
 /// A value in INITIAL. A factor says how many elements have it (X3.74).
 #[derive(Drop)]
 pub enum InitialValue {
-    Integer { factor: Option<u32>, value: Integer },
+    Integer { factor: Option<u64>, value: Integer },
     Characters(CharacterString),
     Bits(BitString),
     Null,
@@ -47,19 +47,19 @@ pub enum InitialValue {
 #[derive(Drop)]
 pub enum SimpleAttribute {
     /// With a precision. Its scale is 0, and leaves no trace.
-    Fixed(Option<u32>),
+    Fixed(Option<u64>),
     /// With a precision. Its scale is 0, and leaves no trace.
-    Binary(Option<u32>),
+    Binary(Option<u64>),
     /// With a length.
-    Character(Option<u32>),
+    Character(Option<u64>),
     /// With a length.
-    Bit(Option<u32>),
+    Bit(Option<u64>),
     Varying,
     Pointer,
     /// With the name of an area.
     Offset(Option<Name>),
     /// With a size.
-    Area(Option<u32>),
+    Area(Option<u64>),
     /// With a locator, a name qualified by those before it.
     Based(Option<Vec<Name>>),
     Controlled,
@@ -100,7 +100,7 @@ pub enum Attribute {
 /// An item of DECLARE: one name, or names in parentheses that have the rest in common (X3.74).
 #[derive(Drop)]
 pub struct Item {
-    pub level: Option<u32>,
+    pub level: Option<u64>,
     pub names: Vec<Identifier>,
     pub dimensions: Vec<WrittenBounds>,
     pub attributes: Vec<Attribute>,

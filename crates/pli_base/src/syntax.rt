@@ -12,8 +12,8 @@ pub struct Identifier {
 /// What a constant says, as its token does (X3.74).
 #[derive(Drop)]
 pub enum ConstantValue {
-    Decimal { value: u32, digits: u8 },
-    Binary { value: u32, digits: u8 },
+    Decimal { value: u64, digits: u8 },
+    Binary { value: u64, digits: u8 },
     Characters(CharacterString),
     Bits(BitString),
 }

@@ -35,14 +35,14 @@ pub enum Sign {
     Percent,
 }
 
-/// What a token says. Names are in upper case. A decimal constant is its value, at most 2147483647, and its number of
-/// digits, 1 to 10, so that `07` differs from `7`; a binary constant is its value and its number of digits, 1 to 31, which
-/// is its precision (own). A character constant is its characters, a bit constant its bits (X3.74).
+/// What a token says. Names are in upper case. A decimal constant is its value, at most 9223372036854775807, and its number
+/// of digits, 1 to 19, so that `07` differs from `7`; a binary constant is its value and its number of digits, 1 to 63,
+/// which is its precision (own). A character constant is its characters, a bit constant its bits (X3.74).
 #[derive(Drop)]
 pub enum TokenText {
     Word(Name),
-    Decimal { value: u32, digits: u8 },
-    Binary { value: u32, digits: u8 },
+    Decimal { value: u64, digits: u8 },
+    Binary { value: u64, digits: u8 },
     Characters(CharacterString),
     Bits(BitString),
     Sign(Sign),

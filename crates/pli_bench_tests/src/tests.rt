@@ -9,9 +9,11 @@ mod exact;
 mod found;
 mod machine;
 mod outcome;
+mod recorded;
 mod rows;
 mod serving;
 mod statuses;
+mod versions;
 mod written;
 
 use std::process::Abort;

@@ -12,7 +12,7 @@ use Rattle.pli_deck_laws.proofs.FieldsFit.{fits_name}
 use Rattle.pli_link.specs.Link.{link_faults, link_of}
 use Rattle.pli_link.specs.Links.{linked_unit, module_of}
 use Rattle.pli_link.specs.Names.{externals, procedures}
-use Rattle.pli_link.specs.Units.{Compiled}
+use Rattle.pli_link.specs.Units.{Compiled, AreWritten}
 use Rattle.pli_link.specs.declared.linking.LinkFault.{LinkFault}
 use Rattle.pli_link_laws.specs.LinkedModules.{HasShortDeck, IsSaidAlone}
 use Rattle.pli_link_laws.proofs.LinkedFrom.{of_faultless}
@@ -50,7 +50,7 @@ module _ (entries : List (Name × Member)) where
         let formed = subst IsWellFormed (sym h.0.is) (named_formed u.name h.0.tree (tree_formed entries u.name h.0.tree h.0.spelled)) in (
           record {
             named = fits_name u.name typed.0.name;
-            is_deck = units_are_said u (coded_tree u).deck h.0.numbered formed h.0.fits refl typed.0.deck;
+            is_deck = units_are_said u (coded_tree u).deck h.0.numbered formed h.0.fits refl refl typed.0.deck;
             short = short.0;
           },
           all_said us h.1 typed.1 short.1,
@@ -72,6 +72,16 @@ module _ (entries : List (Name × Member)) where
       let all = length-append (units_in entries x.0 x.1.kind) (all_units entries xs) in
       omega (arith, one, others, all)
 
+trees_written : (us : List TypedUnit) → AreWritten (map coded_tree us)
+trees_written [] = tt
+trees_written (u ∷ us) = (refl, trees_written us)
+
+-- units without diagnostics have decks of the written version
+pub units_are_written : (entries : List (Name × Member)) → all_text entries entries ≡ [] → AreWritten (all_units entries entries)
+units_are_written entries none =
+    let trees = all_coded entries entries none in
+    subst AreWritten (sym trees.coded) (trees_written trees.trees)
+
 pub built_modules_are_spelled : BuiltModulesAreSpelled
 unfolding scratch
 built_modules_are_spelled entries m few is typed short =
@@ -84,4 +94,4 @@ built_modules_are_spelled entries m few is typed short =
     let said = subst (λ (n : Module). AllByRecursion IsTypedUnit n.units → AllByRecursion HasShortDeck n.units → AllByRecursion IsSaidAlone n.units) same
     (all_said entries (keys_of (externals coded)) (procedures coded) trees.trees trees.good) in
     let fewer = units_few entries entries in
-    linked_modules_are_spelled cs m made.of (omega (arith, fewer, few)) (said typed short)
+    linked_modules_are_spelled cs m (units_are_written entries made.none) made.of (omega (arith, fewer, few)) (said typed short)

@@ -1,12 +1,12 @@
 -- What a field reads is what it spells, and what it spells it reads again: for each way to make a field.
-use Rattle.std.proofs.Common.{◌≡◌, ℕ, zero, suc, ◌+◌, ◌*◌, ◌%◌, ◌^◌, ◌<◌, ℤ, unsigned_abs, nat_lt, Bool, true, false, ◌&&◌, cond, List, [], ◌∷◌, ◌++◌, length, take, drop, Result, Ok, Err, refl, sym, ap, subst, ◌∙◌, append_assoc, arith, inl, inr}
+use Rattle.std.proofs.Common.{◌≡◌, ℕ, zero, suc, ◌+◌, ◌*◌, ◌%◌, ◌^◌, ◌<◌, ◌≤◌, ℤ, FitsSigned, unsigned_abs, nat_lt, Bool, true, false, ◌&&◌, cond, List, [], ◌∷◌, ◌++◌, length, take, drop, Result, Ok, Err, refl, sym, ap, subst, ◌∙◌, append_assoc, arith, inl, inr}
 use Rattle.std.specs.List.{flat_map, list_all}
-use Rattle.std.specs.Int.{w32, cast_unsigned, cast_signed, is_in_range}
+use Rattle.std.specs.Int.{Width, w32, w64, cast_unsigned, cast_signed, is_in_range}
 use Rattle.std.proofs.lemmas.Bool.{cases_lt, ltb-true, leb-true, lt-ltb, le-ltb, and_parts}
 use Rattle.std.proofs.lemmas.Int.{to_z-of_z, of_z-to_z, fits_signed_from_abs}
 use Rattle.std.proofs.lemmas.List.{drop_at, length-append, length-take, get_or-drop, get_or-take, get_or_past}
 use Rattle.std.proofs.lemmas.List.Concat.{flat_map-cons}
-use Rattle.std.proofs.lemmas.Nat.{be_bytes_2, be_bytes_4}
+use Rattle.std.proofs.lemmas.Nat.{be_bytes_2, be_bytes_4, be_bytes_8}
 use Rattle.std.proofs.Math.Facts.{Fits-of_z}
 use Rattle.byteorder.specs.Endian.{big_bytes, big_number}
 use Rattle.byteorder.specs.Numbers.{big_number-reads_back, length-bytes_high_first}
@@ -105,6 +105,13 @@ alone_4 a b c d p q r s (suc (suc zero)) = r
 alone_4 a b c d p q r s (suc (suc (suc zero))) = s
 alone_4 a b c d p q r s (suc (suc (suc (suc i)))) = omega arith
 
+alone_8 : (a b c d e f g h : ℕ) → a < 256 → b < 256 → c < 256 → d < 256 → e < 256 → f < 256 → g < 256 → h < 256 → AreBytes (a ∷ b ∷ c ∷ d ∷ e ∷ f ∷ g ∷ h ∷ [])
+alone_8 a b c d e f g h p q r s t u v w zero = p
+alone_8 a b c d e f g h p q r s t u v w (suc zero) = q
+alone_8 a b c d e f g h p q r s t u v w (suc (suc zero)) = r
+alone_8 a b c d e f g h p q r s t u v w (suc (suc (suc zero))) = s
+alone_8 a b c d e f g h p q r s t u v w (suc (suc (suc (suc i)))) = alone_4 e f g h t u v w i
+
 -- a count of one byte, and none
 pub count_read : (b : ℕ) (bytes : List ℕ) → number_at 1 (b ∷ bytes) ≡ Ok (b, bytes)
 unfolding number_at
@@ -160,6 +167,28 @@ number_takes_4 (a ∷ b ∷ c ∷ d ∷ bytes) x rest fits e =
       rest_bytes = λ i. fits (suc (suc (suc (suc i))));
     })
 
+number_takes_8 : (bytes : List ℕ) (x : ℕ) (rest : List ℕ) → AreBytes bytes → number_at 8 bytes ≡ Ok (x, rest) → Taken (number 8) bytes x rest
+unfolding number_at
+number_takes_8 [] x rest fits e = absurd cc
+number_takes_8 (a ∷ []) x rest fits e = absurd cc
+number_takes_8 (a ∷ b ∷ []) x rest fits e = absurd cc
+number_takes_8 (a ∷ b ∷ c ∷ []) x rest fits e = absurd cc
+number_takes_8 (a ∷ b ∷ c ∷ d ∷ []) x rest fits e = absurd cc
+number_takes_8 (a ∷ b ∷ c ∷ d ∷ f ∷ []) x rest fits e = absurd cc
+number_takes_8 (a ∷ b ∷ c ∷ d ∷ f ∷ g ∷ []) x rest fits e = absurd cc
+number_takes_8 (a ∷ b ∷ c ∷ d ∷ f ∷ g ∷ h ∷ []) x rest fits e = absurd cc
+number_takes_8 (a ∷ b ∷ c ∷ d ∷ f ∷ g ∷ h ∷ i ∷ bytes) x rest fits e =
+    let front = a ∷ b ∷ c ∷ d ∷ f ∷ g ∷ h ∷ i ∷ [] in
+    let all = a ∷ b ∷ c ∷ d ∷ f ∷ g ∷ h ∷ i ∷ bytes in
+    let n = big_number 8 all in
+    let taken = guard_ok (nat_lt (length all) 8) Truncated (Ok (n, bytes)) (x, rest) e in
+    let same : big_bytes 8 n ≡ front = be_bytes_8 front n refl (alone_8 a b c d f g h i (fits 0) (fits 1) (fits 2) (fits 3) (fits 4) (fits 5) (fits 6) (fits 7)) (omega arith) in
+    answered (number 8) all (n, bytes) (x, rest) taken.1 (record {
+      parts = ap (λ s. s ++ bytes) (sym same);
+      fitting = lt-ltb n (256 ^ 8) (omega (arith, fits 0, fits 1, fits 2, fits 3, fits 4, fits 5, fits 6, fits 7));
+      rest_bytes = λ k. fits (suc (suc (suc (suc (suc (suc (suc (suc k))))))));
+    })
+
 pub u2_law : IsField u2
 u2_law = record { takes = number_takes_2; again = number_again 2 }
 
@@ -168,8 +197,8 @@ u4_law = record { takes = number_takes_4; again = number_again 4 }
 
 -- ---- fields made of fields
 
-abbrev as_signed : (bound : ℕ) → ℕ × List ℕ → Result (ℤ × List ℕ) DeckFault
-as_signed bound n = held (is_near bound (cast_signed w32 n.0)) (cast_signed w32 n.0, n.1)
+abbrev as_signed : Width → (bound : ℕ) → ℕ × List ℕ → Result (ℤ × List ℕ) DeckFault
+as_signed width bound n = held (is_near bound (cast_signed width n.0)) (cast_signed width n.0, n.1)
 
 abbrev pub with_first : {X Y : Type 0} → X → Y × List ℕ → Result ((X × Y) × List ℕ) DeckFault
 with_first x y = Ok ((x, y.0), y.1)
@@ -195,26 +224,51 @@ checked_law {X} good f it = record { takes = take_one; again = once_more }
         let both = and_parts (f.fits x) (good x) h in
         ap (λ r. r >>= λ p. held (good p.0) p) (it.again x rest both.0) ∙ ap (λ g. held g (x, rest)) both.1
 
-signed_near : (bound : ℕ) (z : ℤ) → bound < 2147483648 → is_near bound z ≡ true → unsigned_abs z < 2 ^ 31
-signed_near bound z small h = omega (arith, leb-true (unsigned_abs z) bound h)
+-- numbers of so many bytes, and signed ones of their width that are no further from 0 than the bound, stand for each other
+record StandFor (count : ℕ) (width : Width) (bound : ℕ) : Type 0 where
+  back : (n : ℕ) → n < 256 ^ count → cast_unsigned width (cast_signed width n) ≡ n
+  below : (z : ℤ) → unsigned_abs z ≤ bound → cast_unsigned width z < 256 ^ count
+  there : (z : ℤ) → unsigned_abs z ≤ bound → cast_signed width (cast_unsigned width z) ≡ z
 
-pub signed_law : (bound : ℕ) → bound < 2147483648 → IsField (signed bound)
-signed_law bound small = record { takes = take_one; again = once_more }
+signed_law : (count : ℕ) (width : Width) (bound : ℕ) → IsField (number count) → StandFor count width bound → IsField (signed count width bound)
+signed_law count width bound numbers stand = record { takes = take_one; again = once_more }
   where
-    take_one : (bytes : List ℕ) (x : ℤ) (rest : List ℕ) → AreBytes bytes → (signed bound).read bytes ≡ Ok (x, rest) → Taken (signed bound) bytes x rest
+    take_one : (bytes : List ℕ) (x : ℤ) (rest : List ℕ) → AreBytes bytes → (signed count width bound).read bytes ≡ Ok (x, rest) → Taken (signed count width bound) bytes x rest
     take_one bytes x rest b e =
-        let r = bind_ok (number_at 4 bytes) (as_signed bound) (x, rest) e in
-        let h = held_ok (is_near bound (cast_signed w32 r.0.0)) (cast_signed w32 r.0.0, r.0.1) (x, rest) r.2 in
-        let t = number_takes_4 bytes r.0.0 r.0.1 b r.1 in
-        let same : cast_unsigned w32 (cast_signed w32 r.0.0) ≡ r.0.0 = of_z-to_z w32 r.0.0 (ltb-true r.0.0 (256 ^ 4) t.fitting) in
-        subst (λ p. Taken (signed bound) bytes p.0 p.1) h.1 (record { parts = t.parts ∙ ap (λ n. big_bytes 4 n ++ r.0.1) (sym same); fitting = h.0; rest_bytes = t.rest_bytes })
+        let r = bind_ok (number_at count bytes) (as_signed width bound) (x, rest) e in
+        let h = held_ok (is_near bound (cast_signed width r.0.0)) (cast_signed width r.0.0, r.0.1) (x, rest) r.2 in
+        let t = numbers.takes bytes r.0.0 r.0.1 b r.1 in
+        let same : cast_unsigned width (cast_signed width r.0.0) ≡ r.0.0 = stand.back r.0.0 (ltb-true r.0.0 (256 ^ count) t.fitting) in
+        subst (λ p. Taken (signed count width bound) bytes p.0 p.1) h.1 (record { parts = t.parts ∙ ap (λ n. big_bytes count n ++ r.0.1) (sym same); fitting = h.0; rest_bytes = t.rest_bytes })
 
-    once_more : (x : ℤ) (rest : List ℕ) → is_near bound x ≡ true → (signed bound).read (big_bytes 4 (cast_unsigned w32 x) ++ rest) ≡ Ok (x, rest)
+    once_more : (x : ℤ) (rest : List ℕ) → is_near bound x ≡ true → (signed count width bound).read (big_bytes count (cast_unsigned width x) ++ rest) ≡ Ok (x, rest)
     once_more x rest h =
-        let f = fits_signed_from_abs w32 x (signed_near bound x small h) in
-        let below : cast_unsigned w32 x < 256 ^ 4 = (Fits-of_z f).fits in
-        ap (λ r. r >>= as_signed bound) (number_again 4 (cast_unsigned w32 x) rest (lt-ltb _ _ below))
-        ∙ ap (λ z. held (is_near bound z) (z, rest)) (to_z-of_z w32 x f) ∙ ap (λ g. held g (x, rest)) h
+        let near = leb-true (unsigned_abs x) bound h in
+        let n = cast_unsigned width x in
+        ap (λ r. r >>= as_signed width bound) (numbers.again n rest (lt-ltb n (256 ^ count) (stand.below x near)))
+        ∙ ap (λ z. held (is_near bound z) (z, rest)) (stand.there x near) ∙ ap (λ g. held g (x, rest)) h
+
+word_fits : (bound : ℕ) → bound < 2147483648 → (z : ℤ) → unsigned_abs z ≤ bound → FitsSigned w32 z
+word_fits bound small z near = let below : unsigned_abs z < 2 ^ 31 = omega (arith, near, small) in fits_signed_from_abs w32 z below
+
+pub word_law : (bound : ℕ) → bound < 2147483648 → IsField (signed 4 w32 bound)
+word_law bound small =
+    signed_law 4 w32 bound u4_law (record {
+      back = of_z-to_z w32;
+      below = λ z near. (Fits-of_z (word_fits bound small z near)).fits;
+      there = λ z near. to_z-of_z w32 z (word_fits bound small z near);
+    })
+
+long_fits : (bound : ℕ) → bound < 9223372036854775808 → (z : ℤ) → unsigned_abs z ≤ bound → FitsSigned w64 z
+long_fits bound small z near = let below : unsigned_abs z < 2 ^ 63 = omega (arith, near, small) in fits_signed_from_abs w64 z below
+
+pub long_law : (bound : ℕ) → bound < 9223372036854775808 → IsField (signed 8 w64 bound)
+long_law bound small =
+    signed_law 8 w64 bound (record { takes = number_takes_8; again = number_again 8 }) (record {
+      back = of_z-to_z w64;
+      below = λ z near. (Fits-of_z (long_fits bound small z near)).fits;
+      there = λ z near. to_z-of_z w64 z (long_fits bound small z near);
+    })
 
 pub followed_law : {X Y : Type 0} (f : Field X) (g : X → Field Y) → IsField f → ((x : X) → IsField (g x)) → IsField (followed f g)
 followed_law {X} {Y} f g first second = record { takes = take_both; again = once_more }

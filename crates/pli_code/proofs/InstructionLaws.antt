@@ -5,16 +5,22 @@ use Rattle.pli_operation.specs.declared.operation.Operation.TheVariants as calcu
 use Rattle.pli_code.specs.declared.instruction.Instruction.{Instruction}
 use Rattle.pli_code.specs.declared.instruction.Instruction.TheVariants as op
 use Rattle.pli_code.specs.Fields.{BothWays, nothing, ◌⊗◌, form, made, unknown, u1, u2, u4}
-use Rattle.pli_code.specs.Instructions.{precision, bound, error, relation, condition, operation_form, instruction_form, alone, instruction_readers, instruction}
-use Rattle.pli_code.proofs.FieldLaws.{IsField, byte_law, u2_law, u4_law, nothing_law, pair_law, from_to_law, signed_law, both_ways}
+use Rattle.pli_code.specs.Versions.{greatest_precision}
+use Rattle.pli_code.specs.declared.version.Version.{Version}
+use Rattle.pli_code.specs.declared.version.Version.TheVariants.{Second}
+use Rattle.pli_code.specs.Instructions.{precision, quotient_precision, bound, error, relation, condition, operation_form, instruction_form, alone, instruction_readers, instruction, is_instruction_in, instruction_in}
+use Rattle.pli_code.proofs.FieldLaws.{IsField, byte_law, u2_law, u4_law, nothing_law, pair_law, from_to_law, checked_law, word_law, both_ways}
 use Rattle.pli_code.proofs.FormLaws.{AllRead, Reads, unknown_reads, made_reads, made_again, tagged_law}
 use Rattle.pli_code.proofs.NumberedLaws.{error_law, relation_law, condition_law}
 
-pub precision_law : IsField precision
-precision_law = from_to_law 1 31 u1 byte_law
+pub precision_law : (v : Version) → IsField (precision v)
+precision_law v = from_to_law 1 (greatest_precision v) u1 byte_law
+
+quotient_law : IsField quotient_precision
+quotient_law = precision_law Second
 
 pub bound_law : IsField bound
-bound_law = signed_law 32767 (omega arith)
+bound_law = word_law 32767 (omega arith)
 
 -- what has no operand
 bare : (i : Instruction) (tag : ℕ) → instruction_form i ≡ form tag nothing tt → Reads instruction_form tag (alone i)
@@ -62,7 +68,7 @@ forms_read =
     & made_reads u1 byte_law (λ width. op.Operate (calculate.ToCharacters width)) f 24 (λ x. refl)
     & operated calculate.FromBits 25 refl & operated calculate.Add 26 refl & operated calculate.Subtract 27 refl
     & operated calculate.Multiply 28 refl & operated calculate.Negate 29 refl
-    & made_reads precision precision_law (λ p. op.Operate (calculate.Divide p)) f 30 (λ x. refl)
+    & made_reads quotient_precision quotient_law (λ p. op.Operate (calculate.Divide p)) f 30 (λ x. refl)
     & operated calculate.Modulo 31 refl & operated calculate.Absolute 32 refl & operated calculate.Sign 33 refl
     & operated calculate.Greatest 34 refl & operated calculate.Least 35 refl
     & made_reads relation relation_law (λ k. op.Operate (calculate.Compare k)) f 36 (λ x. refl)
@@ -92,7 +98,7 @@ forms_read =
 
 operation_again : (o : Operation) (rest : List ℕ) → (operation_form o).fits ≡ true → get_or instruction_readers (operation_form o).tag unknown ((operation_form o).bytes ++ rest) ≡ Ok (op.Operate o, rest)
 operation_again (calculate.ToCharacters width) rest h = made_again u1 byte_law (λ w. op.Operate (calculate.ToCharacters w)) width rest h
-operation_again (calculate.Divide p) rest h = made_again precision precision_law (λ p. op.Operate (calculate.Divide p)) p rest h
+operation_again (calculate.Divide p) rest h = made_again quotient_precision quotient_law (λ p. op.Operate (calculate.Divide p)) p rest h
 operation_again (calculate.Compare k) rest h = made_again relation relation_law (λ k. op.Operate (calculate.Compare k)) k rest h
 operation_again plain rest h = refl
 
@@ -133,6 +139,9 @@ again plain rest h = refl
 pub instruction_law : IsField instruction
 unfolding instruction
 instruction_law = tagged_law instruction_form instruction_readers forms_read again
+
+pub instruction_in_law : (v : Version) → IsField (instruction_in v)
+instruction_in_law v = checked_law (is_instruction_in v) instruction instruction_law
 
 pub instructions_both_ways : BothWays instruction
 instructions_both_ways = both_ways instruction instruction_law

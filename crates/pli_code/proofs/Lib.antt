@@ -4,4 +4,5 @@ pub mod InstructionLaws
 pub mod NumberedLaws
 pub mod OperandReading
 pub mod PutLemmas
+pub mod VersionLemmas
 pub mod Worked

@@ -6,4 +6,4 @@ use Rattle.pli_code.specs.examples.InstructionExamples.{NumberedSo}
 
 pub numbered_so : NumberedSo
 unfolding byte_at number_at instruction
-numbered_so = (refl, refl, refl, refl, refl, refl, refl, refl, refl, refl, refl)
+numbered_so = (refl, refl, refl, refl, refl, refl, refl, refl, refl, refl, refl, refl, refl, refl, refl)

@@ -5,7 +5,7 @@ use Rattle.pli_base.specs.Results.{◌>>=◌}
 use Rattle.std.specs.Prelude.{unsigned_abs}
 use Rattle.std.specs.Prelude.{List, [], ◌∷◌, ◌++◌, length, drop, get_or, Result, Ok, Err}
 use Rattle.std.specs.Prelude.{if◌then◌else◌}
-use Rattle.std.specs.Int.{w32, cast_unsigned, cast_signed, is_in_range}
+use Rattle.std.specs.Int.{Width, cast_unsigned, cast_signed, is_in_range}
 use Rattle.std.specs.List.{flat_map, list_all}
 use Rattle.byteorder.specs.Endian.{big_bytes, big_number}
 use Rattle.pli_code.specs.declared.fault.DeckFault.{DeckFault}
@@ -80,13 +80,13 @@ checked good f = record {
 abbrev pub is_near : (bound : ℕ) → ℤ → Bool
 is_near bound z = nat_le (unsigned_abs z) bound
 
--- a signed number of four bytes, in two's complement, no further from 0 than this
-abbrev pub signed : (bound : ℕ) → Field ℤ
-signed bound = record {
-  bytes_of = λ z. big_bytes 4 (cast_unsigned w32 z);
+-- a signed number of so many bytes, in two's complement of their width, no further from 0 than this
+abbrev pub signed : (count : ℕ) → Width → (bound : ℕ) → Field ℤ
+signed count width bound = record {
+  bytes_of = λ z. big_bytes count (cast_unsigned width z);
   fits = is_near bound;
-  read = λ bytes. number_at 4 bytes >>= λ n.
-      held (is_near bound (cast_signed w32 n.0)) (cast_signed w32 n.0, n.1);
+  read = λ bytes. number_at count bytes >>= λ n.
+      held (is_near bound (cast_signed width n.0)) (cast_signed width n.0, n.1);
 }
 
 -- one field behind another; which one the second is may depend on what the first holds

@@ -6,5 +6,6 @@ pub mod Instructions
 pub mod Modules
 pub mod Numbered
 pub mod Operands
+pub mod Versions
 pub mod examples
 pub mod views

@@ -1,5 +1,9 @@
 //! The code of a unit.
+ghost use Rattle.std.specs.Prelude.{◌≡◌};
+ghost use Rattle.pli_code.specs.Versions.{version_number};
+
 use crate::instruction::Instruction;
+use crate::version::Version;
 use pli_base::Name;
 use pli_map::Description;
 use pli_program::VariableKind;
@@ -82,10 +86,20 @@ pub struct Code {
     pub instructions: Vec<Instruction>,
 }
 
-/// A deck: the name of a unit's external procedure, whether that is a main one, and the code of the unit.
+/// A deck: its version, the name of a unit's external procedure, whether that is a main one, and the code of the unit.
 #[derive(Drop)]
 pub struct Deck {
+    pub version: Version,
     pub name: Name,
     pub is_main: bool,
     pub code: Code,
+}
+
+impl Deck {
+    /// The number of its version, 1 or 2.
+    pub fn version(&self) -> u8
+        ensures { result ≡ version_number self.now.version }
+    {
+        self.version.number()
+    }
 }

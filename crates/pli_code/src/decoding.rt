@@ -171,7 +171,7 @@ fn operation(code: u8, operands: &mut Operands<'_>) -> Instruction
         28 => Instruction::Operate(Operation::Multiply),
         29 => Instruction::Operate(Operation::Negate),
         30 => Instruction::Operate(Operation::Divide {
-            precision: operands.byte_within(1, 31),
+            precision: operands.byte_within(1, 63),
         }),
         31 => Instruction::Operate(Operation::Modulo),
         32 => Instruction::Operate(Operation::Absolute),

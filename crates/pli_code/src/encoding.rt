@@ -91,7 +91,7 @@ fn put_operation(out: &mut Vec<u8>, operation: Operation) -> Result<(), AllocErr
 }
 
 /// Puts the bytes of an instruction at the end: the byte that says which it is, and its operands. They are its one
-/// spelling where it has one: a subscript's bounds are at most 32,767 from 0, and a precision is from 1 to 31. An error
+/// spelling where it has one: a subscript's bounds are at most 32,767 from 0, and a precision is from 1 to 63. An error
 /// comes where memory runs out.
 #[tactic(auto, unfolding(crate::specs::Instructions::instruction))]
 pub fn encode(instruction: Instruction, out: &mut Vec<u8>) -> Result<(), AllocError>

@@ -1,6 +1,6 @@
-//! Numbers of one, two and four bytes, the highest byte first: at the end of bytes, and at their front.
+//! Numbers of one, two, four and eight bytes, the highest byte first: at the end of bytes, and at their front.
 ghost use Rattle.std.specs.Prelude.{◌≡◌, ◌≤◌, ◌++◌, ◌∷◌, [], OnOk, IfOk, unsigned_abs};
-ghost use Rattle.std.specs.Int.{w32, cast_unsigned};
+ghost use Rattle.std.specs.Int.{w32, w64, cast_unsigned};
 ghost use Rattle.byteorder.specs.Endian.{big_bytes};
 ghost use Rattle.pli_code.specs.Fields.{Answers, byte_at, number_at, u1, from_to, signed};
 
@@ -34,11 +34,27 @@ pub fn put_word(out: &mut Vec<u8>, number: u32) -> Result<(), AllocError>
     out.extend_from_slice(&bytes)
 }
 
+/// Puts a number of eight bytes at the end.
+fn put_long(out: &mut Vec<u8>, number: u64) -> Result<(), AllocError>
+    ensures { OnOk result (out.new.items ≡ out.old.items ++ big_bytes 8 number) }
+{
+    let mut bytes = [0u8; 8];
+    BigEndian::write_u64(&mut bytes, number);
+    out.extend_from_slice(&bytes)
+}
+
 /// Puts a signed number of four bytes at the end, in two's complement.
 pub fn put_signed(out: &mut Vec<u8>, number: i32) -> Result<(), AllocError>
     ensures { OnOk result (out.new.items ≡ out.old.items ++ big_bytes 4 (cast_unsigned w32 number)) }
 {
     put_word(out, number.cast_unsigned())
+}
+
+/// Puts a signed number of eight bytes at the end, in two's complement.
+pub fn put_signed_long(out: &mut Vec<u8>, number: i64) -> Result<(), AllocError>
+    ensures { OnOk result (out.new.items ≡ out.old.items ++ big_bytes 8 (cast_unsigned w64 number)) }
+{
+    put_long(out, number.cast_unsigned())
 }
 
 /// Puts the byte that says which form stands there, and one more.
@@ -90,6 +106,17 @@ pub fn word_of(bytes: &[u8]) -> Result<(u32, &[u8]), DeckFault>
     Ok((BigEndian::read_u32(bytes), &bytes[4..]))
 }
 
+/// A number of eight bytes from the front, and the bytes after it. The fault is that there are too few.
+#[tactic(auto, unfolding(crate::specs::Fields::number_at))]
+fn long_of(bytes: &[u8]) -> Result<(u64, &[u8]), DeckFault>
+    ensures { Answers (λ x. (x.0, x.1.now)) result (number_at 8 bytes.now) }
+{
+    if bytes.len() < 8 {
+        return Err(DeckFault::Truncated);
+    }
+    Ok((BigEndian::read_u64(bytes), &bytes[8..]))
+}
+
 /// One byte from `low` to `high`, and the bytes behind it. The fault is that there is none, or another.
 pub fn byte_within(bytes: &[u8], low: u8, high: u8) -> Result<(u8, &[u8]), DeckFault>
     ensures { Answers (λ x. (x.0, x.1.now)) result ((from_to low high u1).read bytes.now) }
@@ -105,10 +132,24 @@ pub fn byte_within(bytes: &[u8], low: u8, high: u8) -> Result<(u8, &[u8]), DeckF
 /// A signed number of four bytes that is at most `bound` from 0, and the bytes behind it. The fault is that there are too
 /// few, or that the number is further from 0.
 pub fn signed_within(bytes: &[u8], bound: u32) -> Result<(i32, &[u8]), DeckFault>
-    ensures read { Answers (λ x. (x.0, x.1.now)) result ((signed bound).read bytes.now) }
+    ensures read { Answers (λ x. (x.0, x.1.now)) result ((signed 4 w32 bound).read bytes.now) }
     ensures near { IfOk result (λ x. unsigned_abs x.0 ≤ bound) }
 {
     let (bits, rest) = word_of(bytes)?;
+    let number = bits.cast_signed();
+    if number.unsigned_abs() <= bound {
+        Ok((number, rest))
+    } else {
+        Err(DeckFault::OutOfRange)
+    }
+}
+
+/// A signed number of eight bytes that is at most `bound` from 0, and the bytes after it. The fault is that there are too
+/// few, or that the number is further from 0.
+pub fn signed_long_within(bytes: &[u8], bound: u64) -> Result<(i64, &[u8]), DeckFault>
+    ensures { Answers (λ x. (x.0, x.1.now)) result ((signed 8 w64 bound).read bytes.now) }
+{
+    let (bits, rest) = long_of(bytes)?;
     let number = bits.cast_signed();
     if number.unsigned_abs() <= bound {
         Ok((number, rest))

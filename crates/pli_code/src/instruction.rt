@@ -1,4 +1,8 @@
 //! Instructions of the stack machine.
+ghost use Rattle.std.specs.Prelude.{◌≡◌};
+ghost use Rattle.pli_code.specs.Instructions.{is_instruction_in, is_operation_in};
+
+use crate::version::Version;
 use pli_base::statement::Condition;
 use pli_operation::Operation;
 use pli_run::RunError;
@@ -159,4 +163,26 @@ pub enum Instruction {
     TakeTemporary {
         number: u16,
     },
+}
+
+/// Whether an operation may stand in a version: a quotient has no greater precision than the version's numbers.
+fn operation_stands(operation: Operation, version: Version) -> bool
+    ensures { result ≡ is_operation_in version operation }
+{
+    match operation {
+        Operation::Divide { precision } => precision <= version.greatest_precision(),
+        _ => true,
+    }
+}
+
+impl Instruction {
+    /// Whether it may stand in a version: none names a greater precision than that of the version's numbers.
+    pub fn stands_in(self, version: Version) -> bool
+        ensures { result ≡ is_instruction_in version self }
+    {
+        match self {
+            Instruction::Operate(operation) => operation_stands(operation, version),
+            _ => true,
+        }
+    }
 }

@@ -11,6 +11,7 @@ mod laws;
 mod module;
 mod numbered;
 mod operands;
+mod version;
 
 pub use code::{Block, BlockKind, Code, CodedGlobal, CodedSignature, CodedTemplate, Deck};
 pub use decoding::decode;
@@ -19,3 +20,4 @@ pub use fault::DeckFault;
 pub use instruction::Instruction;
 pub use laws::{instructions_both_ways, worked_instructions};
 pub use module::{External, LentMember, LentModule, Member, Module};
+pub use version::Version;

@@ -3,6 +3,7 @@ ghost use Rattle.std.specs.Prelude.{◌≡◌, map, IfOk};
 ghost use Rattle.pli_code.specs.views.CodeView.{lent_member_view, lent_module_view, member_view, module_view};
 
 use crate::code::Deck;
+use crate::version::Version;
 use pli_base::Name;
 use pli_program::VariableKind;
 use std::alloc::{AllocError, Global};
@@ -25,10 +26,11 @@ pub struct Member {
     pub links: Vec<u16>,
 }
 
-/// A module: the number of the unit whose external procedure is the main one, counted from 0; the externals in the order
-/// of their names; and from 1 to 999 units.
+/// A module: its version, which its decks have too; the number of the unit whose external procedure is the main one,
+/// counted from 0; the externals in the order of their names; and from 1 to 999 units.
 #[derive(Drop)]
 pub struct Module {
+    pub version: Version,
     pub main: u16,
     pub externals: Vec<External>,
     pub units: Vec<Member>,
@@ -45,6 +47,7 @@ pub struct LentMember<'a> {
 /// A module whose units' decks are lent.
 #[derive(Drop)]
 pub struct LentModule<'a> {
+    pub version: Version,
     pub main: u16,
     pub externals: Vec<External>,
     pub units: Vec<LentMember<'a>>,
@@ -72,6 +75,7 @@ impl Module {
         ensures { IfOk result (λ lent. lent_module_view lent ≡ module_view self.now) }
     {
         Ok(LentModule {
+            version: self.version,
             main: self.main,
             externals: Vec::from_slice(alloc, &self.externals)?,
             units: lent_members(alloc, &self.units)?,

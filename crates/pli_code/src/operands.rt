@@ -1,5 +1,6 @@
 //! The operands of an instruction, one behind another.
 ghost use Rattle.std.specs.Prelude.{◌≡◌};
+ghost use Rattle.std.specs.Int.{w32};
 ghost use Rattle.pli_code.specs.Fields.{Answers, Reader, u1, u2, u4, from_to, signed, unknown};
 ghost use Rattle.pli_code.specs.Instructions as instruction_fields;
 ghost use Rattle.pli_code.specs.Operands.{operands_view, kept, Reads};
@@ -84,7 +85,7 @@ impl<'a> Operands<'a> {
 
     /// A signed number of four bytes that is at most `bound` from 0.
     pub fn signed_within(&mut self, bound: u32) -> i32
-        ensures { Reads (signed bound).read (operands_view self.old) result (operands_view self.new) }
+        ensures { Reads (signed 4 w32 bound).read (operands_view self.old) result (operands_view self.new) }
     {
         let given = signed_within(self.rest, bound);
         self.taken(given, 0)

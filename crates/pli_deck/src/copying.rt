@@ -160,6 +160,7 @@ pub(crate) fn copied_deck(alloc: Global, deck: &Deck) -> Result<Deck, AllocError
     ensures { IfOk result (λ copied. deck_view copied ≡ deck_view deck.now) }
 {
     Ok(Deck {
+        version: deck.version,
         name: deck.name,
         is_main: deck.is_main,
         code: copied_code(alloc, &deck.code)?,

@@ -8,7 +8,7 @@ ghost use Rattle.pli_meaning.specs.Scratch.{coded_from, compiled_texts, typed_un
 ghost use Rattle.pli_deck.specs.answers.Outcomes.{Compiles, of_fault, of_faults, of_generating};
 
 use pli_base::{Code, Failure, Fault, TokenText, Unit};
-use pli_code::Deck;
+use pli_code::{Deck, Version};
 use pli_gen::{GenerateError, generate};
 use pli_parse::parse;
 use pli_resolve::ResolvedUnit;
@@ -69,6 +69,7 @@ fn compile_resolved(alloc: Global, resolved: &ResolvedUnit<'_>) -> Result<Deck, 
     let typed = check(alloc, resolved)?;
     let code = generate(alloc, &typed)?;
     Ok(Deck {
+        version: Version::WRITTEN,
         name: typed.procedure,
         is_main: typed.is_main,
         code,

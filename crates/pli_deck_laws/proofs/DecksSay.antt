@@ -1,5 +1,5 @@
 -- The deck of a well-formed unit is one that bytes spell.
-use Rattle.std.proofs.Common.{◌≡◌, ℕ, suc, ◌+◌, ◌<◌, ◌≤◌, not, Bool, true, false, nat_le, nat_lt, if◌then◌else◌, Option, Some, None, List, [], ◌∷◌, ◌++◌, length, map, slice_get, refl, ap, sym, subst, ◌∙◌, arith}
+use Rattle.std.proofs.Common.{◌≡◌, ℕ, suc, ◌+◌, ◌<◌, ◌≤◌, not, ◌&&◌, Bool, true, false, nat_le, nat_lt, if◌then◌else◌, Option, Some, None, List, [], ◌∷◌, ◌++◌, length, map, slice_get, refl, ap, sym, subst, ◌∙◌, arith}
 use Rattle.std.specs.Prelude.{fold}
 use Rattle.std.specs.List.{flat_map, list_all, list_any, sum_by, AllByRecursion}
 use Rattle.std.proofs.lemmas.Bool.{lt-ltb, le-leb}
@@ -22,7 +22,10 @@ use Rattle.pli_gen.proofs.UnitLemmas.{tables_stand}
 use Rattle.pli_gen.specs.laws.ListLaws.{all_front, all_back}
 use Rattle.pli_code.specs.Fields.{Field, u2, list}
 use Rattle.pli_deck_write.specs.Descriptions.{description}
-use Rattle.pli_code.specs.Instructions.{instruction}
+use Rattle.pli_code.specs.Instructions.{instruction_in}
+use Rattle.pli_code.specs.Versions.{written}
+use Rattle.pli_code.specs.declared.version.Version.{Version}
+use Rattle.pli_code.proofs.VersionLemmas.{fits_written}
 use Rattle.pli_deck_write.specs.DeckFields.{name, flag, constant, template, signature, global, block, contents}
 use Rattle.pli_deck_write.specs.DeckFields as field
 use Rattle.pli_code.specs.declared.fault.DeckFault.TheVariants.{BadJump, BadNumber, OverLimit}
@@ -119,12 +122,12 @@ record GoodCode (tables : NumberedTables) (globals blocks last : ℕ) (c : Code)
   few_instructions : suc last ≤ 65535
   some_block : 1 ≤ blocks
   signature_fits : signature.fits c.signature ≡ true
-  descriptions_fit : AllByRecursion (λ x. description.fits x ≡ true) c.descriptions
-  templates_fit : AllByRecursion (λ x. template.fits x ≡ true) c.templates
-  values_fit : AllByRecursion (λ x. constant.fits x ≡ true) c.values
+  descriptions_fit : AllByRecursion (λ x. (description written).fits x ≡ true) c.descriptions
+  templates_fit : AllByRecursion (λ x. (template written).fits x ≡ true) c.templates
+  values_fit : AllByRecursion (λ x. (constant written).fits x ≡ true) c.values
   globals_fit : AllByRecursion (λ x. global.fits x ≡ true) c.globals
   blocks_fit : AllByRecursion (λ x. block.fits x ≡ true) c.blocks
-  instructions_fit : AllByRecursion (λ x. instruction.fits x ≡ true) c.instructions
+  instructions_fit : AllByRecursion (λ x. (instruction_in written).fits x ≡ true) c.instructions
   signature_named : AllByRecursion (Named tables globals blocks last) (named_by_signature c.signature)
   templates_named : AllByRecursion (λ x. AllByRecursion (Named tables globals blocks last) (named_by_template x)) c.templates
   globals_named : AllByRecursion (λ x. AllByRecursion (Named tables globals blocks last) (named_by_global x)) c.globals
@@ -138,16 +141,16 @@ module _ (tables : NumberedTables) (globals blocks last : ℕ) (c : Code) (g : G
   few_there : (n m : ℕ) → n ≡ m → m ≤ 65535 → n ≤ 65535
   few_there n m e h = omega (arith, e, h)
 
-  code_fits : field.code.fits c ≡ true
+  code_fits : (field.code written).fits c ≡ true
   unfolding field.code
   code_fits =
       both_hold _ _ g.signature_fits
-      (both_hold _ _ (listed description c.descriptions (few_there (length c.descriptions) (length tables.descriptions) g.descriptions g.few_descriptions) g.descriptions_fit)
-      (both_hold _ _ (listed template c.templates (few_there (length c.templates) (length tables.templates) g.templates g.few_templates) g.templates_fit)
-      (both_hold _ _ (listed constant c.values (few_there (length c.values) (length tables.values) g.values g.few_values) g.values_fit)
+      (both_hold _ _ (listed (description written) c.descriptions (few_there (length c.descriptions) (length tables.descriptions) g.descriptions g.few_descriptions) g.descriptions_fit)
+      (both_hold _ _ (listed (template written) c.templates (few_there (length c.templates) (length tables.templates) g.templates g.few_templates) g.templates_fit)
+      (both_hold _ _ (listed (constant written) c.values (few_there (length c.values) (length tables.values) g.values g.few_values) g.values_fit)
       (both_hold _ _ (listed global c.globals (few_there (length c.globals) globals g.count_globals g.few_globals) g.globals_fit)
       (both_hold _ _ (listed block c.blocks (few_there (length c.blocks) blocks g.count_blocks g.few_blocks) g.blocks_fit)
-      (listed instruction c.instructions (few_there (length c.instructions) (suc last) g.instructions g.few_instructions) g.instructions_fit))))))
+      (listed (instruction_in written) c.instructions (few_there (length c.instructions) (suc last) g.instructions g.few_instructions) g.instructions_fit))))))
 
   below : (n m k : ℕ) → n < m → k ≡ m → nat_lt n k ≡ true
   below n m k h e = lt-ltb n k (omega (arith, h, e))
@@ -189,11 +192,13 @@ module _ (tables : NumberedTables) (globals blocks last : ℕ) (c : Code) (g : G
   -- the deck of this name
   module _ (n : Name) (is_main : Bool) (named : name.fits n ≡ true) where
     abbrev named_deck : Deck
-    named_deck = record { name = n; is_main = is_main; code = c }
+    named_deck = record { version = written; name = n; is_main = is_main; code = c }
 
     deck_fits : field.deck.fits named_deck ≡ true
-    unfolding field.deck contents
-    deck_fits = both_hold _ _ named (both_hold _ _ (flag_fits is_main) code_fits)
+    unfolding field.deck_in_versions contents
+    deck_fits =
+        both_hold (name.fits n) (flag.fits is_main && (field.code written).fits c) named
+        (both_hold (flag.fits is_main) ((field.code written).fits c) (flag_fits is_main) code_fits)
 
     good_is_deck : IsDeck named_deck
     good_is_deck = record {
@@ -293,9 +298,9 @@ module _ (t : TypedUnit) (well : IsWellNumbered t) (formed : IsWellFormed t) (fi
     inside =
         blocks_good tables G B last short.descriptions short.templates short.blocks few_last bs 0 within.end within.blocks stand.variables
 
-    described : AllByRecursion (λ d. description.fits d ≡ true) tables.descriptions
+    described : AllByRecursion (λ d. (description written).fits d ≡ true) tables.descriptions
     described =
-        all_pairs IsDescription (λ d. has_many_members d ≡ false) (λ d. description.fits d ≡ true) (λ d h k. fits_description level_limit d h k) tables.descriptions
+        all_pairs IsDescription (λ d. has_many_members d ≡ false) (λ d. (description written).fits d ≡ true) (λ d h k. fits_description level_limit d h k) tables.descriptions
         (descriptions_good G B last t bs all_code formed.signature formed.globals heads allowed) (none_of has_many_members tables.descriptions short.members)
 
     good_code : GoodCode tables G B last (code_of t)
@@ -320,11 +325,11 @@ module _ (t : TypedUnit) (well : IsWellNumbered t) (formed : IsWellFormed t) (fi
           some_block = one_block t well formed.some;
           signature_fits = sign.fits;
           descriptions_fit = described;
-          templates_fit = all_mapped T GoodT (λ x. template.fits x ≡ true) (λ x g. g.fits) tables.templates made;
-          values_fit = all_pairs IsConstant HasBytes (λ v. constant.fits v ≡ true) fits_constant tables.values values typed.values;
+          templates_fit = all_mapped T GoodT (λ x. (template written).fits x ≡ true) (λ x g. g.fits) tables.templates made;
+          values_fit = all_pairs IsConstant HasBytes (λ v. (constant written).fits v ≡ true) fits_constant tables.values values typed.values;
           globals_fit = all_mapped (global_code tables) GoodG (λ x. global.fits x ≡ true) (λ x g. g.fits) t.globals outside;
           blocks_fit = all_as GoodB (λ x. block.fits x ≡ true) (λ x g. g.fits) (coded_blocks tables bs 0) inside;
-          instructions_fit = all_mapped (instruction_code tables) GoodI (λ x. instruction.fits x ≡ true) (λ x g. g.fits) all_code instrs;
+          instructions_fit = all_mapped (instruction_code tables) GoodI (λ x. (instruction_in written).fits x ≡ true) (λ x g. fits_written (instruction_code tables x) g.fits) all_code instrs;
           signature_named = sign.names;
           templates_named = all_mapped T GoodT (λ x. AllByRecursion N (named_by_template x)) (λ x g. g.names) tables.templates made;
           globals_named = all_mapped (global_code tables) GoodG (λ x. AllByRecursion N (named_by_global x)) (λ x g. g.names) t.globals outside;
@@ -335,10 +340,11 @@ module _ (t : TypedUnit) (well : IsWellNumbered t) (formed : IsWellFormed t) (fi
           bytes = omega (arith, sums, bytes);
         }
 
-  said : (n : Name) (is_main : Bool) → IsName n → IsDeck (record { name = n; is_main = is_main; code = code_of t })
+  said : (n : Name) (is_main : Bool) → IsName n → IsDeck (record { version = written; name = n; is_main = is_main; code = code_of t })
   said n is_main named = let r = code_within t well formed few in good_is_deck tables G B r.0 (code_of t) (good_code r.0 r.1) n is_main (fits_name n named)
 
 pub units_are_said : UnitsAreSaid
-units_are_said t d well formed fits_in of typed =
-    subst (λ (c : Code). IsDeck (record { name = d.name; is_main = d.is_main; code = c })) (sym of)
-    (said t well formed fits_in (subst IsTypedCode of typed.code) d.name d.is_main typed.name)
+units_are_said t d well formed fits_in version of typed =
+    subst (λ (v : Version). IsDeck (record { version = v; name = d.name; is_main = d.is_main; code = d.code })) (sym version)
+    (subst (λ (c : Code). IsDeck (record { version = written; name = d.name; is_main = d.is_main; code = c })) (sym of)
+    (said t well formed fits_in (subst IsTypedCode of typed.code) d.name d.is_main typed.name))

@@ -11,6 +11,7 @@ use Rattle.pli_map.specs.Description.{Description, FixedBinary, Character, Varyi
 use Rattle.pli_value.specs.Value.{Value, Number, Characters, Bits, Located}
 use Rattle.pli_code.specs.Fields.{Field, u1, u2, u4, byte, from_to, list_of, count_of_one, ◌⊗◌}
 use Rattle.pli_code.specs.Instructions.{precision, bound}
+use Rattle.pli_code.specs.Versions.{written}
 use Rattle.pli_deck_write.specs.Descriptions.{string_length, area_size, bounds, dimensions, listed, members, description_within}
 use Rattle.pli_deck_write.specs.DeckFields.{is_written, is_name, name, optional, bit_string, integer, characters, constant, signature, parameter_count}
 use Rattle.pli_gen.specs.Limits.{member_count, has_many_members, one_has_many}
@@ -118,8 +119,8 @@ name_says n h =
 same_bytes : (xs : List ℕ) → bytes_eq xs xs ≡ true
 same_bytes xs = (bytes_eq-Decides xs xs).1 refl
 
-written : (n : Name) (o : Option Name) → o ≡ Some n → is_written o n ≡ true
-written n o h = ap (λ o. is_written o n) h ∙ same_bytes n
+name_written : (n : Name) (o : Option Name) → o ≡ Some n → is_written o n ≡ true
+name_written n o h = ap (λ o. is_written o n) h ∙ same_bytes n
 
 pub fits_name : (n : Name) → IsName n → name.fits n ≡ true
 unfolding name
@@ -127,7 +128,7 @@ fits_name n h =
     let f = name_says n h in
     both_hold ((list_of (from_to 1 31 count_of_one) byte).fits n) (is_name n)
     (fits_list (from_to 1 31 count_of_one) byte n (fits_range 1 31 (length n) count_of_one (fits_count (length n) (let k = f.few in omega (arith, k))) f.some f.few) f.bytes)
-    (written n (name_of n) h)
+    (name_written n (name_of n) h)
 
 -- ---- descriptions
 
@@ -138,8 +139,8 @@ fits_bounds : (b : Bounds) → AreBounds b → bounds.fits b ≡ true
 fits_bounds b h =
     both_hold ((bound ⊗ bound).fits (b.low, b.high)) (int_le b.low b.high) (fits_pair bound bound b.low b.high (fits_bound b.low h.1) (fits_bound b.high h.2)) h.0
 
-pub fits_precision : (p : ℕ) → IsPrecision p → precision.fits p ≡ true
-fits_precision p h = let k = h.1 in fits_range 1 31 p u1 (fits_byte p (omega (arith, k))) h.0 h.1
+pub fits_precision : (p : ℕ) → IsPrecision p → (precision written).fits p ≡ true
+fits_precision p h = let k = h.1 in fits_range 1 63 p u1 (fits_byte p (omega (arith, k))) h.0 h.1
 
 fits_length : (n : ℕ) → IsLength n → string_length.fits n ≡ true
 fits_length n h = let k = h.1 in fits_range 1 32767 n u2 (fits_short n (omega (arith, k))) h.0 h.1
@@ -173,7 +174,7 @@ fits_members inner d ds few h k =
 mutual
   unfolding description_within
 
-  pub fits_description : (n : ℕ) (d : Description) → IsDescribed n d → has_many_members d ≡ false → (description_within n).fits d ≡ true
+  pub fits_description : (n : ℕ) (d : Description) → IsDescribed n d → has_many_members d ≡ false → (description_within written n).fits d ≡ true
   fits_description zero d h few = absurd h
   fits_description (suc n) (FixedBinary p) h few = fits_precision p h
   fits_description (suc n) (Character k) h few = fits_length k h
@@ -183,23 +184,23 @@ mutual
   fits_description (suc n) Offset h few = refl
   fits_description (suc n) (Area k) h few = fits_area k h.0 h.1 h.2
   fits_description (suc n) (Array bs element) h few =
-      fits_pair dimensions (description_within n) bs element (fits_dimensions bs h.0 h.1 h.2) (fits_description n element h.3 few)
+      fits_pair dimensions (description_within written n) bs element (fits_dimensions bs h.0 h.1 h.2) (fits_description n element h.3 few)
   fits_description (suc n) (Structure NoMembers) h few = absurd h
   fits_description (suc n) (Structure (MemberThen d ds)) h few =
       let one = neither (nat_lt 65535 (member_count (MemberThen d ds))) (one_has_many (MemberThen d ds)) few in
       let r = neither (has_many_members d) (one_has_many ds) one.1 in
-      fits_members (description_within n) d ds few (fits_description n d h.0 r.0) (fit_descriptions n ds h.1 r.1)
+      fits_members (description_within written n) d ds few (fits_description n d h.0 r.0) (fit_descriptions n ds h.1 r.1)
 
-  fit_descriptions : (n : ℕ) (ds : Members) → AreDescribed n ds → one_has_many ds ≡ false → list_all (description_within n).fits (listed ds) ≡ true
+  fit_descriptions : (n : ℕ) (ds : Members) → AreDescribed n ds → one_has_many ds ≡ false → list_all (description_within written n).fits (listed ds) ≡ true
   fit_descriptions n NoMembers h few = refl
   fit_descriptions n (MemberThen d ds) h few =
       let r = neither (has_many_members d) (one_has_many ds) few in
-      both_hold ((description_within n).fits d) (list_all (description_within n).fits (listed ds)) (fits_description n d h.0 r.0) (fit_descriptions n ds h.1 r.1)
+      both_hold ((description_within written n).fits d) (list_all (description_within written n).fits (listed ds)) (fits_description n d h.0 r.0) (fit_descriptions n ds h.1 r.1)
 
 -- ---- constants
 
-fits_integer : (x : ℤ) → unsigned_abs x ≤ 2147483647 → integer.fits x ≡ true
-fits_integer x h = le-leb (unsigned_abs x) 2147483647 h
+fits_integer : (x : ℤ) → unsigned_abs x ≤ 9223372036854775807 → (integer written).fits x ≡ true
+fits_integer x h = le-leb (unsigned_abs x) 9223372036854775807 h
 
 fits_characters : (text : List ℕ) → length text ≤ 32767 → AllByRecursion IsByte text → characters.fits text ≡ true
 unfolding characters
@@ -211,7 +212,7 @@ fits_bits : (bits : List Bool) → length bits ≤ 32767 → bit_string.fits bit
 unfolding bit_string
 fits_bits bits few = le-leb (length bits) 32767 few
 
-pub fits_constant : (v : Value) → IsConstant v → HasBytes v → constant.fits v ≡ true
+pub fits_constant : (v : Value) → IsConstant v → HasBytes v → (constant written).fits v ≡ true
 unfolding constant
 fits_constant (Number x) h k = fits_integer x h
 fits_constant (Characters text) h k = fits_characters text h k

@@ -11,6 +11,7 @@ use Rattle.pli_type_tree.specs.Templates.{InitialScalar, Template}
 use Rattle.pli_type_tree.specs.TypedTree.{Signature, Global, OwnVariable, ExternalVariable, EntryPoint}
 use Rattle.pli_code.specs.CodeTables as code
 use Rattle.pli_code.specs.CodeTables.{there}
+use Rattle.pli_code.specs.Versions.{written}
 use Rattle.pli_gen_emit.specs.TreeTranslation.{BlockTree, behind, block_code, blocks_code}
 use Rattle.pli_gen_emit.specs.Encoding.{NumberedTables, signature_descriptions, global_descriptions, global_templates, block_templates, description_number, template_number, template_code, signature_code, global_code, coded_block, coded_blocks}
 use Rattle.pli_gen.specs.laws.ListLaws.{all_front, all_back}
@@ -38,7 +39,7 @@ use Rattle.pli_deck_laws.specs.UnitTypes.{HasBytes, BeginsWithBytes, HasName}
 
 -- an initial value of a description
 record GoodInitial (d : Description) (i : InitialScalar) : Type 0 where
-  fits : initial.fits i ≡ true
+  fits : (initial written).fits i ≡ true
   is : fits_scalar (scalar_at d i.offset) i.value ≡ true
 
 good_initial : (d : Description) → IsMade d → (i : InitialScalar) → IsInitial d i → HasBytes i.value → GoodInitial d i
@@ -47,7 +48,7 @@ good_initial d made i h bytes =
     let s = h.0.0 in
     let lies = on_lies i.offset 0 (scalars_at d) (size_of d) s (rises d) h.0.1 in
     record {
-      fits = fits_pair u4 constant i.offset i.value (fits_word i.offset (omega (arith, lies.is, lies.before, made.1))) (fits_constant i.value h.1 bytes);
+      fits = fits_pair u4 (constant written) i.offset i.value (fits_word i.offset (omega (arith, lies.is, lies.before, made.1))) (fits_constant i.value h.1 bytes);
       is = ap (λ s. fits_scalar s i.value) (stands d i.offset s h.0.1) ∙ h.0.2;
     }
 
@@ -58,7 +59,7 @@ module _ (tables : NumberedTables) (globals blocks last : ℕ) (few_descriptions
   -- ---- templates
 
   pub record GoodTemplate (t : Template) : Type 0 where
-    pub fits : template.fits (template_code tables t) ≡ true
+    pub fits : (template written).fits (template_code tables t) ≡ true
     pub names : AllByRecursion IsNamed (named_by_template (template_code tables t))
     pub is : is_good_template (slice_get tables.descriptions (description_number tables t.description)) t.initial ≡ true
 
@@ -70,8 +71,8 @@ module _ (tables : NumberedTables) (globals blocks last : ℕ) (few_descriptions
       let below = description_within tables d stands in
       let good : AllByRecursion (GoodInitial d) t.initial = all_pairs (IsInitial d) (λ (i : InitialScalar). HasBytes i.value) (GoodInitial d) (good_initial d h.0) t.initial h.1 bytes in
       record {
-        fits = fits_pair u2 (list_of u4 initial) number t.initial (fits_short number (omega (arith, below, few_descriptions)))
-            (fits_list u4 initial t.initial (fits_word (length t.initial) h.2) (each_holds initial.fits (GoodInitial d) (λ i g. g.fits) t.initial good));
+        fits = fits_pair u2 (list_of u4 (initial written)) number t.initial (fits_short number (omega (arith, below, few_descriptions)))
+            (fits_list u4 (initial written) t.initial (fits_word (length t.initial) h.2) (each_holds (initial written).fits (GoodInitial d) (λ i g. g.fits) t.initial good));
         names = (below, tt);
         is = ap (λ o. is_good_template o t.initial) stands
             ∙ both_hold (nat_le (size_of d) 1000000) (list_all (λ i. fits_scalar (scalar_at d i.offset) i.value) t.initial) (le-leb (size_of d) 1000000 h.0.1)

@@ -14,6 +14,7 @@ use Rattle.pli_gen.specs.WellNumbered.{IsWellNumbered}
 use Rattle.pli_map.specs.Description.{Description}
 use Rattle.pli_type_tree.specs.TypedTree.{TypedUnit}
 use Rattle.pli_code.specs.CodeTables.{Code, Deck}
+use Rattle.pli_code.specs.Versions.{written}
 
 -- the scalar that begins on a byte is the one that decks find there
 abbrev pub ScalarsAreFound : Type 0
@@ -34,8 +35,9 @@ NumbersFit =
     (t : TypedUnit) → IsWellNumbered t → IsWellFormed t → HasShortTables (code_of t)
     → has_wide_number (code_of t) ≡ false
 
--- the deck of a unit that is numbered well, well formed and not too long is a deck
+-- the deck of a unit that is numbered well, well formed and not too long is a deck, in the version in which
+-- decks are written
 abbrev pub UnitsAreSaid : Type 0
 UnitsAreSaid =
     (t : TypedUnit) (d : Deck) → IsWellNumbered t → IsWellFormed t → is_too_long (code_of t) ≡ false
-    → d.code ≡ code_of t → IsTypedDeck d → IsDeck d
+    → d.version ≡ written → d.code ≡ code_of t → IsTypedDeck d → IsDeck d

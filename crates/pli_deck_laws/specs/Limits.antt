@@ -45,9 +45,9 @@ IfThere Holds (Some x) = Holds x
 abbrev pub IsLength : ℕ → Type 0
 IsLength n = (1 ≤ n) × (n ≤ 32767)
 
--- a precision of 1 to 31
+-- a precision of 1 to 63
 abbrev pub IsPrecision : ℕ → Type 0
-IsPrecision p = (1 ≤ p) × (p ≤ 31)
+IsPrecision p = (1 ≤ p) × (p ≤ 63)
 
 -- a bound is at most 32,767 from 0
 abbrev pub IsBound : ℤ → Type 0
@@ -82,11 +82,11 @@ abbrev mutual
 abbrev pub IsDescription : Description → Type 0
 IsDescription d = IsDescribed level_limit d
 
--- values: a number of at most 31 binary digits, a string of at most 32,767 elements, or null
+-- values
 
--- a number of at most 31 binary digits, a string of at most 32,767 elements, or null
+-- a number of at most 63 binary digits, a string of at most 32,767 elements, or null
 abbrev pub IsConstant : Value → Type 0
-IsConstant (Number x) = unsigned_abs x ≤ 2147483647
+IsConstant (Number x) = unsigned_abs x ≤ 9223372036854775807
 IsConstant (Characters text) = length text ≤ 32767
 IsConstant (Bits bits) = length bits ≤ 32767
 IsConstant (Located l) = is_null l ≡ true

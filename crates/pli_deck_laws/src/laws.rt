@@ -16,9 +16,9 @@ pub fn numbers_fit()
     ensures { NumbersFit }
 {}
 
-/// A law: the deck of a unit that is well formed, numbered well and not too long is one that bytes spell: each of its
-/// numbers is in the range of its field, what it names is there, its jumps lead to instructions, and its templates are
-/// within their limits.
+/// A law: the deck of a unit that is well formed, numbered well and not too long, of the version in which decks are
+/// written, is one that bytes spell: each of its numbers is in the range of its field, what it names is there, its jumps
+/// lead to instructions, and its templates are within their limits.
 pub fn units_are_said()
     ensures { UnitsAreSaid }
 {}

@@ -6,4 +6,5 @@ pub mod HeadingLemmas
 pub mod LoopLemmas
 pub mod LoopBehindLemmas
 pub mod ModuleGiven
+pub mod VersionReading
 pub mod WholeReading

@@ -1,7 +1,7 @@
 //! Constants, initial values and templates at the front of bytes.
 ghost use Rattle.std.specs.Prelude.{◌≡◌, ◌≤◌, ◌<◌, ℕ, slice_index, map};
 ghost use Rattle.std.specs.Str.{bytes_eq};
-ghost use Rattle.pli_code.specs.Fields.{made, list_of, u4};
+ghost use Rattle.pli_code.specs.Fields.{Answers, made, list_of, u4};
 ghost use Rattle.pli_deck_write.specs.DeckFields as deck_fields;
 ghost use Rattle.pli_program.specs.Templates as templates;
 ghost use Rattle.pli_type_tree.specs.views.TemplateView.{initial_view};
@@ -13,8 +13,8 @@ ghost use Rattle.pli_base.specs.answers.FailureAnswers.{Gives};
 
 use crate::error::ReadError;
 use crate::reading::{ReadsOne, many_of, short_within, text_of};
-use pli_code::fields::{byte_of, short_of, signed_within, word_of};
-use pli_code::{CodedTemplate, DeckFault};
+use pli_code::fields::{byte_of, short_of, signed_long_within, signed_within, word_of};
+use pli_code::{CodedTemplate, DeckFault, Version};
 use pli_type_tree::InitialScalar;
 use pli_value::bit::Bits;
 use pli_value::{Locator, Value};
@@ -66,16 +66,29 @@ fn characters_of(alloc: Global, bytes: &[u8]) -> Result<(Value, &[u8]), ReadErro
     Ok((Value::Characters(Vec::from_slice(alloc, text)?), rest))
 }
 
-/// A constant.
+/// A number as a version has it: of at most 31 binary digits in four bytes, or of at most 63 in eight.
+fn number_of(version: Version, bytes: &[u8]) -> Result<(i64, &[u8]), DeckFault>
+    ensures { Answers (λ x. (x.0, x.1.now)) result ((deck_fields.integer version).read bytes.now) }
+{
+    match version {
+        Version::First => {
+            let (number, rest) = signed_within(bytes, 2_147_483_647)?;
+            Ok((i64::from(number), rest))
+        }
+        Version::Second => signed_long_within(bytes, 9_223_372_036_854_775_807),
+    }
+}
+
+/// A constant of a version.
 #[tactic(auto, unfolding(pli_deck_write::specs::DeckFields::constant))]
-pub fn constant_of(alloc: Global, bytes: &[u8]) -> Result<(Value, &[u8]), ReadError>
-    ensures { Gives (λ x. (value_view x.0, x.1.now)) result (deck_fields.constant.read bytes.now) }
+fn constant_of(alloc: Global, version: Version, bytes: &[u8]) -> Result<(Value, &[u8]), ReadError>
+    ensures { Gives (λ x. (value_view x.0, x.1.now)) result ((deck_fields.constant version).read bytes.now) }
 {
     let (tag, rest) = byte_of(bytes)?;
     match tag {
         1 => {
-            let (number, rest) = signed_within(rest, 2147483647)?;
-            Ok((Value::Number(i64::from(number)), rest))
+            let (number, rest) = number_of(version, rest)?;
+            Ok((Value::Number(number), rest))
         }
         2 => characters_of(alloc, rest),
         3 => bit_string_of(alloc, rest),
@@ -85,8 +98,11 @@ pub fn constant_of(alloc: Global, bytes: &[u8]) -> Result<(Value, &[u8]), ReadEr
     }
 }
 
-/// Reads a constant.
-pub struct Constants;
+/// Reads a constant of a version.
+#[derive(Clone, Copy)]
+pub struct Constants {
+    pub version: Version,
+}
 
 impl ReadsOne for Constants {
     type Value = Value;
@@ -95,15 +111,18 @@ impl ReadsOne for Constants {
 
     ghost say = { value_view };
 
-    ghost field = { deck_fields.constant };
+    ghost field = { λ r. deck_fields.constant r.version };
 
     fn read<'a>(&self, alloc: Global, bytes: &'a [u8]) -> Result<(Value, &'a [u8]), ReadError> {
-        constant_of(alloc, bytes)
+        constant_of(alloc, self.version, bytes)
     }
 }
 
-/// Reads an initial value.
-struct Initials;
+/// Reads an initial value of a version.
+#[derive(Clone, Copy)]
+struct Initials {
+    version: Version,
+}
 
 impl ReadsOne for Initials {
     type Value = InitialScalar;
@@ -112,7 +131,7 @@ impl ReadsOne for Initials {
 
     ghost say = { initial_view };
 
-    ghost field = { deck_fields.initial };
+    ghost field = { λ r. deck_fields.initial r.version };
 
     #[tactic(auto, unfolding(pli_deck_write::specs::DeckFields::initial))]
     fn read<'a>(
@@ -121,21 +140,28 @@ impl ReadsOne for Initials {
         bytes: &'a [u8],
     ) -> Result<(InitialScalar, &'a [u8]), ReadError> {
         let (offset, rest) = word_of(bytes)?;
-        let (value, rest) = constant_of(alloc, rest)?;
+        let (value, rest) = constant_of(alloc, self.version, rest)?;
         Ok((InitialScalar { offset, value }, rest))
     }
 }
 
-/// A list of initial values, with a count of four bytes.
-fn initials_of(alloc: Global, bytes: &[u8]) -> Result<(Vec<InitialScalar>, &[u8]), ReadError>
-    ensures { Gives (λ x. (map initial_view x.0.items, x.1.now)) result ((list_of u4 deck_fields.initial).read bytes.now) }
+/// A list of initial values of a version, with a count of four bytes.
+fn initials_of(
+    alloc: Global,
+    version: Version,
+    bytes: &[u8],
+) -> Result<(Vec<InitialScalar>, &[u8]), ReadError>
+    ensures { Gives (λ x. (map initial_view x.0.items, x.1.now)) result ((list_of u4 (deck_fields.initial version)).read bytes.now) }
 {
     let (count, rest) = word_of(bytes)?;
-    many_of(alloc, &Initials, count, rest)
+    many_of(alloc, &Initials { version }, count, rest)
 }
 
-/// Reads a template.
-pub struct Templates;
+/// Reads a template of a version.
+#[derive(Clone, Copy)]
+pub struct Templates {
+    pub version: Version,
+}
 
 impl ReadsOne for Templates {
     type Value = CodedTemplate;
@@ -144,7 +170,7 @@ impl ReadsOne for Templates {
 
     ghost say = { coded_template_view };
 
-    ghost field = { deck_fields.template };
+    ghost field = { λ r. deck_fields.template r.version };
 
     #[tactic(auto, unfolding(pli_deck_write::specs::DeckFields::template))]
     fn read<'a>(
@@ -153,7 +179,7 @@ impl ReadsOne for Templates {
         bytes: &'a [u8],
     ) -> Result<(CodedTemplate, &'a [u8]), ReadError> {
         let (description, rest) = short_of(bytes)?;
-        let (initial, rest) = initials_of(alloc, rest)?;
+        let (initial, rest) = initials_of(alloc, self.version, rest)?;
         Ok((
             CodedTemplate {
                 description,

@@ -10,8 +10,8 @@ ghost use Rattle.pli_base.specs.answers.FailureAnswers.{Gives};
 
 use crate::error::ReadError;
 use crate::reading::{ReadsOne, count_within, many_of, short_within};
-use pli_code::DeckFault;
 use pli_code::fields::{byte_of, byte_within, short_of, signed_within, word_of};
+use pli_code::{DeckFault, Version};
 use pli_deck_write::LEVELS;
 use pli_map::{Bounds, Description};
 use std::alloc::Global;
@@ -39,7 +39,7 @@ impl ReadsOne for Dimensions {
 
     ghost say = { λ b. b };
 
-    ghost field = { description_fields.bounds };
+    ghost field = { λ _. description_fields.bounds };
 
     fn read<'a>(&self, _alloc: Global, bytes: &'a [u8]) -> Result<(Bounds, &'a [u8]), ReadError> {
         let (low, rest) = bound_of(bytes)?;
@@ -73,16 +73,23 @@ fn area_size_of(bytes: &[u8]) -> Result<(u32, &[u8]), DeckFault>
     }
 }
 
+/// The precision of a number of a version.
+fn precision_of(version: Version, bytes: &[u8]) -> Result<(u8, &[u8]), DeckFault>
+    ensures { Answers (λ x. (x.0, x.1.now)) result ((instruction_fields.precision version).read bytes.now) }
+{
+    byte_within(bytes, 1, version.greatest_precision())
+}
+
 /// The scalar of a tag that is neither an array's nor a structure's.
 #[tactic(auto, unfolding(pli_deck_write::specs::Descriptions::described), using(pli_deck_write::proofs::DescriptionViews::scalars_said))]
-fn scalar_of(tag: u8, bytes: &[u8]) -> Result<(Description, &[u8]), ReadError>
+fn scalar_of(version: Version, tag: u8, bytes: &[u8]) -> Result<(Description, &[u8]), ReadError>
     requires { (1 ≤ tag) × (tag ≤ 7) }
     ensures { (inner : Field plain.Description) →
-        Gives (λ x. (description_view x.0, x.1.now)) result (described inner tag bytes.now) }
+        Gives (λ x. (description_view x.0, x.1.now)) result (described version inner tag bytes.now) }
 {
     match tag {
         1 => {
-            let (precision, rest) = byte_within(bytes, 1, 31)?;
+            let (precision, rest) = precision_of(version, bytes)?;
             Ok((Description::FixedBinary(precision), rest))
         }
         2 => {
@@ -111,19 +118,20 @@ fn scalar_of(tag: u8, bytes: &[u8]) -> Result<(Description, &[u8]), ReadError>
 #[cycle(description)]
 fn description_at<'a>(
     alloc: Global,
+    version: Version,
     levels: u16,
     bytes: &'a [u8],
 ) -> Result<(Description, &'a [u8]), ReadError>
-    ensures { Gives (λ x. (description_view x.0, x.1.now)) result ((description_within levels).read bytes.now) }
+    ensures { Gives (λ x. (description_view x.0, x.1.now)) result ((description_within version levels).read bytes.now) }
 {
     let (tag, rest) = byte_of(bytes)?;
     if levels == 0 {
         return Err(ReadError::Fault(DeckFault::OutOfRange));
     }
     match tag {
-        1..=7 => scalar_of(tag, rest),
-        8 => array_at(alloc, levels - 1, rest),
-        9 => structure_at(alloc, levels - 1, rest),
+        1..=7 => scalar_of(version, tag, rest),
+        8 => array_at(alloc, version, levels - 1, rest),
+        9 => structure_at(alloc, version, levels - 1, rest),
         _ => Err(ReadError::Fault(DeckFault::OutOfRange)),
     }
 }
@@ -133,13 +141,14 @@ fn description_at<'a>(
 #[tactic(auto, unfolding(pli_deck_write::specs::Descriptions::described), using(pli_deck_write::proofs::DescriptionViews::array_said))]
 fn array_at<'a>(
     alloc: Global,
+    version: Version,
     levels: u16,
     bytes: &'a [u8],
 ) -> Result<(Description, &'a [u8]), ReadError>
-    ensures { Gives (λ x. (description_view x.0, x.1.now)) result (described (description_within levels) 8 bytes.now) }
+    ensures { Gives (λ x. (description_view x.0, x.1.now)) result (described version (description_within version levels) 8 bytes.now) }
 {
     let (bounds, rest) = dimensions_of(alloc, bytes)?;
-    let (element, rest) = description_at(alloc, levels, rest)?;
+    let (element, rest) = description_at(alloc, version, levels, rest)?;
     let element = Box::new(alloc, element)?;
     Ok((Description::Array { bounds, element }, rest))
 }
@@ -149,13 +158,14 @@ fn array_at<'a>(
 #[tactic(auto, unfolding(pli_deck_write::specs::Descriptions::described), using(pli_deck_write::proofs::DescriptionViews::structure_said))]
 fn structure_at<'a>(
     alloc: Global,
+    version: Version,
     levels: u16,
     bytes: &'a [u8],
 ) -> Result<(Description, &'a [u8]), ReadError>
-    ensures { Gives (λ x. (description_view x.0, x.1.now)) result (described (description_within levels) 9 bytes.now) }
+    ensures { Gives (λ x. (description_view x.0, x.1.now)) result (described version (description_within version levels) 9 bytes.now) }
 {
     let (count, rest) = short_within(bytes, 1, 65535)?;
-    let (members, rest) = members_at(alloc, levels, count, rest)?;
+    let (members, rest) = members_at(alloc, version, levels, count, rest)?;
     Ok((Description::Structure(members), rest))
 }
 
@@ -163,26 +173,31 @@ fn structure_at<'a>(
 #[cycle(description)]
 fn members_at<'a>(
     alloc: Global,
+    version: Version,
     levels: u16,
     count: u16,
     bytes: &'a [u8],
 ) -> Result<(Vec<Description>, &'a [u8]), ReadError>
-    ensures { Gives (λ x. (map description_view x.0.items, x.1.now)) result (many (description_within levels).read count bytes.now) }
+    ensures { Gives (λ x. (map description_view x.0.items, x.1.now)) result (many (description_within version levels).read count bytes.now) }
 {
     let mut members = Vec::new(alloc);
     let mut rest = bytes;
     for _ in 0..count {
-        let (member, behind) = description_at(alloc, levels, rest)?;
+        let (member, behind) = description_at(alloc, version, levels, rest)?;
         members.push(member)?;
         rest = behind;
     }
     Ok((members, rest))
 }
 
-/// A list of descriptions.
-pub fn descriptions_of(alloc: Global, bytes: &[u8]) -> Result<(Vec<Description>, &[u8]), ReadError>
-    ensures { Gives (λ x. (map description_view x.0.items, x.1.now)) result ((list description).read bytes.now) }
+/// A list of descriptions of a version.
+pub fn descriptions_of(
+    alloc: Global,
+    version: Version,
+    bytes: &[u8],
+) -> Result<(Vec<Description>, &[u8]), ReadError>
+    ensures { Gives (λ x. (map description_view x.0.items, x.1.now)) result ((list (description version)).read bytes.now) }
 {
     let (count, rest) = short_of(bytes)?;
-    members_at(alloc, LEVELS, count, rest)
+    members_at(alloc, version, LEVELS, count, rest)
 }

@@ -1,7 +1,7 @@
 //! Modules at the front of bytes.
 ghost use Rattle.std.specs.Prelude.{◌≡◌, None, length, map};
 ghost use Rattle.std.specs.List.{filter};
-ghost use Rattle.pli_code.specs.Fields.{Answers, u1, from_to};
+ghost use Rattle.pli_code.specs.Fields.{Answers, followed, from_to, made, shaped, u1};
 ghost use Rattle.pli_deck_write.specs.DeckFields as deck_fields;
 ghost use Rattle.pli_code.specs.Modules as plain;
 ghost use Rattle.pli_code.specs.views.CodeView.{deck_view, external_view, global_view, kind_number, member_view, module_view};
@@ -13,10 +13,10 @@ use crate::error::ReadError;
 use crate::read::read;
 use crate::reading::{ReadsOne, many_of, name_text_of, short_within, upper_name};
 use crate::tables::numbers_of;
-use crate::whole::behind;
+use crate::whole::{behind, version_of};
 use pli_base::Name;
-use pli_code::fields::{byte_of, byte_within, short_of, word_of};
-use pli_code::{CodedGlobal, Deck, DeckFault, External, Member, Module};
+use pli_code::fields::{byte_within, short_of, word_of};
+use pli_code::{CodedGlobal, Deck, DeckFault, External, Member, Module, Version};
 use pli_deck_faults::is_external;
 use pli_program::VariableKind;
 use std::alloc::Global;
@@ -103,10 +103,10 @@ fn externals_of(alloc: Global, bytes: &[u8]) -> Result<(Vec<External>, &[u8]), R
     externals_at(alloc, count, rest)
 }
 
-/// A deck with the number of its bytes before it, read whole.
+/// A deck of this version with the number of its bytes before it, read whole.
 #[tactic(auto, unfolding(pli_deck_write::specs::ModuleFields::deck_in))]
-fn sized_deck_of(alloc: Global, bytes: &[u8]) -> Result<(Deck, &[u8]), ReadError>
-    ensures { Gives (λ x. (deck_view x.0, x.1.now)) result (module_fields.sized_deck.read bytes.now) }
+fn sized_deck_of(alloc: Global, version: Version, bytes: &[u8]) -> Result<(Deck, &[u8]), ReadError>
+    ensures { Gives (λ x. (deck_view x.0, x.1.now)) result ((module_fields.sized_deck version).read bytes.now) }
 {
     let (count, rest) = word_of(bytes)?;
     let count = count as usize;
@@ -114,7 +114,7 @@ fn sized_deck_of(alloc: Global, bytes: &[u8]) -> Result<(Deck, &[u8]), ReadError
         return Err(ReadError::Fault(DeckFault::Truncated));
     }
     let (front, rest) = rest.split_at(count);
-    let deck = read(alloc, front)?;
+    let deck = read(alloc, Some(version), front)?;
     Ok((deck, rest))
 }
 
@@ -146,8 +146,11 @@ fn links_of<'a>(
     numbers_of(alloc, u32::from(count), rest)
 }
 
-/// Reads a unit.
-struct Members;
+/// Reads a unit of a module of a version.
+#[derive(Clone, Copy)]
+struct Members {
+    version: Version,
+}
 
 impl ReadsOne for Members {
     type Value = Member;
@@ -156,7 +159,7 @@ impl ReadsOne for Members {
 
     ghost say = { member_view };
 
-    ghost field = { module_fields.member };
+    ghost field = { λ r. module_fields.member r.version };
 
     #[tactic(auto, unfolding(pli_deck_write::specs::ModuleFields::member, pli_deck_write::specs::DeckFields::name))]
     fn read<'a>(&self, alloc: Global, bytes: &'a [u8]) -> Result<(Member, &'a [u8]), ReadError> {
@@ -164,22 +167,24 @@ impl ReadsOne for Members {
         let Some(name) = upper_name(text) else {
             return Err(ReadError::Fault(DeckFault::OutOfRange));
         };
-        let (deck, rest) = sized_deck_of(alloc, rest)?;
+        let (deck, rest) = sized_deck_of(alloc, self.version, rest)?;
         let (links, rest) = links_of(alloc, &deck, rest)?;
         Ok((Member { name, deck, links }, rest))
     }
 }
 
-/// What a module has behind its version.
-fn contents_of(alloc: Global, bytes: &[u8]) -> Result<(Module, &[u8]), ReadError>
-    ensures { Gives (λ x. (module_view x.0, x.1.now)) result (module_fields.module_contents.read bytes.now) }
+/// What a module of this version has after its version.
+fn contents_of(alloc: Global, version: Version, bytes: &[u8]) -> Result<(Module, &[u8]), ReadError>
+    ensures { Gives (λ x. (module_view x.0, x.1.now)) result
+        (made (λ p. module_fields.module_of (version, p)) (module_fields.module_contents version) bytes.now) }
 {
     let (count, rest) = short_within(bytes, 1, 999)?;
     let (main, rest) = short_of(rest)?;
     let (externals, rest) = externals_of(alloc, rest)?;
-    let (units, rest) = many_of(alloc, &Members, u32::from(count), rest)?;
+    let (units, rest) = many_of(alloc, &Members { version }, u32::from(count), rest)?;
     Ok((
         Module {
+            version,
             main,
             externals,
             units,
@@ -188,16 +193,13 @@ fn contents_of(alloc: Global, bytes: &[u8]) -> Result<(Module, &[u8]), ReadError
     ))
 }
 
-/// The version, which is 1, and what a module has behind it.
+/// The version, and what a module has after it.
 fn versioned_of(alloc: Global, bytes: &[u8]) -> Result<(Module, &[u8]), ReadError>
-    ensures { Gives (λ x. (module_view x.0, x.1.now)) result (deck_fields.versioned module_fields.module_contents.read bytes.now) }
+    ensures { Gives (λ x. (module_view x.0, x.1.now)) result
+        ((shaped module_fields.module_of module_fields.module_parts (followed (deck_fields.version_in deck_fields.any_version) module_fields.module_contents)).read bytes.now) }
 {
-    let (version, rest) = byte_of(bytes)?;
-    if version == 1 {
-        contents_of(alloc, rest)
-    } else {
-        Err(ReadError::Fault(DeckFault::BadVersion))
-    }
+    let (version, rest) = version_of(bytes, None)?;
+    contents_of(alloc, version, rest)
 }
 
 /// A module.

@@ -86,10 +86,11 @@ pub trait ReadsOne {
 
     ghost say: { Self.Value → Said };
 
-    ghost field: { fields.Field Said };
+    /// How a reader reads it.
+    ghost field: { Self → fields.Field Said };
 
     fn read<'a>(&self, alloc: Global, bytes: &'a [u8]) -> Result<(Self::Value, &'a [u8]), ReadError>
-        ensures { Gives (λ x. (say x.0, x.1.now)) result (field.read bytes.now) };
+        ensures { Gives (λ x. (say x.0, x.1.now)) result ((field self.now).read bytes.now) };
 }
 
 /// For how many values there is room at first: for all that a count promises where there are no fewer bytes, and else
@@ -108,7 +109,7 @@ pub fn many_of<'a, R: ReadsOne>(
     count: u32,
     bytes: &'a [u8],
 ) -> Result<(Vec<R::Value>, &'a [u8]), ReadError>
-    ensures { Gives (λ x. (map R.say x.0.items, x.1.now)) result (many R.field.read count bytes.now) }
+    ensures { Gives (λ x. (map R.say x.0.items, x.1.now)) result (many (R.field reader.now).read count bytes.now) }
 {
     let mut values = Vec::with_capacity(alloc, room_for(count, bytes))?;
     let mut rest = bytes;
@@ -126,7 +127,7 @@ pub fn list_at<'a, R: ReadsOne>(
     reader: &R,
     bytes: &'a [u8],
 ) -> Result<(Vec<R::Value>, &'a [u8]), ReadError>
-    ensures { Gives (λ x. (map R.say x.0.items, x.1.now)) result ((list R.field).read bytes.now) }
+    ensures { Gives (λ x. (map R.say x.0.items, x.1.now)) result ((list (R.field reader.now)).read bytes.now) }
 {
     let (count, rest) = short_of(bytes)?;
     many_of(alloc, reader, u32::from(count), rest)

@@ -2,7 +2,7 @@
 ghost use Rattle.std.specs.Prelude.{◌≡◌, ℕ, List, map};
 ghost use Rattle.pli_code.specs.Fields.{Answers, Field, many, u2, list, made, ◌⊗◌};
 ghost use Rattle.pli_deck_write.specs.DeckFields as deck_fields;
-ghost use Rattle.pli_code.specs.Instructions.{instruction};
+ghost use Rattle.pli_code.specs.Instructions.{instruction_in};
 ghost use Rattle.pli_code.specs.CodeTables as code;
 ghost use Rattle.pli_code.specs.CodeTables.{CodedBlock};
 ghost use Rattle.pli_code.specs.views.CodeView.{kind_view, block_view, signature_view, global_view};
@@ -13,7 +13,9 @@ use crate::reading::{
     ReadsOne, count_within, list_at, many_of, name_text_of, optional_of, upper_name,
 };
 use pli_code::fields::{byte_of, byte_within, short_of, word_of};
-use pli_code::{Block, BlockKind, CodedGlobal, CodedSignature, DeckFault, Instruction, decode};
+use pli_code::{
+    Block, BlockKind, CodedGlobal, CodedSignature, DeckFault, Instruction, Version, decode,
+};
 use pli_program::VariableKind;
 use std::alloc::Global;
 
@@ -27,7 +29,7 @@ impl ReadsOne for Numbers {
 
     ghost say = { λ n. n };
 
-    ghost field = { u2 };
+    ghost field = { λ _. u2 };
 
     fn read<'a>(&self, _alloc: Global, bytes: &'a [u8]) -> Result<(u16, &'a [u8]), ReadError> {
         Ok(short_of(bytes)?)
@@ -117,7 +119,7 @@ impl ReadsOne for Globals {
 
     ghost say = { global_view };
 
-    ghost field = { deck_fields.global };
+    ghost field = { λ _. deck_fields.global };
 
     #[tactic(auto, unfolding(pli_deck_write::specs::DeckFields::global))]
     fn read<'a>(
@@ -166,7 +168,7 @@ impl ReadsOne for Blocks {
 
     ghost say = { block_view };
 
-    ghost field = { deck_fields.block };
+    ghost field = { λ _. deck_fields.block };
 
     #[tactic(auto, unfolding(pli_deck_write::specs::DeckFields::block))]
     fn read<'a>(&self, alloc: Global, bytes: &'a [u8]) -> Result<(Block, &'a [u8]), ReadError> {
@@ -192,8 +194,11 @@ impl ReadsOne for Blocks {
     }
 }
 
-/// Reads an instruction.
-pub struct Instructions;
+/// Reads an instruction of a version.
+#[derive(Clone, Copy)]
+pub struct Instructions {
+    pub version: Version,
+}
 
 impl ReadsOne for Instructions {
     ghost use Rattle.pli_code.specs.declared.instruction.Instruction.{Instruction};
@@ -204,13 +209,18 @@ impl ReadsOne for Instructions {
 
     ghost say = { λ i. i };
 
-    ghost field = { instruction };
+    ghost field = { λ r. instruction_in r.version };
 
     fn read<'a>(
         &self,
         _alloc: Global,
         bytes: &'a [u8],
     ) -> Result<(Instruction, &'a [u8]), ReadError> {
-        Ok(decode(bytes)?)
+        let (instruction, rest) = decode(bytes)?;
+        if instruction.stands_in(self.version) {
+            Ok((instruction, rest))
+        } else {
+            Err(ReadError::Fault(DeckFault::OutOfRange))
+        }
     }
 }

@@ -11,18 +11,21 @@ use Rattle.pli_value.specs.Packing.{packed_bit, packed, unpacked}
 use Rattle.pli_value.proofs.PackedLaws.{unpacked_packed, packed_length}
 use Rattle.byteorder.specs.Endian.{big_bytes}
 use Rattle.pli_code.specs.declared.fault.DeckFault.{DeckFault}
-use Rattle.pli_code.specs.declared.fault.DeckFault.TheVariants.{Truncated, BadMagic, BadVersion}
+use Rattle.pli_code.specs.declared.fault.DeckFault.TheVariants.{Truncated, BadMagic}
 use Rattle.pli_base.specs.Results.{◌>>=◌}
-use Rattle.pli_code.specs.Fields.{AreBytes, Reader, Field, nothing, byte, held, ◌⊗◌, list_of, unknown, u1, u2, u4, count_of_one, byte_at, from_to, list}
+use Rattle.pli_code.specs.Fields.{AreBytes, Reader, Field, nothing, byte, held, followed, ◌⊗◌, list_of, unknown, u1, u2, u4, count_of_one, byte_at, from_to, list, shaped}
 use Rattle.pli_value.specs.Value.{Value, Number, Characters, Bits, Located}
 use Rattle.pli_value.specs.declared.locator.Locator.TheVariants as locators
 use Rattle.pli_deck_write.specs.Descriptions.{description}
-use Rattle.pli_code.specs.Instructions.{instruction}
-use Rattle.pli_deck_write.specs.DeckFields.{is_name, name, flag, number_if, none_last, is_number_if, optional, byte_count, bits_in, bits_at, bit_string, integer, characters, constant_form, constant_readers, constant, initial, template, parameter_count, parameter_number, signature, global_form, global_readers, global, kind_number, kind_of, block_kind, block_of, block_parts, block, behind, past, after_magic, if_first, versioned, after_version, code_of, code_parts, code, deck_of, deck_parts, contents, deck}
-use Rattle.pli_code.proofs.FieldLaws.{AreBytes-drop, bind_ok, held_ok, guard_ok, both_true, Taken, IsField, nothing_law, byte_law, u2_law, u4_law, count_law, byte_again, as_shaped, answered, checked_law, signed_law, ◌⊠◌, shaped_law, list_law, from_to_law}
+use Rattle.pli_code.specs.Instructions.{instruction_in}
+use Rattle.pli_code.specs.Versions.{version_number}
+use Rattle.pli_code.specs.declared.version.Version.{Version}
+use Rattle.pli_code.specs.declared.version.Version.TheVariants.{First, Second}
+use Rattle.pli_deck_write.specs.DeckFields.{is_name, name, flag, number_if, none_last, is_number_if, optional, byte_count, bits_in, bits_at, bit_string, integer, characters, constant_form, constant_readers, constant, initial, template, parameter_count, parameter_number, signature, global_form, global_readers, global, kind_number, kind_of, block_kind, block_of, block_parts, block, behind, past, after_magic, if_it_may, version_among, or_bad_version, version_in, code_of, code_parts, code, contents, deck_of, deck_parts, deck_in_versions}
+use Rattle.pli_code.proofs.FieldLaws.{AreBytes-drop, bind_ok, ok_is, held_ok, guard_ok, both_true, Taken, IsField, nothing_law, byte_law, u2_law, u4_law, count_law, byte_again, as_shaped, answered, checked_law, word_law, long_law, followed_law, ◌⊠◌, shaped_law, list_law, from_to_law}
 use Rattle.pli_code.proofs.FormLaws.{AllRead, unknown_reads, made_reads, made_again, tagged_law}
 use Rattle.pli_deck_write.proofs.DescriptionLaws.{description_law}
-use Rattle.pli_code.proofs.InstructionLaws.{instruction_law}
+use Rattle.pli_code.proofs.InstructionLaws.{instruction_in_law}
 use Rattle.pli_code.proofs.NumberedLaws.{over}
 use Rattle.pli_program.specs.Program.{BlockKind, Procedure, BeginBlock, OnUnit}
 use Rattle.pli_code.specs.CodeTables.{CodedGlobal, OwnVariable, ExternalVariable, EntryPoint}
@@ -152,19 +155,20 @@ bit_string_law = record { takes = bit_string_takes; again = bit_string_again }
 
 -- ---- constants, templates and signatures
 
-integer_law : IsField integer
-integer_law = signed_law 2147483647 (omega arith)
+integer_law : (v : Version) → IsField (integer v)
+integer_law First = word_law 2147483647 (omega arith)
+integer_law Second = long_law 9223372036854775807 (omega arith)
 
 characters_law : IsField characters
 unfolding characters
 characters_law = list_law (from_to 0 32767 u2) byte bit_count_law byte_law
 
-constants_read : AllRead constant_form 0 constant_readers
-constants_read =
-    let f = constant_form in (
+constants_read : (v : Version) → AllRead (constant_form v) 0 (constant_readers v)
+constants_read v =
+    let f = constant_form v in (
       unknown_reads f 0,
       (
-        made_reads integer integer_law Number f 1 (λ x. refl),
+        made_reads (integer v) (integer_law v) Number f 1 (λ x. refl),
         (
           made_reads characters characters_law Characters f 2 (λ x. refl),
           (
@@ -181,27 +185,28 @@ constants_read =
       ),
     )
 
-constants_again : (c : Value) (rest : List ℕ) → (constant_form c).fits ≡ true → get_or constant_readers (constant_form c).tag unknown ((constant_form c).bytes ++ rest) ≡ Ok (c, rest)
-constants_again (Number x) rest h = made_again integer integer_law Number x rest h
-constants_again (Characters text) rest h = made_again characters characters_law Characters text rest h
-constants_again (Bits bits) rest h = made_again bit_string bit_string_law Bits bits rest h
-constants_again (Located locators.Null) rest h = refl
-constants_again (Located (locators.Offset k)) rest h = ap (λ n. Ok (Located (locators.Offset n), rest)) (sym (eqb-true k 0 h))
-constants_again (Located (locators.Pointer generation position)) rest h = absurd cc
+constants_again : (v : Version) (c : Value) (rest : List ℕ) → (constant_form v c).fits ≡ true → get_or (constant_readers v) (constant_form v c).tag unknown ((constant_form v c).bytes ++ rest) ≡ Ok (c, rest)
+constants_again v (Number x) rest h = made_again (integer v) (integer_law v) Number x rest h
+constants_again v (Characters text) rest h = made_again characters characters_law Characters text rest h
+constants_again v (Bits bits) rest h = made_again bit_string bit_string_law Bits bits rest h
+constants_again v (Located locators.Null) rest h = refl
+constants_again v (Located (locators.Offset k)) rest h = ap (λ n. Ok (Located (locators.Offset n), rest)) (sym (eqb-true k 0 h))
+constants_again v (Located (locators.Pointer generation position)) rest h = absurd cc
 
-constant_law : IsField constant
+constant_law : (v : Version) → IsField (constant v)
 unfolding constant
-constant_law = tagged_law constant_form constant_readers constants_read constants_again
+constant_law v = tagged_law (constant_form v) (constant_readers v) (constants_read v) (constants_again v)
 
-initial_law : IsField initial
+initial_law : (v : Version) → IsField (initial v)
 unfolding initial
-initial_law = shaped_law (λ p. record { offset = p.0; value = p.1 }) (λ i. (i.offset, i.value)) (u4 ⊗ constant) (u4_law ⊠ constant_law) (λ p h. refl) (λ i h. refl)
+initial_law v =
+    shaped_law (λ p. record { offset = p.0; value = p.1 }) (λ i. (i.offset, i.value)) (u4 ⊗ constant v) (u4_law ⊠ constant_law v) (λ p h. refl) (λ i h. refl)
 
-template_law : IsField template
+template_law : (v : Version) → IsField (template v)
 unfolding template
-template_law =
-    shaped_law (λ p. record { description = p.0; initial = p.1 }) (λ t. (t.description, t.initial)) (u2 ⊗ list_of u4 initial)
-    (u2_law ⊠ list_law u4 initial u4_law initial_law) (λ p h. refl) (λ t h. refl)
+template_law v =
+    shaped_law (λ p. record { description = p.0; initial = p.1 }) (λ t. (t.description, t.initial)) (u2 ⊗ list_of u4 (initial v))
+    (u2_law ⊠ list_law u4 (initial v) u4_law (initial_law v)) (λ p h. refl) (λ t h. refl)
 
 parameter_count_law : IsField parameter_count
 parameter_count_law = from_to_law 0 64 count_of_one count_law
@@ -308,40 +313,73 @@ magic_law {X} magic f it = record { takes = take_one; again = once_more }
         ap (λ s. past BadMagic f.read (behind magic s)) (append_assoc magic (f.bytes_of x) rest)
         ∙ ap (past BadMagic f.read) (behind_again magic (f.bytes_of x ++ rest)) ∙ it.again x rest h
 
-version_ok : {X : Type 0} (v : ℕ) (r : Result X DeckFault) (y : X) → cond (nat_eq v 1) r (Err BadVersion) ≡ Ok y → (v ≡ 1) × (r ≡ Ok y)
-version_ok v r y e = by_test (nat_eq v 1) refl e
+-- ---- versions
+
+-- a version that was read has this number, and may stand there
+record Stands (may_stand : Version → Bool) (n : ℕ) (v : Version) : Type 0 where
+  number : n ≡ version_number v
+  good : may_stand v ≡ true
+
+version_stands : (may_stand : Version → Bool) (n : ℕ) (v : Version) → version_among may_stand n ≡ Some v → Stands may_stand n v
+version_stands may_stand n v e = first (nat_eq n 1) refl e
   where
-    by_test : (t : Bool) → nat_eq v 1 ≡ t → cond t r (Err BadVersion) ≡ Ok y → (v ≡ 1) × (r ≡ Ok y)
-    by_test true same given = (eqb-true v 1 same, given)
-    by_test false same given = absurd cc
+    of : (w : Version) (b : Bool) → may_stand w ≡ b → n ≡ version_number w → cond b (Some w) None ≡ Some v → Stands may_stand n v
+    of w true good here found = let same : w ≡ v = cc in record { number = here ∙ ap version_number same; good = ap may_stand (sym same) ∙ good }
+    of w false good here found = absurd cc
 
-version_takes : {X : Type 0} (f : Field X) → IsField f → (bytes : List ℕ) (x : X) (rest : List ℕ) → AreBytes bytes → versioned f.read bytes ≡ Ok (x, rest) → Taken (after_version f) bytes x rest
-version_takes f it bytes x rest b e =
-    let r = bind_ok (byte_at bytes) (if_first f.read) (x, rest) e in
-    let v = version_ok r.0.0 (f.read r.0.1) (x, rest) r.2 in
-    let front = byte_law.takes bytes r.0.0 r.0.1 b r.1 in
-    let t = it.takes r.0.1 x rest front.rest_bytes v.1 in
-    record { parts = front.parts ∙ ap (λ n. n ∷ r.0.1) v.0 ∙ ap (λ s. 1 ∷ s) t.parts; fitting = t.fitting; rest_bytes = t.rest_bytes }
+    second : (b : Bool) → nat_eq n 2 ≡ b → cond b (if_it_may may_stand Second) None ≡ Some v → Stands may_stand n v
+    second true here found = of Second (may_stand Second) refl (eqb-true n 2 here) found
+    second false here found = absurd cc
 
-version_again : {X : Type 0} (f : Field X) → IsField f → (x : X) (rest : List ℕ) → f.fits x ≡ true → versioned f.read (1 ∷ (f.bytes_of x ++ rest)) ≡ Ok (x, rest)
-version_again f it x rest h = ap (λ r. r >>= if_first f.read) (byte_again 1 (f.bytes_of x ++ rest)) ∙ it.again x rest h
+    first : (b : Bool) → nat_eq n 1 ≡ b → cond b (if_it_may may_stand First) (cond (nat_eq n 2) (if_it_may may_stand Second) None) ≡ Some v → Stands may_stand n v
+    first true here found = of First (may_stand First) refl (eqb-true n 1 here) found
+    first false here found = second (nat_eq n 2) refl found
 
-pub version_law : {X : Type 0} (f : Field X) → IsField f → IsField (after_version f)
-version_law f it = record { takes = version_takes f it; again = version_again f it }
+there_ok : (o : Option Version) (behind : List ℕ) (v : Version) (rest : List ℕ) → or_bad_version o behind ≡ Ok (v, rest) → (o ≡ Some v) × (behind ≡ rest)
+there_ok None behind v rest e = absurd cc
+there_ok (Some w) behind v rest e =
+    let both = ok_is (w, behind) (v, rest) e in (ap (λ (p : Version × List ℕ). Some p.0) both, ap (λ (p : Version × List ℕ). p.1) both)
+
+abbrev as_version : (may_stand : Version → Bool) → ℕ × List ℕ → Result (Version × List ℕ) DeckFault
+as_version may_stand n = or_bad_version (version_among may_stand n.0) n.1
+
+version_takes : (may_stand : Version → Bool) (bytes : List ℕ) (v : Version) (rest : List ℕ) → AreBytes bytes → (version_in may_stand).read bytes ≡ Ok (v, rest) → Taken (version_in may_stand) bytes v rest
+version_takes may_stand bytes v rest b e =
+    let r = bind_ok (byte_at bytes) (as_version may_stand) (v, rest) e in
+    let t = byte_law.takes bytes r.0.0 r.0.1 b r.1 in
+    let there = there_ok (version_among may_stand r.0.0) r.0.1 v rest r.2 in
+    let s = version_stands may_stand r.0.0 v there.0 in
+    record {
+      parts = t.parts ∙ ap (λ n. n ∷ r.0.1) s.number ∙ ap (λ bs. version_number v ∷ bs) there.1;
+      fitting = s.good;
+      rest_bytes = subst AreBytes there.1 t.rest_bytes;
+    }
+
+version_again : (may_stand : Version → Bool) (v : Version) (rest : List ℕ) → may_stand v ≡ true → (version_in may_stand).read (version_number v ∷ rest) ≡ Ok (v, rest)
+version_again may_stand First rest h =
+    ap (λ r. r >>= as_version may_stand) (byte_again 1 rest) ∙ ap (λ g. or_bad_version (cond g (Some First) None) rest) h
+version_again may_stand Second rest h =
+    ap (λ r. r >>= as_version may_stand) (byte_again 2 rest) ∙ ap (λ g. or_bad_version (cond g (Some Second) None) rest) h
+
+pub version_law : (may_stand : Version → Bool) → IsField (version_in may_stand)
+version_law may_stand = record { takes = version_takes may_stand; again = version_again may_stand }
 
 -- ---- decks
 
-code_law : IsField code
+code_law : (v : Version) → IsField (code v)
 unfolding code
-code_law =
-    shaped_law code_of code_parts (signature ⊗ list description ⊗ list template ⊗ list constant ⊗ list global ⊗ list block ⊗ list instruction)
-    (signature_law ⊠ list_law u2 description u2_law description_law ⊠ list_law u2 template u2_law template_law ⊠ list_law u2 constant u2_law constant_law
-    ⊠ list_law u2 global u2_law global_law ⊠ list_law u2 block u2_law block_law ⊠ list_law u2 instruction u2_law instruction_law) (λ p h. refl) (λ c h. refl)
+code_law v =
+    shaped_law code_of code_parts (signature ⊗ list (description v) ⊗ list (template v) ⊗ list (constant v) ⊗ list global ⊗ list block ⊗ list (instruction_in v))
+    (signature_law ⊠ list_law u2 (description v) u2_law (description_law v) ⊠ list_law u2 (template v) u2_law (template_law v) ⊠ list_law u2 (constant v) u2_law (constant_law v)
+    ⊠ list_law u2 global u2_law global_law ⊠ list_law u2 block u2_law block_law ⊠ list_law u2 (instruction_in v) u2_law (instruction_in_law v)) (λ p h. refl) (λ c h. refl)
 
-contents_law : IsField contents
+contents_law : (v : Version) → IsField (contents v)
 unfolding contents
-contents_law = shaped_law deck_of deck_parts (name ⊗ flag ⊗ code) (name_law ⊠ flag_law ⊠ code_law) (λ p h. refl) (λ d h. refl)
+contents_law v = name_law ⊠ flag_law ⊠ code_law v
 
-pub deck_law : IsField deck
-unfolding deck
-deck_law = magic_law (80 ∷ 76 ∷ 73 ∷ 68 ∷ []) (after_version contents) (version_law contents contents_law)
+pub deck_law : (may_stand : Version → Bool) → IsField (deck_in_versions may_stand)
+unfolding deck_in_versions
+deck_law may_stand =
+    let parts = followed (version_in may_stand) contents in
+    magic_law (80 ∷ 76 ∷ 73 ∷ 68 ∷ []) (shaped deck_of deck_parts parts)
+    (shaped_law deck_of deck_parts parts (followed_law (version_in may_stand) contents (version_law may_stand) contents_law) (λ p h. refl) (λ d h. refl))

@@ -7,6 +7,7 @@ use Rattle.pli_map.specs.views.DescriptionView.{members_of}
 use Rattle.pli_code.specs.Fields.{BothWays, Field, nothing, ◌⊗◌, form, unknown, u2, u4, count_of_one, from_to, checked}
 use Rattle.pli_deck_write.specs.Descriptions.{string_length, area_size, bounds, dimensions, listed, members, description_form, description_readers, too_deep, description_within, description}
 use Rattle.pli_code.specs.Instructions.{precision, bound}
+use Rattle.pli_code.specs.declared.version.Version.{Version}
 use Rattle.pli_code.proofs.InstructionLaws.{precision_law, bound_law}
 use Rattle.pli_code.proofs.FieldLaws.{IsField, count_law, u2_law, u4_law, nothing_law, checked_law, from_to_law, pair_law, shaped_law, list_law, both_ways}
 use Rattle.pli_code.proofs.FormLaws.{AllRead, unknown_reads, made_reads, made_again, tagged_law}
@@ -36,12 +37,12 @@ members_of-listed : (ds : Members) → members_of (listed ds) ≡ ds
 members_of-listed NoMembers = refl
 members_of-listed (MemberThen d ds) = ap (MemberThen d) (members_of-listed ds)
 
-forms_read : (inner : Field Description) → IsField inner → AllRead (description_form inner) 0 (description_readers inner)
-forms_read inner it =
-    let f = description_form inner in (
+forms_read : (v : Version) (inner : Field Description) → IsField inner → AllRead (description_form v inner) 0 (description_readers v inner)
+forms_read v inner it =
+    let f = description_form v inner in (
       unknown_reads f 0,
       (
-        made_reads precision precision_law FixedBinary f 1 (λ p. refl),
+        made_reads (precision v) (precision_law v) FixedBinary f 1 (λ p. refl),
         (
           made_reads string_length length_law Character f 2 (λ n. refl),
           (
@@ -70,32 +71,32 @@ forms_read inner it =
       ),
     )
 
-read_again : (inner : Field Description) → IsField inner → (d : Description) (rest : List ℕ) → (description_form inner d).fits ≡ true
-    → get_or (description_readers inner) (description_form inner d).tag unknown ((description_form inner d).bytes ++ rest) ≡ Ok (d, rest)
-read_again inner it (FixedBinary p) rest h = made_again precision precision_law FixedBinary p rest h
-read_again inner it (Character n) rest h = made_again string_length length_law Character n rest h
-read_again inner it (Varying n) rest h = made_again string_length length_law Varying n rest h
-read_again inner it (Bit n) rest h = made_again string_length length_law Bit n rest h
-read_again inner it Pointer rest h = refl
-read_again inner it Offset rest h = refl
-read_again inner it (Area n) rest h = made_again area_size area_law Area n rest h
-read_again inner it (Array bs element) rest h = made_again (dimensions ⊗ inner) (pair_law dimensions inner dimensions_law it) (λ p. Array p.0 p.1) (bs, element) rest h
-read_again inner it (Structure ds) rest h =
+read_again : (v : Version) (inner : Field Description) → IsField inner → (d : Description) (rest : List ℕ) → (description_form v inner d).fits ≡ true
+    → get_or (description_readers v inner) (description_form v inner d).tag unknown ((description_form v inner d).bytes ++ rest) ≡ Ok (d, rest)
+read_again v inner it (FixedBinary p) rest h = made_again (precision v) (precision_law v) FixedBinary p rest h
+read_again v inner it (Character n) rest h = made_again string_length length_law Character n rest h
+read_again v inner it (Varying n) rest h = made_again string_length length_law Varying n rest h
+read_again v inner it (Bit n) rest h = made_again string_length length_law Bit n rest h
+read_again v inner it Pointer rest h = refl
+read_again v inner it Offset rest h = refl
+read_again v inner it (Area n) rest h = made_again area_size area_law Area n rest h
+read_again v inner it (Array bs element) rest h = made_again (dimensions ⊗ inner) (pair_law dimensions inner dimensions_law it) (λ p. Array p.0 p.1) (bs, element) rest h
+read_again v inner it (Structure ds) rest h =
     made_again (members inner) (members_law inner it) (λ es. Structure (members_of es)) (listed ds) rest h ∙ ap (λ es. Ok (Structure es, rest)) (members_of-listed ds)
 
 too_deep_law : IsField too_deep
 too_deep_law = tagged_law (λ d. record { tag = 0; bytes = []; fits = false }) [] tt (λ d rest h. absurd cc)
 
-pub description_within_law : (levels : ℕ) → IsField (description_within levels)
+pub description_within_law : (v : Version) (levels : ℕ) → IsField (description_within v levels)
 unfolding description_within
-description_within_law zero = too_deep_law
-description_within_law (suc n) =
-    let inner = description_within n in
-    let it = description_within_law n in
-    tagged_law (description_form inner) (description_readers inner) (forms_read inner it) (read_again inner it)
+description_within_law v zero = too_deep_law
+description_within_law v (suc n) =
+    let inner = description_within v n in
+    let it = description_within_law v n in
+    tagged_law (description_form v inner) (description_readers v inner) (forms_read v inner it) (read_again v inner it)
 
-pub description_law : IsField description
-description_law = description_within_law 512
+pub description_law : (v : Version) → IsField (description v)
+description_law v = description_within_law v 512
 
-pub descriptions_both_ways : BothWays description
-descriptions_both_ways = both_ways description description_law
+pub descriptions_both_ways : (v : Version) → BothWays (description v)
+descriptions_both_ways v = both_ways (description v) (description_law v)

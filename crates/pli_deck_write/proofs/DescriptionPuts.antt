@@ -1,4 +1,4 @@
--- The bytes of descriptions, level by level.
+-- The bytes of descriptions, level by level, which are the same in each version.
 use Rattle.std.proofs.Common.{◌≡◌, ℕ, zero, suc, ◌-◌, ◌<◌, List, [], ◌∷◌, ◌++◌, length, map, Vec, refl, sym, ap, ◌∙◌, arith}
 use Rattle.std.specs.Global.{Global, Box}
 use Rattle.std.specs.List.{flat_map}
@@ -11,11 +11,31 @@ use Rattle.pli_map.specs.declared.description.Description as program
 use Rattle.pli_map.specs.declared.description.Description.TheVariants as made
 use Rattle.pli_map.specs.declared.description.Description.TheFolds as folds
 use Rattle.pli_map.specs.views.DescriptionView.{description_view, level_view, members_of}
-use Rattle.pli_deck_write.specs.Descriptions.{description_form, dimensions, listed, description_within}
+use Rattle.pli_code.specs.Fields.{list}
+use Rattle.pli_code.specs.Versions.{written}
+use Rattle.pli_code.specs.declared.version.Version.{Version}
+use Rattle.pli_deck_write.specs.Descriptions.{description_form, dimensions, listed, description_within, description}
 use Rattle.pli_deck_write.proofs.DescriptionViews.{fixed_said, character_said, varying_said, bit_said, pointer_said, offset_said, array_said, structure_said}
 
+flat_same : {X : Type 0} (f g : X → List ℕ) → ((x : X) → f x ≡ g x) → (xs : List X) → flat_map f xs ≡ flat_map g xs
+flat_same f g same [] = refl
+flat_same f g same (x ∷ xs) = ap (λ bs. bs ++ flat_map f xs) (same x) ∙ ap (λ bs. g x ++ bs) (flat_same f g same xs)
+
+pub same_description : (v w : Version) (n : ℕ) (d : tree.Description) → (description_within v n).bytes_of d ≡ (description_within w n).bytes_of d
+unfolding description_within
+same_description v w zero d = refl
+same_description v w (suc n) (tree.Array bs element) = ap (λ inside. 8 ∷ (dimensions.bytes_of bs ++ inside)) (same_description v w n element)
+same_description v w (suc n) (tree.Structure ds) =
+    ap (λ inside. 9 ∷ (big_bytes 2 (length (listed ds)) ++ inside)) (flat_same (description_within v n).bytes_of (description_within w n).bytes_of (λ d. same_description v w n d) (listed ds))
+same_description v w (suc n) scalar = refl
+
+-- descriptions that were put are put as any version has them
+pub descriptions_put : (v : Version) (old new : List ℕ) (ds : List tree.Description) → new ≡ old ++ (list (description written)).bytes_of ds → new ≡ old ++ (list (description v)).bytes_of ds
+descriptions_put v old new ds put =
+    put ∙ ap (λ bs. old ++ (big_bytes 2 (length ds) ++ bs)) (flat_same (description written).bytes_of (description v).bytes_of (same_description written v 512) ds)
+
 abbrev bytes_within : ℕ → tree.Description → List ℕ
-bytes_within n = (description_within n).bytes_of
+bytes_within n = (description_within written n).bytes_of
 
 pub too_deep_bytes : (n : ℕ) (d : tree.Description) → n ≡ 0 → bytes_within n d ≡ 0 ∷ []
 unfolding description_within
@@ -23,7 +43,7 @@ too_deep_bytes zero d none = refl
 too_deep_bytes (suc n) d none = absurd (omega (arith, none))
 
 abbrev tag_first : ℕ → tree.Description → List ℕ
-tag_first n d = (description_form (description_within n) d).tag ∷ (description_form (description_within n) d).bytes
+tag_first n d = (description_form written (description_within written n) d).tag ∷ (description_form written (description_within written n) d).bytes
 
 bytes_inside : (n : ℕ) (d : tree.Description) → 0 < n → bytes_within n d ≡ tag_first (n - 1) d
 unfolding description_within

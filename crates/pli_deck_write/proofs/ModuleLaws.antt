@@ -8,16 +8,17 @@ use Rattle.pli_code.specs.declared.fault.DeckFault.TheVariants.{Truncated}
 use Rattle.pli_base.specs.Results.{◌>>=◌}
 use Rattle.pli_code.specs.Fields.{AreBytes, Field, many, checked, followed, ◌⊗◌, shaped, u1, u2, u4, from_to}
 use Rattle.pli_code.specs.CodeTables.{Deck}
-use Rattle.pli_code.specs.Modules.{External, Member}
-use Rattle.pli_deck_write.specs.DeckFields.{name, after_version, deck}
+use Rattle.pli_code.specs.Modules.{External}
+use Rattle.pli_code.specs.Versions.{same_version}
+use Rattle.pli_code.specs.declared.version.Version.{Version}
+use Rattle.pli_deck_write.specs.DeckFields.{name, version_in, any_version, deck_in_versions}
 use Rattle.pli_deck_write.specs.DeckFaults.{fault_of}
-use Rattle.pli_deck_write.specs.Spelling.{deck_bytes, deck_read, SpellsDeck}
-use Rattle.pli_deck_write.specs.ModuleFields.{comes_after, external_of, external_parts, external_behind, bytes_behind, fit_behind, many_behind, chain, is_none, and_rest, deck_in, sized_deck, is_external, links_of, member_of, member_parts, member, exactly, module_of, module_parts, module_field}
+use Rattle.pli_deck_write.specs.Spelling.{deck_bytes, deck_read_in}
+use Rattle.pli_deck_write.specs.ModuleFields.{comes_after, external_of, external_parts, external_behind, bytes_behind, fit_behind, many_behind, chain, is_none, and_rest, deck_in, sized_deck, is_external, links_of, member_of, member_parts, member, exactly, ModuleContents, module_contents, module_of, module_parts, module_field}
 use Rattle.pli_deck_write.specs.ModuleSpelling.{module_fault, module_read, ReadModuleIsSpelled, SpelledModuleIsRead, OneModule}
 use Rattle.pli_code.proofs.FieldLaws.{AreBytes-drop, AreBytes-take, bind_ok, ok_is, guard_ok, both_true, Taken, IsField, byte_law, u2_law, u4_law, checked_law, followed_law, ◌⊠◌, shaped_law, list_law, from_to_law, many_takes, many_again}
-use Rattle.pli_deck_write.proofs.DeckLaws.{name_law, magic_law, version_law}
-use Rattle.pli_deck_write.proofs.SpellingLaws.{read_is_spelled, spelled_is_read}
-use Rattle.pli_deck_write.proofs.WholeLaws.{taken_whole, read_again}
+use Rattle.pli_deck_write.proofs.DeckLaws.{name_law, magic_law, version_law, deck_law}
+use Rattle.pli_deck_write.proofs.WholeLaws.{IsWhole, taken_whole, read_again}
 
 -- ---- externals
 
@@ -85,79 +86,101 @@ chain_law {X} f it = record { takes = take_all; again = once_more }
 
 -- ---- decks within a module
 
-pub record DeckTaken (count : ℕ) (bytes : List ℕ) (d : Deck) (rest : List ℕ) : Type 0 where
+-- a deck that is spelled so, in a version that may stand there
+abbrev SpellsIn : (v : Version) → List ℕ → Deck → Type 0
+SpellsIn v bytes d = IsWhole fault_of (deck_in_versions (same_version v)) bytes d
+
+-- its bytes do not depend on which versions may stand there
+bytes_same : (v : Version) (d : Deck) → (deck_in_versions (same_version v)).bytes_of d ≡ deck_bytes d
+unfolding deck_in_versions
+bytes_same v d = refl
+
+read_in : (v : Version) (bytes : List ℕ) (d : Deck) → AreBytes bytes → deck_read_in (same_version v) bytes ≡ Ok d → SpellsIn v bytes d
+unfolding deck_read_in
+read_in v bytes d b e = taken_whole fault_of (deck_in_versions (same_version v)) (deck_law (same_version v)) bytes d b e
+
+spelled_in : (v : Version) (bytes : List ℕ) (d : Deck) → SpellsIn v bytes d → deck_read_in (same_version v) bytes ≡ Ok d
+unfolding deck_read_in
+spelled_in v bytes d s = read_again fault_of (deck_in_versions (same_version v)) (deck_law (same_version v)) bytes d s
+
+pub record DeckTaken (v : Version) (count : ℕ) (bytes : List ℕ) (d : Deck) (rest : List ℕ) : Type 0 where
   pub parts : bytes ≡ deck_bytes d ++ rest
   pub counted : length (deck_bytes d) ≡ count
-  pub spelled : SpellsDeck (deck_bytes d) d
+  pub fits : (deck_in_versions (same_version v)).fits d ≡ true
+  pub faultless : fault_of d ≡ None
   pub rest_bytes : AreBytes rest
 
 abbrev with_rest : List ℕ → Deck → Result (Deck × List ℕ) DeckFault
 with_rest rest d = Ok (d, rest)
 
-deck_takes : (count : ℕ) (bytes : List ℕ) (d : Deck) (rest : List ℕ) → AreBytes bytes → deck_in count bytes ≡ Ok (d, rest) → DeckTaken count bytes d rest
+deck_takes : (v : Version) (count : ℕ) (bytes : List ℕ) (d : Deck) (rest : List ℕ) → AreBytes bytes → deck_in v count bytes ≡ Ok (d, rest) → DeckTaken v count bytes d rest
 unfolding deck_in
-deck_takes count bytes d rest b e =
+deck_takes v count bytes d rest b e =
     let front = take count bytes in
-    let g = guard_ok (nat_lt (length bytes) count) Truncated (and_rest (drop count bytes) (deck_read front)) (d, rest) e in
-    let r = bind_ok (deck_read front) (with_rest (drop count bytes)) (d, rest) g.1 in
-    let s = read_is_spelled front r.0 (AreBytes-take count bytes b) r.1 in
-    subst (λ p. DeckTaken count bytes p.0 p.1) (ok_is (r.0, drop count bytes) (d, rest) r.2) (record {
-      parts = sym (take-append-drop count bytes) ∙ ap (λ t. t ++ drop count bytes) s.spelled;
-      counted = ap length (sym s.spelled) ∙ length-take-le count bytes (ltb-false (length bytes) count g.0);
-      spelled = record { is_deck = s.is_deck; spelled = refl };
+    let g = guard_ok (nat_lt (length bytes) count) Truncated (and_rest (drop count bytes) (deck_read_in (same_version v) front)) (d, rest) e in
+    let r = bind_ok (deck_read_in (same_version v) front) (with_rest (drop count bytes)) (d, rest) g.1 in
+    let s = read_in v front r.0 (AreBytes-take count bytes b) r.1 in
+    let spelled : front ≡ deck_bytes r.0 = s.spelled ∙ bytes_same v r.0 in
+    subst (λ p. DeckTaken v count bytes p.0 p.1) (ok_is (r.0, drop count bytes) (d, rest) r.2) (record {
+      parts = sym (take-append-drop count bytes) ∙ ap (λ t. t ++ drop count bytes) spelled;
+      counted = ap length (sym spelled) ∙ length-take-le count bytes (ltb-false (length bytes) count g.0);
+      fits = s.fits;
+      faultless = s.faultless;
       rest_bytes = AreBytes-drop count bytes b;
     })
 
-deck_again : (d : Deck) (rest : List ℕ) → SpellsDeck (deck_bytes d) d → deck_in (length (deck_bytes d)) (deck_bytes d ++ rest) ≡ Ok (d, rest)
+deck_again : (v : Version) (d : Deck) (rest : List ℕ) → SpellsIn v (deck_bytes d) d → deck_in v (length (deck_bytes d)) (deck_bytes d ++ rest) ≡ Ok (d, rest)
 unfolding deck_in
-deck_again d rest s =
+deck_again v d rest s =
     let k = length (deck_bytes d) in
     let all = deck_bytes d ++ rest in
+    let read = deck_read_in (same_version v) in
     let enough : nat_lt (length all) k ≡ false = le-ltb _ _ (omega (arith, length-append (deck_bytes d) rest)) in
-    ap (λ t. cond t (Err Truncated) (and_rest (drop k all) (deck_read (take k all)))) enough
-    ∙ ap (λ f. and_rest (drop k all) (deck_read f)) (take_at (deck_bytes d) rest k refl)
-    ∙ ap (λ f. and_rest f (deck_read (deck_bytes d))) (drop_at (deck_bytes d) rest k refl)
-    ∙ ap (and_rest rest) (spelled_is_read (deck_bytes d) d s)
+    ap (λ t. cond t (Err Truncated) (and_rest (drop k all) (read (take k all)))) enough
+    ∙ ap (λ f. and_rest (drop k all) (read f)) (take_at (deck_bytes d) rest k refl)
+    ∙ ap (λ f. and_rest f (read (deck_bytes d))) (drop_at (deck_bytes d) rest k refl)
+    ∙ ap (and_rest rest) (spelled_in v (deck_bytes d) d s)
 
 none_is : (o : Option DeckFault) → is_none o ≡ true → o ≡ None
 none_is None h = refl
 none_is (Some f) h = absurd cc
 
-abbrev deck_by_count : ℕ × List ℕ → Result (Deck × List ℕ) DeckFault
-deck_by_count n = deck_in n.0 n.1
+abbrev deck_by_count : Version → ℕ × List ℕ → Result (Deck × List ℕ) DeckFault
+deck_by_count v n = deck_in v n.0 n.1
 
-sized_takes : (bytes : List ℕ) (d : Deck) (rest : List ℕ) → AreBytes bytes → sized_deck.read bytes ≡ Ok (d, rest) → Taken sized_deck bytes d rest
-sized_takes bytes d rest b e =
-    let r = bind_ok (u4.read bytes) deck_by_count (d, rest) e in
+sized_takes : (v : Version) (bytes : List ℕ) (d : Deck) (rest : List ℕ) → AreBytes bytes → (sized_deck v).read bytes ≡ Ok (d, rest) → Taken (sized_deck v) bytes d rest
+sized_takes v bytes d rest b e =
+    let r = bind_ok (u4.read bytes) (deck_by_count v) (d, rest) e in
     let t = u4_law.takes bytes r.0.0 r.0.1 b r.1 in
-    let u = deck_takes r.0.0 r.0.1 d rest t.rest_bytes r.2 in
+    let u = deck_takes v r.0.0 r.0.1 d rest t.rest_bytes r.2 in
     record {
       parts = t.parts ∙ ap (λ s. u4.bytes_of r.0.0 ++ s) u.parts ∙ sym (append_assoc (u4.bytes_of r.0.0) (deck_bytes d) rest)
           ∙ ap (λ n. (u4.bytes_of n ++ deck_bytes d) ++ rest) (sym u.counted);
-      fitting = both_true _ _ (ap u4.fits u.counted ∙ t.fitting) (both_true _ _ u.spelled.is_deck.fits (ap is_none u.spelled.is_deck.faultless));
+      fitting = both_true _ _ (ap u4.fits u.counted ∙ t.fitting) (both_true _ _ u.fits (ap is_none u.faultless));
       rest_bytes = u.rest_bytes;
     }
 
-sized_again : (d : Deck) (rest : List ℕ) → sized_deck.fits d ≡ true → sized_deck.read (sized_deck.bytes_of d ++ rest) ≡ Ok (d, rest)
-sized_again d rest h =
+sized_again : (v : Version) (d : Deck) (rest : List ℕ) → (sized_deck v).fits d ≡ true → (sized_deck v).read ((sized_deck v).bytes_of d ++ rest) ≡ Ok (d, rest)
+sized_again v d rest h =
     let k = length (deck_bytes d) in
-    let both = and_parts (u4.fits k) (deck.fits d && is_none (fault_of d)) h in
-    let good = and_parts (deck.fits d) (is_none (fault_of d)) both.1 in
-    let s : SpellsDeck (deck_bytes d) d = record { is_deck = record { fits = good.0; faultless = none_is (fault_of d) good.1 }; spelled = refl } in
-    ap (λ bs. u4.read bs >>= deck_by_count) (append_assoc (u4.bytes_of k) (deck_bytes d) rest)
-    ∙ ap (λ r. r >>= deck_by_count) (u4_law.again k (deck_bytes d ++ rest) both.0) ∙ deck_again d rest s
+    let fits = (deck_in_versions (same_version v)).fits d in
+    let both = and_parts (u4.fits k) (fits && is_none (fault_of d)) h in
+    let good = and_parts fits (is_none (fault_of d)) both.1 in
+    let s : SpellsIn v (deck_bytes d) d = record { fits = good.0; faultless = none_is (fault_of d) good.1; spelled = sym (bytes_same v d) } in
+    ap (λ bs. u4.read bs >>= deck_by_count v) (append_assoc (u4.bytes_of k) (deck_bytes d) rest)
+    ∙ ap (λ r. r >>= deck_by_count v) (u4_law.again k (deck_bytes d ++ rest) both.0) ∙ deck_again v d rest s
 
-sized_law : IsField sized_deck
-sized_law = record { takes = sized_takes; again = sized_again }
+sized_law : (v : Version) → IsField (sized_deck v)
+sized_law v = record { takes = sized_takes v; again = sized_again v }
 
 links_law : (d : Deck) → IsField (links_of d)
 links_law d = let k = length (filter is_external d.code.globals) in list_law (from_to k k u2) u2 (from_to_law k k u2 u2_law) u2_law
 
-member_law : IsField member
+member_law : (v : Version) → IsField (member v)
 unfolding member
-member_law =
-    shaped_law member_of member_parts (followed (name ⊗ sized_deck) (λ p. links_of p.1))
-    (followed_law (name ⊗ sized_deck) (λ p. links_of p.1) (name_law ⊠ sized_law) (λ p. links_law p.1)) (λ p h. refl) (λ m h. refl)
+member_law v =
+    shaped_law member_of member_parts (followed (name ⊗ sized_deck v) (λ p. links_of p.1))
+    (followed_law (name ⊗ sized_deck v) (λ p. links_of p.1) (name_law ⊠ sized_law v) (λ p. links_law p.1)) (λ p h. refl) (λ m h. refl)
 
 -- ---- modules
 
@@ -180,21 +203,26 @@ Heading = ℕ × (ℕ × List External)
 abbrev heading : Field Heading
 heading = from_to 1 999 u2 ⊗ u2 ⊗ chain external_behind
 
-parts_there : (p : Heading × List Member) → (followed heading (λ h. exactly h.0 member)).fits p ≡ true → module_parts (module_of p) ≡ p
+contents_law : (v : Version) → IsField (module_contents v)
+contents_law v =
+    followed_law heading (λ h. exactly h.0 (member v)) (from_to_law 1 999 u2 u2_law ⊠ u2_law ⊠ chain_law external_behind external_law) (λ h. exactly_law h.0 (member v) (member_law v))
+
+parts_there : (p : Version × ModuleContents) → (followed (version_in any_version) module_contents).fits p ≡ true → module_parts (module_of p) ≡ p
 parts_there p h =
-    let both = and_parts (heading.fits p.0) (nat_eq (length p.1) p.0.0 && list_all member.fits p.1) h in
-    let counted = eqb-true (length p.1) p.0.0 (and_parts (nat_eq (length p.1) p.0.0) (list_all member.fits p.1) both.1).0 in
-    ap (λ n. ((n, p.0.1), p.1)) counted
+    let units = p.1.1 in
+    let count = p.1.0.0 in
+    let each = list_all (member p.0).fits units in
+    let fits = (and_parts true ((module_contents p.0).fits p.1) h).1 in
+    let both = and_parts (heading.fits p.1.0) (nat_eq (length units) count && each) fits in
+    let counted = eqb-true (length units) count (and_parts (nat_eq (length units) count) each both.1).0 in
+    ap (λ n. (p.0, ((n, p.1.0.1), units))) counted
 
 module_law : IsField module_field
 unfolding module_field
 module_law =
-    let parts = followed heading (λ h. exactly h.0 member) in
-    magic_law (80 ∷ 76 ∷ 73 ∷ 77 ∷ []) (after_version (shaped module_of module_parts parts))
-    (version_law (shaped module_of module_parts parts)
-    (shaped_law module_of module_parts parts
-    (followed_law heading (λ h. exactly h.0 member) (from_to_law 1 999 u2 u2_law ⊠ u2_law ⊠ chain_law external_behind external_law) (λ h. exactly_law h.0 member member_law))
-    parts_there (λ m h. refl)))
+    let parts = followed (version_in any_version) module_contents in
+    magic_law (80 ∷ 76 ∷ 73 ∷ 77 ∷ []) (shaped module_of module_parts parts)
+    (shaped_law module_of module_parts parts (followed_law (version_in any_version) module_contents (version_law any_version) contents_law) parts_there (λ m h. refl))
 
 pub read_module_is_spelled : ReadModuleIsSpelled
 unfolding module_read

@@ -3,7 +3,7 @@
 use Rattle.std.proofs.Common.{◌≡◌, ℕ, zero, suc, ◌<◌, List, [], ◌∷◌, ◌++◌, Option, Some, None, drop, get_or, length, map, refl, sym, ap, ◌∙◌, arith}
 use Rattle.std.specs.List.{flat_map}
 use Rattle.pli_code.specs.Modules.{External, Module}
-use Rattle.pli_deck_write.specs.ModuleFields.{external_behind, bytes_behind, member, module_field}
+use Rattle.pli_deck_write.specs.ModuleFields.{external_behind, bytes_behind, member, member_bytes, module_field}
 use Rattle.pli_deck_write.specs.ModuleSpelling.{module_bytes}
 use Rattle.pli_deck_write.specs.answers.ModuleHead.{head_bytes}
 
@@ -20,8 +20,8 @@ behind_bytes before (e ∷ es) =
     ap (λ bs. bs ++ bytes_behind external_behind (Some e) es) (same_bytes before e) ∙ ap (λ bs. external_bytes e ++ bs) (behind_bytes (Some e) es)
 
 -- the bytes of a module are its head, and its units
-pub behind_head : (m : Module) → module_bytes m ≡ head_bytes m ++ flat_map member.bytes_of m.units
-unfolding module_field
+pub behind_head : (m : Module) → module_bytes m ≡ head_bytes m ++ flat_map member_bytes m.units
+unfolding module_field member
 behind_head m = refl
 
 -- lists that are the same by what is said of them say the same at each place

@@ -1,8 +1,9 @@
--- The bytes of a deck's items.
+-- The bytes of a deck's items: numbers, and what they stand in, by the version.
 use Rattle.std.specs.Prelude.{ℕ, ◌+◌, ◌/◌, nat_eq, nat_le, nat_lt, Bool, true, false, ℤ}
 use Rattle.std.specs.Prelude.{List, [], ◌∷◌, ◌++◌, length, take, drop, Option, Some, None, Result, Ok}
 use Rattle.std.specs.Prelude.{Err, get_or}
 use Rattle.std.specs.Prelude.{if◌then◌else◌}
+use Rattle.std.specs.Int.{w32, w64}
 use Rattle.std.specs.Str.{bytes_eq}
 use Rattle.pli_base.specs.Name.{Name, name_of}
 use Rattle.pli_map.specs.Description.{Description}
@@ -19,11 +20,14 @@ use Rattle.pli_code.specs.CodeTables.{CodedTemplate, CodedBlock, CodedSignature,
 use Rattle.pli_code.specs.CodeTables.{CodedGlobal, OwnVariable, ExternalVariable, EntryPoint}
 use Rattle.pli_code.specs.declared.instruction.Instruction.{Instruction}
 use Rattle.pli_base.specs.Results.{◌>>=◌}
-use Rattle.pli_code.specs.Fields.{Field, Form, Reader, byte_at, nothing, checked, held, signed, ◌⊗◌}
-use Rattle.pli_code.specs.Fields.{shaped, list_of, form, made, unknown, tagged, byte, u1, u2, u4}
+use Rattle.pli_code.specs.Fields.{Field, Form, Reader, byte_at, nothing, checked, held, signed, followed}
+use Rattle.pli_code.specs.Fields.{◌⊗◌, shaped, list_of, form, made, unknown, tagged, byte, u1, u2, u4}
 use Rattle.pli_code.specs.Fields.{from_to, count_of_one, list}
 use Rattle.pli_deck_write.specs.Descriptions.{description}
-use Rattle.pli_code.specs.Instructions.{instruction}
+use Rattle.pli_code.specs.Instructions.{instruction_in}
+use Rattle.pli_code.specs.Versions.{version_number}
+use Rattle.pli_code.specs.declared.version.Version.{Version}
+use Rattle.pli_code.specs.declared.version.Version.TheVariants.{First, Second}
 use Rattle.pli_program.specs.declared.kind.VariableKind.TheVariants.{Static, Controlled}
 
 -- a text is this name, as it is written in upper case
@@ -88,9 +92,10 @@ bit_string = record {
   read = λ bytes. (from_to 0 32767 u2).read bytes >>= λ n. bits_at n.0 n.1;
 }
 
--- a number of at most 31 binary digits
-abbrev pub integer : Field ℤ
-integer = signed 2147483647
+-- a number: of at most 31 binary digits in four bytes, or of at most 63 in eight
+abbrev pub integer : Version → Field ℤ
+integer First = signed 4 w32 2147483647
+integer Second = signed 8 w64 9223372036854775807
 
 -- a string of characters, with a count of two bytes
 unfoldable pub characters : Field (List ℕ)
@@ -102,17 +107,17 @@ locator_tag (locators.Offset position) = 5
 locator_tag pointer = 4
 
 -- the form of a constant; of locators null alone has a spelling, a tag behind which nothing stands
-abbrev pub constant_form : Value → Form
-constant_form (Number x) = form 1 integer x
-constant_form (Characters text) = form 2 characters text
-constant_form (Bits bits) = form 3 bit_string bits
-constant_form (Located l) = record { tag = locator_tag l; bytes = []; fits = is_null l }
+abbrev pub constant_form : Version → Value → Form
+constant_form v (Number x) = form 1 (integer v) x
+constant_form v (Characters text) = form 2 characters text
+constant_form v (Bits bits) = form 3 bit_string bits
+constant_form v (Located l) = record { tag = locator_tag l; bytes = []; fits = is_null l }
 
 -- how each form of constants is read, by its tag
-abbrev pub constant_readers : List (Reader Value)
-constant_readers =
+abbrev pub constant_readers : Version → List (Reader Value)
+constant_readers v =
     unknown
-    ∷ made Number integer
+    ∷ made Number (integer v)
     ∷ made Characters characters
     ∷ made Bits bit_string
     ∷ made (λ _. Located locators.Null) nothing
@@ -120,17 +125,18 @@ constant_readers =
     ∷ []
 
 -- a constant
-unfoldable pub constant : Field Value
-constant = tagged constant_form constant_readers
+unfoldable pub constant : Version → Field Value
+constant v = tagged (constant_form v) (constant_readers v)
 
 -- an initial value, with the byte on which it stands
-unfoldable pub initial : Field InitialScalar
-initial = shaped (λ p. record { offset = p.0; value = p.1 }) (λ i. (i.offset, i.value)) (u4 ⊗ constant)
+unfoldable pub initial : Version → Field InitialScalar
+initial v =
+    shaped (λ p. record { offset = p.0; value = p.1 }) (λ i. (i.offset, i.value)) (u4 ⊗ constant v)
 
 -- a template: the number of its description, and its initial values with a count of four bytes
-unfoldable pub template : Field CodedTemplate
-template = shaped (λ p. record { description = p.0; initial = p.1 }) (λ t. (t.description, t.initial))
-    (u2 ⊗ list_of u4 initial)
+unfoldable pub template : Version → Field CodedTemplate
+template v = shaped (λ p. record { description = p.0; initial = p.1 }) (λ t. (t.description, t.initial))
+    (u2 ⊗ list_of u4 (initial v))
 
 -- a count of at most 64 parameters
 abbrev pub parameter_count : Field ℕ
@@ -222,21 +228,33 @@ after_magic magic f = record {
   read = λ bytes. past BadMagic f.read (behind magic bytes);
 }
 
--- what is read behind the version, if that is 1
-abbrev pub if_first : {X : Type 0} → Reader X → ℕ × List ℕ → Result (X × List ℕ) DeckFault
-if_first read version = if nat_eq version.0 1 then read version.1 else Err BadVersion
+-- a version, if it may stand there
+abbrev pub if_it_may : (may_stand : Version → Bool) → Version → Option Version
+if_it_may may_stand v = if may_stand v then Some v else None
 
--- a version, and what is read behind it
-abbrev pub versioned : {X : Type 0} → Reader X → Reader X
-versioned read bytes = byte_at bytes >>= if_first read
+-- the version of a number, if one has it that may stand there
+abbrev pub version_among : (may_stand : Version → Bool) → ℕ → Option Version
+version_among may_stand n =
+    if nat_eq n 1 then if_it_may may_stand First
+    else if nat_eq n 2 then if_it_may may_stand Second
+    else None
 
--- a field behind the version, which is 1
-abbrev pub after_version : {X : Type 0} → Field X → Field X
-after_version f = record {
-  bytes_of = λ x. 1 ∷ f.bytes_of x;
-  fits = f.fits;
-  read = versioned f.read;
+-- that version, or that there is none
+abbrev pub or_bad_version : Option Version → (rest : List ℕ) → Result (Version × List ℕ) DeckFault
+or_bad_version None rest = Err BadVersion
+or_bad_version (Some v) rest = Ok (v, rest)
+
+-- a version that may stand there, by its number; no other number may
+abbrev pub version_in : (may_stand : Version → Bool) → Field Version
+version_in may_stand = record {
+  bytes_of = λ v. version_number v ∷ [];
+  fits = may_stand;
+  read = λ bytes. byte_at bytes >>= λ n. or_bad_version (version_among may_stand n.0) n.1;
 }
+
+-- each version may
+abbrev pub any_version : Version → Bool
+any_version v = true
 
 -- the parts of code in the order of their bytes: its signature, its tables and its instructions
 abbrev pub CodeParts : Type 0
@@ -262,23 +280,33 @@ code_parts c =
     (c.signature, (c.descriptions, (c.templates, (c.values, (c.globals, (c.blocks, c.instructions))))))
 
 -- the code of a unit
-unfoldable pub code : Field Code
-code = shaped code_of code_parts
-    (signature ⊗ list description ⊗ list template ⊗ list constant ⊗ list global ⊗ list block
-    ⊗ list instruction)
+unfoldable pub code : Version → Field Code
+code v = shaped code_of code_parts
+    (signature ⊗ list (description v) ⊗ list (template v) ⊗ list (constant v) ⊗ list global ⊗ list block
+    ⊗ list (instruction_in v))
+
+-- what a deck has behind its version: the procedure's name, whether it is the main one, and the code
+abbrev pub Contents : Type 0
+Contents = Name × (Bool × Code)
+
+-- its bytes
+unfoldable pub contents : Version → Field Contents
+contents v = name ⊗ flag ⊗ code v
 
 -- a deck of its parts
-abbrev pub deck_of : Name × (Bool × Code) → Deck
-deck_of p = record { name = p.0; is_main = p.1.0; code = p.1.1 }
+abbrev pub deck_of : Version × Contents → Deck
+deck_of p = record { version = p.0; name = p.1.0; is_main = p.1.1.0; code = p.1.1.1 }
 
 -- its parts, in the order of their bytes
-abbrev pub deck_parts : Deck → Name × (Bool × Code)
-deck_parts d = (d.name, (d.is_main, d.code))
+abbrev pub deck_parts : Deck → Version × Contents
+deck_parts d = (d.version, (d.name, (d.is_main, d.code)))
 
--- the procedure's name, whether it is the main one, and the code
-unfoldable pub contents : Field Deck
-contents = shaped deck_of deck_parts (name ⊗ flag ⊗ code)
+-- PLID, a version that may stand there, and the contents
+unfoldable pub deck_in_versions : (may_stand : Version → Bool) → Field Deck
+deck_in_versions may_stand =
+    after_magic (80 ∷ 76 ∷ 73 ∷ 68 ∷ [])
+    (shaped deck_of deck_parts (followed (version_in may_stand) contents))
 
--- PLID, the version, and the contents
-unfoldable pub deck : Field Deck
-deck = after_magic (80 ∷ 76 ∷ 73 ∷ 68 ∷ []) (after_version contents)
+-- a deck in any version
+abbrev pub deck : Field Deck
+deck = deck_in_versions any_version

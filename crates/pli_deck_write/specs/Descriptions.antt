@@ -1,4 +1,4 @@
--- The bytes of descriptions (own).
+-- The bytes of descriptions (own). Their precisions are those of a version.
 use Rattle.std.specs.Prelude.{ℕ, zero, suc, ◌%◌, nat_eq, int_le, List, [], ◌∷◌, false, get_or}
 use Rattle.pli_map.specs.declared.description.Bounds.{Bounds}
 use Rattle.pli_map.specs.Description.{Description, FixedBinary, Character, Varying, Bit, Pointer, Offset}
@@ -7,6 +7,7 @@ use Rattle.pli_map.specs.views.DescriptionView.{members_of}
 use Rattle.pli_code.specs.Fields.{Field, Form, Reader, nothing, checked, ◌⊗◌, shaped, list_of, form, made}
 use Rattle.pli_code.specs.Fields.{unknown, tagged, u2, u4, from_to, count_of_one}
 use Rattle.pli_code.specs.Instructions.{precision, bound}
+use Rattle.pli_code.specs.declared.version.Version.{Version}
 
 -- a length of a string
 abbrev pub string_length : Field ℕ
@@ -35,22 +36,22 @@ abbrev pub members : Field Description → Field (List Description)
 members inner = list_of (from_to 1 65535 u2) inner
 
 -- a description, by the field of those within it
-abbrev pub description_form : Field Description → Description → Form
-description_form inner (FixedBinary p) = form 1 precision p
-description_form inner (Character n) = form 2 string_length n
-description_form inner (Varying n) = form 3 string_length n
-description_form inner (Bit n) = form 4 string_length n
-description_form inner Pointer = form 5 nothing tt
-description_form inner Offset = form 6 nothing tt
-description_form inner (Area n) = form 7 area_size n
-description_form inner (Array bs element) = form 8 (dimensions ⊗ inner) (bs, element)
-description_form inner (Structure ds) = form 9 (members inner) (listed ds)
+abbrev pub description_form : Version → Field Description → Description → Form
+description_form v inner (FixedBinary p) = form 1 (precision v) p
+description_form v inner (Character n) = form 2 string_length n
+description_form v inner (Varying n) = form 3 string_length n
+description_form v inner (Bit n) = form 4 string_length n
+description_form v inner Pointer = form 5 nothing tt
+description_form v inner Offset = form 6 nothing tt
+description_form v inner (Area n) = form 7 area_size n
+description_form v inner (Array bs element) = form 8 (dimensions ⊗ inner) (bs, element)
+description_form v inner (Structure ds) = form 9 (members inner) (listed ds)
 
 -- how each form of descriptions is read, by its tag
-abbrev pub description_readers : Field Description → List (Reader Description)
-description_readers inner =
+abbrev pub description_readers : Version → Field Description → List (Reader Description)
+description_readers v inner =
     unknown
-    ∷ made FixedBinary precision
+    ∷ made FixedBinary (precision v)
     ∷ made Character string_length
     ∷ made Varying string_length
     ∷ made Bit string_length
@@ -62,19 +63,19 @@ description_readers inner =
     ∷ []
 
 -- what stands behind the tag
-unfoldable pub described : (inner : Field Description) → (tag : ℕ) → Reader Description
-described inner tag = get_or (description_readers inner) tag unknown
+unfoldable pub described : Version → (inner : Field Description) → (tag : ℕ) → Reader Description
+described v inner tag = get_or (description_readers v inner) tag unknown
 
 -- in no level, no description has a spelling
 abbrev pub too_deep : Field Description
 too_deep = tagged (λ d. record { tag = 0; bytes = []; fits = false }) []
 
 -- descriptions in at most so many levels
-unfoldable pub description_within : (levels : ℕ) → Field Description
-description_within zero = too_deep
-description_within (suc n) =
-    tagged (description_form (description_within n)) (description_readers (description_within n))
+unfoldable pub description_within : Version → (levels : ℕ) → Field Description
+description_within v zero = too_deep
+description_within v (suc n) =
+    tagged (description_form v (description_within v n)) (description_readers v (description_within v n))
 
 -- descriptions in at most 512 levels
-abbrev pub description : Field Description
-description = description_within 512
+abbrev pub description : Version → Field Description
+description v = description_within v 512

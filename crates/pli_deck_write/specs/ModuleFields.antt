@@ -14,9 +14,12 @@ use Rattle.pli_code.specs.declared.fault.DeckFault.TheVariants.{Truncated}
 use Rattle.pli_base.specs.Results.{◌>>=◌}
 use Rattle.pli_code.specs.Fields.{Field, Reader, many, checked, followed, ◌⊗◌, shaped, list_of}
 use Rattle.pli_code.specs.Fields.{u1, u2, u4, from_to}
-use Rattle.pli_deck_write.specs.DeckFields.{name, after_magic, after_version, deck}
+use Rattle.pli_code.specs.Versions.{same_version, written}
+use Rattle.pli_code.specs.declared.version.Version.{Version}
+use Rattle.pli_deck_write.specs.DeckFields.{name, after_magic, version_in, any_version}
+use Rattle.pli_deck_write.specs.DeckFields.{deck_in_versions}
 use Rattle.pli_deck_write.specs.DeckFaults.{fault_of}
-use Rattle.pli_deck_write.specs.Spelling.{deck_bytes, deck_read}
+use Rattle.pli_deck_write.specs.Spelling.{deck_bytes, deck_read_in}
 use Rattle.pli_code.specs.CodeTables.{Deck, CodedGlobal, OwnVariable, ExternalVariable, EntryPoint}
 use Rattle.pli_program.specs.declared.kind.VariableKind.TheVariants.{Static, Controlled}
 
@@ -80,18 +83,19 @@ is_none (Some f) = false
 abbrev pub and_rest : List ℕ → Result Deck DeckFault → Result (Deck × List ℕ) DeckFault
 and_rest rest read = read >>= λ d. Ok (d, rest)
 
--- a deck of so many bytes, read whole where it stands
-unfoldable pub deck_in : (count : ℕ) → Reader Deck
-deck_in count bytes =
+-- a deck of this version in so many bytes, read whole where it stands
+unfoldable pub deck_in : Version → (count : ℕ) → Reader Deck
+deck_in v count bytes =
     if nat_lt (length bytes) count then Err Truncated
-    else and_rest (drop count bytes) (deck_read (take count bytes))
+    else and_rest (drop count bytes) (deck_read_in (same_version v) (take count bytes))
 
--- a deck with the number of its bytes
-abbrev pub sized_deck : Field Deck
-sized_deck = record {
+-- a deck of this version with the number of its bytes
+abbrev pub sized_deck : Version → Field Deck
+sized_deck v = record {
   bytes_of = λ d. u4.bytes_of (length (deck_bytes d)) ++ deck_bytes d;
-  fits = λ d. u4.fits (length (deck_bytes d)) && (deck.fits d && is_none (fault_of d));
-  read = λ bytes. u4.read bytes >>= λ n. deck_in n.0 n.1;
+  fits = λ d. u4.fits (length (deck_bytes d))
+      && ((deck_in_versions (same_version v)).fits d && is_none (fault_of d));
+  read = λ bytes. u4.read bytes >>= λ n. deck_in v n.0 n.1;
 }
 
 -- which of the five forms a global has
@@ -118,9 +122,13 @@ member_of p = record { name = p.0.0; deck = p.0.1; links = p.1 }
 abbrev pub member_parts : Member → (Name × Deck) × List ℕ
 member_parts m = ((m.name, m.deck), m.links)
 
--- a unit: its member's name, its deck, and what its external globals stand for
-unfoldable pub member : Field Member
-member = shaped member_of member_parts (followed (name ⊗ sized_deck) (λ p. links_of p.1))
+-- a unit: its member's name, its deck, which is of this version, and what its external globals stand for
+unfoldable pub member : Version → Field Member
+member v = shaped member_of member_parts (followed (name ⊗ sized_deck v) (λ p. links_of p.1))
+
+-- its bytes, which are the same in a module of either version
+abbrev pub member_bytes : Member → List ℕ
+member_bytes m = (member written).bytes_of m
 
 -- ---- modules
 
@@ -132,19 +140,25 @@ exactly count f = record {
   read = many f.read count;
 }
 
+-- what a module has behind its version: how many units there are, the main unit and externals, and the units
+abbrev pub ModuleContents : Type 0
+ModuleContents = (ℕ × (ℕ × List External)) × List Member
+
+-- from 1 to 999 units, each of whose decks is of this version
+abbrev pub module_contents : Version → Field ModuleContents
+module_contents v =
+    followed (from_to 1 999 u2 ⊗ u2 ⊗ chain external_behind) (λ h. exactly h.0 (member v))
+
 -- a module of its parts
-abbrev pub module_of : (ℕ × (ℕ × List External)) × List Member → Module
-module_of p = record { main = p.0.1.0; externals = p.0.1.1; units = p.1 }
+abbrev pub module_of : Version × ModuleContents → Module
+module_of p = record { version = p.0; main = p.1.0.1.0; externals = p.1.0.1.1; units = p.1.1 }
 
 -- its parts, in the order of their bytes
-abbrev pub module_parts : Module → (ℕ × (ℕ × List External)) × List Member
-module_parts m = ((length m.units, (m.main, m.externals)), m.units)
-
--- how many units there are, from 1 to 999, the main unit, externals, and the units
-abbrev pub module_contents : Field Module
-module_contents = shaped module_of module_parts
-    (followed (from_to 1 999 u2 ⊗ u2 ⊗ chain external_behind) (λ h. exactly h.0 member))
+abbrev pub module_parts : Module → Version × ModuleContents
+module_parts m = (m.version, ((length m.units, (m.main, m.externals)), m.units))
 
 -- PLIM, the version, and the contents
 unfoldable pub module_field : Field Module
-module_field = after_magic (80 ∷ 76 ∷ 73 ∷ 77 ∷ []) (after_version module_contents)
+module_field =
+    after_magic (80 ∷ 76 ∷ 73 ∷ 77 ∷ [])
+    (shaped module_of module_parts (followed (version_in any_version) module_contents))

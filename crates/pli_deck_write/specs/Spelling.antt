@@ -1,9 +1,10 @@
 -- Which bytes spell a deck, and what reading them gives (own).
-use Rattle.std.specs.Prelude.{◌≡◌, ℕ, List, None, Result, Ok, true}
+use Rattle.std.specs.Prelude.{◌≡◌, ℕ, Bool, List, None, Result, Ok, true}
 use Rattle.pli_code.specs.declared.fault.DeckFault.{DeckFault}
 use Rattle.pli_code.specs.Fields.{AreBytes}
 use Rattle.pli_code.specs.CodeTables.{Deck}
-use Rattle.pli_deck_write.specs.DeckFields.{deck}
+use Rattle.pli_code.specs.declared.version.Version.{Version}
+use Rattle.pli_deck_write.specs.DeckFields.{any_version, deck, deck_in_versions}
 use Rattle.pli_deck_write.specs.DeckFaults.{fault_of}
 use Rattle.pli_deck_write.specs.Whole.{whole_read}
 
@@ -21,9 +22,13 @@ pub record SpellsDeck (bytes : List ℕ) (d : Deck) : Type 0 where
   pub is_deck : IsDeck d
   pub spelled : bytes ≡ deck_bytes d
 
+-- the deck that bytes spell in a version that may stand there, or the first fault
+unfoldable pub deck_read_in : (may_stand : Version → Bool) → List ℕ → Result Deck DeckFault
+deck_read_in may_stand bytes = whole_read fault_of (deck_in_versions may_stand) bytes
+
 -- the deck that bytes spell, or the first fault
-unfoldable pub deck_read : List ℕ → Result Deck DeckFault
-deck_read bytes = whole_read fault_of deck bytes
+abbrev pub deck_read : List ℕ → Result Deck DeckFault
+deck_read bytes = deck_read_in any_version bytes
 
 -- a deck that is read is spelled by what it is read from
 abbrev pub ReadIsSpelled : Type 0

@@ -4,6 +4,7 @@ ghost use Rattle.std.specs.Int.{next_multiple_of};
 ghost use Rattle.std.specs.List.{flat_map};
 ghost use Rattle.byteorder.specs.Endian.{big_bytes};
 ghost use Rattle.pli_map.specs.views.DescriptionView.{description_view};
+ghost use Rattle.pli_code.specs.Versions.{written};
 ghost use Rattle.pli_deck_write.specs.Descriptions as description_fields;
 ghost use Rattle.pli_deck_write.specs.Descriptions.{description, description_within};
 
@@ -28,7 +29,7 @@ impl PutsOne for Dimensions {
 
     ghost say = { λ b. b };
 
-    ghost bytes_of = { bounds.bytes_of };
+    ghost bytes_of = { λ _. bounds.bytes_of };
 
     fn put(&self, out: &mut Vec<u8>, value: &Bounds) -> Result<(), AllocError> {
         put_signed(out, i32::from(value.low))?;
@@ -52,11 +53,11 @@ fn put_area_size(out: &mut Vec<u8>, bytes: u32) -> Result<(), AllocError>
     put_large_count(out, (bytes as usize).next_multiple_of(8))
 }
 
-/// Puts a description in at most so many levels. One in more has no spelling: a tag that nothing has is put for what is
-/// too deep.
+/// Puts a description in at most so many levels; its bytes are the same in each version. One in more levels has no
+/// spelling: a tag that nothing has is put for what is too deep.
 #[cycle(put_description)]
 fn put_within(out: &mut Vec<u8>, levels: u16, value: &Description) -> Result<(), AllocError>
-    ensures { OnOk result (out.new.items ≡ out.old.items ++ (description_within levels).bytes_of (description_view value.now)) }
+    ensures { OnOk result (out.new.items ≡ out.old.items ++ (description_within written levels).bytes_of (description_view value.now)) }
 {
     if levels == 0 {
         return put_byte(out, 0);
@@ -88,7 +89,7 @@ fn put_within(out: &mut Vec<u8>, levels: u16, value: &Description) -> Result<(),
 /// Puts descriptions one behind another.
 #[cycle(put_description)]
 fn put_members(out: &mut Vec<u8>, levels: u16, members: &[Description]) -> Result<(), AllocError>
-    ensures { OnOk result (out.new.items ≡ out.old.items ++ flat_map (description_within levels).bytes_of (map description_view members.now)) }
+    ensures { OnOk result (out.new.items ≡ out.old.items ++ flat_map (description_within written levels).bytes_of (map description_view members.now)) }
 {
     for member in members {
         put_within(out, levels, member)?;
@@ -96,7 +97,7 @@ fn put_members(out: &mut Vec<u8>, levels: u16, members: &[Description]) -> Resul
     Ok(())
 }
 
-/// Puts a description.
+/// Puts a description, which has the same bytes in each version.
 pub struct Descriptions;
 
 impl PutsOne for Descriptions {
@@ -108,7 +109,7 @@ impl PutsOne for Descriptions {
 
     ghost say = { description_view };
 
-    ghost bytes_of = { description.bytes_of };
+    ghost bytes_of = { λ _. (description written).bytes_of };
 
     fn put(&self, out: &mut Vec<u8>, value: &Description) -> Result<(), AllocError> {
         put_within(out, LEVELS, value)

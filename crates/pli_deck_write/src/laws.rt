@@ -1,5 +1,6 @@
 //! Laws of the bytes of decks.
 ghost use Rattle.pli_code.specs.Fields.{BothWays};
+ghost use Rattle.pli_code.specs.declared.version.Version.{Version};
 ghost use Rattle.pli_deck_write.specs.Descriptions.{description};
 ghost use Rattle.pli_deck_write.specs.Spelling.{ReadIsSpelled, SpelledIsRead, OneSpelling, OneDeck};
 ghost use Rattle.pli_deck_write.specs.ModuleSpelling.{ReadModuleIsSpelled, SpelledModuleIsRead, OneModule};
@@ -7,11 +8,10 @@ ghost use Rattle.pli_deck_write.specs.examples.DeckExamples.{WrittenSo, ReadSo};
 ghost use Rattle.pli_deck_write.specs.examples.FaultExamples.{DeckFaultsAre};
 ghost use Rattle.pli_deck_write.specs.examples.ModuleExamples.{ModulesWrittenSo, ModulesReadSo, ModuleFaultsAre};
 
-/// A law: a description that is read is spelled by the bytes that were there, and one that is spelled is read again,
-/// whatever stands behind it.
-#[tactic(auto, using(crate::proofs::DescriptionLaws::descriptions_both_ways))]
+/// A law: in each version, a description that is read is spelled by the bytes that were there, and one that is spelled is
+/// read again, whatever stands behind it.
 pub fn descriptions_both_ways()
-    ensures { BothWays description }
+    ensures { (v : Version) → BothWays (description v) }
 {}
 
 /// Laws: what is read is spelled so, what is spelled so is read, a deck has one spelling, and bytes spell one deck at

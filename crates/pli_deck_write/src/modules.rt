@@ -36,7 +36,7 @@ impl PutsOne for Externals {
 
     ghost say = { external_view };
 
-    ghost bytes_of = { (module_fields.external_behind None).bytes_of };
+    ghost bytes_of = { λ _. (module_fields.external_behind None).bytes_of };
 
     #[tactic(auto, unfolding(crate::specs::ModuleFields::external_behind))]
     fn put(&self, out: &mut Vec<u8>, value: &External) -> Result<(), AllocError> {
@@ -49,7 +49,7 @@ impl PutsOne for Externals {
 
 /// Puts a unit, whose deck is written apart first, since its length stands before it.
 fn put_member(alloc: Global, out: &mut Vec<u8>, unit: &LentMember<'_>) -> Result<(), AllocError>
-    ensures { OnOk result (out.new.items ≡ out.old.items ++ module_fields.member.bytes_of (lent_member_view unit.now)) }
+    ensures { OnOk result (out.new.items ≡ out.old.items ++ module_fields.member_bytes (lent_member_view unit.now)) }
 {
     let deck = write_deck(alloc, unit.deck)?;
     put_spelled(out, unit, &deck)
@@ -57,7 +57,7 @@ fn put_member(alloc: Global, out: &mut Vec<u8>, unit: &LentMember<'_>) -> Result
 
 /// Puts units one behind another.
 fn put_members(alloc: Global, out: &mut Vec<u8>, units: &[LentMember<'_>]) -> Result<(), AllocError>
-    ensures { OnOk result (out.new.items ≡ out.old.items ++ flat_map module_fields.member.bytes_of (map lent_member_view units.now)) }
+    ensures { OnOk result (out.new.items ≡ out.old.items ++ flat_map module_fields.member_bytes (map lent_member_view units.now)) }
 {
     for unit in units {
         put_member(alloc, out, unit)?;
@@ -71,7 +71,7 @@ pub(crate) fn put_head(out: &mut Vec<u8>, program: &LentModule<'_>) -> Result<()
     ensures { OnOk result (out.new.items ≡ out.old.items ++ head_bytes (lent_module_view program.now)) }
 {
     put_bytes(out, b"PLIM")?;
-    put_byte(out, 1)?;
+    put_byte(out, program.version.number())?;
     put_count(out, program.units.len())?;
     put_short(out, program.main)?;
     put_list(out, &Externals, &program.externals)

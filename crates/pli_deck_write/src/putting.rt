@@ -12,12 +12,14 @@ ghost use Rattle.pli_value.specs.Value as values;
 ghost use Rattle.pli_value.specs.Value.{value_view};
 
 use crate::writing::{
-    PutsOne, put_all, put_bits, put_characters, put_integer, put_large_count, put_list, put_name,
+    PutsOne, put_all, put_bits, put_characters, put_large_count, put_list, put_name, put_number,
     put_optional, put_small_count,
 };
 use pli_base::Name;
 use pli_code::fields::{put_byte, put_short, put_with_short, put_word};
-use pli_code::{Block, BlockKind, CodedGlobal, CodedSignature, CodedTemplate, Instruction, encode};
+use pli_code::{
+    Block, BlockKind, CodedGlobal, CodedSignature, CodedTemplate, Instruction, Version, encode,
+};
 use pli_program::VariableKind;
 use pli_type_tree::InitialScalar;
 use pli_value::{Locator, Value};
@@ -33,7 +35,7 @@ impl PutsOne for Numbers {
 
     ghost say = { λ n. n };
 
-    ghost bytes_of = { u2.bytes_of };
+    ghost bytes_of = { λ _. u2.bytes_of };
 
     fn put(&self, out: &mut Vec<u8>, value: &u16) -> Result<(), AllocError> {
         put_short(out, *value)
@@ -77,15 +79,15 @@ fn locator_tag(locator: Locator) -> u8
     }
 }
 
-/// Puts a constant.
+/// Puts a constant, with a number as the version has it.
 #[tactic(auto, unfolding(crate::specs::DeckFields::constant))]
-fn put_constant(out: &mut Vec<u8>, constant: &Value) -> Result<(), AllocError>
-    ensures { OnOk result (out.new.items ≡ out.old.items ++ deck_fields.constant.bytes_of (value_view constant.now)) }
+fn put_constant(out: &mut Vec<u8>, version: Version, constant: &Value) -> Result<(), AllocError>
+    ensures { OnOk result (out.new.items ≡ out.old.items ++ (deck_fields.constant version).bytes_of (value_view constant.now)) }
 {
     match constant {
         Value::Number(number) => {
             put_byte(out, 1)?;
-            put_integer(out, *number)
+            put_number(out, version, *number)
         }
         Value::Characters(text) => {
             put_byte(out, 2)?;
@@ -99,8 +101,11 @@ fn put_constant(out: &mut Vec<u8>, constant: &Value) -> Result<(), AllocError>
     }
 }
 
-/// Puts a constant.
-pub struct Constants;
+/// Puts a constant of a version.
+#[derive(Clone, Copy)]
+pub struct Constants {
+    pub version: Version,
+}
 
 impl PutsOne for Constants {
     type Value = Value;
@@ -109,15 +114,18 @@ impl PutsOne for Constants {
 
     ghost say = { value_view };
 
-    ghost bytes_of = { deck_fields.constant.bytes_of };
+    ghost bytes_of = { λ w. (deck_fields.constant w.version).bytes_of };
 
     fn put(&self, out: &mut Vec<u8>, value: &Value) -> Result<(), AllocError> {
-        put_constant(out, value)
+        put_constant(out, self.version, value)
     }
 }
 
-/// Puts an initial value.
-struct Initials;
+/// Puts an initial value of a version.
+#[derive(Clone, Copy)]
+struct Initials {
+    version: Version,
+}
 
 impl PutsOne for Initials {
     type Value = InitialScalar;
@@ -126,17 +134,20 @@ impl PutsOne for Initials {
 
     ghost say = { initial_view };
 
-    ghost bytes_of = { deck_fields.initial.bytes_of };
+    ghost bytes_of = { λ w. (deck_fields.initial w.version).bytes_of };
 
     #[tactic(auto, unfolding(crate::specs::DeckFields::initial))]
     fn put(&self, out: &mut Vec<u8>, value: &InitialScalar) -> Result<(), AllocError> {
         put_word(out, value.offset)?;
-        put_constant(out, &value.value)
+        put_constant(out, self.version, &value.value)
     }
 }
 
-/// Puts a template.
-pub struct Templates;
+/// Puts a template of a version.
+#[derive(Clone, Copy)]
+pub struct Templates {
+    pub version: Version,
+}
 
 impl PutsOne for Templates {
     type Value = CodedTemplate;
@@ -145,13 +156,16 @@ impl PutsOne for Templates {
 
     ghost say = { coded_template_view };
 
-    ghost bytes_of = { deck_fields.template.bytes_of };
+    ghost bytes_of = { λ w. (deck_fields.template w.version).bytes_of };
 
     #[tactic(auto, unfolding(crate::specs::DeckFields::template))]
     fn put(&self, out: &mut Vec<u8>, value: &CodedTemplate) -> Result<(), AllocError> {
         put_short(out, value.description)?;
         put_large_count(out, value.initial.len())?;
-        put_all(out, &Initials, value.initial.as_slice())
+        let initials = Initials {
+            version: self.version,
+        };
+        put_all(out, &initials, value.initial.as_slice())
     }
 }
 
@@ -174,7 +188,7 @@ impl PutsOne for Globals {
 
     ghost say = { global_view };
 
-    ghost bytes_of = { deck_fields.global.bytes_of };
+    ghost bytes_of = { λ _. deck_fields.global.bytes_of };
 
     #[tactic(auto, unfolding(crate::specs::DeckFields::global))]
     fn put(&self, out: &mut Vec<u8>, value: &CodedGlobal) -> Result<(), AllocError> {
@@ -227,7 +241,7 @@ impl PutsOne for Blocks {
 
     ghost say = { block_view };
 
-    ghost bytes_of = { deck_fields.block.bytes_of };
+    ghost bytes_of = { λ _. deck_fields.block.bytes_of };
 
     #[tactic(auto, unfolding(crate::specs::DeckFields::block))]
     fn put(&self, out: &mut Vec<u8>, value: &Block) -> Result<(), AllocError> {
@@ -241,7 +255,7 @@ impl PutsOne for Blocks {
     }
 }
 
-/// Puts an instruction.
+/// Puts an instruction, which has the same bytes in each version.
 pub struct Instructions;
 
 impl PutsOne for Instructions {
@@ -254,7 +268,7 @@ impl PutsOne for Instructions {
 
     ghost say = { λ i. i };
 
-    ghost bytes_of = { instruction.bytes_of };
+    ghost bytes_of = { λ _. instruction.bytes_of };
 
     fn put(&self, out: &mut Vec<u8>, value: &Instruction) -> Result<(), AllocError> {
         encode(*value, out)

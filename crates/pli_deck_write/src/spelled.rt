@@ -21,7 +21,7 @@ pub(crate) fn put_spelled(
     deck: &[u8],
 ) -> Result<(), AllocError>
     requires { deck.now ≡ deck_bytes (lent_member_view unit.now).deck }
-    ensures { OnOk result (out.new.items ≡ out.old.items ++ module_fields.member.bytes_of (lent_member_view unit.now)) }
+    ensures { OnOk result (out.new.items ≡ out.old.items ++ module_fields.member_bytes (lent_member_view unit.now)) }
 {
     put_name(out, &unit.name)?;
     put_large_count(out, deck.len())?;
@@ -36,7 +36,7 @@ fn put_spelled_members(
     decks: &[&[u8]],
 ) -> Result<(), AllocError>
     requires { AreDecks (map (λ d. d.now) decks.now) (map lent_member_view units.now) }
-    ensures { OnOk result (out.new.items ≡ out.old.items ++ flat_map module_fields.member.bytes_of (map lent_member_view units.now)) }
+    ensures { OnOk result (out.new.items ≡ out.old.items ++ flat_map module_fields.member_bytes (map lent_member_view units.now)) }
 {
     for (at, unit) in units.iter().enumerate() {
         put_spelled(out, unit, decks[at])?;

@@ -6,7 +6,8 @@ ghost use Rattle.byteorder.specs.Endian.{big_bytes};
 ghost use Rattle.pli_deck_write.specs.DeckFields as deck_fields;
 
 use pli_base::Name;
-use pli_code::fields::{put_byte, put_short, put_word};
+use pli_code::Version;
+use pli_code::fields::{put_byte, put_short, put_signed_long, put_word};
 use pli_value::bit::Bits;
 use std::alloc::AllocError;
 
@@ -30,12 +31,22 @@ fn unsigned_word(number: i64) -> u64
     }
 }
 
-/// Puts a number of at most 31 binary digits as a signed one of four bytes.
+/// Puts a number of at most 31 binary digits as a signed one of four bytes, in two's complement.
 #[tactic(auto, using(crate::proofs::LowBytes::low_four))]
-pub fn put_integer(out: &mut Vec<u8>, number: i64) -> Result<(), AllocError>
+fn put_signed_word(out: &mut Vec<u8>, number: i64) -> Result<(), AllocError>
     ensures { OnOk result (out.new.items ≡ out.old.items ++ big_bytes 4 (cast_unsigned w32 number)) }
 {
     put_word(out, (unsigned_word(number) % 4_294_967_296) as u32)
+}
+
+/// Puts a number as a version has it: in four bytes or in eight.
+pub fn put_number(out: &mut Vec<u8>, version: Version, number: i64) -> Result<(), AllocError>
+    ensures { OnOk result (out.new.items ≡ out.old.items ++ (deck_fields.integer version).bytes_of number) }
+{
+    match version {
+        Version::First => put_signed_word(out, number),
+        Version::Second => put_signed_long(out, number),
+    }
 }
 
 /// Puts a count of one byte: no such list of a deck is longer.
@@ -121,10 +132,11 @@ pub trait PutsOne {
 
     ghost say: { Self.Value → Said };
 
-    ghost bytes_of: { Said → List ℕ };
+    /// The bytes that a writer puts for it.
+    ghost bytes_of: { Self → Said → List ℕ };
 
     fn put(&self, out: &mut Vec<u8>, value: &Self::Value) -> Result<(), AllocError>
-        ensures { OnOk result (out.new.items ≡ out.old.items ++ bytes_of (say value.now)) };
+        ensures { OnOk result (out.new.items ≡ out.old.items ++ bytes_of self.now (say value.now)) };
 }
 
 /// Puts values one behind another.
@@ -133,7 +145,7 @@ pub fn put_all<P: PutsOne>(
     writer: &P,
     values: &[P::Value],
 ) -> Result<(), AllocError>
-    ensures { OnOk result (out.new.items ≡ out.old.items ++ flat_map P.bytes_of (map P.say values.now)) }
+    ensures { OnOk result (out.new.items ≡ out.old.items ++ flat_map (P.bytes_of writer.now) (map P.say values.now)) }
 {
     for value in values {
         writer.put(out, value)?;
@@ -147,7 +159,7 @@ pub fn put_list<P: PutsOne>(
     writer: &P,
     values: &[P::Value],
 ) -> Result<(), AllocError>
-    ensures { OnOk result (out.new.items ≡ out.old.items ++ (big_bytes 2 (length values.now) ++ flat_map P.bytes_of (map P.say values.now))) }
+    ensures { OnOk result (out.new.items ≡ out.old.items ++ (big_bytes 2 (length values.now) ++ flat_map (P.bytes_of writer.now) (map P.say values.now))) }
 {
     put_count(out, values.len())?;
     put_all(out, writer, values)

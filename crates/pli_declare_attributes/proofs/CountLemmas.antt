@@ -41,8 +41,16 @@ is_over : (answer : Option Layout) (cut whole alignment : ℕ) → 1000000 < cut
 is_over None cut whole alignment p q h = q
 is_over (Some l) cut whole alignment p q h = absurd (omega (arith, h.0, p))
 
+-- a layout of a size that was cut over the limit is that of the whole size
+pub as_whole : (answer : Option Layout) (cut whole alignment : ℕ) → (whole ≤ 1000000 → cut ≡ whole) → (1000000 < whole → 1000000 < cut)
+    → IsLayout answer cut alignment → IsLayout answer whole alignment
+as_whole answer cut whole alignment near far h = elim (cases_lt 1000000 whole) [
+  | inl over ↦ is_over answer cut whole alignment (far over) over h
+  | inr within ↦ subst (λ n. IsLayout answer n alignment) (near within) h
+]
+
 -- a layout of a count that was cut far over the limit is that of the whole count
-pub enough : (answer : Option Layout) (whole cut size alignment : ℕ) → cut ≡ min (min (1 * whole) 79228162514264337593543950336) 18446744073709551615
+pub enough : (answer : Option Layout) (whole cut size alignment : ℕ) → cut ≡ min (min (1 * whole) 340282366920938463463374607431768211455) 18446744073709551615
     → IsLayout answer (cut * size) alignment → IsLayout answer (whole * size) alignment
 enough answer whole cut zero alignment is h = subst (λ n. IsLayout answer n alignment) (nothing whole cut zero refl) h
 enough answer whole cut (suc size) alignment is h = elim (cases_lt whole 1000001) [

@@ -55,7 +55,7 @@ pub scalar_whole : (s : ℕ) (n : Option ℕ) → IsWhole (bit_and s 255) → is
 unfolding scalar_of is_bad_precision is_bad_length
 scalar_whole s n (inl x) p l =
     let f : has s 1 ≡ true = in_data s 1 3 x refl in
-    rw f (up_to_number 31 15 n (omega arith) (omega arith) (right_false (has s 1) (is_up_to 31 n) p f))
+    rw f (up_to_number 63 15 n (omega arith) (omega arith) (right_false (has s 1) (is_up_to 63 n) p f))
 scalar_whole s n (inr (inl x)) p l =
     let f : has s 1 ≡ false = in_data s 1 4 x refl in
     let v : has s 8 ≡ false = in_data s 8 4 x refl in
@@ -98,7 +98,7 @@ scalar_whole s n (inr (inr (inr (inr (inr (inr x)))))) p l =
     let o : has s 32 ≡ false = in_data s 32 128 x refl in
     let t : has s 64 ≡ false = in_data s 64 128 x refl in
     let a : has s 128 ≡ true = in_data s 128 128 x refl in
-    rw (f, v, c, b, o, t)
+    rw (f, v, c, b, o, t, a)
     (rounded (number_or 1000 n)
     (up_to_number 1000000 1000 n (omega arith) (omega arith) (area_number (has s 4) (has s 8) (has s 16) (is_up_to 32767 n) (has s 128) (is_up_to 1000000 n) l a)))
 

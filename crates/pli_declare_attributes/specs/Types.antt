@@ -36,9 +36,9 @@ abbrev pub number_or : ℕ → Option ℕ → ℕ
 number_or default None = default
 number_or default (Some n) = n
 
--- a precision is one of 1 to 31 digits
+-- a precision is one of 1 to 63 digits
 unfoldable pub is_bad_precision : ℕ → Option ℕ → Bool
-is_bad_precision s n = has s fixed && not (is_up_to 31 n)
+is_bad_precision s n = has s fixed && not (is_up_to 63 n)
 
 -- a length is one of 1 to 32,767, and an area's size one of 1 to 1,000,000 bytes
 unfoldable pub is_bad_length : ℕ → Option ℕ → Bool
@@ -46,7 +46,7 @@ is_bad_length s n =
     (has s character || has s varying || has s bit) && not (is_up_to 32767 n) || has s area
     && not (is_up_to 1000000 n)
 
--- the type, with precision 15, length 1 and size 1,000 by default
+-- the type, with precision 15, length 1 and size 1,000 by default; an area of that size where no type stands
 unfoldable pub scalar_of : ℕ → Option ℕ → map.Description
 scalar_of s n =
     if has s fixed then map.FixedBinary (number_or 15 n)
@@ -55,4 +55,5 @@ scalar_of s n =
     else if has s bit then map.Bit (number_or 1 n)
     else if has s pointer then map.Pointer
     else if has s offset then map.Offset
-    else map.area (number_or 1000 n)
+    else if has s area then map.area (number_or 1000 n)
+    else map.area 1000

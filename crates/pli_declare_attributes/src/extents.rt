@@ -10,10 +10,10 @@ use std::alloc::{AllocError, Global};
 const DIMENSION_LIMIT: usize = 8;
 
 /// The greatest bound (own); the least is as far below 0.
-const BOUND_LIMIT: i64 = 32_767;
+const BOUND_LIMIT: i128 = 32_767;
 
 /// The lower bound of a dimension, 1 by default (X3.74).
-fn low(bounds: WrittenBounds) -> i64
+fn low(bounds: WrittenBounds) -> i128
     ensures { result ≡ low_of bounds.low }
 {
     match bounds.low {

@@ -42,7 +42,7 @@ pub struct ItemFacts<'a> {
     ghost are_fitting: { is_bad_precision summary.set.0 summary.number ≡ false → is_bad_length summary.set.0 summary.number ≡ false
         → values_fit ≡ list_all (fits (scalar_of summary.set.0 summary.number)) (values_in (map attribute_view item.now.attributes.items)) },
     ghost are_given: { values_given ≡ all_given (values_in (map attribute_view item.now.attributes.items)) },
-    ghost are_few: { values_given ≤ 79228162514264337593543950336 },
+    ghost are_few: { values_given ≤ 340282366920938463463374607431768211455 },
     ghost is_held: { held ≡ spec.lesser (parameters_fault (parameters_in (map attribute_view item.now.attributes.items)))
         (returned_fault (returned_in (map attribute_view item.now.attributes.items))) },
     ghost is_of_sizes: { held ≡ None → sizes ≡ spec.entry_fault (parameters_in (map attribute_view item.now.attributes.items)) },

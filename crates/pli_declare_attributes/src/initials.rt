@@ -13,9 +13,6 @@ use crate::place::ItemPlace;
 use pli_base::declaration::{Attribute, InitialValue, SimpleAttribute, WrittenBounds};
 use pli_map::Description;
 
-/// A number of elements that is over the number of all values, however many there are.
-const ELEMENT_LIMIT: u128 = 79_228_162_514_264_337_593_543_950_336;
-
 /// The values of an item's INITIAL, none without one.
 pub(crate) fn values_of(attributes: &[Attribute]) -> &[InitialValue]
     ensures { result.now ≡ values_in (map attribute_view attributes.now) }
@@ -29,10 +26,10 @@ pub(crate) fn values_of(attributes: &[Attribute]) -> &[InitialValue]
 }
 
 /// Whether a number of this many binary digits can be as great.
-fn within_precision(value: u32, precision: u8) -> bool
+fn within_precision(value: u64, precision: u8) -> bool
     ensures { result ≡ nat_lt value (2 ^ precision) }
 {
-    precision >= 32 || u64::from(value) < 1_u64 << precision
+    precision >= 64 || value < 1_u64 << precision
 }
 
 /// Whether a value is of a type: an integer within the precision, a string of any length, NULL for a locator.
@@ -65,7 +62,7 @@ pub(crate) fn all_fit(description: &Description, values: &[InitialValue]) -> boo
 }
 
 /// How many elements have a value.
-fn factor_of(value: &InitialValue) -> u32
+fn factor_of(value: &InitialValue) -> u64
     ensures { result ≡ elements_given value.now }
 {
     match value {
@@ -80,7 +77,7 @@ fn factor_of(value: &InitialValue) -> u32
 /// How many elements have one of these values.
 pub(crate) fn given(values: &[InitialValue]) -> u128
     ensures value { result ≡ all_given values.now }
-    ensures limit { result ≤ 79228162514264337593543950336 }
+    ensures limit { result ≤ 340282366920938463463374607431768211455 }
 {
     let count = values.len();
     let mut given = 0;
@@ -90,14 +87,14 @@ pub(crate) fn given(values: &[InitialValue]) -> u128
     given
 }
 
-/// How many elements there are; a number over the limit stands for every greater one.
+/// How many elements there are; the greatest number stands for every greater one.
 pub(crate) fn elements(above: u128, dimensions: &[WrittenBounds]) -> u128
     requires { list_all are_good dimensions.now ≡ true }
-    ensures { result ≡ min (above * count_of (all_bounds dimensions.now)) 79228162514264337593543950336 }
+    ensures { result ≡ min (above * count_of (all_bounds dimensions.now)) 340282366920938463463374607431768211455 }
 {
-    let mut count = above.min(ELEMENT_LIMIT);
+    let mut count = above;
     for bounds in dimensions {
-        count = (count * u128::from(described(*bounds).extent())).min(ELEMENT_LIMIT);
+        count = count.saturating_mul(u128::from(described(*bounds).extent()));
     }
     count
 }
@@ -105,7 +102,7 @@ pub(crate) fn elements(above: u128, dimensions: &[WrittenBounds]) -> u128
 /// Whether values are for more elements than there are, where the number of elements is known.
 pub(crate) fn too_many(place: ItemPlace, dimensions: &[WrittenBounds], given: u128) -> bool
     requires bounds { list_all are_good dimensions.now ≡ true }
-    requires few { given ≤ 79228162514264337593543950336 }
+    requires few { given ≤ 340282366920938463463374607431768211455 }
     ensures { result ≡ is_more_than (elements_of place dimensions.now) given }
 {
     match place.elements_above {
@@ -114,8 +111,9 @@ pub(crate) fn too_many(place: ItemPlace, dimensions: &[WrittenBounds], given: u1
     }
 }
 
-/// How many elements the levels above and these dimensions make together, up to 2 to the 96th; `None` where one of them has bad
-/// bounds. What the levels above make may be cut there too, which changes nothing.
+/// How many elements the levels above and these dimensions make together, less than 2 to the 128th, the greatest number there
+/// standing for every greater one; `None` where one of them has bad bounds. What the levels above make may be cut there too,
+/// which changes nothing.
 #[tactic(auto, using(crate::proofs::ShapeLemmas::bounds_good))]
 pub fn elements_within(above: Option<u128>, dimensions: &[WrittenBounds]) -> Option<u128>
     ensures { result ≡ cut (elements_inside above dimensions.now) }

@@ -1,5 +1,5 @@
 //! What items take by their attributes and dimensions alone, without a tree.
-ghost use Rattle.std.specs.Prelude.{◌≡◌, ◌*◌, false, map};
+ghost use Rattle.std.specs.Prelude.{◌≡◌, ◌+◌, ◌*◌, false, map};
 ghost use Rattle.std.specs.Int.{next_multiple_of};
 ghost use Rattle.pli_base.specs.views.DeclarationView.{attribute_view};
 ghost use Rattle.pli_map.specs.Layouts.{IsLayout};
@@ -13,13 +13,27 @@ use crate::initials::elements;
 use crate::set::AttributeSet;
 use crate::summary::Summary;
 use pli_base::declaration::{Attribute, WrittenBounds};
-use pli_map::{Layout, fixed_binary_size};
+use pli_map::{Layout, OVER_LIMIT, fixed_binary_size};
 
 /// A number in parentheses, or else the default.
-fn number_or_default(number: Option<u32>, default: u32) -> u64
+fn number_or_default(number: Option<u64>, default: u64) -> u64
     ensures { result ≡ number_or default number }
 {
-    u64::from(number.unwrap_or(default))
+    number.unwrap_or(default)
+}
+
+/// What a varying string of this greatest length takes, or `None` where it is over the limit.
+fn varying_layout(length: u64) -> Option<Layout>
+    ensures { IsLayout result (2 + length) 2 }
+{
+    Layout::of(2 + length.min(OVER_LIMIT), 2)
+}
+
+/// What an area of this size takes, or `None` where it is over the limit.
+fn area_layout(size: u64) -> Option<Layout>
+    ensures { IsLayout result (next_multiple_of size 8) 8 }
+{
+    Layout::of(size.min(OVER_LIMIT).next_multiple_of(8), 8)
 }
 
 /// What a type takes, whatever the number in it is, or `None` where it is over the limit.
@@ -33,7 +47,7 @@ fn summary_layout(summary: Summary) -> Option<Layout>
         let bytes = fixed_binary_size(number.unwrap_or(15));
         Layout::of(u64::from(bytes), bytes)
     } else if set.has(AttributeSet::VARYING) {
-        Layout::of(2 + number_or_default(number, 1), 2)
+        varying_layout(number_or_default(number, 1))
     } else if set.has(AttributeSet::CHARACTER) {
         Layout::of(number_or_default(number, 1), 1)
     } else if set.has(AttributeSet::BIT) {
@@ -42,8 +56,10 @@ fn summary_layout(summary: Summary) -> Option<Layout>
         Layout::of(8, 4)
     } else if set.has(AttributeSet::OFFSET) {
         Layout::of(4, 4)
+    } else if set.has(AttributeSet::AREA) {
+        area_layout(number_or_default(number, 1_000))
     } else {
-        Layout::of(number_or_default(number, 1_000).next_multiple_of(8), 8)
+        Layout::of(1_000, 8)
     }
 }
 

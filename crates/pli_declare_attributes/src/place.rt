@@ -22,7 +22,7 @@ pub struct ItemPlace {
     /// Whether a level above it has dimensions.
     pub in_array: bool,
     /// How many elements the dimensions of the levels above make together, 1 without any; `None` where one of them has bad bounds.
-    /// 2 to the 96th may stand for every greater number, since the values of one INITIAL are for no more elements.
+    /// The greatest number may stand for every greater one, since the values of one INITIAL are for no more elements.
     pub elements_above: Option<u128>,
     /// Whether the name is that of a built-in function.
     pub built_in_name: bool,

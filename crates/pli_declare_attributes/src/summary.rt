@@ -17,7 +17,7 @@ pub(crate) struct Summary {
     /// Whether each stands once.
     pub once: bool,
     /// The first precision, length or size.
-    pub number: Option<u32>,
+    pub number: Option<u64>,
 }
 
 impl Summary {
@@ -35,7 +35,7 @@ impl Summary {
     }
 
     /// With one attribute more.
-    fn and(self, attribute: AttributeSet, number: Option<u32>) -> Summary
+    fn and(self, attribute: AttributeSet, number: Option<u64>) -> Summary
         ensures set { result.set.0 ≡ bit_or self.set.0 attribute.0 }
         ensures once { result.once ≡ (self.once && none_of self.set.0 attribute.0) }
         ensures number { result.number ≡ option_or self.number number }
@@ -77,7 +77,7 @@ impl Summary {
 }
 
 /// The precision, length or size of an attribute.
-fn number_of_simple(attribute: &SimpleAttribute) -> Option<u32>
+fn number_of_simple(attribute: &SimpleAttribute) -> Option<u64>
     ensures { result ≡ simple_number (simple_view attribute.now) }
 {
     match attribute {
@@ -90,7 +90,7 @@ fn number_of_simple(attribute: &SimpleAttribute) -> Option<u32>
     }
 }
 
-fn number_of_described(attribute: &DescribedAttribute) -> Option<u32>
+fn number_of_described(attribute: &DescribedAttribute) -> Option<u64>
     ensures { result ≡ described_number (described_view attribute.now) }
 {
     match attribute {
@@ -99,7 +99,7 @@ fn number_of_described(attribute: &DescribedAttribute) -> Option<u32>
     }
 }
 
-fn number_of_attribute(attribute: &Attribute) -> Option<u32>
+fn number_of_attribute(attribute: &Attribute) -> Option<u64>
     ensures { result ≡ described_number (outermost (attribute_view attribute.now)) }
 {
     match attribute {

@@ -17,7 +17,7 @@ const DEFAULT_LENGTH: u16 = 1;
 const DEFAULT_SIZE: u32 = 1_000;
 
 /// Whether a number is from 1 to a limit, where it is written.
-fn up_to(limit: u32, number: Option<u32>) -> bool
+fn up_to(limit: u64, number: Option<u64>) -> bool
     ensures { result ≡ is_up_to limit number }
 {
     match number {
@@ -26,12 +26,12 @@ fn up_to(limit: u32, number: Option<u32>) -> bool
     }
 }
 
-/// Whether there is a precision that is not from 1 to 31.
+/// Whether there is a precision that is not from 1 to 63.
 #[tactic(auto, unfolding(crate::specs::Types::is_bad_precision))]
 pub(crate) fn bad_precision(summary: Summary) -> bool
     ensures { result ≡ is_bad_precision summary.set.0 summary.number }
 {
-    summary.set.has(AttributeSet::FIXED) && !up_to(31, summary.number)
+    summary.set.has(AttributeSet::FIXED) && !up_to(63, summary.number)
 }
 
 /// Whether there is a length that is not from 1 to 32,767, or an area's size that is not from 1 to 1,000,000.
@@ -48,8 +48,8 @@ pub(crate) fn bad_length(summary: Summary) -> bool
 }
 
 /// A precision, or else the default.
-fn precision(number: Option<u32>) -> u8
-    requires { is_up_to 31 number ≡ true }
+fn precision(number: Option<u64>) -> u8
+    requires { is_up_to 63 number ≡ true }
     ensures { result ≡ number_or 15 number }
 {
     match number {
@@ -59,13 +59,24 @@ fn precision(number: Option<u32>) -> u8
 }
 
 /// A length, or else the default.
-fn length(number: Option<u32>) -> u16
+fn length(number: Option<u64>) -> u16
     requires { is_up_to 32767 number ≡ true }
     ensures { result ≡ number_or 1 number }
 {
     match number {
         Some(number) => number as u16,
         None => DEFAULT_LENGTH,
+    }
+}
+
+/// An area's size, or else the default.
+fn area_size(number: Option<u64>) -> u32
+    requires { is_up_to 1000000 number ≡ true }
+    ensures { result ≡ number_or 1000 number }
+{
+    match number {
+        Some(number) => number as u32,
+        None => DEFAULT_SIZE,
     }
 }
 
@@ -90,7 +101,9 @@ pub(crate) fn scalar(summary: Summary) -> Description
         Description::Pointer
     } else if set.has(AttributeSet::OFFSET) {
         Description::Offset
+    } else if set.has(AttributeSet::AREA) {
+        Description::Area(area_size(number))
     } else {
-        Description::Area(number.unwrap_or(DEFAULT_SIZE))
+        Description::Area(DEFAULT_SIZE)
     }
 }

@@ -8,7 +8,7 @@ use std::alloc::{AllocError, Global};
 #[derive(Clone, Copy)]
 pub struct Numbered {
     pub number: usize,
-    pub level: u32,
+    pub level: u64,
 }
 
 /// How an item stands in its list.
@@ -21,7 +21,7 @@ pub struct ItemStanding {
 }
 
 /// How an item of this level stands, where this is the nearest before it with a lesser level.
-fn standing_behind(level: u32, nearest: Option<usize>) -> ItemStanding
+fn standing_behind(level: u64, nearest: Option<usize>) -> ItemStanding
     ensures { result ≡ standing level nearest }
 {
     ItemStanding {
@@ -31,7 +31,7 @@ fn standing_behind(level: u32, nearest: Option<usize>) -> ItemStanding
 }
 
 /// The nearest item with a lesser level. Items that no later one can belong to are taken out.
-fn nearest_among(before: &mut Vec<Numbered>, level: u32) -> Option<usize>
+fn nearest_among(before: &mut Vec<Numbered>, level: u64) -> Option<usize>
     ensures found { result ≡ nearest level before.old.items }
     ensures kept { (l : ℕ) → l ≤ level → nearest l before.new.items ≡ nearest l before.old.items }
 {
@@ -47,7 +47,7 @@ fn nearest_among(before: &mut Vec<Numbered>, level: u32) -> Option<usize>
 /// How the items of a list stand, from their levels: one of a level over 1 belongs to the nearest item before it with a lesser
 /// level (X3.74). An item without a level has level 1; one of level 0 is a variable of its own, to which later items of levels
 /// over 1 may belong (own).
-pub fn standings(alloc: Global, levels: &[Option<u32>]) -> Result<Vec<ItemStanding>, AllocError>
+pub fn standings(alloc: Global, levels: &[Option<u64>]) -> Result<Vec<ItemStanding>, AllocError>
     ensures { IfOk result (λ standings. standings.items ≡ standings_of levels.now) }
 {
     let mut before = Vec::new(alloc);

@@ -50,7 +50,7 @@ fn names_of<'a>(alloc: Global, items: &'a [Item]) -> Result<Vec<NamedItem<'a>>, 
 }
 
 /// The level of each name, if one is written.
-fn levels_of(alloc: Global, names: &[NamedItem<'_>]) -> Result<Vec<Option<u32>>, AllocError>
+fn levels_of(alloc: Global, names: &[NamedItem<'_>]) -> Result<Vec<Option<u64>>, AllocError>
     ensures { IfOk result (λ levels. levels.items ≡ map (λ x. x.1.level) (map named_view names.now)) }
 {
     let mut levels = Vec::with_capacity(alloc, names.len())?;

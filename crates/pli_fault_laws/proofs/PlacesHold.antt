@@ -39,7 +39,7 @@ below_stand ts (f ∷ fs) h = (at_token ts f h.0, below_stand ts fs h.1)
 
 types_stand : (ts : Tokens) (u : ExternalProcedure) (fs : List Fault) → unit_of ts ≡ Ok u → checked_unit (resolved_unit_of u) ≡ Err fs → AllStand ts fs
 unfolding checked_unit
-types_stand ts u fs read e = type_faults_stand_at_tokens ts (named_unit 31 (resolved_unit_of u)) fs read e
+types_stand ts u fs read e = type_faults_stand_at_tokens ts (named_unit 63 (resolved_unit_of u)) fs read e
 
 unless_stand : (ts : Tokens) (u : ExternalProcedure) (gs fs : List Fault) → unit_of ts ≡ Ok u → AllStand ts gs → typed_unless gs u ≡ Err fs → AllStand ts fs
 unless_stand ts u [] fs read h e = types_stand ts u fs read e

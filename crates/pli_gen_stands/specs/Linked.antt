@@ -5,7 +5,8 @@ use Rattle.std.specs.Prelude.{◌≡◌, ℕ, Some, List, [], ◌∷◌, map, po
 use Rattle.pli_base.specs.Name.{Name}
 use Rattle.pli_base.specs.Words.{same_name}
 use Rattle.pli_type_tree.specs.TypedTree.{Global, OwnVariable, ExternalVariable, EntryPoint, TypedUnit}
-use Rattle.pli_code.specs.Modules.{Member, Module, greatest_precision}
+use Rattle.pli_code.specs.Modules.{Member, Module}
+use Rattle.pli_code.specs.Versions.{greatest_precision}
 use Rattle.pli_gen_emit.specs.Encoding.{code_of}
 use Rattle.pli_meaning_tree.specs.TreeMeaning.{TypedProgram, unit_named}
 
@@ -39,8 +40,9 @@ module _ (program : List TypedUnit) (names : List Name) where
   AreUnitsOf (t ∷ ts) [] = ⊥
   AreUnitsOf (t ∷ ts) (m ∷ ms) = IsUnitOf t m × AreUnitsOf ts ms
 
--- the module has the units of the program in their order, and the same main one
+-- the module has the units of the program in their order, and the same main one; and its version numbers as
+-- wide as the program
 pub record IsModuleOf (t : TypedProgram) (m : Module) : Type 0 where
   pub units : AreUnitsOf t.units (external_names m) t.units m.units
   pub main : m.main ≡ t.main
-  pub greatest : greatest_precision ≡ t.greatest
+  pub greatest : greatest_precision m.version ≡ t.greatest

@@ -80,7 +80,7 @@ decimal_found : (run rest : List ℕ) → is_constant run ≡ true → begins_wi
 decimal_found [] rest is ends = absurd cc
 decimal_found (c ∷ cs) rest is ends =
     let run = c ∷ cs in
-    let all : list_all is_digit run ≡ true = (and_parts _ (list_all is_digit run) (and_parts _ (leb (value_in 10 run) 2147483647) is).0).1 in
+    let all : list_all is_digit run ≡ true = (and_parts _ (list_all is_digit run) (and_parts _ (leb (value_in 10 run) 9223372036854775807) is).0).1 in
     let digit = (and_parts (is_digit c) (list_all is_digit cs) all).0 in
     let no_b = not_begun is_b continues_number rest b_continues ends in
     number_first c (cs ++ rest) digit ∙ number_split run rest all (not_begun is_digit continues_number rest digit_continues ends)
@@ -219,7 +219,7 @@ token_begins [] (texts.Word name) is = absurd (none_some name is)
 token_begins (c ∷ cs) (texts.Word name) is = letter_solid c (and_parts (is_letter c) (list_all is_name_character cs) (name_form (c ∷ cs) name is)).0
 token_begins [] (texts.Decimal value digits) is = absurd (let e : false ≡ true = is.0 in cc)
 token_begins (c ∷ cs) (texts.Decimal value digits) is =
-    digit_solid c (and_parts (is_digit c) (list_all is_digit cs) (and_parts _ (list_all is_digit (c ∷ cs)) (and_parts _ (leb (value_in 10 (c ∷ cs)) 2147483647) is.0).0).1).0
+    digit_solid c (and_parts (is_digit c) (list_all is_digit cs) (and_parts _ (list_all is_digit (c ∷ cs)) (and_parts _ (leb (value_in 10 (c ∷ cs)) 9223372036854775807) is.0).0).1).0
 token_begins run (texts.Binary value digits) is = rw is.2 (binary_begins is.0 is.1 is.4)
 token_begins run (texts.Characters characters) is = rw is.0 refl
 token_begins run (texts.Bits bits) is = rw is.3 refl

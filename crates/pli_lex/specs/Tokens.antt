@@ -37,15 +37,15 @@ IsGap gap = (runs : List (List ℕ)) × (gap ≡ concat runs) × AreSeparators r
 
 -- ---- numbers
 
--- one to ten digits, leading zeros counted, with a value of at most 2147483647
+-- 1 to 19 digits, leading zeros counted, with a value of at most 2 ^ 63 - 1
 abbrev pub is_constant : List ℕ → Bool
 is_constant run =
-    nat_le 1 (length run) && nat_le (length run) 10 && list_all is_digit run
-    && nat_le (value_in 10 run) 2147483647
+    nat_le 1 (length run) && nat_le (length run) 19 && list_all is_digit run
+    && nat_le (value_in 10 run) 9223372036854775807
 
--- one to 31 binary digits
+-- 1 to 63 binary digits
 abbrev pub is_binary_constant : List ℕ → Bool
-is_binary_constant run = nat_le 1 (length run) && nat_le (length run) 31 && list_all is_binary_digit run
+is_binary_constant run = nat_le 1 (length run) && nat_le (length run) 63 && list_all is_binary_digit run
 
 -- ---- strings
 

@@ -10,13 +10,13 @@ use crate::character::{begins_with_b, continues_number, is_binary_digit};
 use pli_base::{Code, TokenText, decimal_value, is_digit};
 
 /// The greatest number of digits in a decimal constant (own).
-const DECIMAL_LIMIT: usize = 10;
+const DECIMAL_LIMIT: usize = 19;
 
 /// The greatest value of a decimal constant (own).
-const VALUE_LIMIT: u64 = 2147483647;
+const VALUE_LIMIT: u64 = 9_223_372_036_854_775_807;
 
 /// The greatest number of digits in a binary constant (own).
-const BINARY_LIMIT: usize = 31;
+const BINARY_LIMIT: usize = 63;
 
 /// How many digits a text begins with.
 fn number_width(text: &[u8]) -> usize
@@ -32,15 +32,15 @@ fn are_binary(digits: &[u8]) -> bool
     digits.iter().all(|digit| is_binary_digit(*digit))
 }
 
-/// The value of at most 31 binary digits.
-fn binary_value(digits: &[u8]) -> u32
-    requires count { length digits.now ≤ 31 }
+/// The value of at most 63 binary digits.
+fn binary_value(digits: &[u8]) -> u64
+    requires count { length digits.now ≤ 63 }
     requires form { IsTrue (list_all is_binary_digit digits.now) }
     ensures { result ≡ value_in 2 digits.now }
 {
     let mut value = 0;
     for digit in digits {
-        value = value * 2 + u32::from(*digit - b'0');
+        value = value * 2 + u64::from(*digit - b'0');
     }
     value
 }
@@ -60,7 +60,7 @@ fn decimal(digits: &[u8], rest: &[u8]) -> Result<(TokenText, usize), Code>
         return Err(Code::BadNumber);
     }
     let text = TokenText::Decimal {
-        value: value as u32,
+        value,
         digits: width as u8,
     };
     Ok((text, width))

@@ -8,6 +8,7 @@ use Rattle.pli_base.specs.Name.{Name}
 use Rattle.pli_base.specs.Words.{same_name}
 use Rattle.pli_code.specs.CodeTables.{CodedGlobal, OwnVariable, ExternalVariable, EntryPoint}
 use Rattle.pli_code.specs.Modules.{External, Member, Module}
+use Rattle.pli_code.specs.Versions.{written}
 use Rattle.pli_code.specs.views.CodeView.{kind_number}
 use Rattle.pli_link.specs.Names.{Declaration, externals, meant, procedures}
 use Rattle.pli_link.specs.Units.{Compiled}
@@ -59,9 +60,10 @@ linked_unit names procedures c = record {
   links = links_of names procedures c.deck.code.globals;
 }
 
--- the module of all units, of which this is the main one
+-- the module of all units, of which this is the main one, in the version in which modules are written
 abbrev pub module_of : List Compiled → (main : ℕ) → Module
 module_of cs main = record {
+  version = written;
   main = main;
   externals = map external_of (externals cs);
   units = map (linked_unit (keys_of (externals cs)) (procedures cs)) cs;

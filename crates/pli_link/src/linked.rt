@@ -13,7 +13,7 @@ use crate::names::Names;
 use crate::units::NamedUnit;
 use indexmap::IndexMap;
 use pli_base::Name;
-use pli_code::{LentMember, LentModule};
+use pli_code::{LentMember, LentModule, Version};
 use pli_deck_write::write_module;
 use std::alloc::{AllocError, Global};
 
@@ -91,6 +91,7 @@ pub(crate) fn module_of<'a>(
     let numbers = numbers_of(alloc, &externals)?;
     let units = linked_units(alloc, &numbers, names.procedures, names.units)?;
     Ok(LentModule {
+        version: Version::WRITTEN,
         main,
         externals,
         units,

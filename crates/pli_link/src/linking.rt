@@ -1,6 +1,7 @@
 //! The module of units, or the faults of linking.
 ghost use Rattle.std.specs.Prelude.{◌≡◌, ◌++◌, map, OnOk, IfOk};
 ghost use Rattle.pli_link.specs.Link as link;
+ghost use Rattle.pli_link.specs.Units.{AreWritten};
 ghost use Rattle.pli_link.specs.answers.Linking.{Links, fault_of, main_faults_of};
 ghost use Rattle.pli_link.specs.answers.Tables.{AreNames, HaveClasses, units_in};
 ghost use Rattle.pli_link.specs.views.UnitView.{compiled_view};
@@ -40,8 +41,10 @@ pub enum LinkFault {
 /// Why units are not linked: all faults, by code, name and unit, or want of memory.
 pub type LinkError = Failure<Vec<LinkFault>>;
 
-/// The module of units, whose decks are lent and which come in the order of their names; or all faults.
+/// The module of units, whose decks are lent and of the version in which modules are written, and which come in the order
+/// of their names; or all faults.
 pub fn link<'a>(alloc: Global, units: &[NamedUnit<'a>]) -> Result<Linked<'a>, LinkError>
+    requires { AreWritten (map compiled_view units.now) }
     ensures { Links result (link.link_of (map compiled_view units.now)) }
 {
     let procedures = procedures(alloc, units)?;

@@ -11,8 +11,8 @@ use Rattle.pli_program.specs.declared.kind.VariableKind.TheVariants.{Static, Con
 use Rattle.pli_link.specs.ModuleSize.{made_of, own_of}
 use Rattle.pli_code.specs.Fields.{u2, list}
 use Rattle.pli_deck_write.specs.Descriptions.{description}
-use Rattle.pli_code.specs.Instructions.{instruction}
-use Rattle.pli_deck_write.specs.DeckFields.{name, flag, constant, template, signature, global, block, code, contents, deck}
+use Rattle.pli_code.specs.Instructions.{instruction_in}
+use Rattle.pli_deck_write.specs.DeckFields.{name, flag, constant, template, signature, global, block, code, contents, deck, deck_in_versions}
 use Rattle.pli_deck_write.specs.ModuleSpelling.{description_bytes, bytes_by_template, template_bytes, static_bytes}
 use Rattle.pli_link_laws.proofs.Sums.{total, total_joined, both_of}
 
@@ -27,13 +27,14 @@ second_of : (a b : Bool) → (a && b) ≡ true → b ≡ true
 second_of a b h = (both_of a b h).1
 
 pub globals_fit : (d : Deck) → deck.fits d ≡ true → GlobalsFit d
-unfolding deck contents code
+unfolding deck_in_versions contents code
 globals_fit d h =
-    let ds = (list description).fits d.code.descriptions in
-    let ts = (list template).fits d.code.templates in
-    let vs = (list constant).fits d.code.values in
+    let v = d.version in
+    let ds = (list (description v)).fits d.code.descriptions in
+    let ts = (list (template v)).fits d.code.templates in
+    let vs = (list (constant v)).fits d.code.values in
     let gs = (list global).fits d.code.globals in
-    let rest = (list block).fits d.code.blocks && (list instruction).fits d.code.instructions in
+    let rest = (list block).fits d.code.blocks && (list (instruction_in v)).fits d.code.instructions in
     let tail = ds && (ts && (vs && (gs && rest))) in
     let behind_name = second_of (name.fits d.name) (flag.fits d.is_main && (signature.fits d.code.signature && tail)) h in
     let behind_flag = second_of (flag.fits d.is_main) (signature.fits d.code.signature && tail) behind_name in

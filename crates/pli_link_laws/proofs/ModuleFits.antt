@@ -1,11 +1,14 @@
 -- Units and externals of a module fit their fields.
-use Rattle.std.proofs.Common.{◌≡◌, ℕ, suc, ◌<◌, ◌≤◌, nat_eq, nat_le, nat_lt, Bool, true, false, ◌&&◌, not, cond, if◌then◌else◌, Option, Some, None, option_map, List, [], ◌∷◌, length, map, filter, refl, ap, ◌∙◌, arith, lt-ltb, le-leb, eq-eqb}
+use Rattle.std.proofs.Common.{◌≡◌, ℕ, suc, ◌<◌, ◌≤◌, nat_eq, nat_le, nat_lt, Bool, true, false, ◌&&◌, not, cond, if◌then◌else◌, Option, Some, None, option_map, List, [], ◌∷◌, length, map, filter, refl, ap, sym, ◌∙◌, arith, lt-ltb, le-leb, eq-eqb}
 use Rattle.std.specs.List.{list_all, AllByRecursion}
 use Rattle.std.specs.Int.{is_in_range}
 use Rattle.pli_base.specs.Name.{Name}
 use Rattle.pli_program.specs.declared.kind.VariableKind.{VariableKind}
 use Rattle.pli_program.specs.declared.kind.VariableKind.TheVariants.{Static, Controlled}
-use Rattle.pli_deck_write.specs.DeckFields.{name, deck}
+use Rattle.pli_code.specs.CodeTables.{Deck}
+use Rattle.pli_code.specs.Versions.{version_number, same_version}
+use Rattle.pli_code.specs.declared.version.Version.{Version}
+use Rattle.pli_deck_write.specs.DeckFields.{name, contents, deck, deck_in_versions}
 use Rattle.pli_deck_write.specs.DeckFaults.{fault_of}
 use Rattle.pli_code.specs.Fields.{u1, u2, u4, from_to}
 use Rattle.pli_code.specs.Modules.{External, Member, Module}
@@ -75,24 +78,37 @@ pub record Leads (m : Module) (u : Member) : Type 0 where
   pub counted : length u.links ≡ length (filter is_external u.deck.code.globals)
   pub short : list_all u2.fits u.links ≡ true
 
-unit_fits : (m : Module) (u : Member) → IsSaidAlone u → Leads m u → member.fits u ≡ true
+-- its deck is of the module's version
+abbrev pub HasVersion : Module → Member → Type 0
+HasVersion m u = u.deck.version ≡ m.version
+
+-- a deck fits where its version is the one that may stand there
+in_version : (v : Version) (d : Deck) → deck.fits d ≡ true → d.version ≡ v → (deck_in_versions (same_version v)).fits d ≡ true
+unfolding deck_in_versions
+in_version v d fits same =
+    both_hold (same_version v d.version) ((contents d.version).fits (d.name, (d.is_main, d.code)))
+    (eq-eqb (version_number v) (version_number d.version) (ap version_number (sym same))) fits
+
+unit_fits : (m : Module) (u : Member) → IsSaidAlone u → Leads m u → HasVersion m u → (member m.version).fits u ≡ true
 unfolding member
-unit_fits m u said leads =
+unit_fits m u said leads version =
     let few = (globals_fit u.deck said.is_deck.fits).few in
     let k = length (filter is_external u.deck.code.globals) in
     let within : k ≤ 65535 = omega (arith, few, no_more is_external u.deck.code.globals) in
     let size = u4.fits (length (deck_bytes u.deck)) in
-    let faultless = deck.fits u.deck && is_none (fault_of u.deck) in
+    let fitting = (deck_in_versions (same_version m.version)).fits u.deck in
+    let faultless = fitting && is_none (fault_of u.deck) in
     both_hold (name.fits u.name && (size && faultless)) ((from_to k k u2).fits (length u.links) && list_all u2.fits u.links)
     (both_hold (name.fits u.name) (size && faultless) said.named
     (both_hold size faultless (lt-ltb (length (deck_bytes u.deck)) 4294967296 said.short)
-    (both_hold (deck.fits u.deck) (is_none (fault_of u.deck)) said.is_deck.fits (ap is_none said.is_deck.faultless))))
+    (both_hold fitting (is_none (fault_of u.deck)) (in_version m.version u.deck said.is_deck.fits version) (ap is_none said.is_deck.faultless))))
     (both_hold ((from_to k k u2).fits (length u.links)) (list_all u2.fits u.links)
     (fits_range k k (length u.links) (omega (arith, within, leads.counted)) (omega (arith, leads.counted)) (omega (arith, leads.counted))) leads.short)
 
-units_fit : (m : Module) (us : List Member) → AllByRecursion IsSaidAlone us → AllByRecursion (Leads m) us → list_all member.fits us ≡ true
-units_fit m [] said leads = refl
-units_fit m (u ∷ us) said leads = both_hold (member.fits u) (list_all member.fits us) (unit_fits m u said.0 leads.0) (units_fit m us said.1 leads.1)
+units_fit : (m : Module) (us : List Member) → AllByRecursion IsSaidAlone us → AllByRecursion (Leads m) us → AllByRecursion (HasVersion m) us → list_all (member m.version).fits us ≡ true
+units_fit m [] said leads versions = refl
+units_fit m (u ∷ us) said leads versions =
+    both_hold ((member m.version).fits u) (list_all (member m.version).fits us) (unit_fits m u said.0 leads.0 versions.0) (units_fit m us said.1 leads.1 versions.1)
 
 units_stand : (m : Module) (us : List Member) → AllByRecursion (Leads m) us → list_all (λ (u : Member). are_good_links m (filter is_external u.deck.code.globals) u.links) us ≡ true
 units_stand m [] leads = refl
@@ -111,6 +127,7 @@ pub record HasParts (m : Module) (ds : List (Name × Declaration)) : Type 0 wher
   pub units : length m.units ≤ 999
   pub said : AllByRecursion IsSaidAlone m.units
   pub leads : AllByRecursion (Leads m) m.units
+  pub versions : AllByRecursion (HasVersion m) m.units
   pub limits : module_within_limits m ≡ true
 
 module _ (m : Module) (ds : List (Name × Declaration)) (h : HasParts m ds) where
@@ -119,12 +136,12 @@ module _ (m : Module) (ds : List (Name × Declaration)) (h : HasParts m ds) wher
   fits =
       let count = (from_to 1 999 u2).fits (length m.units) in
       let externals = u2.fits (length m.externals) && fit_behind external_behind None m.externals in
-      both_hold (count && (u2.fits m.main && externals)) (nat_eq (length m.units) (length m.units) && list_all member.fits m.units)
+      both_hold (count && (u2.fits m.main && externals)) (nat_eq (length m.units) (length m.units) && list_all (member m.version).fits m.units)
       (both_hold count (u2.fits m.main && externals) (fits_range 1 999 (length m.units) (omega (arith, h.units)) (omega (arith, h.main)) h.units)
       (both_hold (u2.fits m.main) externals (fits_short m.main (omega (arith, h.main, h.units)))
       (both_hold (u2.fits (length m.externals)) (fit_behind external_behind None m.externals) (fits_short (length m.externals) h.few)
       (ap (fit_behind external_behind None) h.externals ∙ externals_fit m.units None ds h.rising h.declared))))
-      (both_hold (nat_eq (length m.units) (length m.units)) (list_all member.fits m.units) (eq-eqb (length m.units) (length m.units) refl) (units_fit m m.units h.said h.leads))
+      (both_hold (nat_eq (length m.units) (length m.units)) (list_all (member m.version).fits m.units) (eq-eqb (length m.units) (length m.units) refl) (units_fit m m.units h.said h.leads h.versions))
 
   stand : links_stand m ≡ true
   stand =

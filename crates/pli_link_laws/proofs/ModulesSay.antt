@@ -1,5 +1,5 @@
 -- Linked modules are ones that bytes can say.
-use Rattle.std.proofs.Common.{◌≡◌, ℕ, ◌+◌, ◌<◌, ◌≤◌, nat_lt, Bool, true, false, cond, Some, None, List, [], ◌∷◌, length, filter, slice_get, position, refl, ap, sym, subst, arith, ltb-true}
+use Rattle.std.proofs.Common.{◌≡◌, ℕ, ◌+◌, ◌<◌, ◌≤◌, nat_lt, Bool, true, false, cond, Some, None, List, [], ◌∷◌, length, filter, map, slice_get, position, refl, ap, sym, subst, arith, ltb-true}
 use Rattle.std.specs.List.{position_or_len, AllByRecursion}
 use Rattle.std.specs.Map.{keys_of}
 use Rattle.std.proofs.lemmas.List.{length-map}
@@ -7,7 +7,8 @@ use Rattle.pli_base.specs.Name.{Name}
 use Rattle.pli_code.specs.Modules.{Member, Module}
 use Rattle.pli_link.specs.Link.{link_faults}
 use Rattle.pli_link.specs.Names.{Declaration, all_shared, externals, procedures}
-use Rattle.pli_link.specs.Units.{Compiled}
+use Rattle.pli_link.specs.Units.{Compiled, AreWritten}
+use Rattle.pli_code.specs.Versions.{written}
 use Rattle.pli_link.proofs.Faultless.{IsFaultless, faultless, small}
 use Rattle.pli_link.proofs.MeantFirst.{procedures_within}
 use Rattle.pli_deck_write.specs.ModuleFields.{is_external}
@@ -37,9 +38,13 @@ main_within cs i e = within (position_or_len (λ (c : Compiled). c.deck.is_main)
 few_found : (bound bound_is : ℕ) (es : List (Name × ℕ)) → bound ≡ bound_is → AllByRecursion (λ p. p.1 < bound) es → AllByRecursion (λ p. p.1 < bound_is) es
 few_found bound bound_is es e h = subst (λ b. AllByRecursion (λ p. p.1 < b) es) e h
 
+units_written : (names : List Name) (numbers : List (Name × ℕ)) (cs : List Compiled) → AreWritten cs → AllByRecursion (λ (u : Member). u.deck.version ≡ written) (map (linked_unit names numbers) cs)
+units_written names numbers [] h = tt
+units_written names numbers (c ∷ cs) h = (h.0, units_written names numbers cs h.1)
+
 -- ---- a module of units without faults
 
-module _ (cs : List Compiled) (main : ℕ) (few : length cs ≤ 999) (here : position (λ (c : Compiled). c.deck.is_main) cs ≡ Some main) (good : IsFaultless cs) where
+module _ (cs : List Compiled) (main : ℕ) (are_written : AreWritten cs) (few : length cs ≤ 999) (here : position (λ (c : Compiled). c.deck.is_main) cs ≡ Some main) (good : IsFaultless cs) where
   abbrev m : Module
   m = module_of cs main
 
@@ -86,6 +91,7 @@ module _ (cs : List Compiled) (main : ℕ) (few : length cs ≤ 999) (here : pos
       units = few_units;
       said = said;
       leads = leads_each m.units (units_lead m ds cs refl few_externals few_units numbers cs 0 (all_found [] (all_shared 0 cs)) (units_resolved cs cs good.resolved good.alike));
+      versions = units_written (keys_of ds) (procedures cs) cs are_written;
       limits = within_limits (keys_of ds) (procedures cs) cs m refl refl (counted cs good.small) declared;
     }
 
@@ -95,6 +101,6 @@ module _ (cs : List Compiled) (main : ℕ) (few : length cs ≤ 999) (here : pos
 -- ---- what linking gives
 
 pub linked_modules_are_spelled : LinkedModulesAreSpelled
-linked_modules_are_spelled cs m linked few said =
+linked_modules_are_spelled cs m are_written linked few said =
     let o = of_faultless (link_faults cs) (position (λ (c : Compiled). c.deck.is_main) cs) cs m linked in
-    subst (λ (n : Module). AllByRecursion IsSaidAlone n.units → SpellsModule (module_bytes n) n) o.is (λ h. stands cs o.main few o.here (faultless cs o.none) h) said
+    subst (λ (n : Module). AllByRecursion IsSaidAlone n.units → SpellsModule (module_bytes n) n) o.is (λ h. stands cs o.main are_written few o.here (faultless cs o.none) h) said

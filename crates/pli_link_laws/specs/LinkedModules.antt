@@ -5,7 +5,7 @@ use Rattle.pli_deck_write.specs.DeckFields.{name}
 use Rattle.pli_deck_write.specs.ModuleSpelling.{module_bytes, SpellsModule}
 use Rattle.pli_deck_write.specs.Spelling.{IsDeck, deck_bytes}
 use Rattle.pli_link.specs.Link.{link_of}
-use Rattle.pli_link.specs.Units.{Compiled}
+use Rattle.pli_link.specs.Units.{Compiled, AreWritten}
 use Rattle.pli_code.specs.Modules.{Member, Module}
 
 -- a unit of a module, where a number of four bytes can count the bytes of its deck
@@ -18,11 +18,11 @@ pub record IsSaidAlone (u : Member) : Type 0 where
   pub is_deck : IsDeck u.deck
   pub short : HasShortDeck u
 
--- what linking gives of units that have a spelling each is spelled by its bytes: the linker's own faults say
--- the rest
+-- what linking gives of units that have a spelling each, in the version in which modules are written, is
+-- spelled by its bytes: the linker's own faults say the rest
 abbrev pub LinkedModulesAreSpelled : Type 0
 LinkedModulesAreSpelled =
-    (cs : List Compiled) (m : Module) → link_of cs ≡ Ok m → length cs ≤ 999
+    (cs : List Compiled) (m : Module) → AreWritten cs → link_of cs ≡ Ok m → length cs ≤ 999
     → AllByRecursion IsSaidAlone m.units → SpellsModule (module_bytes m) m
 
 -- the decks of the module that linking gives are those of the compiled units, whole and in order: linking

@@ -1,10 +1,11 @@
 //! Operations on values: operators, built-in functions and conversions.
-ghost use Rattle.std.specs.Prelude.{◌≡◌, ◌≤◌, ◌∷◌, [], min, pos, Result, IfOk, None, Some};
+ghost use Rattle.std.specs.Prelude.{◌≡◌, ◌≤◌, ◌∷◌, [], ℕ, min, pos, Result, IfOk, None, Some};
 ghost use Rattle.pli_map.specs.views.DescriptionView.{description_view};
 ghost use Rattle.pli_operation.specs.Operations as calculate;
 ghost use Rattle.pli_operation.specs.Operations.{calculated_from, calculated_with, calculated_by, are_comparable, as_number, compared, stands, fitted_to, widest};
 ghost use Rattle.std.specs.Option.{option_copied};
 ghost use Rattle.pli_value.specs.Numbers.{within, quotient};
+ghost use Rattle.pli_value.specs.Strings.{concatenation};
 ghost use Rattle.pli_value.specs.Value as plain;
 ghost use Rattle.pli_value.specs.Value.{value_view};
 ghost use Rattle.pli_machine_operate.specs.views.CalculationView.{calculation_view, immediate_view};
@@ -18,8 +19,9 @@ use pli_value::{Locator, Value};
 use std::alloc::{AllocError, Global};
 use std::cmp::Ordering;
 
-/// The greatest precision of a number (own).
-pub const GREATEST_PRECISION: u8 = 31;
+/// The greatest precision of sums, differences and products that are found before their instruction is performed (own). No
+/// module has a lesser one, so they are the same in each; those of more binary digits are left to the instruction.
+pub const FAST_PRECISION: u8 = 31;
 
 /// How many binary digits each number of 64 bits has at most, but for the least one, which has one more.
 const WIDEST_PRECISION: u8 = 63;
@@ -280,20 +282,23 @@ pub fn fit(
     }
 }
 
-/// An operation on two numbers. It takes no memory.
+/// An operation on two numbers. A sum, a difference or a product has at most as many binary digits as the greatest precision
+/// says, from 0 to 63. It takes no memory.
 #[inline]
 pub fn calculate_numbers(
     operation: Operation,
     left: i64,
     right: i64,
+    greatest: u8,
 ) -> Result<Immediate, AllocError>
+    requires { greatest ≤ 63 }
     ensures { IfOk result (λ i. immediate_view i
-        ≡ calculated_with 31 operation (plain.Number left) (plain.Number right)) }
+        ≡ calculated_with greatest operation (plain.Number left) (plain.Number right)) }
 {
     match operation {
-        Operation::Add => Ok(as_number(number::add(left, right, GREATEST_PRECISION))),
-        Operation::Subtract => Ok(as_number(number::subtract(left, right, GREATEST_PRECISION))),
-        Operation::Multiply => Ok(as_number(number::multiply(left, right, GREATEST_PRECISION))),
+        Operation::Add => Ok(as_number(number::add(left, right, greatest))),
+        Operation::Subtract => Ok(as_number(number::subtract(left, right, greatest))),
+        Operation::Multiply => Ok(as_number(number::multiply(left, right, greatest))),
         Operation::Modulo => Ok(as_number(number::modulo(left, right))),
         Operation::Greatest => Ok(Immediate::Number(number::greatest(left, right))),
         Operation::Least => Ok(Immediate::Number(number::least(left, right))),
@@ -306,15 +311,15 @@ pub fn calculate_numbers(
     }
 }
 
-/// An operation on two strings of characters.
+/// An operation on two strings of characters, whatever the greatest precision is.
 fn of_texts(
     alloc: Global,
     operation: Operation,
     left: &Vec<u8>,
     right: &Vec<u8>,
 ) -> Result<Calculation, AllocError>
-    ensures { IfOk result (λ c. calculation_view c
-        ≡ calculated_with 31 operation (plain.Characters left.now.items) (plain.Characters right.now.items)) }
+    ensures { (greatest : ℕ) → IfOk result (λ c. calculation_view c
+        ≡ calculated_with greatest operation (plain.Characters left.now.items) (plain.Characters right.now.items)) }
 {
     match operation {
         Operation::Compare(relation) => {
@@ -329,15 +334,15 @@ fn of_texts(
     }
 }
 
-/// An operation on two strings of bits.
+/// An operation on two strings of bits, whatever the greatest precision is.
 fn of_bit_strings(
     alloc: Global,
     operation: Operation,
     left: &Bits,
     right: &Bits,
 ) -> Result<Calculation, AllocError>
-    ensures { IfOk result (λ c. calculation_view c
-        ≡ calculated_with 31 operation (plain.Bits left.now) (plain.Bits right.now)) }
+    ensures { (greatest : ℕ) → IfOk result (λ c. calculation_view c
+        ≡ calculated_with greatest operation (plain.Bits left.now) (plain.Bits right.now)) }
 {
     match operation {
         Operation::Compare(relation) => Ok(Calculation::GivesBit(stands(
@@ -358,7 +363,7 @@ fn of_bit_strings(
 /// One string of characters behind another, where they are short enough together. The first is extended.
 fn join(mut left: Vec<u8>, right: &Vec<u8>) -> Result<Calculation, AllocError>
     ensures { IfOk result (λ c. calculation_view c
-        ≡ calculated_with 31 Operation.Concatenate (plain.Characters left.items) (plain.Characters right.now.items)) }
+        ≡ calculate.as_characters (concatenation left.items right.now.items)) }
 {
     if left.len() + right.len() > STRING_LIMIT {
         return Ok(Calculation::OutOfString);
@@ -367,15 +372,15 @@ fn join(mut left: Vec<u8>, right: &Vec<u8>) -> Result<Calculation, AllocError>
     Ok(Calculation::Gives(Value::Characters(left)))
 }
 
-/// An operation on characters and another value.
+/// An operation on characters and another value, whatever the greatest precision is.
 fn with_text(
     alloc: Global,
     operation: Operation,
     left: Vec<u8>,
     right: &Value,
 ) -> Result<Calculation, AllocError>
-    ensures { IfOk result (λ c. calculation_view c
-        ≡ calculated_with 31 operation (plain.Characters left.items) (value_view right.now)) }
+    ensures { (greatest : ℕ) → IfOk result (λ c. calculation_view c
+        ≡ calculated_with greatest operation (plain.Characters left.items) (value_view right.now)) }
 {
     match (operation, right) {
         (Operation::Concatenate, Value::Characters(right)) => join(left, right),
@@ -387,15 +392,15 @@ fn with_text(
     }
 }
 
-/// An operation on bits and another value.
+/// An operation on bits and another value, whatever the greatest precision is.
 fn with_bits(
     alloc: Global,
     operation: Operation,
     left: &Bits,
     right: &Value,
 ) -> Result<Calculation, AllocError>
-    ensures { IfOk result (λ c. calculation_view c
-        ≡ calculated_with 31 operation (plain.Bits left.now) (value_view right.now)) }
+    ensures { (greatest : ℕ) → IfOk result (λ c. calculation_view c
+        ≡ calculated_with greatest operation (plain.Bits left.now) (value_view right.now)) }
 {
     match (operation, right) {
         (_, Value::Bits(right)) => of_bit_strings(alloc, operation, left, right),
@@ -442,10 +447,10 @@ pub fn compare_locators(relation: Relation, left: Locator, right: Locator) -> Ca
     }
 }
 
-/// An operation on a locator and another value.
+/// An operation on a locator and another value, whatever the greatest precision is.
 fn with_locator(operation: Operation, left: Locator, right: &Value) -> Calculation
-    ensures { calculation_view result
-        ≡ calculated_with 31 operation (plain.Located left) (value_view right.now) }
+    ensures { (greatest : ℕ) → calculation_view result
+        ≡ calculated_with greatest operation (plain.Located left) (value_view right.now) }
 {
     match (operation, right) {
         (Operation::Compare(relation), Value::Locator(right)) => {
@@ -455,19 +460,23 @@ fn with_locator(operation: Operation, left: Locator, right: &Value) -> Calculati
     }
 }
 
-/// An operation on two values; the left one is extended where it may be.
+/// An operation on two values, on numbers with a greatest precision from 0 to 63. The left value is extended where it may be.
 pub fn calculate_with(
     alloc: Global,
     operation: Operation,
     left: Value,
     right: &Value,
+    greatest: u8,
 ) -> Result<Calculation, AllocError>
+    requires { greatest ≤ 63 }
     ensures { IfOk result (λ c. calculation_view c
-        ≡ calculated_with 31 operation (value_view left) (value_view right.now)) }
+        ≡ calculated_with greatest operation (value_view left) (value_view right.now)) }
 {
     match left {
         Value::Number(left) => match right {
-            Value::Number(right) => Ok(as_calculation(calculate_numbers(operation, left, *right)?)),
+            Value::Number(right) => Ok(as_calculation(calculate_numbers(
+                operation, left, *right, greatest,
+            )?)),
             _ => Ok(Calculation::Misfits),
         },
         Value::Characters(left) => with_text(alloc, operation, left, right),

@@ -6,8 +6,8 @@ mod operand;
 mod texts;
 
 pub use calculation::{
-    Calculation, Immediate, calculate_by, calculate_from, calculate_numbers, calculate_with,
-    compare_locators, fit, fit_number, is_within,
+    Calculation, FAST_PRECISION, Immediate, calculate_by, calculate_from, calculate_numbers,
+    calculate_with, compare_locators, fit, fit_number, is_within,
 };
 pub use operand::{
     Operand, Taken, TakenPlace, pop_locator, pop_number, pop_three, pop_truth, pop_two, pop_value,

@@ -230,7 +230,7 @@ pub fn fit<'m>(
     }
 }
 
-/// An operation on the newest operands.
+/// An operation on the newest operands, with the greatest precision of the module's version.
 pub fn calculate<'m>(
     alloc: Global,
     unit: &ActiveUnit<'_, 'm>,
@@ -239,6 +239,7 @@ pub fn calculate<'m>(
 ) -> Result<Option<Stop>, AllocError>
     ensures { IfOk result (DoesIn (image_of unit.now.loaded.now) (Operate operation) machine.old machine.new) }
 {
-    let halt = operate(alloc, &mut machine.here.operands, operation)?;
+    let greatest = unit.loaded.module.version.greatest_precision();
+    let halt = operate(alloc, &mut machine.here.operands, operation, greatest)?;
     settle(alloc, unit.loaded, machine, halt)
 }

@@ -1,11 +1,11 @@
 //! Instructions that calculate.
-ghost use Rattle.std.specs.Prelude.{IfOk};
+ghost use Rattle.std.specs.Prelude.{◌≤◌, IfOk};
 ghost use Rattle.pli_map.specs.views.DescriptionView.{description_view};
 ghost use Rattle.pli_machine_step.specs.Machine.{fits};
 ghost use Rattle.pli_machine_operate.specs.views.CalculationView.{calculation_view, immediate_view};
 ghost use Rattle.pli_operation.specs.Operations.{RaisesCondition};
 ghost use Rattle.pli_machine_perform.specs.views.ActView.{calculated_as, operated_as, operated_by};
-ghost use Rattle.pli_machine_perform.specs.views.HaltView.{Computes};
+ghost use Rattle.pli_machine_perform.specs.views.HaltView.{Computes, ComputesWith};
 
 use crate::halting::Halt;
 use pli_base::statement::Condition;
@@ -75,19 +75,21 @@ fn give_immediate(
     }
 }
 
-/// An operation on the newest operands.
+/// An operation on the newest operands, with a greatest precision from 0 to 63.
 #[inline]
 pub fn operate(
     alloc: Global,
     operands: &mut Vec<Operand>,
     operation: Operation,
+    greatest: u8,
 ) -> Result<Option<Halt>, AllocError>
-    ensures { IfOk result (Computes (operated_as operation) operands.old.items operands.new.items) }
+    requires { greatest ≤ 63 }
+    ensures { IfOk result (ComputesWith greatest (operated_as operation) operands.old.items operands.new.items) }
 {
     match operation.arity() {
         1 => operate_from(alloc, operands, operation),
-        2 => operate_with(alloc, operands, operation),
-        _ => operate_by(alloc, operands, operation),
+        3 => operate_by(alloc, operands, operation),
+        _ => operate_with(alloc, operands, operation, greatest),
     }
 }
 
@@ -112,15 +114,17 @@ fn operate_with(
     alloc: Global,
     operands: &mut Vec<Operand>,
     operation: Operation,
+    greatest: u8,
 ) -> Result<Option<Halt>, AllocError>
-    ensures { IfOk result (Computes (operated_by 2 operation) operands.old.items operands.new.items) }
+    requires { greatest ≤ 63 }
+    ensures { IfOk result (ComputesWith greatest (operated_by 2 operation) operands.old.items operands.new.items) }
 {
     match take_two_numbers(operands) {
         Some((left, right)) => {
-            let immediate = calculate_numbers(operation, left, right)?;
+            let immediate = calculate_numbers(operation, left, right, greatest)?;
             give_immediate(operands, immediate)
         }
-        None => operate_with_values(alloc, operands, operation),
+        None => operate_with_values(alloc, operands, operation, greatest),
     }
 }
 
@@ -129,8 +133,10 @@ fn operate_with_values(
     alloc: Global,
     operands: &mut Vec<Operand>,
     operation: Operation,
+    greatest: u8,
 ) -> Result<Option<Halt>, AllocError>
-    ensures { IfOk result (Computes (operated_by 2 operation) operands.old.items operands.new.items) }
+    requires { greatest ≤ 63 }
+    ensures { IfOk result (ComputesWith greatest (operated_by 2 operation) operands.old.items operands.new.items) }
 {
     let Some(right) = take_value(alloc, operands)? else {
         return Ok(Some(Halt::Stops(Stop::Fault)));
@@ -139,7 +145,7 @@ fn operate_with_values(
         drop(right);
         return Ok(Some(Halt::Stops(Stop::Fault)));
     };
-    let outcome = calculate_with(alloc, operation, left, right.value());
+    let outcome = calculate_with(alloc, operation, left, right.value(), greatest);
     drop(right);
     let calculation = outcome?;
     give(operands, calculation)

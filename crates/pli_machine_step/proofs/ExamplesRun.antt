@@ -135,6 +135,10 @@ pub comparison_prints : example.ComparisonPrints
 unfolding nothing entered stepped left_by calculated printed
 comparison_prints = refl
 
+pub sums_are_as_wide : example.SumsAreAsWide
+unfolding nothing entered stepped left_by calculated printed error_at
+sums_are_as_wide = (refl, refl)
+
 pub bits_print : example.BitsPrint
 unfolding nothing entered stepped left_by printed
 bits_print = refl

@@ -10,7 +10,8 @@ ghost use Rattle.pli_machine_step.specs.examples.MachineExamples.{GotosEnd, Goto
 ghost use Rattle.pli_machine_step.specs.examples.MachineExamples.{ArgumentIsShared, FunctionGives, ValueFaults};
 ghost use Rattle.pli_machine_step.specs.examples.MachineExamples.{BeginsEnd, LoopEnds, ElementPrints};
 ghost use Rattle.pli_machine_step.specs.examples.MachineExamples.{ElementFails, LeadingFaults, PartPrints, PartFails};
-ghost use Rattle.pli_machine_step.specs.examples.MachineExamples.{ComparisonPrints, BitsPrint, SkipEndsLine};
+ghost use Rattle.pli_machine_step.specs.examples.MachineExamples.{ComparisonPrints, SumsAreAsWide, BitsPrint};
+ghost use Rattle.pli_machine_step.specs.examples.MachineExamples.{SkipEndsLine};
 ghost use Rattle.pli_machine_step.specs.examples.MachineExamples.{StaticIsShared, UnitsShare, UnitsStop};
 ghost use Rattle.pli_machine_step.specs.examples.MachineExamples.{UnitFails, NoUnitFaults};
 ghost use Rattle.pli_machine_step.specs.examples.MachineExamples.{GenerationsPrint, NoneIsError, OthersFault};
@@ -41,9 +42,10 @@ pub fn every_run_ends()
 
 /// Worked examples: steps, a GOTO out of a call, jumps without a step, the limit of activations, the kinds of blocks, the
 /// code's end, an argument by place, dummy arguments that end, a function's value, a loop, an element and a part of a
-/// string that are there and that are not, how far a place is led on, a comparison, bits printed, a line ended, a variable
-/// that is made once, a call of another unit's procedure and a variable that both units have, the generations of a
-/// CONTROLLED one, BASED ones by their pointers, blocks of areas and offsets, and places that have ended and are copied.
+/// string that are there and that are not, how far a place is led on, a comparison, a sum of 32 binary digits, bits
+/// printed, a line ended, a variable that is made once, a call of another unit's procedure and a variable that both units
+/// have, the generations of a CONTROLLED one, BASED ones by their pointers, blocks of areas and offsets, and places that
+/// have ended and are copied.
 pub fn worked_examples()
     ensures smallest_stops { SmallestStops }
     ensures smallest_ends { SmallestEnds }
@@ -77,6 +79,7 @@ pub fn worked_examples()
     ensures part_prints { PartPrints }
     ensures part_fails { PartFails }
     ensures comparison_prints { ComparisonPrints }
+    ensures sums_are_as_wide { SumsAreAsWide }
     ensures bits_print { BitsPrint }
     ensures skip_ends_line { SkipEndsLine }
     ensures static_is_shared { StaticIsShared }

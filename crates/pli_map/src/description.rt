@@ -43,7 +43,7 @@ impl Bounds {
 /// What a variable's storage holds.
 #[derive(Drop)]
 pub enum Description {
-    /// FIXED BINARY of a precision from 1 to 31 binary digits; sizes, places and values are those of up to 63.
+    /// FIXED BINARY of a precision from 1 to 63 binary digits.
     FixedBinary(u8),
     /// CHARACTER of a length from 1 to 32,767.
     Character(u16),

@@ -15,7 +15,7 @@ pub fn far_size(description: &Description) -> u64
     ensures { result ≡ min (size_of (description_view description.now)) 4294967296 }
 {
     match description {
-        Description::FixedBinary(precision) => u64::from(fixed_binary_size(u32::from(*precision))),
+        Description::FixedBinary(precision) => u64::from(fixed_binary_size(u64::from(*precision))),
         Description::Character(length) => u64::from(*length),
         Description::Varying(length) => 2 + u64::from(*length),
         Description::Bit(length) => u64::from(length.div_ceil(8)),

@@ -1,5 +1,5 @@
 //! Laws and worked examples of sizes and places, of scalars, of subscripts and of stored values.
-ghost use Rattle.pli_map.specs.examples.Examples.{ScalarSizes, MixedMembers, RowMajorOrder, StridesAreAligned, NoElements};
+ghost use Rattle.pli_map.specs.examples.Examples.{ScalarSizes, MixedMembers, WideMembers, RowMajorOrder, StridesAreAligned, NoElements};
 ghost use Rattle.pli_map.specs.laws.Laws.{PartsDoNotMeet, PartsLieWithin, PartsStandAligned, FourAlignments, AreasAreRounded, ElementsAreWithinBounds, ElementsAreInRowMajorOrder, ElementsAreCounted, SameIsEqual};
 ghost use Rattle.pli_map.specs.examples.ScalarExamples.{CountedScalars, FoundScalars, NamedSubscripts};
 ghost use Rattle.pli_map.specs.laws.ScalarLaws.{PartsAreFound, PartsAreDetermined, FoundIsPlaced, ScalarsLieWithin, PartsOfParts, FilledPartsTakeBytes};
@@ -105,6 +105,7 @@ pub fn first_values_are_held()
 pub fn worked_examples()
     ensures scalars { ScalarSizes }
     ensures members { MixedMembers }
+    ensures wide_members { WideMembers }
     ensures elements { RowMajorOrder }
     ensures strides { StridesAreAligned }
     ensures no_elements { NoElements }

@@ -22,7 +22,7 @@ pub use laws::{
     parts_do_not_meet, parts_have_their_scalars, parts_lie_within, parts_of_parts,
     parts_stand_aligned, same_is_equal, scalars_lie_within, stored_is_loaded, worked_examples,
 };
-pub use layout::{Layout, SIZE_LIMIT};
+pub use layout::{Layout, OVER_LIMIT, SIZE_LIMIT};
 pub use parts::{PathStep, PlacedPart, place};
 pub use scalars::{first_scalar, is_aggregate, is_area, is_scalar, scalars_in, stands_among};
 pub use sizes::{alignment, fixed_binary_size, measure, size};

@@ -130,7 +130,7 @@ fn scalar_room(description: &Description) -> Option<(u64, u64)>
 {
     match description {
         Description::FixedBinary(precision) => {
-            let bytes = u64::from(fixed_binary_size(u32::from(*precision)));
+            let bytes = u64::from(fixed_binary_size(u64::from(*precision)));
             Some((bytes, bytes))
         }
         Description::Character(length) => Some((u64::from(*length), 1)),

@@ -24,7 +24,7 @@ pub fn alignment(description: &Description) -> u32
     ensures small { result ≤ 8 }
 {
     match description {
-        Description::FixedBinary(precision) => fixed_binary_size(u32::from(*precision)),
+        Description::FixedBinary(precision) => fixed_binary_size(u64::from(*precision)),
         Description::Character(_) | Description::Bit(_) => 1,
         Description::Varying(_) => 2,
         Description::Pointer | Description::Offset => 4,
@@ -49,7 +49,7 @@ fn members_alignment(members: &[Description]) -> u32
 
 /// The bytes of FIXED BINARY of so many digits, which are its alignment too: 2 up to 15, 4 up to 31, and else 8 (own).
 #[inline(always)]
-pub fn fixed_binary_size(precision: u32) -> u32
+pub fn fixed_binary_size(precision: u64) -> u32
     ensures { result ≡ number_bytes precision }
 {
     match precision {
@@ -66,7 +66,7 @@ pub fn measure(description: &Description) -> Option<Layout>
 {
     match description {
         Description::FixedBinary(precision) => {
-            let bytes = fixed_binary_size(u32::from(*precision));
+            let bytes = fixed_binary_size(u64::from(*precision));
             Layout::of(u64::from(bytes), bytes)
         }
         Description::Character(length) => Layout::of(u64::from(*length), 1),

@@ -44,7 +44,7 @@ text_filled name d ds e = filled _ [] 10 (front_empty (diagnostic_line name d) _
 
 -- a tree is typed and numbered well, and takes nothing where it is MAIN
 abbrev IsGood : TypedUnit → Type 0
-IsGood u = IsTypedUnit 31 u × IsWellNumbered u × MainTakesNothing u
+IsGood u = IsTypedUnit 63 u × IsWellNumbered u × MainTakesNothing u
 
 -- what the passes give: such a tree, or a fault at least
 abbrev IsRead : Result TypedUnit (List Fault) → Type 0
@@ -59,7 +59,7 @@ told_read (Err (fault ∷ faults)) told good = tt
 
 checked_told : (r : ResolvedUnit) → IsToldOfTypes (checked_unit r)
 unfolding checked_unit
-checked_told r = faults_are_of_types (named_unit 31 r)
+checked_told r = faults_are_of_types (named_unit 63 r)
 
 typed_read : (texts : Tokens) (unit : ExternalProcedure) → unit_of texts ≡ Ok unit → (faults : List Fault) → IsRead (typed_unless faults unit)
 typed_read texts unit read [] = told_read (checked_unit (resolved_unit_of unit)) (checked_told (resolved_unit_of unit)) (checked_is_typed texts unit read)
@@ -132,7 +132,7 @@ pub record IsOfMember (entries : List (Name × Member)) (u : TypedUnit) : Type 0
   pub tree : TypedUnit
   pub spelled : parsed_of entries u.name ≡ Ok tree
   pub is : u ≡ of_member u.name tree
-  pub typed : IsTypedUnit 31 u
+  pub typed : IsTypedUnit 63 u
   pub numbered : IsWellNumbered u
   pub main : MainTakesNothing u
   pub fits : is_too_long (code_of u) ≡ false
@@ -141,7 +141,7 @@ abbrev pub AreOfMembers : List (Name × Member) → List TypedUnit → Type 0
 AreOfMembers entries [] = Unit {0}
 AreOfMembers entries (u ∷ us) = IsOfMember entries u × AreOfMembers entries us
 
-named_typed : (name : Name) (u : TypedUnit) → IsTypedUnit 31 u → IsTypedUnit 31 (of_member name u)
+named_typed : (name : Name) (u : TypedUnit) → IsTypedUnit 63 u → IsTypedUnit 63 (of_member name u)
 named_typed name u h = record { procedures = h.procedures; outer = h.outer; made = h.made; typed = h.typed }
 
 named_numbered : (name : Name) (u : TypedUnit) → IsWellNumbered u → IsWellNumbered (of_member name u)
@@ -201,7 +201,7 @@ module _ (entries : List (Name × Member)) where
       coded_in x.0 x.1.kind xs (all_units entries xs) x.1 refl (front_empty _ _ h) (all_coded xs (back_empty (text_in entries x.0 x.1.kind) _ h))
 
 -- so all are typed and numbered well
-pub all_typed : (entries : List (Name × Member)) (us : List TypedUnit) → AreOfMembers entries us → AreTypedUnits 31 us
+pub all_typed : (entries : List (Name × Member)) (us : List TypedUnit) → AreOfMembers entries us → AreTypedUnits 63 us
 all_typed entries [] all = tt
 all_typed entries (u ∷ us) all = (all.0.typed, all_typed entries us all.1)
 

@@ -28,6 +28,7 @@ use Rattle.pli_type_tree.specs.TypedTree.{TypedUnit}
 use Rattle.pli_machine_step.specs.Runs.{Outcome}
 use Rattle.pli_code.specs.CodeTables.{Deck}
 use Rattle.pli_code.specs.Modules.{Module}
+use Rattle.pli_code.specs.Versions.{written}
 use Rattle.pli_gen_emit.specs.Encoding.{code_of}
 use Rattle.pli_gen.specs.Limits.{is_too_long}
 use Rattle.pli_meaning_tree.specs.TreeMeaning.{whole_run}
@@ -89,7 +90,7 @@ too_long = record { code = code.CodeTooLong; at = 0 }
 
 -- the deck that a tree is compiled to
 abbrev pub compiled_tree : TypedUnit → Deck
-compiled_tree u = record { name = u.procedure; is_main = u.is_main; code = code_of u }
+compiled_tree u = record { version = written; name = u.procedure; is_main = u.is_main; code = code_of u }
 
 -- the deck of a tree, if its code is not too long
 abbrev pub coded : TypedUnit → Result Deck (List Fault)

@@ -39,7 +39,7 @@ pub enum Operation {
     Greatest,
     /// MIN of two numbers.
     Least,
-    /// DIVIDE, to so many binary digits, from 1 to 31.
+    /// DIVIDE, to so many binary digits, from 1 to 63.
     Divide { precision: u8 },
     Compare(Relation),
     Concatenate,

@@ -119,7 +119,7 @@ pub fn dimensions_at<'a>(
 
 /// A number of digits, and a scale of 0 or none.
 #[tactic(auto, unfolding(crate::specs::DeclarationReading::scaled_at))]
-fn scaled_at(at: u32, texts: &[TokenText]) -> Result<Front<'_, u32>, ParseError>
+fn scaled_at(at: u32, texts: &[TokenText]) -> Result<Front<'_, u64>, ParseError>
     requires { at + length texts.now ≤ 200000 }
     ensures value { Gives (front_view (λ n. n)) result (scaled_at at texts.now) }
     ensures place { IfOk result (Advances at texts.now) }
@@ -144,7 +144,7 @@ pub enum Measure {
 }
 
 /// A number that says this.
-fn measured_at(measure: Measure, at: u32, texts: &[TokenText]) -> Result<Front<'_, u32>, ParseError>
+fn measured_at(measure: Measure, at: u32, texts: &[TokenText]) -> Result<Front<'_, u64>, ParseError>
     requires { at + length texts.now ≤ 200000 }
     ensures value { Gives (front_view (λ n. n)) result (measured_at measure at texts.now) }
     ensures place { IfOk result (Advances at texts.now) }
@@ -160,7 +160,7 @@ pub fn measure_at(
     measure: Measure,
     at: u32,
     texts: &[TokenText],
-) -> Result<Front<'_, Option<u32>>, ParseError>
+) -> Result<Front<'_, Option<u64>>, ParseError>
     requires { at + length texts.now ≤ 200000 }
     ensures value { Gives (front_view (λ n. n)) result (if_open (measured_at measure) at texts.now (behind is_open texts.now)) }
     ensures place { IfOk result (Continues at texts.now) }

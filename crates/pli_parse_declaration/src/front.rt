@@ -61,7 +61,7 @@ pub fn begins_description(texts: &[TokenText]) -> bool
 
 /// The value of the decimal or binary constant that the tokens begin with, and the tokens behind it.
 #[tactic(auto, unfolding(crate::specs::DeclarationReading::number_at, crate::specs::DeclarationReading::level_at))]
-fn number_first(texts: &[TokenText]) -> Option<(u32, &[TokenText])>
+fn number_first(texts: &[TokenText]) -> Option<(u64, &[TokenText])>
     ensures number { (at : ℕ) → number_at at texts.now ≡ number_from at texts.now (option_map (λ x. (x.0, x.1.now)) result) }
     ensures level { (at : ℕ) → level_at at texts.now ≡ level_from at texts.now (option_map (λ x. (x.0, x.1.now)) result) }
     ensures place { IfSome result (λ x. length x.1.now + 1 ≡ length texts.now) }
@@ -74,7 +74,7 @@ fn number_first(texts: &[TokenText]) -> Option<(u32, &[TokenText])>
 }
 
 /// A decimal or binary constant.
-pub fn number_at(at: u32, texts: &[TokenText]) -> Result<Front<'_, u32>, ParseError>
+pub fn number_at(at: u32, texts: &[TokenText]) -> Result<Front<'_, u64>, ParseError>
     requires { at + length texts.now ≤ 200000 }
     ensures value { Gives (front_view (λ n. n)) result (number_at at texts.now) }
     ensures place { IfOk result (Advances at texts.now) }
@@ -86,7 +86,7 @@ pub fn number_at(at: u32, texts: &[TokenText]) -> Result<Front<'_, u32>, ParseEr
 }
 
 /// A level number, if there is one.
-pub fn level_at(at: u32, texts: &[TokenText]) -> Front<'_, Option<u32>>
+pub fn level_at(at: u32, texts: &[TokenText]) -> Front<'_, Option<u64>>
     requires { at + length texts.now ≤ 200000 }
     ensures value { front_view (λ n. n) result ≡ level_at at texts.now }
     ensures place { Continues at texts.now result }

@@ -226,7 +226,7 @@ fn bare(attribute: SimpleAttribute, at: u32, texts: &[TokenText]) -> Front<'_, S
 /// An attribute with what was read behind its keyword.
 fn numbered<'a>(
     attribute: SimpleAttribute,
-    read: &Front<'a, Option<u32>>,
+    read: &Front<'a, Option<u64>>,
 ) -> Front<'a, SimpleAttribute>
     ensures { front_view (λ a. a) result ≡ record { value = attribute; next = read.now.next; rest = read.now.rest.now } }
 {

@@ -9,7 +9,7 @@ use Rattle.pli_map.specs.Description as described
 use Rattle.pli_map.specs.Description.{Description}
 use Rattle.pli_declare_attributes.specs.Sets.{fixed, character, varying, bit, pointer, offset, area, based, automatic, controlled, static, internal, external, built_in, entry, returns, data_attributes, storage_attributes, scope_attributes, has, none_of, is_one_of, outermost, set_of}
 use Rattle.pli_declare_attributes.specs.Agreement.{data_types, excluded_at, is_member, may_have_members, agrees_as_variable}
-use Rattle.pli_declare_attributes.specs.Types.{scalar_of}
+use Rattle.pli_declare_attributes.specs.Types.{number_or, scalar_of}
 use Rattle.pli_declare_attributes.specs.Extents.{is_array}
 use Rattle.pli_declare_attributes.specs.Faults.{first_of, is_bad_area, area_fault, own_fault, attributes_fault, item_fault, entry_fault, parameters_in}
 use Rattle.pli_declare_attributes.specs.Completed.{Variable, OfVariable, OfEntry, OfBuiltIn, storage_at, variable_of, completed_of}
@@ -68,11 +68,19 @@ behind_four false false true d v w x y z h k l m = cc
 behind_four false false false true v w x y z h k l m = cc
 behind_four false false false false v w x y z h k l m = refl
 
+-- the type that is chosen where neither of these stands and no locator
+abbrev area_type : ℕ → Option ℕ → Description
+area_type s n = if has s area then described.area (number_or 1000 n) else described.area 1000
+
+area_alone_type : (n : Option ℕ) → described.area (number_or 1000 n) ≡ scalar_of area n
+unfolding scalar_of
+area_alone_type n = refl
+
 module _ (s : ℕ) (n : Option ℕ) (one : is_one_of (bit_and s data_attributes) data_types ≡ true) where
   abbrev m : ℕ
   m = bit_and s data_attributes
 
-  behind_those : NoneBefore m → scalar_of s n ≡ (if has s pointer then described.Pointer else if has s offset then described.Offset else scalar_of area n)
+  behind_those : NoneBefore m → scalar_of s n ≡ (if has s pointer then described.Pointer else if has s offset then described.Offset else area_type s n)
   unfolding scalar_of
   behind_those none =
       behind_four (has s fixed) (has s varying) (has s character) (has s bit) _ _ _ _ _
@@ -81,21 +89,22 @@ module _ (s : ℕ) (n : Option ℕ) (one : is_one_of (bit_and s data_attributes)
   pub pointer_of : has s pointer ≡ true → scalar_of s n ≡ described.Pointer
   pointer_of h =
       behind_those (among BesidePointer m data_types one pointers (apart s pointer refl ∙ h))
-      ∙ ap (λ (b : Bool). if b then described.Pointer else if has s offset then described.Offset else scalar_of area n) h
+      ∙ ap (λ (b : Bool). if b then described.Pointer else if has s offset then described.Offset else area_type s n) h
 
   pub offset_of : has s offset ≡ true → scalar_of s n ≡ described.Offset
   offset_of h =
       let none = among BesideOffset m data_types one offsets (apart s offset refl ∙ h) in
       behind_those none.0
-      ∙ ap (λ (b : Bool). if b then described.Pointer else if has s offset then described.Offset else scalar_of area n) (sym (apart s pointer refl) ∙ none.1)
-      ∙ ap (λ (b : Bool). if b then described.Offset else scalar_of area n) h
+      ∙ ap (λ (b : Bool). if b then described.Pointer else if has s offset then described.Offset else area_type s n) (sym (apart s pointer refl) ∙ none.1)
+      ∙ ap (λ (b : Bool). if b then described.Offset else area_type s n) h
 
   pub area_of : has s area ≡ true → scalar_of s n ≡ scalar_of area n
   area_of h =
       let none = among BesideArea m data_types one areas (apart s area refl ∙ h) in
       behind_those none.0
-      ∙ ap (λ (b : Bool). if b then described.Pointer else if has s offset then described.Offset else scalar_of area n) (sym (apart s pointer refl) ∙ none.1)
-      ∙ ap (λ (b : Bool). if b then described.Offset else scalar_of area n) (sym (apart s offset refl) ∙ none.2)
+      ∙ ap (λ (b : Bool). if b then described.Pointer else if has s offset then described.Offset else area_type s n) (sym (apart s pointer refl) ∙ none.1)
+      ∙ ap (λ (b : Bool). if b then described.Offset else area_type s n) (sym (apart s offset refl) ∙ none.2)
+      ∙ ap (λ (b : Bool). if b then described.area (number_or 1000 n) else described.area 1000) h ∙ area_alone_type n
 
   pub locating : (has s pointer || has s offset) ≡ true → IsLocating (scalar_of s n)
   locating h = by (has s pointer) refl h

@@ -52,19 +52,20 @@ IsEightfold other = Unit {0}
 eightfold : (n : ℕ) → next_multiple_of n 8 % 8 ≡ 0
 eightfold n = omega arith
 
-one_of : (f v c b p o : Bool) (n : Option ℕ)
-    → IsEightfold (if f then FixedBinary (number_or 15 n) else if v then Varying (number_or 1 n) else if c then Character (number_or 1 n) else if b then Bit (number_or 1 n) else if p then Pointer else if o then Offset else Area (next_multiple_of (number_or 1000 n) 8))
-one_of true v c b p o n = tt
-one_of false true c b p o n = tt
-one_of false false true b p o n = tt
-one_of false false false true p o n = tt
-one_of false false false false true o n = tt
-one_of false false false false false true n = tt
-one_of false false false false false false n = eightfold (number_or 1000 n)
+one_of : (f v c b p o a : Bool) (n : Option ℕ)
+    → IsEightfold (if f then FixedBinary (number_or 15 n) else if v then Varying (number_or 1 n) else if c then Character (number_or 1 n) else if b then Bit (number_or 1 n) else if p then Pointer else if o then Offset else if a then Area (next_multiple_of (number_or 1000 n) 8) else Area (next_multiple_of 1000 8))
+one_of true v c b p o a n = tt
+one_of false true c b p o a n = tt
+one_of false false true b p o a n = tt
+one_of false false false true p o a n = tt
+one_of false false false false true o a n = tt
+one_of false false false false false true a n = tt
+one_of false false false false false false true n = eightfold (number_or 1000 n)
+one_of false false false false false false false n = refl
 
 scalar_eightfold : (s : ℕ) (n : Option ℕ) → IsEightfold (scalar_of s n)
 unfolding scalar_of
-scalar_eightfold s n = one_of (has s 1) (has s 8) (has s 4) (has s 16) (has s 32) (has s 64) n
+scalar_eightfold s n = one_of (has s 1) (has s 8) (has s 4) (has s 16) (has s 32) (has s 64) (has s 128) n
 
 described_as : (d : Description) (m : ℕ) → 1 ≤ m → IsScalar d → IsEightfold d → IsDescribed m d
 described_as d zero some h e = absurd (omega (arith, some))

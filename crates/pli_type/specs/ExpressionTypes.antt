@@ -36,7 +36,7 @@ pub record TypedValue : Type 0 where
   pub expression : TypedExpression
   pub kind : ExpressionType
 
--- precisions: a number has at most so many binary digits, 31
+-- precisions: a number has at most so many binary digits, 63
 
 -- of p decimal digits: 1 + 3.32p, rounded up
 abbrev pub binary_digits : (greatest digits : ℕ) → ℕ
@@ -46,7 +46,7 @@ binary_digits greatest digits = min greatest (1 + div_ceil (332 * digits) 100)
 abbrev pub decimal_digits : (precision : ℕ) → ℕ
 decimal_digits precision = 1 + div_ceil (100 * precision) 332
 
--- as many characters as a number of p decimal digits takes; a constant has at most 10 of them, so the
+-- as many characters as a number of p decimal digits takes; a constant has at most 19 of them, so the
 -- limit of 255 columns is never met
 abbrev pub columns : (digits : ℕ) → ℕ
 columns digits = min 255 (digits + 3)

@@ -574,6 +574,6 @@ named_unit greatest r = record {
   globals = all_globals greatest (all_symbols r);
 }
 
--- what `check` answers for a resolved unit, where numbers have at most 31 binary digits
+-- what `check` answers for a resolved unit, where numbers have at most 63 binary digits
 unfoldable pub checked_unit : ResolvedUnit → Result TypedUnit (List Fault)
-checked_unit r = checked (named_unit 31 r)
+checked_unit r = checked (named_unit 63 r)

@@ -116,7 +116,7 @@ pub fn quotient_type(
     greatest: u8,
     left: ExpressionType,
     right: ExpressionType,
-    precision: u32,
+    precision: u64,
 ) -> Option<ExpressionType>
     ensures { result ≡ spec.quotient_type greatest left right precision }
 {
@@ -181,7 +181,7 @@ pub fn quotient(
     greatest: u8,
     left: TypedValue,
     right: TypedValue,
-    written: Option<u32>,
+    written: Option<u64>,
 ) -> Result<Option<TypedValue>, AllocError>
     ensures { IfOk result (λ given. option_map value_view given
         ≡ spec.the_quotient greatest (value_view left) (value_view right) written) }

@@ -122,7 +122,7 @@ module _ (t : TypedUnit) where
   bytes_small false false = omega arith
 
   -- what is converted is a scalar, and small
-  small : (d : Description) (v : TypedValue) (e : TypedExpression) → IsDescription d → converted 31 None d v ≡ Some e → size_of d ≤ 1000000
+  small : (d : Description) (v : TypedValue) (e : TypedExpression) → IsDescription d → converted 63 None d v ≡ Some e → size_of d ≤ 1000000
   small (described.FixedBinary p) v e h k = bytes_small (nat_le p 15) (nat_le p 31)
   small (described.Character n) v e h k = omega (arith, h)
   small (described.Varying n) v e h k = omega (arith, h)
@@ -154,13 +154,13 @@ module _ (t : TypedUnit) where
   abbrev IsDummy : Description → TypedExpression → Type 0
   IsDummy d e = IsMade d × IsExpression t e
 
-  dummy_of : (d : Description) (v : TypedValue) (o : Option TypedExpression) → IsDescription d → converted 31 None d v ≡ o → OnGiven (IsExpression t) o
+  dummy_of : (d : Description) (v : TypedValue) (o : Option TypedExpression) → IsDescription d → converted 63 None d v ≡ o → OnGiven (IsExpression t) o
       → OnGiven (IsDummy d) o
   dummy_of d v (Some e) good is h = ((good, small d v e good is), h)
   dummy_of d v None good is h = tt
 
-  value_fits : (d : Description) (m : Meant) → IsDescription d → IsMeant t m → OnGiven (IsDummy d) (passed_value 31 d m)
-  value_fits d (OneValue v) good h = dummy_of d v (converted 31 None d v) good refl (converted_fits t None tt d v good h)
+  value_fits : (d : Description) (m : Meant) → IsDescription d → IsMeant t m → OnGiven (IsDummy d) (passed_value 63 d m)
+  value_fits d (OneValue v) good h = dummy_of d v (converted 63 None d v) good refl (converted_fits t None tt d v good h)
   value_fits d (WholeAggregate r) good h = tt
 
   abbrev pub Pass : List Description → TypedArguments → Type 0
@@ -174,28 +174,28 @@ module _ (t : TypedUnit) where
   one_passed d ds None None more a b h = tt
 
   before : (d : Description) (ds : List Description) (g : Argument) (more : Option TypedArguments) → IsDescription d → IsDenoted t g.denoted
-      → OnGiven (Pass ds) more → OnGiven (Pass (d ∷ ds)) (passed_before 31 d g more)
+      → OnGiven (Pass ds) more → OnGiven (Pass (d ∷ ds)) (passed_before 63 d g more)
   before d ds g None good h k = tt
   before d ds g (Some more) good h k =
-      one_passed d ds (passed_place d g.denoted) (passed_value 31 d (meant_as g.denoted)) more (place_fits d g.denoted h)
+      one_passed d ds (passed_place d g.denoted) (passed_value 63 d (meant_as g.denoted)) more (place_fits d g.denoted h)
       (value_fits d (meant_as g.denoted) good (denoted_fits t g.denoted h)) k
 
   all_pass : (ds : List Description) (gs : List Argument) → AllByRecursion IsDescription ds → AreArgumentsGiven t gs
-      → OnGiven (Pass ds) (all_passed 31 ds gs)
+      → OnGiven (Pass ds) (all_passed 63 ds gs)
   all_pass [] [] good h = (tt, refl)
   all_pass [] (g ∷ gs) good h = tt
   all_pass (d ∷ ds) [] good h = tt
-  all_pass (d ∷ ds) (g ∷ gs) good h = before d ds g (all_passed 31 ds gs) good.0 h.0 (all_pass ds gs good.1 h.1)
+  all_pass (d ∷ ds) (g ∷ gs) good h = before d ds g (all_passed 63 ds gs) good.0 h.0 (all_pass ds gs good.1 h.1)
 
   or_wrong : (at : ℕ) (ds : List Description) (o : Option TypedArguments) → OnGiven (Pass ds) o → OnRead (Pass ds) (or_wrong_argument at o)
   or_wrong at ds (Some xs) h = h
   or_wrong at ds None h = tt
 
   pub arguments_fit : (p : NamedProcedure) → IsProcedureNamed t p → (at : ℕ) (gs : List Argument) → AreArgumentsGiven t gs
-      → OnRead (Pass p.parameters) (arguments_passed 31 p at gs)
+      → OnRead (Pass p.parameters) (arguments_passed 63 p at gs)
   arguments_fit p known at gs h =
       read_if (Pass p.parameters) (nat_eq (length gs) (length p.parameters)) _ _
-      (or_wrong at p.parameters (all_passed 31 p.parameters gs) (all_pass p.parameters gs known.described h)) tt
+      (or_wrong at p.parameters (all_passed 63 p.parameters gs) (all_pass p.parameters gs known.described h)) tt
 
   result_fits : (p : NamedProcedure) → IsProcedureNamed t p → (xs : TypedArguments) → Pass p.parameters xs → (at : ℕ) (o : Option ExpressionType)
       → OnGiven (IsKind t) o → OnRead (IsValue t) (result_of at p.callee xs o)
@@ -240,7 +240,7 @@ module _ (t : TypedUnit) where
 module _ (t : TypedUnit) (based : ℕ → List Template) (areas : ℕ → Option Beginning) (meaning : ℕ → NamedAs)
     (known : (at : ℕ) → IsMeaning t (meaning at)) where
   abbrev pub N : Naming
-  N = record { greatest = 31; based = based; returned_area = areas; meaning = meaning }
+  N = record { greatest = 63; based = based; returned_area = areas; meaning = meaning }
 
   -- of which a result is
   returned_kind : (area : Option Beginning) → IsAreaNamed t area → (o : Option Description) → OnGiven (IsKind t) (type_returned area o)
@@ -251,7 +251,7 @@ module _ (t : TypedUnit) (based : ℕ → List Template) (areas : ℕ → Option
       → OnRead (IsSegment t) (procedure_called N p at gs)
   procedure_fits p k at gs h =
       let kind : Option ExpressionType = type_returned p.area p.returned in
-      read_then (Pass t p.parameters) (IsSegment t) (arguments_passed 31 p at gs) _ (arguments_fit t p k at gs h)
+      read_then (Pass t p.parameters) (IsSegment t) (arguments_passed 63 p at gs) _ (arguments_fit t p k at gs h)
       (λ xs fit. read_then (IsValue t) (IsSegment t) (result_of at p.callee xs kind) _
       (result_fits t p k xs fit at kind (returned_kind p.area k.area p.returned)) (λ v g. g))
 
@@ -269,15 +269,15 @@ module _ (t : TypedUnit) (based : ℕ → List Template) (areas : ℕ → Option
     denoted_all role (Prefix operator at operand) =
         read_then (IsValue t) (IsDenoted t) (as_value (first_token operand) (denoted N AsValue operand)) _
         (value_read (first_token operand) (denoted N AsValue operand) (denoted_all AsValue operand))
-        (λ v h. read_then (IsValue t) (IsDenoted t) (or_fault WrongOperandType at (prefix_value 31 operator v)) _
-        (read_option (IsValue t) WrongOperandType at (prefix_value 31 operator v) (prefix_fits t operator v h)) (λ u g. g))
+        (λ v h. read_then (IsValue t) (IsDenoted t) (or_fault WrongOperandType at (prefix_value 63 operator v)) _
+        (read_option (IsValue t) WrongOperandType at (prefix_value 63 operator v) (prefix_fits t operator v h)) (λ u g. g))
     denoted_all role (Infix operator at left right) =
         read_then (IsValue t) (IsDenoted t) (as_value (first_token left) (denoted N AsValue left)) _
         (value_read (first_token left) (denoted N AsValue left) (denoted_all AsValue left))
         (λ v h. read_then (IsValue t) (IsDenoted t) (as_value (first_token right) (denoted N AsValue right)) _
         (value_read (first_token right) (denoted N AsValue right) (denoted_all AsValue right))
-        (λ w k. read_then (IsValue t) (IsDenoted t) (or_fault WrongOperandType at (infix_value 31 operator v w)) _
-        (read_option (IsValue t) WrongOperandType at (infix_value 31 operator v w) (infix_fits t operator v w h k)) (λ u g. g)))
+        (λ w k. read_then (IsValue t) (IsDenoted t) (or_fault WrongOperandType at (infix_value 63 operator v w)) _
+        (read_option (IsValue t) WrongOperandType at (infix_value 63 operator v w) (infix_fits t operator v w h k)) (λ u g. g)))
 
     pub referred_fits : (role : Role) (r : Reference) → OnRead (IsDenoted t) (referred N role r)
     referred_fits role (Named name arguments more) =
@@ -307,7 +307,7 @@ module _ (t : TypedUnit) (based : ℕ → List Template) (areas : ℕ → Option
     begun_fits (AFunction function) k true locator located at (Given list) =
         read_then (AreArgumentsGiven t) (IsSegment t) (all_arguments N (roles_or_none (roles_of function (how_many list))) list) _
         (list_fits (roles_or_none (roles_of function (how_many list))) list)
-        (λ gs h. read_then (IsValue t) (IsSegment t) (function_called 31 function at (roles_of function (how_many list)) gs) _
+        (λ gs h. read_then (IsValue t) (IsSegment t) (function_called 63 function at (roles_of function (how_many list)) gs) _
         (functions_fit t function at (roles_of function (how_many list)) gs h) (λ v g. given_fits t function v g))
     begun_fits (AProcedure p) k true locator located at (Given list) =
         read_then (AreArgumentsGiven t) (IsSegment t) (all_arguments N [] list) _ (list_fits [] list)
@@ -326,9 +326,9 @@ module _ (t : TypedUnit) (based : ℕ → List Template) (areas : ℕ → Option
     indices_fit (Listed first more) =
         read_then (IsValue t) (AllByRecursion (IsExpression t)) (as_value (first_token first) (denoted N AsValue first)) _
         (value_read (first_token first) (denoted N AsValue first) (denoted_all AsValue first))
-        (λ v h. read_then (IsExpression t) (AllByRecursion (IsExpression t)) (subscript_value 31 (first_token first) v) _
-        (read_option (IsExpression t) WrongOperandType (first_token first) (option_map (λ p. v.expression) (precision_of 31 v.kind))
-        (given_made (IsExpression t) (λ p. v.expression) (precision_of 31 v.kind) (λ p. h.0)))
+        (λ v h. read_then (IsExpression t) (AllByRecursion (IsExpression t)) (subscript_value 63 (first_token first) v) _
+        (read_option (IsExpression t) WrongOperandType (first_token first) (option_map (λ p. v.expression) (precision_of 63 v.kind))
+        (given_made (IsExpression t) (λ p. v.expression) (precision_of 63 v.kind) (λ p. h.0)))
         (λ x k. read_then (AllByRecursion (IsExpression t)) (AllByRecursion (IsExpression t)) (all_subscripts N more) _ (indices_fit more)
         (λ xs j. (k, j))))
 

@@ -109,8 +109,8 @@ module _ (t : TypedUnit) (based : ℕ → List Template) (areas : ℕ → Option
   scalar_fits equals target placed e =
       let d : Description = target.description in
       read_then (IsValue t) (IsForm t) (value_of M e) _ (value_of_fits t based areas meaning known e)
-      (λ v h. read_then (IsExpression t) (IsForm t) (or_fault CannotAssign equals (converted 31 target.area d v)) _
-      (read_option (IsExpression t) CannotAssign equals (converted 31 target.area d v) (converted_fits t target.area placed.area d v placed.described h))
+      (λ v h. read_then (IsExpression t) (IsForm t) (or_fault CannotAssign equals (converted 63 target.area d v)) _
+      (read_option (IsExpression t) CannotAssign equals (converted 63 target.area d v) (converted_fits t target.area placed.area d v placed.described h))
       (λ x k. (placed.reference, k)))
 
   area_assigned_fits : (equals : ℕ) (target : Option Beginning) → IsAreaNamed t target → (e : Expression)
@@ -146,9 +146,9 @@ module _ (t : TypedUnit) (based : ℕ → List Template) (areas : ℕ → Option
   no_function_fits p k xs h at None = (k.callee, subst (λ n. n ≤ parameter_limit) (sym h.1) k.few, h.0)
   no_function_fits p k xs h at (Some d) = tt
 
-  call_of_fits : (at : ℕ) (a : NamedAs) → IsMeaning t a → (gs : List Argument) → AreArgumentsGiven t gs → OnRead (IsForm t) (call_of 31 at a gs)
+  call_of_fits : (at : ℕ) (a : NamedAs) → IsMeaning t a → (gs : List Argument) → AreArgumentsGiven t gs → OnRead (IsForm t) (call_of 63 at a gs)
   call_of_fits at (AProcedure p) k gs h =
-      read_then (Pass t p.parameters) (IsForm t) (arguments_passed 31 p at gs) _ (arguments_fit t p k at gs h)
+      read_then (Pass t p.parameters) (IsForm t) (arguments_passed 63 p at gs) _ (arguments_fit t p k at gs h)
       (λ xs fit. no_function_fits p k xs fit at p.returned)
   call_of_fits at other k gs h = tt
 
@@ -177,12 +177,12 @@ module _ (t : TypedUnit) (based : ℕ → List Template) (areas : ℕ → Option
     here_there = around_there (slice_get su.blocks su.begins)
 
     with_value : (at first : ℕ) (v : TypedValue) → IsValue t v → (o : Option Description) → IfThere IsDescription o
-        → OnRead (IsForm t) (returned_value 31 (area_here M su) at first su.begins o v)
+        → OnRead (IsForm t) (returned_value 63 (area_here M su) at first su.begins o v)
     with_value at first v h None g = tt
     with_value at first v h (Some d) g =
         let area : Option Beginning = area_here M su in
-        read_then (IsExpression t) (IsForm t) (or_fault CannotAssign first (converted 31 area d v)) _
-        (read_option (IsExpression t) CannotAssign first (converted 31 area d v) (converted_fits t area here_there d v g h)) (λ x k. (near, k))
+        read_then (IsExpression t) (IsForm t) (or_fault CannotAssign first (converted 63 area d v)) _
+        (read_option (IsExpression t) CannotAssign first (converted 63 area d v) (converted_fits t area here_there d v g h)) (λ x k. (near, k))
 
     pub return_fits : (at : ℕ) (v : Option Expression) → OnRead (IsForm t) (return_typed M su at v)
     return_fits at None = without_value at (is_none su.value)
@@ -207,8 +207,8 @@ module _ (t : TypedUnit) (based : ℕ → List Template) (areas : ℕ → Option
   limit_fits : (e : Expression) → OnRead (IsExpression t) (limit M e)
   limit_fits e =
       read_then (IsValue t) (IsExpression t) (value_of M e) _ (value_of_fits t based areas meaning known e)
-      (λ v h. read_option (IsExpression t) WrongOperandType (first_token e) (number_of 31 v)
-      (given_made (IsExpression t) (λ p. v.expression) (precision_of 31 v.kind) (λ p. h.0)))
+      (λ v h. read_option (IsExpression t) WrongOperandType (first_token e) (number_of 63 v)
+      (given_made (IsExpression t) (λ p. v.expression) (precision_of 63 v.kind) (λ p. h.0)))
 
   possible_limit_fits : (o : Option Expression) → OnRead (IfThere (IsExpression t)) (possible_limit M o)
   possible_limit_fits None = tt
@@ -245,8 +245,8 @@ module _ (t : TypedUnit) (based : ℕ → List Template) (areas : ℕ → Option
   next_fits r placed e =
       let d : Description = r.description in
       read_then (IsValue t) (IsRange t) (value_of M e) _ (value_of_fits t based areas meaning known e)
-      (λ v h. read_then (IsExpression t) (IsRange t) (or_fault CannotAssign (first_token e) (converted 31 r.area d v)) _
-      (read_option (IsExpression t) CannotAssign (first_token e) (converted 31 r.area d v)
+      (λ v h. read_then (IsExpression t) (IsRange t) (or_fault CannotAssign (first_token e) (converted 63 r.area d v)) _
+      (read_option (IsExpression t) CannotAssign (first_token e) (converted 63 r.area d v)
       (converted_fits t r.area placed.area d v placed.described h)) (λ x k. k))
 
   turns_fit : (r : Referent) → IsReferent t r → (kept : TypedRange) (range : Option Range) → IsRange t kept
@@ -265,8 +265,8 @@ module _ (t : TypedUnit) (based : ℕ → List Template) (areas : ℕ → Option
       (λ kept k. read_then (IsDenoted t) (IsIteration t) (referred M AsLocator variable) _ (referred_fits t based areas meaning known AsLocator variable)
       (λ d g. read_then (IsReferent t) (IsIteration t) (controls (own_token variable) (has_locator variable) kept d) _
       (controls_fit (own_token variable) (has_locator variable) kept d g)
-      (λ r m. read_then (IsConversion t) (IsIteration t) (or_fault CannotAssign equals (conversion 31 r.area r.description v.kind)) _
-      (read_option (IsConversion t) CannotAssign equals (conversion 31 r.area r.description v.kind)
+      (λ r m. read_then (IsConversion t) (IsIteration t) (or_fault CannotAssign equals (conversion 63 r.area r.description v.kind)) _
+      (read_option (IsConversion t) CannotAssign equals (conversion 63 r.area r.description v.kind)
       (conversion_fits t r.area m.area r.description v.kind m.described h.1))
       (λ converts c. read_then (IfThere (IsExpression t)) (IsIteration t) (possible_condition M tested) _ (possible_condition_fits tested)
       (λ x w. read_then (IsRange t) (IsIteration t) (with_repeat M r kept range) _ (turns_fit r m kept range k)

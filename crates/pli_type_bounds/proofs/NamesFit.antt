@@ -146,10 +146,10 @@ module _ (u : ExternalProcedure) (none : resolution_faults u ≡ []) where
   -- ---- what is there in the typed unit
 
   abbrev pub Automatic : (block : ℕ) → List Template
-  Automatic block = templates_of (is_automatic 31) (block_symbols R block)
+  Automatic block = templates_of (is_automatic 63) (block_symbols R block)
 
   abbrev pub Globals : List Global
-  Globals = all_globals 31 (all_symbols R)
+  Globals = all_globals 63 (all_symbols R)
 
   -- the typed unit has the globals and the blocks, each with its slots
   pub record Has (t : TypedUnit) : Type 0 where
@@ -173,12 +173,12 @@ module _ (u : ExternalProcedure) (none : resolution_faults u ≡ []) where
 
   pub automatic_fit : (block : ℕ) → AllByRecursion IsTemplate (Automatic block)
   automatic_fit block =
-      templates_fit (is_automatic 31) (automatic_stored 31) (block_symbols R block) 0 (block_symbols R block) (symbols_in block) (initial_fits u none block)
+      templates_fit (is_automatic 63) (automatic_stored 63) (block_symbols R block) 0 (block_symbols R block) (symbols_in block) (initial_fits u none block)
 
   -- and BASED ones
-  pub based_fit : (block : ℕ) → AllByRecursion IsTemplate (templates_of (is_based 31) (block_symbols R block))
+  pub based_fit : (block : ℕ) → AllByRecursion IsTemplate (templates_of (is_based 63) (block_symbols R block))
   based_fit block =
-      templates_fit (is_based 31) (based_stored 31) (block_symbols R block) 0 (block_symbols R block) (symbols_in block) (initial_fits u none block)
+      templates_fit (is_based 63) (based_stored 63) (block_symbols R block) 0 (block_symbols R block) (symbols_in block) (initial_fits u none block)
 
   each_block : (i : ℕ) (ss : List Symbol) → slice_get (all_symbols R) i ≡ Some ss
       → AreSymbols ss × HaveFewInitial ss 0 ss
@@ -212,7 +212,7 @@ module _ (u : ExternalProcedure) (none : resolution_faults u ≡ []) where
     IsInside blocks = AllByRecursion (λ b. b < length R.blocks) blocks
 
     slot_fits : (blocks : List ℕ) (is_parameter : Bool) (outward slot : ℕ) (d : Description) → length blocks ≤ link_limit → IsInside blocks
-        → Standing 31 R blocks is_parameter (InSlot outward slot) d → IsRoot t (InSlot outward slot) × IsDescription d
+        → Standing 63 R blocks is_parameter (InSlot outward slot) d → IsRoot t (InSlot outward slot) × IsDescription d
     slot_fits blocks is_parameter outward slot d near inside (block, at, there, own) =
         let found = outward_near (λ b. b < length R.blocks) blocks block outward inside at in
         let within : slot < length (parameters_of R block) + length (Automatic block) =
@@ -233,7 +233,7 @@ module _ (u : ExternalProcedure) (none : resolution_faults u ≡ []) where
         )
 
     root_fits : (blocks : List ℕ) (is_parameter : Bool) (root : Root) (d : Description) → length blocks ≤ link_limit → IsInside blocks
-        → Standing 31 R blocks is_parameter root d → IsRoot t root × IsDescription d
+        → Standing 63 R blocks is_parameter root d → IsRoot t root × IsDescription d
     root_fits blocks is_parameter (InSlot outward slot) d near inside h = slot_fits blocks is_parameter outward slot d near inside h
     root_fits blocks is_parameter (OfProgram number) d near inside h = global_fits Static number d h
     root_fits blocks is_parameter (NewestOf number) d near inside h = global_fits Controlled number d h
@@ -276,16 +276,16 @@ module _ (u : ExternalProcedure) (none : resolution_faults u ≡ []) where
       -- areas
       begun_fits : (key : SymbolKey) (class : StorageClass) (d : Description) (s : Symbol)
           → slice_get (block_symbols R key.block) key.number ≡ Some s → IsOf class d s.kind → (root : Root)
-          → root_of 31 R blocks key class d ≡ Some root → IsRoot t root
+          → root_of 63 R blocks key class d ≡ Some root → IsRoot t root
       begun_fits key class d s there of root is =
-          let begun = root_begins 31 R blocks key d root s there class of is in
+          let begun = root_begins 63 R blocks key d root s there class of is in
           (root_fits blocks (is_passed_class class) root d near inside begun.0).0
 
       area_kind_fits : (key : SymbolKey) (path : List ℕ) (s : Symbol) (kind : SymbolKind)
           → slice_get (block_symbols R key.block) key.number ≡ Some s → s.kind ≡ kind
-          → IsAreaNamed t (area_in 31 R blocks key path (Some (record { identifier = s.identifier; kind = kind })))
+          → IsAreaNamed t (area_in 63 R blocks key path (Some (record { identifier = s.identifier; kind = kind })))
       area_kind_fits key path s (Variable d class scope initial area) there is =
-          on_named path d (root_of 31 R blocks key class d)
+          on_named path d (root_of 63 R blocks key class d)
           (λ root e. begun_fits key class d s there (subst (IsOf class d) (sym is) (refl, refl)) root e)
       area_kind_fits key path s (Member root p initial area) there is = tt
       area_kind_fits key path s (Label statement) there is = tt
@@ -294,17 +294,17 @@ module _ (u : ExternalProcedure) (none : resolution_faults u ≡ []) where
       area_kind_fits key path s BuiltIn there is = tt
 
       area_symbol_fits : (key : SymbolKey) (path : List ℕ) (o : Option Symbol) → slice_get (block_symbols R key.block) key.number ≡ o
-          → IsAreaNamed t (area_in 31 R blocks key path o)
+          → IsAreaNamed t (area_in 63 R blocks key path o)
       area_symbol_fits key path None there = tt
       area_symbol_fits key path (Some s) there = area_kind_fits key path s s.kind there refl
 
       area_meant_fits : (key : SymbolKey) (o : Option Symbol) → slice_get (block_symbols R key.block) key.number ≡ o
-          → IsAreaNamed t (area_at 31 R blocks key o)
+          → IsAreaNamed t (area_at 63 R blocks key o)
       area_meant_fits key None there = tt
       area_meant_fits key (Some s) there = by s.kind refl
         where
           by : (kind : SymbolKind) → s.kind ≡ kind
-              → IsAreaNamed t (area_at 31 R blocks key (Some (record { identifier = s.identifier; kind = kind })))
+              → IsAreaNamed t (area_at 63 R blocks key (Some (record { identifier = s.identifier; kind = kind })))
           by (Variable d class scope initial area) is = area_kind_fits key [] s (Variable d class scope initial area) there is
           by (Member root path initial area) is =
               area_symbol_fits (record { block = key.block; number = root }) path (slice_get (block_symbols R key.block) root) refl
@@ -313,30 +313,30 @@ module _ (u : ExternalProcedure) (none : resolution_faults u ≡ []) where
           by (Entry parameters returned area) is = tt
           by BuiltIn is = tt
 
-      area_fits : (named : Option SymbolKey) → IsAreaNamed t (area_named 31 R blocks named)
+      area_fits : (named : Option SymbolKey) → IsAreaNamed t (area_named 63 R blocks named)
       area_fits None = tt
       area_fits (Some key) = area_meant_fits key (symbol_at R key) refl
 
-      named_area : (area : Option Beginning) → IsNamedArea 31 R blocks area → IsAreaNamed t area
+      named_area : (area : Option Beginning) → IsNamedArea 63 R blocks area → IsAreaNamed t area
       named_area area (named, is) = subst (IsAreaNamed t) (sym is) (area_fits named)
 
       -- locators
       on_fits : (key : SymbolKey) (class : StorageClass) (d : Description) (path : List ℕ) (named : Option SymbolKey) (s : Symbol)
           → slice_get (block_symbols R key.block) key.number ≡ Some s → IsOf class d s.kind → (o : Option Root)
-          → root_of 31 R blocks key class d ≡ o → IsImplied t (locator_on o d path (area_named 31 R blocks named))
+          → root_of 63 R blocks key class d ≡ o → IsImplied t (locator_on o d path (area_named 63 R blocks named))
       on_fits key class d path named s there of None is = tt
       on_fits key class d path named s there of (Some root) is =
-          let begun = root_begins 31 R blocks key d root s there class of is in
+          let begun = root_begins 63 R blocks key d root s there class of is in
           let both = root_fits blocks (is_passed_class class) root d near inside begun.0 in
-          let small : size_of d ≤ 1000000 = leb-true (size_of d) 1000000 (and_parts (may_stand 31 d) (nat_le (size_of d) 1000000) begun.1).1 in
-          part_fits root path (area_named 31 R blocks named) (area_fits named) (part_on (whole_part d) path) both.0
+          let small : size_of d ≤ 1000000 = leb-true (size_of d) 1000000 (and_parts (may_stand 63 d) (nat_le (size_of d) 1000000) begun.1).1 in
+          part_fits root path (area_named 63 R blocks named) (area_fits named) (part_on (whole_part d) path) both.0
           (λ q e. way_fits d path both.1 small q e)
 
       kind_fits : (key : SymbolKey) (path : List ℕ) (named : Option SymbolKey) (s : Symbol) (kind : SymbolKind)
           → slice_get (block_symbols R key.block) key.number ≡ Some s → s.kind ≡ kind
-          → IsImplied t (locator_in 31 R blocks key path (area_named 31 R blocks named) (Some (record { identifier = s.identifier; kind = kind })))
+          → IsImplied t (locator_in 63 R blocks key path (area_named 63 R blocks named) (Some (record { identifier = s.identifier; kind = kind })))
       kind_fits key path named s (Variable d class scope initial area) there is =
-          on_fits key class d path named s there (subst (IsOf class d) (sym is) (refl, refl)) (root_of 31 R blocks key class d) refl
+          on_fits key class d path named s there (subst (IsOf class d) (sym is) (refl, refl)) (root_of 63 R blocks key class d) refl
       kind_fits key path named s (Member root p initial area) there is = tt
       kind_fits key path named s (Label statement) there is = tt
       kind_fits key path named s (Procedure block returned area) there is = tt
@@ -345,17 +345,17 @@ module _ (u : ExternalProcedure) (none : resolution_faults u ≡ []) where
 
       in_fits : (key : SymbolKey) (path : List ℕ) (named : Option SymbolKey) (o : Option Symbol)
           → slice_get (block_symbols R key.block) key.number ≡ o
-          → IsImplied t (locator_in 31 R blocks key path (area_named 31 R blocks named) o)
+          → IsImplied t (locator_in 63 R blocks key path (area_named 63 R blocks named) o)
       in_fits key path named None there = tt
       in_fits key path named (Some s) there = kind_fits key path named s s.kind there refl
 
       meant_fits : (key : SymbolKey) (o : Option Symbol) → slice_get (block_symbols R key.block) key.number ≡ o
-          → IsImplied t (locator_meant 31 R blocks key o)
+          → IsImplied t (locator_meant 63 R blocks key o)
       meant_fits key None there = tt
       meant_fits key (Some s) there = by s.kind refl
         where
           by : (kind : SymbolKind) → s.kind ≡ kind
-              → IsImplied t (locator_meant 31 R blocks key (Some (record { identifier = s.identifier; kind = kind })))
+              → IsImplied t (locator_meant 63 R blocks key (Some (record { identifier = s.identifier; kind = kind })))
           by (Variable d class scope initial area) is = kind_fits key [] area s (Variable d class scope initial area) there is
           by (Member root path initial area) is =
               in_fits (record { block = key.block; number = root }) path area (slice_get (block_symbols R key.block) root) refl
@@ -364,17 +364,17 @@ module _ (u : ExternalProcedure) (none : resolution_faults u ≡ []) where
           by (Entry parameters returned area) is = tt
           by BuiltIn is = tt
 
-      implied_fits : (locator : Option SymbolKey) → IsImplied t (locator_named 31 R blocks locator)
+      implied_fits : (locator : Option SymbolKey) → IsImplied t (locator_named 63 R blocks locator)
       implied_fits None = tt
       implied_fits (Some key) = meant_fits key (symbol_at R key) refl
 
       -- storage
-      storage_fits : (storage : NamedStorage) (d : Description) → StandsIn 31 R blocks storage d → IsStorage t storage
+      storage_fits : (storage : NamedStorage) (d : Description) → StandsIn 63 R blocks storage d → IsStorage t storage
       storage_fits (Begins root is_parameter) d h = (root_fits blocks is_parameter root d near inside h).0
       storage_fits (IsBased block number implied) d h = subst (IsImplied t) (sym h.3) (implied_fits h.0)
 
       -- the area that RETURNS of a function names
-      pub areas_fit : (block : ℕ) → IsAreaNamed t (area_named 31 R blocks (returned_area_of R block))
+      pub areas_fit : (block : ℕ) → IsAreaNamed t (area_named 63 R blocks (returned_area_of R block))
       areas_fit block = area_fits (returned_area_of R block)
 
     -- what a symbol is, is described
@@ -387,15 +387,15 @@ module _ (u : ExternalProcedure) (none : resolution_faults u ≡ []) where
     of_described class d BuiltIn h g = absurd h
 
     whole_fits : (blocks : List ℕ) (storage : NamedStorage) (d : Description) → length blocks ≤ link_limit → IsInside blocks
-        → StandsIn 31 R blocks storage d → IsDescription d
+        → StandsIn 63 R blocks storage d → IsDescription d
     whole_fits blocks (Begins root is_parameter) d near inside h = (root_fits blocks is_parameter root d near inside h).1
     whole_fits blocks (IsBased block number implied) d near inside h =
         of_described (classes.Based h.0) d h.2.kind h.5 (symbol_in h.1.block h.1.number h.2 h.4)
 
-    variable_fits : (blocks : List ℕ) (v : NamedVariable) → length blocks ≤ link_limit → IsInside blocks → IsStored 31 R blocks v → IsVariable t v
+    variable_fits : (blocks : List ℕ) (v : NamedVariable) → length blocks ≤ link_limit → IsInside blocks → IsStored 63 R blocks v → IsVariable t v
     variable_fits blocks v near inside b =
         let good = whole_fits blocks v.storage v.whole near inside b.0 in
-        let small : size_of v.whole ≤ 1000000 = leb-true (size_of v.whole) 1000000 (and_parts (may_stand 31 v.whole) (nat_le (size_of v.whole) 1000000) b.1).1 in
+        let small : size_of v.whole ≤ 1000000 = leb-true (size_of v.whole) 1000000 (and_parts (may_stand 63 v.whole) (nat_le (size_of v.whole) 1000000) b.1).1 in
         record {
           storage = storage_fits blocks near inside v.storage v.whole b.0;
           whole = good;
@@ -422,7 +422,7 @@ module _ (u : ExternalProcedure) (none : resolution_faults u ≡ []) where
     entry_parts p (Procedure block returned area) h g = absurd h
     entry_parts p BuiltIn h g = absurd h
 
-    callee_fits : (blocks : List ℕ) (p : NamedProcedure) (c : Callee) → p.callee ≡ c → IsThere 31 R blocks p c → IsAreaNamed t p.area
+    callee_fits : (blocks : List ℕ) (p : NamedProcedure) (c : Callee) → p.callee ≡ c → IsThere 63 R blocks p c → IsAreaNamed t p.area
         → IsProcedureNamed t p
     callee_fits blocks p (OfBlock block) is h area =
         let same : parameters_of R block ≡ p.parameters = ap (λ (q : NamedProcedure). q.parameters) h.0 in
@@ -434,7 +434,7 @@ module _ (u : ExternalProcedure) (none : resolution_faults u ≡ []) where
         }
     callee_fits blocks p (OfEntry number) is h area =
         let parts = entry_parts p h.symbol.kind h.entry (symbol_in h.key.block h.key.number h.symbol h.there) in
-        let within = entry_within Globals _ _ (entry_stands 31 R h.key h.symbol p.parameters p.returned h.there h.entry) in
+        let within = entry_within Globals _ _ (entry_stands 63 R h.key h.symbol p.parameters p.returned h.there h.entry) in
         record {
           callee =
               subst (IsCallee t) (sym is)
@@ -444,16 +444,16 @@ module _ (u : ExternalProcedure) (none : resolution_faults u ≡ []) where
           area = area;
         }
 
-    named_fits : (blocks : List ℕ) (at : ℕ) → length blocks ≤ link_limit → IsInside blocks → (a : NamedAs) → named_as 31 R blocks (meaning_at R at) ≡ a
+    named_fits : (blocks : List ℕ) (at : ℕ) → length blocks ≤ link_limit → IsInside blocks → (a : NamedAs) → named_as 63 R blocks (meaning_at R at) ≡ a
         → IsMeaning t a
-    named_fits blocks at near inside (AVariable v) e = variable_fits blocks v near inside (variable_begins 31 R blocks v (meaning_at R at) e)
+    named_fits blocks at near inside (AVariable v) e = variable_fits blocks v near inside (variable_begins 63 R blocks v (meaning_at R at) e)
     named_fits blocks at near inside (AProcedure p) e =
-        let known = procedure_named_so 31 R blocks p (meaning_at R at) e in
+        let known = procedure_named_so 63 R blocks p (meaning_at R at) e in
         callee_fits blocks p p.callee refl known.there (named_area blocks near inside p.area known.area)
     named_fits blocks at near inside (AFunction f) e = tt
     named_fits blocks at near inside (ALabel statement) e = tt
     named_fits blocks at near inside Untyped e = tt
 
     pub meanings_fit : (blocks : List ℕ) (at : ℕ) → length blocks ≤ link_limit → IsInside blocks
-        → IsMeaning t (named_as 31 R blocks (meaning_at R at))
-    meanings_fit blocks at near inside = named_fits blocks at near inside (named_as 31 R blocks (meaning_at R at)) refl
+        → IsMeaning t (named_as 63 R blocks (meaning_at R at))
+    meanings_fit blocks at near inside = named_fits blocks at near inside (named_as 63 R blocks (meaning_at R at)) refl

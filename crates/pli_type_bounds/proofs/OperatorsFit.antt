@@ -54,14 +54,14 @@ given_made Q f None g = tt
 width_fits : (digits : ℕ) → columns digits ≤ 255
 width_fits digits = omega arith
 
--- the value of a constant is a number of 31 binary digits
-number_fits : (p value : ℕ) → p ≤ 31 → within p value ≤ 2147483647
-number_fits p value le = omega (arith, below p value, pow-le-pow_right {n = 2} (omega arith) {i = p} {j = 31} le)
+-- the value of a constant is a number of 63 binary digits
+number_fits : (p value : ℕ) → p ≤ 63 → within p value ≤ 9223372036854775807
+number_fits p value le = omega (arith, below p value, pow-le-pow_right {n = 2} (omega arith) {i = p} {j = 63} le)
 
 module _ (t : TypedUnit) where
-  pub constant_fits : (value : ConstantValue) → IsValue t (constant 31 value)
-  constant_fits (constants.Decimal value digits) = (number_fits (binary_digits 31 digits) value (omega arith), tt)
-  constant_fits (constants.Binary value digits) = (number_fits (min 31 digits) value (omega arith), tt)
+  pub constant_fits : (value : ConstantValue) → IsValue t (constant 63 value)
+  constant_fits (constants.Decimal value digits) = (number_fits (binary_digits 63 digits) value (omega arith), tt)
+  constant_fits (constants.Binary value digits) = (number_fits (min 63 digits) value (omega arith), tt)
   constant_fits (constants.Characters text) = (omega (arith, length-take longest text), tt)
   constant_fits (constants.Bits bits) = (omega (arith, length-take longest bits), tt)
 
@@ -83,16 +83,16 @@ module _ (t : TypedUnit) where
   negation e types.Bits h = ((tt, (h, tt)), tt)
   negation e other h = tt
 
-  pub prefix_fits : (operator : PrefixOperator) (v : TypedValue) → IsValue t v → OnGiven (IsValue t) (prefix_value 31 operator v)
-  prefix_fits prefixes.Plus v h = plus v (precision_of 31 v.kind) h
-  prefix_fits prefixes.Minus v h = minus v (precision_of 31 v.kind) h
+  pub prefix_fits : (operator : PrefixOperator) (v : TypedValue) → IsValue t v → OnGiven (IsValue t) (prefix_value 63 operator v)
+  prefix_fits prefixes.Plus v h = plus v (precision_of 63 v.kind) h
+  prefix_fits prefixes.Minus v h = minus v (precision_of 63 v.kind) h
   prefix_fits prefixes.Not v h = negation v.expression v.kind h.0
 
   -- ---- infix operators
 
   numbers_fit : (operation : Operation) (precision : (p q : ℕ) → ℕ) (v w : TypedValue) → IsOperation (Operate operation) → IsValue t v → IsValue t w
-      → OnGiven (IsValue t) (on_numbers 31 operation precision v w)
-  numbers_fit operation precision v w good a b = given_made (IsValue t) _ (precisions 31 v.kind w.kind) (λ ps. ((good, (a.0, (b.0, tt))), tt))
+      → OnGiven (IsValue t) (on_numbers 63 operation precision v w)
+  numbers_fit operation precision v w good a b = given_made (IsValue t) _ (precisions 63 v.kind w.kind) (λ ps. ((good, (a.0, (b.0, tt))), tt))
 
   string_fits : (e : TypedExpression) (from to : ExpressionType) → IsExpression t e → IsExpression t (string_as e from to)
   string_fits e types.Bits types.Characters h = (tt, (h, tt))
@@ -104,11 +104,11 @@ module _ (t : TypedUnit) where
       (good, (string_fits v.expression v.kind kind a.0, (string_fits w.expression w.kind kind b.0, tt)))
 
   compared_fits : (relation : Relation) (v w : TypedValue) (o : Option ExpressionType) → IsValue t v → IsValue t w
-      → OnGiven (IsValue t) (compared 31 relation v w o)
+      → OnGiven (IsValue t) (compared 63 relation v w o)
   compared_fits relation v w (Some kind) a b = (strings_fit (Compare relation) v w kind tt a b, tt)
   compared_fits relation v w None a b =
-      given_map (IsValue t) (IsValue t) (λ v. as_bits v.expression) (on_numbers 31 (Compare relation) (sum_precision 31) v w) (λ x h. (h.0, tt))
-      (numbers_fit (Compare relation) (sum_precision 31) v w tt a b)
+      given_map (IsValue t) (IsValue t) (λ v. as_bits v.expression) (on_numbers 63 (Compare relation) (sum_precision 63) v w) (λ x h. (h.0, tt))
+      (numbers_fit (Compare relation) (sum_precision 63) v w tt a b)
 
   -- locators
   null_offset_fits : IsExpression t null_offset
@@ -154,11 +154,11 @@ module _ (t : TypedUnit) where
           locators_fit relation (as_pointer v.expression v.kind) (as_pointer w.expression w.kind)
           (pointer_fits v.expression v.kind a.0 a.1) (pointer_fits w.expression w.kind b.0 b.1)
 
-  comparison_fits : (relation : Relation) (v w : TypedValue) → IsValue t v → IsValue t w → OnGiven (IsValue t) (comparison 31 relation v w)
+  comparison_fits : (relation : Relation) (v w : TypedValue) → IsValue t v → IsValue t w → OnGiven (IsValue t) (comparison 63 relation v w)
   comparison_fits relation v w a b = by (is_locator v.kind && is_locator w.kind)
     where
       by : (c : Bool) → OnGiven (IsValue t) (if c then locators_beside relation v w
-          else compared 31 relation v w (string_type v.kind w.kind))
+          else compared 63 relation v w (string_type v.kind w.kind))
       by true = beside_fits relation v w a b
       by false = compared_fits relation v w (string_type v.kind w.kind) a b
 
@@ -180,10 +180,10 @@ module _ (t : TypedUnit) where
   bits_fit operation e f types.Bits types.Bits good a b = ((good, (a, (b, tt))), tt)
   bits_fit operation e f one other good a b = tt
 
-  pub infix_fits : (operator : InfixOperator) (v w : TypedValue) → IsValue t v → IsValue t w → OnGiven (IsValue t) (infix_value 31 operator v w)
-  infix_fits infixes.Add v w a b = numbers_fit Add (sum_precision 31) v w tt a b
-  infix_fits infixes.Subtract v w a b = numbers_fit Subtract (sum_precision 31) v w tt a b
-  infix_fits infixes.Multiply v w a b = numbers_fit Multiply (product_precision 31) v w tt a b
+  pub infix_fits : (operator : InfixOperator) (v w : TypedValue) → IsValue t v → IsValue t w → OnGiven (IsValue t) (infix_value 63 operator v w)
+  infix_fits infixes.Add v w a b = numbers_fit Add (sum_precision 63) v w tt a b
+  infix_fits infixes.Subtract v w a b = numbers_fit Subtract (sum_precision 63) v w tt a b
+  infix_fits infixes.Multiply v w a b = numbers_fit Multiply (product_precision 63) v w tt a b
   infix_fits infixes.Equal v w a b = comparison_fits Equal v w a b
   infix_fits infixes.NotEqual v w a b = comparison_fits Unequal v w a b
   infix_fits infixes.Less v w a b = comparison_fits Less v w a b
@@ -220,19 +220,19 @@ module _ (t : TypedUnit) where
   only_bits_fit e types.Bits h = h
   only_bits_fit e other h = tt
 
-  suited_fits : (d : Description) (e : TypedExpression) (kind : ExpressionType) → IsExpression t e → OnGiven (IsExpression t) (suited 31 d e kind)
-  suited_fits (described.FixedBinary p) e kind h = given_made (IsExpression t) (λ p. e) (precision_of 31 kind) (λ p. h)
+  suited_fits : (d : Description) (e : TypedExpression) (kind : ExpressionType) → IsExpression t e → OnGiven (IsExpression t) (suited 63 d e kind)
+  suited_fits (described.FixedBinary p) e kind h = given_made (IsExpression t) (λ p. e) (precision_of 63 kind) (λ p. h)
   suited_fits (described.Character k) e kind h = characters_fit e kind h
   suited_fits (described.Varying k) e kind h = characters_fit e kind h
   suited_fits (described.Bit k) e kind h = only_bits_fit e kind h
   suited_fits other e kind h = tt
 
   pub converted_fits : (area : Option Beginning) → IsAreaNamed t area → (d : Description) (v : TypedValue) → IsDescription d → IsValue t v
-      → OnGiven (IsExpression t) (converted 31 area d v)
+      → OnGiven (IsExpression t) (converted 63 area d v)
   converted_fits area there described.Pointer v good h = pointer_fits v.expression v.kind h.0 h.1
   converted_fits area there described.Offset v good h = offset_fits area there v.expression v.kind h.0
   converted_fits area there d v good h =
-      given_map (IsExpression t) (IsExpression t) (with_one (Fit d)) (suited 31 d v.expression v.kind) (λ e k. (good, (k, tt)))
+      given_map (IsExpression t) (IsExpression t) (with_one (Fit d)) (suited 63 d v.expression v.kind) (λ e k. (good, (k, tt)))
       (suited_fits d v.expression v.kind h.0)
 
   pub printed_fits : (e : TypedExpression) (kind : ExpressionType) → IsExpression t e → OnGiven (IsExpression t) (printed_from e kind)
@@ -255,8 +255,8 @@ module _ (t : TypedUnit) where
   bit_operations types.Bits = tt
   bit_operations other = tt
 
-  suiting_operations : (d : Description) (kind : ExpressionType) → OnGiven (AllByRecursion IsOperation) (suiting 31 d kind)
-  suiting_operations (described.FixedBinary p) kind = given_made (AllByRecursion IsOperation) (λ p. []) (precision_of 31 kind) (λ p. tt)
+  suiting_operations : (d : Description) (kind : ExpressionType) → OnGiven (AllByRecursion IsOperation) (suiting 63 d kind)
+  suiting_operations (described.FixedBinary p) kind = given_made (AllByRecursion IsOperation) (λ p. []) (precision_of 63 kind) (λ p. tt)
   suiting_operations (described.Character k) kind = string_operations kind
   suiting_operations (described.Varying k) kind = string_operations kind
   suiting_operations (described.Bit k) kind = bit_operations kind
@@ -284,11 +284,11 @@ module _ (t : TypedUnit) where
   to_offset area there kind = tt
 
   pub conversion_fits : (area : Option Beginning) → IsAreaNamed t area → (d : Description) (kind : ExpressionType) → IsDescription d
-      → IsKind t kind → OnGiven (IsConversion t) (conversion 31 area d kind)
+      → IsKind t kind → OnGiven (IsConversion t) (conversion 63 area d kind)
   conversion_fits area there described.Pointer kind good k = to_pointer kind k
   conversion_fits area there described.Offset kind good k = to_offset area there kind
   conversion_fits area there d kind good k =
-      given_map (AllByRecursion IsOperation) (IsConversion t) (λ operations. ByOperations (operations ++ Fit d ∷ [])) (suiting 31 d kind)
+      given_map (AllByRecursion IsOperation) (IsConversion t) (λ operations. ByOperations (operations ++ Fit d ∷ [])) (suiting 63 d kind)
       (λ os h. then_fitted d os good h) (suiting_operations d kind)
 
   -- a value that is kept before it is converted
@@ -356,18 +356,18 @@ module _ (t : TypedUnit) where
   with_a_number kind None h = tt
   with_a_number kind (Some p) h = h
 
-  call_kind : (function : BuiltInFunction) (kinds : List ExpressionType) → OnGiven (IsKind t) (call_type 31 function kinds)
-  call_kind functions.Abs (x ∷ []) = given_made (IsKind t) number_type (precision_of 31 x) (λ p. tt)
-  call_kind functions.Sign (x ∷ []) = with_a_number (Some a_count) (precision_of 31 x) tt
+  call_kind : (function : BuiltInFunction) (kinds : List ExpressionType) → OnGiven (IsKind t) (call_type 63 function kinds)
+  call_kind functions.Abs (x ∷ []) = given_made (IsKind t) number_type (precision_of 63 x) (λ p. tt)
+  call_kind functions.Sign (x ∷ []) = with_a_number (Some a_count) (precision_of 63 x) tt
   call_kind functions.Length (s ∷ []) = given_made (IsKind t) (λ kind. a_count) (string_kind s) (λ kind. tt)
-  call_kind functions.Max (x ∷ y ∷ []) = given_made (IsKind t) _ (precisions 31 x y) (λ ps. tt)
-  call_kind functions.Min (x ∷ y ∷ []) = given_made (IsKind t) _ (precisions 31 x y) (λ ps. tt)
-  call_kind functions.Mod (x ∷ y ∷ []) = given_made (IsKind t) _ (precisions 31 x y) (λ ps. tt)
+  call_kind functions.Max (x ∷ y ∷ []) = given_made (IsKind t) _ (precisions 63 x y) (λ ps. tt)
+  call_kind functions.Min (x ∷ y ∷ []) = given_made (IsKind t) _ (precisions 63 x y) (λ ps. tt)
+  call_kind functions.Mod (x ∷ y ∷ []) = given_made (IsKind t) _ (precisions 63 x y) (λ ps. tt)
   call_kind functions.Index (s ∷ u ∷ []) = given_made (IsKind t) (λ kind. a_count) (of_one_kind s u) (λ kind. tt)
-  call_kind functions.Substring (s ∷ i ∷ []) = with_a_number (string_kind s) (precision_of 31 i) (string_is s)
+  call_kind functions.Substring (s ∷ i ∷ []) = with_a_number (string_kind s) (precision_of 63 i) (string_is s)
   call_kind functions.Substring (s ∷ i ∷ n ∷ []) =
-      with_a_number (with_number (string_kind s) (precision_of 31 i)) (precision_of 31 n)
-      (with_a_number (string_kind s) (precision_of 31 i) (string_is s))
+      with_a_number (with_number (string_kind s) (precision_of 63 i)) (precision_of 63 n)
+      (with_a_number (string_kind s) (precision_of 63 i) (string_is s))
   call_kind function kinds = tt
 
   rest_or_part : (b : Bool) → IsBare (if b then Rest else Substring)
@@ -389,26 +389,26 @@ module _ (t : TypedUnit) where
   expressions_of [] h = tt
   expressions_of (v ∷ vs) h = (h.0.0, expressions_of vs h.1)
 
-  values_fit : (function : BuiltInFunction) (vs : List TypedValue) → AllByRecursion (IsValue t) vs → OnGiven (IsValue t) (of_values 31 function vs)
+  values_fit : (function : BuiltInFunction) (vs : List TypedValue) → AllByRecursion (IsValue t) vs → OnGiven (IsValue t) (of_values 63 function vs)
   values_fit function vs h =
-      calculated_fits (operation_of function (length vs)) (call_type 31 function (map (λ v. v.kind) vs)) (map (λ v. v.expression) vs)
+      calculated_fits (operation_of function (length vs)) (call_type 63 function (map (λ v. v.kind) vs)) (map (λ v. v.expression) vs)
       (operation_good function (length vs)) (call_kind function (map (λ v. v.kind) vs)) (expressions_of vs h)
 
   -- DIVIDE
   quotient_by : (precision : ℕ) (b : Bool) (kind : Option ExpressionType) (es : List TypedExpression)
-      → ((nat_le 1 precision && nat_le precision 31) ≡ b) → OnGiven (IsKind t) kind → AllByRecursion (IsExpression t) es
+      → ((nat_le 1 precision && nat_le precision 63) ≡ b) → OnGiven (IsKind t) kind → AllByRecursion (IsExpression t) es
       → OnGiven (IsValue t) (calculation (Some (Divide precision)) (if b then kind else None) es)
   quotient_by precision true kind es e k h =
-      let both : (nat_le 1 precision ≡ true) × (nat_le precision 31 ≡ true) = and_parts _ _ e in
-      calculated_fits (Some (Divide precision)) kind es (leb-true 1 precision both.0, leb-true precision 31 both.1) k h
+      let both : (nat_le 1 precision ≡ true) × (nat_le precision 63 ≡ true) = and_parts _ _ e in
+      calculated_fits (Some (Divide precision)) kind es (leb-true 1 precision both.0, leb-true precision 63 both.1) k h
   quotient_by precision false kind es e k h = tt
 
-  division_fits : (x y : Meant) (written : Option ℕ) → IsMeant t x → IsMeant t y → OnGiven (IsValue t) (divided 31 x y written)
+  division_fits : (x y : Meant) (written : Option ℕ) → IsMeant t x → IsMeant t y → OnGiven (IsValue t) (divided 63 x y written)
   division_fits (OneValue v) (OneValue w) None a b = tt
   division_fits (OneValue v) (OneValue w) (Some precision) a b =
-      quotient_by precision (nat_le 1 precision && nat_le precision 31)
-      (option_map (λ ps. number_type precision) (precisions 31 v.kind w.kind)) (v.expression ∷ w.expression ∷ []) refl
-      (given_made (IsKind t) (λ ps. number_type precision) (precisions 31 v.kind w.kind) (λ ps. tt)) (a.0, (b.0, tt))
+      quotient_by precision (nat_le 1 precision && nat_le precision 63)
+      (option_map (λ ps. number_type precision) (precisions 63 v.kind w.kind)) (v.expression ∷ w.expression ∷ []) refl
+      (given_made (IsKind t) (λ ps. number_type precision) (precisions 63 v.kind w.kind) (λ ps. tt)) (a.0, (b.0, tt))
   division_fits (OneValue v) (WholeAggregate r) written a b = tt
   division_fits (WholeAggregate r) y written a b = tt
 
@@ -507,11 +507,11 @@ module _ (t : TypedUnit) where
       (one_value_in (meant_as g.denoted) (denoted_fits g.denoted h.0)) (all_values_in gs h.1)
 
   given_values : (function : BuiltInFunction) (o : Option (List TypedValue)) → OnGiven (AllByRecursion (IsValue t)) o
-      → OnGiven (IsValue t) (option_and_then (of_values 31 function) o)
+      → OnGiven (IsValue t) (option_and_then (of_values 63 function) o)
   given_values function (Some vs) h = values_fit function vs h
   given_values function None h = tt
 
-  arguments_give : (function : BuiltInFunction) (gs : List Argument) → AreArgumentsGiven t gs → OnGiven (IsValue t) (of_arguments 31 function gs)
+  arguments_give : (function : BuiltInFunction) (gs : List Argument) → AreArgumentsGiven t gs → OnGiven (IsValue t) (of_arguments 63 function gs)
   arguments_give functions.Divide (x ∷ y ∷ p ∷ []) h =
       division_fits (meant_as x.denoted) (meant_as y.denoted) p.written (denoted_fits x.denoted h.0) (denoted_fits y.denoted h.1.0)
   arguments_give functions.LowBound (a ∷ n ∷ []) h = bound_of (λ b. b.low) (λ b k. k.1) (meant_as a.denoted) n.written (denoted_fits a.denoted h.0)
@@ -531,6 +531,6 @@ module _ (t : TypedUnit) where
   or_bad at None h = tt
 
   pub functions_fit : (function : BuiltInFunction) (at : ℕ) (roles : Option (List Role)) (gs : List Argument) → AreArgumentsGiven t gs
-      → OnRead (IsValue t) (function_called 31 function at roles gs)
+      → OnRead (IsValue t) (function_called 63 function at roles gs)
   functions_fit function at None gs h = tt
-  functions_fit function at (Some roles) gs h = or_bad at (of_arguments 31 function gs) (arguments_give function gs h)
+  functions_fit function at (Some roles) gs h = or_bad at (of_arguments 63 function gs) (arguments_give function gs h)

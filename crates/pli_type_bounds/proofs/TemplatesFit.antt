@@ -59,20 +59,20 @@ cut_length : (n : ℕ) (s : List ℕ) → length (take n s) ≤ n
 cut_length n s = omega (arith, length-take n s)
 
 -- numbers of few digits
-few_digits : (p : ℕ) (x : ℤ) → p ≤ 31 → has_digits p x ≡ true → unsigned_abs x ≤ 2147483647
+few_digits : (p : ℕ) (x : ℤ) → p ≤ 63 → has_digits p x ≡ true → unsigned_abs x ≤ 9223372036854775807
 few_digits p x le h =
     let below : unsigned_abs x < 2 ^ p = ltb-true (unsigned_abs x) (2 ^ p) h in
-    let power : 2 ^ p ≤ 2 ^ 31 = powers p le in
+    let power : 2 ^ p ≤ 2 ^ 63 = powers p le in
     omega (arith, below, power)
   where
-    powers : (p : ℕ) → p ≤ 31 → 2 ^ p ≤ 2 ^ 31
+    powers : (p : ℕ) → p ≤ 63 → 2 ^ p ≤ 2 ^ 63
     powers p le = pow_mono le
 
 -- the scalar holds it, and it is within the limits
 abbrev IsKept : Description → Value → Type 0
 IsKept d v = IsTrue (holds d v) × IsConstant v
 
-number_kept : (p : ℕ) (x : ℤ) → p ≤ 31 → (b : Bool) → has_digits p x ≡ b → IsKept (FixedBinary p) (as_held (FixedBinary p) (Number x))
+number_kept : (p : ℕ) (x : ℤ) → p ≤ 63 → (b : Bool) → has_digits p x ≡ b → IsKept (FixedBinary p) (as_held (FixedBinary p) (Number x))
 number_kept p x le true e = subst (IsKept (FixedBinary p)) (sym (kept e)) (e, few_digits p x le e)
   where
     kept : has_digits p x ≡ true → as_held (FixedBinary p) (Number x) ≡ Number x
@@ -94,11 +94,11 @@ bits_kept k s le e = (eq-eqb _ k e, omega (arith, le, e))
 bits_as_held : (k : ℕ) (s : List Bool) → nat_le k 32767 ≡ true → as_held (Bit k) (Bits s) ≡ Bits (fitted false k s)
 bits_as_held k s e = rw e refl
 
-few : (k : ℕ) → is_plain 31 (Character k) ≡ true → k ≤ 32767
+few : (k : ℕ) → is_plain 63 (Character k) ≡ true → k ≤ 32767
 few k h = leb-true k 32767 (and_parts _ _ h).1
 
-kept_is : (d : Description) (v : Value) → is_plain 31 d ≡ true → is_scalar d ≡ true → IsKept d (as_held d v)
-kept_is (FixedBinary p) (Number x) plain one = number_kept p x (leb-true p 31 plain) (has_digits p x) refl
+kept_is : (d : Description) (v : Value) → is_plain 63 d ≡ true → is_scalar d ≡ true → IsKept d (as_held d v)
+kept_is (FixedBinary p) (Number x) plain one = number_kept p x (leb-true p 63 plain) (has_digits p x) refl
 kept_is (FixedBinary p) (Characters s) plain one = (zero_held p, omega arith)
 kept_is (FixedBinary p) (Bits s) plain one = (zero_held p, omega arith)
 kept_is (FixedBinary p) (Located l) plain one = (zero_held p, omega arith)
@@ -134,7 +134,7 @@ packed_byte : (k : ℕ) → 0 < k → 0 < div_ceil k 8
 packed_byte k some = omega (arith, some)
 
 -- a plain scalar takes a byte
-plain_byte : (d : Description) → is_plain 31 d ≡ true → is_scalar d ≡ true → 0 < size_of d
+plain_byte : (d : Description) → is_plain 63 d ≡ true → is_scalar d ≡ true → 0 < size_of d
 plain_byte (FixedBinary p) plain one = number_byte (nat_le p 15) (nat_le p 31)
   where
     number_byte : (a b : Bool) → 0 < (if a then 2 else (if b then 4 else 8))
@@ -157,10 +157,10 @@ record Suits (whole : List PlacedPart) (s : PlacedPart) : Type 0 where
   front : List PlacedPart
   back : List PlacedPart
   there : whole ≡ front ++ s ∷ back
-  plain : is_plain 31 s.description ≡ true
+  plain : is_plain 63 s.description ≡ true
   one : is_scalar s.description ≡ true
 
-one_scalar : (whole front back : List PlacedPart) (d : Description) (at : ℕ) → is_plain 31 d ≡ true → is_scalar d ≡ true
+one_scalar : (whole front back : List PlacedPart) (d : Description) (at : ℕ) → is_plain 63 d ≡ true → is_scalar d ≡ true
     → whole ≡ front ++ (map (moved at) (scalars_at d) ++ back) → AllByRecursion (Suits whole) (record { offset = at; description = d } ∷ [])
 one_scalar whole front back d at plain one split = (
   record {
@@ -212,15 +212,15 @@ members_split d ds front back at ended =
 
 mutual
   item_scalars : (whole : List PlacedPart) (d : Description) (path : List ℕ) (front back : List PlacedPart) (at : ℕ)
-      → is_plain 31 d ≡ true → whole ≡ front ++ (map (moved at) (scalars_at d) ++ back)
+      → is_plain 63 d ≡ true → whole ≡ front ++ (map (moved at) (scalars_at d) ++ back)
       → AllByRecursion (Suits whole) (scalars_on d path at)
   item_scalars whole (Array bs e) path front back at plain split =
       in_elements whole (scalars_at e) (λ k. scalars_on e path k) (stride_of e)
-      (λ front back at split. item_scalars whole e path front back at (plain_element 31 bs e plain) split)
+      (λ front back at split. item_scalars whole e path front back at (plain_element 63 bs e plain) split)
       (count_of bs) front back at (split ∙ ap (λ ss. front ++ (ss ++ back)) (spread_moved at (stride_of e) (count_of bs) (scalars_at e)))
   item_scalars whole (Structure ds) [] front back at plain split = tt
   item_scalars whole (Structure ds) (i ∷ path) front back at plain split =
-      member_scalars whole ds i path front back at 0 (plain_members 31 ds plain) split
+      member_scalars whole ds i path front back at 0 (plain_members 63 ds plain) split
   item_scalars whole (FixedBinary p) path front back at plain split = one_scalar whole front back (FixedBinary p) at plain refl split
   item_scalars whole (Character k) path front back at plain split = one_scalar whole front back (Character k) at plain refl split
   item_scalars whole (Varying k) path front back at plain split = one_scalar whole front back (Varying k) at plain refl split
@@ -230,16 +230,16 @@ mutual
   item_scalars whole d path front back at plain split = absurd (not_true plain)
 
   member_scalars : (whole : List PlacedPart) (ds : Members) (i : ℕ) (path : List ℕ) (front back : List PlacedPart) (at ended : ℕ)
-      → all_plain 31 ds ≡ true → whole ≡ front ++ (map (moved at) (scalars_behind ended ds) ++ back)
+      → all_plain 63 ds ≡ true → whole ≡ front ++ (map (moved at) (scalars_behind ended ds) ++ back)
       → AllByRecursion (Suits whole) (scalars_in_member ds i path at ended)
   member_scalars whole NoMembers i path front back at ended plain split = tt
   member_scalars whole (MemberThen d ds) zero path front back at ended plain split =
       item_scalars whole d path front (map (moved at) (behind_first d ds ended) ++ back) (at + next_multiple_of ended (alignment_of d))
-      (and_parts (is_plain 31 d) (all_plain 31 ds) plain).0 (split ∙ members_split d ds front back at ended)
+      (and_parts (is_plain 63 d) (all_plain 63 ds) plain).0 (split ∙ members_split d ds front back at ended)
   member_scalars whole (MemberThen d ds) (suc i) path front back at ended plain split =
       let own = map (moved (at + next_multiple_of ended (alignment_of d))) (scalars_at d) in
       member_scalars whole ds i path (front ++ own) back at (next_multiple_of ended (alignment_of d) + size_of d)
-      (and_parts (is_plain 31 d) (all_plain 31 ds) plain).1
+      (and_parts (is_plain 63 d) (all_plain 63 ds) plain).1
       (split ∙ members_split d ds front back at ended ∙ sym (append_assoc front own (map (moved at) (behind_first d ds ended) ++ back)))
 
 -- ---- initial values
@@ -256,7 +256,7 @@ each_fits d (s ∷ ss) (v ∷ vs) h =
     ∙ on_itself 0 u.front u.back s (size_of d) (subst (λ xs. Rise 0 xs (size_of d)) u.there (rises d)) (plain_byte s.description u.plain u.one) in
     (((s, found, kept.0), kept.1), each_fits d ss vs h.1)
 
-items_fit : (d : Description) (items : List InitialItem) → is_plain 31 d ≡ true
+items_fit : (d : Description) (items : List InitialItem) → is_plain 63 d ≡ true
     → AllByRecursion (IsInitial d) (flat_map (initial_scalars d) items)
 items_fit d [] plain = tt
 items_fit d (i ∷ is) plain =
@@ -271,24 +271,24 @@ area_items : (bytes : ℕ) (items : List InitialItem) → AllByRecursion (IsInit
 area_items bytes [] = tt
 area_items bytes (i ∷ is) = area_items bytes is
 
-items_stand : (d : Description) (items : List InitialItem) → may_stand 31 d ≡ true
+items_stand : (d : Description) (items : List InitialItem) → may_stand 63 d ≡ true
     → AllByRecursion (IsInitial d) (flat_map (initial_scalars d) items)
 items_stand (Area bytes) items h = area_items bytes items
 items_stand d items h = items_fit d items h
 
 -- ---- templates
 
-template_fits : (d : Description) (items : List InitialItem) → is_stored 31 d ≡ true → IsDescription d
+template_fits : (d : Description) (items : List InitialItem) → is_stored 63 d ≡ true → IsDescription d
     → length (template_of d items).initial < word_limit → IsTemplate (template_of d items)
 template_fits d items stored h few =
-    let parts = and_parts (may_stand 31 d) (nat_le (size_of d) 1000000) stored in
+    let parts = and_parts (may_stand 63 d) (nat_le (size_of d) 1000000) stored in
     ((h, leb-true (size_of d) 1000000 parts.1), items_stand d items parts.0, few)
 
 -- the members of a variable among symbols
 abbrev pub AreSymbols : List Symbol → Type 0
 AreSymbols ss = AllByRecursion (λ (s : Symbol). IsLimited s.kind) ss
 
-module _ (is_such : StorageClass → Description → Bool) (stored : (class : StorageClass) (d : Description) → is_such class d ≡ true → is_stored 31 d ≡ true)
+module _ (is_such : StorageClass → Description → Bool) (stored : (class : StorageClass) (d : Description) → is_such class d ≡ true → is_stored 63 d ≡ true)
     (all : List Symbol) where
   one_fits : (class : StorageClass) (d : Description) (items : List InitialItem) (b : Bool) → is_such class d ≡ b → IsDescription d
       → length (template_of d items).initial < word_limit
@@ -328,10 +328,10 @@ scoped_fit scopes.External kind name (t ∷ ts) h = (h.0, scoped_fit scopes.Exte
 
 module _ (all : List Symbol) where
   global_fits : (number : ℕ) (name : Name) (kind : SymbolKind) → IsLimited kind → HasFewInitial all number kind
-      → AllByRecursion IsGlobal (global_with 31 all number name kind)
+      → AllByRecursion IsGlobal (global_with 63 all number name kind)
   global_fits number name (Variable d class scope values area) h few =
-      scoped_fit scope (kind_of_class class) name (template_at (is_global 31) all number (Variable d class scope values area))
-      (symbol_fits (is_global 31) (global_stored 31) all number (Variable d class scope values area) h few)
+      scoped_fit scope (kind_of_class class) name (template_at (is_global 63) all number (Variable d class scope values area))
+      (symbol_fits (is_global 63) (global_stored 63) all number (Variable d class scope values area) h few)
   global_fits number name (Member root path values area) h few = tt
   global_fits number name (Label statement) h few = tt
   global_fits number name (Procedure block returned area) h few = tt
@@ -346,11 +346,11 @@ module _ (all : List Symbol) where
   placed_fit at [] h = tt
   placed_fit at (g ∷ gs) h = (h.0, placed_fit at gs h.1)
 
-  globals_fit_from : (number : ℕ) (ss : List Symbol) → AreSymbols ss → HaveFewInitial all number ss → AllByRecursion IsPlacedGlobal (globals_from 31 all number ss)
+  globals_fit_from : (number : ℕ) (ss : List Symbol) → AreSymbols ss → HaveFewInitial all number ss → AllByRecursion IsPlacedGlobal (globals_from 63 all number ss)
   globals_fit_from number [] h few = tt
   globals_fit_from number (s ∷ ss) h few =
-      let own : List Global = global_with 31 all number s.identifier.name s.kind in
-      all_behind IsPlacedGlobal (map (placed s.identifier.at) own) (globals_from 31 all (suc number) ss)
+      let own : List Global = global_with 63 all number s.identifier.name s.kind in
+      all_behind IsPlacedGlobal (map (placed s.identifier.at) own) (globals_from 63 all (suc number) ss)
       (placed_fit s.identifier.at own (global_fits number s.identifier.name s.kind h.0 few.0))
       (globals_fit_from (suc number) ss h.1 few.1)
 
@@ -361,10 +361,10 @@ AllPlaced ps = AllByRecursion (λ (p : PlacedGlobal). IsGlobal p.global) ps
 abbrev pub AreBlocks : List (List Symbol) → Type 0
 AreBlocks blocks = AllByRecursion (λ (ss : List Symbol). AreSymbols ss × HaveFewInitial ss 0 ss) blocks
 
-blocks_fit : (blocks : List (List Symbol)) → AreBlocks blocks → AllPlaced (block_globals 31 blocks)
+blocks_fit : (blocks : List (List Symbol)) → AreBlocks blocks → AllPlaced (block_globals 63 blocks)
 blocks_fit [] h = tt
 blocks_fit (ss ∷ more) h =
-    all_behind (λ (p : PlacedGlobal). IsGlobal p.global) (globals_of 31 ss) (block_globals 31 more)
+    all_behind (λ (p : PlacedGlobal). IsGlobal p.global) (globals_of 63 ss) (block_globals 63 more)
     (globals_fit_from ss 0 ss h.0.0 h.0.1) (blocks_fit more h.1)
 
 unplaced : (ps : List PlacedGlobal) → AllPlaced ps → AllByRecursion IsGlobal (map (λ (p : PlacedGlobal). p.global) ps)
@@ -372,9 +372,9 @@ unplaced [] h = tt
 unplaced (p ∷ ps) h = (h.0, unplaced ps h.1)
 
 -- and in the order of the text
-pub globals_fit : (blocks : List (List Symbol)) → AreBlocks blocks → AllByRecursion IsGlobal (all_globals 31 blocks)
+pub globals_fit : (blocks : List (List Symbol)) → AreBlocks blocks → AllByRecursion IsGlobal (all_globals 63 blocks)
 globals_fit blocks h =
-    let ps : List PlacedGlobal = block_globals 31 blocks in
+    let ps : List PlacedGlobal = block_globals 63 blocks in
     let qs : List PlacedGlobal = in_order (λ (p : PlacedGlobal). p.at) ps in
     unplaced qs
     (recursion_from_All (λ (p : PlacedGlobal). IsGlobal p.global) qs

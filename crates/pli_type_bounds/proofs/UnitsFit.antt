@@ -77,20 +77,20 @@ module _ (texts : Tokens) (u : ExternalProcedure) (read : unit_of texts ≡ Ok u
   R = resolved_unit_of u
 
   abbrev meaning : List ℕ → ℕ → NamedAs
-  meaning = λ blocks at. named_as 31 R blocks (meaning_at R at)
+  meaning = λ blocks at. named_as 63 R blocks (meaning_at R at)
 
   abbrev named : ℕ → Bool
-  named = λ at. names_based (named_as 31 R [] (meaning_at R at))
+  named = λ at. names_based (named_as 63 R [] (meaning_at R at))
 
   abbrev based : List ℕ → ℕ → List Template
-  based = λ blocks block. templates_of (is_based 31) (block_symbols R block)
+  based = λ blocks block. templates_of (is_based 63) (block_symbols R block)
 
   abbrev areas : List ℕ → ℕ → Option Beginning
-  areas = λ blocks block. area_named 31 R blocks (returned_area_of R block)
+  areas = λ blocks block. area_named 63 R blocks (returned_area_of R block)
 
   abbrev U : NamedUnit
   U = unit_with u named based areas meaning (parameters_of R) (returned_of R)
-      (λ block. templates_of (is_automatic 31) (block_symbols R block)) (all_globals 31 (all_symbols R))
+      (λ block. templates_of (is_automatic 63) (block_symbols R block)) (all_globals 63 (all_symbols R))
 
   -- how many statements there are
   few : 2 + list_count u.statements < word_limit
@@ -112,7 +112,7 @@ module _ (texts : Tokens) (u : ExternalProcedure) (read : unit_of texts ≡ Ok u
       next : (i : ℕ) → 0 + i ≡ i
       next i = omega arith
 
-  facts : NameFacts (named_unit 31 R)
+  facts : NameFacts (named_unit 63 R)
   facts = facts_hold R (blocks_are_of_tree u)
 
   abbrev Given : Result (WithProcedures TypedStatements) (List Fault)
@@ -121,7 +121,7 @@ module _ (texts : Tokens) (u : ExternalProcedure) (read : unit_of texts ≡ Ok u
   blocks_here : OnTyped (AreHere (λ k. length (parameters_of R k) + length (Automatic u none k)) blocks_among 1 (1 + source.blocks_among u.statements)) Given
   blocks_here =
       list_here u named based areas meaning (parameters_of R) (returned_of R)
-      (λ block. templates_of (is_automatic 31) (block_symbols R block)) (all_globals 31 (all_symbols R)) facts.without_parameters
+      (λ block. templates_of (is_automatic 63) (block_symbols R block)) (all_globals 63 (all_symbols R)) facts.without_parameters
       (in_unit (returned_of R 0) u.statements) first_inside u.statements all_sit.1
 
   module _ (y : WithProcedures TypedStatements) (is : Given ≡ Ok y) where
@@ -135,12 +135,12 @@ module _ (texts : Tokens) (u : ExternalProcedure) (read : unit_of texts ≡ Ok u
     has = record {
       globals = refl;
       blocks = λ block lt. has_block u named based areas meaning (parameters_of R) (returned_of R)
-          (λ block. templates_of (is_automatic 31) (block_symbols R block)) (all_globals 31 (all_symbols R)) facts.without_parameters y here block (omega (arith, lt, size_is));
+          (λ block. templates_of (is_automatic 63) (block_symbols R block)) (all_globals 63 (all_symbols R)) facts.without_parameters y here block (omega (arith, lt, size_is));
       slots = λ block slot lt within. has_slot u named based areas meaning (parameters_of R) (returned_of R)
-          (λ block. templates_of (is_automatic 31) (block_symbols R block)) (all_globals 31 (all_symbols R)) facts.without_parameters y here block slot (omega (arith, lt, size_is)) within;
+          (λ block. templates_of (is_automatic 63) (block_symbols R block)) (all_globals 63 (all_symbols R)) facts.without_parameters y here block slot (omega (arith, lt, size_is)) within;
     }
 
-    fits : UnitFits T named based areas meaning (parameters_of R) (returned_of R) (λ block. templates_of (is_automatic 31) (block_symbols R block)) (length R.blocks)
+    fits : UnitFits T named based areas meaning (parameters_of R) (returned_of R) (λ block. templates_of (is_automatic 63) (block_symbols R block)) (length R.blocks)
     fits = record {
       names = λ blocks at near inside. meanings_fit u none T has blocks at near inside;
       few = parameters_few u none;
@@ -164,7 +164,7 @@ module _ (texts : Tokens) (u : ExternalProcedure) (read : unit_of texts ≡ Ok u
     statements_fit : OnTyped (Fit T (ListFits T (temporaries_among named u.statements))) Given
     statements_fit =
         list_fits T u named based areas meaning (parameters_of R) (returned_of R)
-        (λ block. templates_of (is_automatic 31) (block_symbols R block)) (all_globals 31 (all_symbols R)) (length R.blocks) fits
+        (λ block. templates_of (is_automatic 63) (block_symbols R block)) (all_globals 63 (all_symbols R)) (length R.blocks) fits
         true 63 (in_unit (returned_of R 0) u.statements) first_inside 2 u.statements start (unit_nests texts u read) (unit_numbered texts u read)
         (omega (arith, few)) (omega (arith, size_is))
 

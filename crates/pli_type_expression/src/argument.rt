@@ -10,11 +10,11 @@ use pli_base::syntax::{ConstantValue, Expression};
 #[derive(Drop)]
 pub struct Argument<'a> {
     pub(crate) denoted: Denoted<'a>,
-    pub(crate) written: Option<u32>,
+    pub(crate) written: Option<u64>,
 }
 
 /// The number that stands here, without a sign and without parentheses.
-pub(crate) fn number_written(expression: &Expression) -> Option<u32>
+pub(crate) fn number_written(expression: &Expression) -> Option<u64>
     ensures { result ≡ number_written (expression_view expression.now) }
 {
     match expression {

@@ -16,12 +16,13 @@ use std::alloc::{AllocError, Global};
 const STRING_LIMIT: usize = 32_767;
 
 /// A number, as far as so many binary digits have room for it.
-#[tactic(auto, using(crate::proofs::Rooms::few_digits))]
-fn within(precision: u8, value: u32) -> u32
-    requires { precision ≤ 31 }
-    ensures { result ≡ spec.within precision value }
+#[tactic(auto, using(crate::proofs::Rooms::few_digits, crate::proofs::Rooms::few_numbers))]
+fn within(precision: u8, value: u64) -> u64
+    requires { precision ≤ 63 }
+    ensures value { result ≡ spec.within precision value }
+    ensures few { result ≤ 9223372036854775807 }
 {
-    value.min(2u32.pow(u32::from(precision)) - 1)
+    value.min(2u64.pow(u32::from(precision)) - 1)
 }
 
 /// The front of a string, which is no longer than a string may be; of a string of a text that is all of it.
@@ -47,18 +48,18 @@ fn bits_of(alloc: Global, written: &[bool]) -> Result<Bits, AllocError>
 
 /// The value of a constant, as far as its type has room for it; of a constant of a text this is what is written.
 fn literal(alloc: Global, greatest: u8, value: &ConstantValue) -> Result<Value, AllocError>
-    requires { greatest ≤ 31 }
+    requires { greatest ≤ 63 }
     ensures { IfOk result (λ made. value_view made ≡ spec.literal_value greatest value.now) }
 {
     Ok(match value {
         ConstantValue::Decimal { value, digits } => {
             let precision = binary_digits(greatest, *digits);
-            Value::Number(i64::from(within(precision, *value)))
+            Value::Number(within(precision, *value) as i64)
         }
-        ConstantValue::Binary { value, digits } => Value::Number(i64::from(within(
-            (*digits).min(greatest),
-            *value,
-        ))),
+        ConstantValue::Binary { value, digits } => {
+            let precision = (*digits).min(greatest);
+            Value::Number(within(precision, *value) as i64)
+        }
         ConstantValue::Characters(text) => Value::Characters(Vec::from_slice(
             alloc,
             front(text.bytes()),
@@ -87,7 +88,7 @@ pub(crate) fn constant(
     greatest: u8,
     value: &ConstantValue,
 ) -> Result<TypedValue, AllocError>
-    requires { greatest ≤ 31 }
+    requires { greatest ≤ 63 }
     ensures { IfOk result (λ made. typed_view made ≡ spec.constant greatest value.now) }
 {
     let expression = TypedExpression::Literal(literal(alloc, greatest, value)?);

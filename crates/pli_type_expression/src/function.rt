@@ -106,7 +106,7 @@ fn quotient_of(
     alloc: Global,
     greatest: u8,
     values: Vec<TypedValue>,
-    written: Option<u32>,
+    written: Option<u64>,
 ) -> Result<Option<TypedValue>, AllocError>
     ensures { IfOk result (λ given. option_map value_view given ≡ quotient_of greatest (map value_view values.items) written) }
 {
@@ -122,7 +122,7 @@ fn quotient_of(
 }
 
 /// The number that the third of three arguments is, if it is one.
-fn precision_written(arguments: &[Argument<'_>]) -> Option<Option<u32>>
+fn precision_written(arguments: &[Argument<'_>]) -> Option<Option<u64>>
     ensures { result ≡ precision_written (map argument_view arguments.now) }
 {
     let [_left, _right, precision] = arguments else {
@@ -144,7 +144,7 @@ fn bound_value(bound: i16) -> TypedValue
 }
 
 /// The dimension of this number, from 1.
-fn dimension(bounds: &[Bounds], number: u32) -> Option<Bounds>
+fn dimension(bounds: &[Bounds], number: u64) -> Option<Bounds>
     requires { 0 < number }
     ensures { result ≡ slice_get bounds.now (number - 1) }
 {
@@ -152,7 +152,7 @@ fn dimension(bounds: &[Bounds], number: u32) -> Option<Bounds>
 }
 
 /// The bounds of the dimension of this number, from 1, of an array.
-fn bounds_in(description: &Description, number: u32) -> Option<Bounds>
+fn bounds_in(description: &Description, number: u64) -> Option<Bounds>
     ensures { (which : Bounds → ℤ) → option_map (λ b. spec.bound_value (which b)) result
         ≡ spec.bound_in which number (description_view description.now) }
 {
@@ -164,7 +164,7 @@ fn bounds_in(description: &Description, number: u32) -> Option<Bounds>
 
 /// The bounds of the dimension whose number is written, of an array that is meant as a whole.
 #[tactic(auto, using(crate::proofs::CallLemmas::bound_of_variable))]
-fn bounds_of(denoted: &Denoted<'_>, written: Option<u32>) -> Option<Bounds>
+fn bounds_of(denoted: &Denoted<'_>, written: Option<u64>) -> Option<Bounds>
     ensures { (which : Bounds → ℤ) → option_map (λ b. spec.bound_value (which b)) result
         ≡ spec.the_bound which (spec.meant_as (denoted_view denoted.now)) written }
 {

@@ -4,11 +4,11 @@ ghost use Rattle.pli_type_names.specs.UnitNaming.{naming_in};
 
 use pli_type_names::Naming;
 
-/// How many binary digits numbers have at most: 31.
+/// How many binary digits numbers have at most: 63.
 #[tactic(auto, unfolding(pli_type_names::specs::UnitNaming::naming_in))]
 pub(crate) fn greatest(naming: &Naming<'_>) -> u8
     ensures value { result ≡ (naming_in naming.now).greatest }
-    ensures few { result ≤ 31 }
+    ensures few { result ≤ 63 }
 {
     naming.greatest()
 }

@@ -28,18 +28,18 @@ abbrev nothing_given : Signature
 nothing_given = record { parameters = []; result = None }
 
 module _ (r : ResolvedUnit) (t : TypedUnit) (nests : ListNests true 63 r.tree.statements) where
-  resolved_is_typed : BlocksAreOfTree r → checked_unit r ≡ Ok t → IsTypedUnit 31 t
+  resolved_is_typed : BlocksAreOfTree r → checked_unit r ≡ Ok t → IsTypedUnit 63 t
   unfolding checked_unit
   resolved_is_typed blocks e =
-      unit_is_typed r.tree (λ at. names_based (named_as 31 r [] (meaning_at r at)))
-      (λ blocks block. templates_of (is_based 31) (block_symbols r block)) (λ blocks block. area_named 31 r blocks (returned_area_of r block))
-      (λ blocks at. named_as 31 r blocks (meaning_at r at))
-      (parameters_of r) (returned_of r) (λ block. templates_of (is_automatic 31) (block_symbols r block))
-      (all_globals 31 (all_symbols r)) (facts_hold r blocks) nests t e
+      unit_is_typed r.tree (λ at. names_based (named_as 63 r [] (meaning_at r at)))
+      (λ blocks block. templates_of (is_based 63) (block_symbols r block)) (λ blocks block. area_named 63 r blocks (returned_area_of r block))
+      (λ blocks at. named_as 63 r blocks (meaning_at r at))
+      (parameters_of r) (returned_of r) (λ block. templates_of (is_automatic 63) (block_symbols r block))
+      (all_globals 63 (all_symbols r)) (facts_hold r blocks) nests t e
 
   resolved_is_numbered : (from : ℕ) → AreNumbered from r.tree.statements → checked_unit r ≡ Ok t → IsWellNumbered t
   unfolding checked_unit
-  resolved_is_numbered from h e = units_are_numbered (named_unit 31 r) t from h nests (based_known r) e
+  resolved_is_numbered from h e = units_are_numbered (named_unit 63 r) t from h nests (based_known r) e
 
 nothing_there : (ds : List Description) (o : Option Description) → is_nothing ds o ≡ true
     → record { parameters = ds; result = o } ≡ nothing_given
@@ -53,7 +53,7 @@ unit_takes_nothing u y is =
 
 main_takes_nothing : (r : ResolvedUnit) (t : TypedUnit) → checked_unit r ≡ Ok t → MainTakesNothing t
 unfolding checked_unit checked
-main_takes_nothing r t e = unit_given (named_unit 31 r) MainTakesNothing _ t (λ y is. unit_takes_nothing (named_unit 31 r) y) e
+main_takes_nothing r t e = unit_given (named_unit 63 r) MainTakesNothing _ t (λ y is. unit_takes_nothing (named_unit 63 r) y) e
 
 pub checked_is_typed : CheckedIsTyped
 checked_is_typed texts u read t e =

@@ -223,15 +223,15 @@ module _ (u : NamedUnit) where
     callable p f = record {
       there = callee_known p p.callee f.called;
       plain = f.plain;
-      area = f.area 31 s knows.globals (slots_known here.blocks s.blocks knows.blocks);
+      area = f.area 63 s knows.globals (slots_known here.blocks s.blocks knows.blocks);
     }
 
     pub known_as : (at : ℕ) (a : NamedAs) → (u.naming (map (λ x. x.number) here.blocks)).meaning at ≡ a → IsMeaning s a
     known_as at (AVariable v) e =
         let own : VariableFacts u (map (λ x. x.number) here.blocks) v = facts.variables (map (λ x. x.number) here.blocks) at v e in
         record {
-          begins = own.begins 31 s knows.globals (slots_known here.blocks s.blocks knows.blocks);
-          area = own.area 31 s knows.globals (slots_known here.blocks s.blocks knows.blocks);
+          begins = own.begins 63 s knows.globals (slots_known here.blocks s.blocks knows.blocks);
+          area = own.area 63 s knows.globals (slots_known here.blocks s.blocks knows.blocks);
           leads = own.leads;
           whole = own.whole;
         }
@@ -241,6 +241,6 @@ module _ (u : NamedUnit) where
     known_as at Untyped e = tt
 
     -- the areas that RETURNS of functions name
-    pub areas_known : (block : ℕ) → IsAreaNamed 31 s ((u.naming (map (λ x. x.number) here.blocks)).returned_area block)
+    pub areas_known : (block : ℕ) → IsAreaNamed 63 s ((u.naming (map (λ x. x.number) here.blocks)).returned_area block)
     areas_known block =
-        facts.returned_areas (map (λ x. x.number) here.blocks) block 31 s knows.globals (slots_known here.blocks s.blocks knows.blocks)
+        facts.returned_areas (map (λ x. x.number) here.blocks) block 63 s knows.globals (slots_known here.blocks s.blocks knows.blocks)

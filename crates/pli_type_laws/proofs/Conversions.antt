@@ -50,25 +50,25 @@ when_some P None x h e = absurd (none_some e)
 module _ (s : TypingContext) where
   -- what can be fitted to a description
   abbrev Fits : Description → TypedExpression → Type 0
-  Fits d e = (u : ValueType) × (t : ValueType) × IsTyped 31 s e u × IsFitted d u × (type_held d ≡ Some t)
+  Fits d e = (u : ValueType) × (t : ValueType) × IsTyped 63 s e u × IsFitted d u × (type_held d ≡ Some t)
 
-  fitted : (d : Description) (e : TypedExpression) → Fits d e → IsValueFor 31 s d (with_one (Fit d) e)
+  fitted : (d : Description) (e : TypedExpression) → Fits d e → IsValueFor 63 s d (with_one (Fit d) e)
   fitted d e (u, t, typed, fits, held) =
       (t, (u ∷ [], (u, [], refl, typed, refl), (u, refl, fits, held)), (t, held, within_self t))
 
   numbers_fit : (precision : ℕ) (e : TypedExpression) (kind : ExpressionType) → HasType s e kind
-      → OnGiven (Fits (described.FixedBinary precision)) (suited 31 (described.FixedBinary precision) e kind)
+      → OnGiven (Fits (described.FixedBinary precision)) (suited 63 (described.FixedBinary precision) e kind)
   numbers_fit precision e (types.FixedDecimal digits) h = (Numbers h.0, Numbers precision, h.1, tt, refl)
   numbers_fit precision e (types.FixedBinary q) h = (Numbers h.0, Numbers precision, h.1, tt, refl)
   numbers_fit precision e kind h = tt
 
   bits_fit : (k : ℕ) (e : TypedExpression) (kind : ExpressionType) → HasType s e kind
-      → OnGiven (Fits (described.Bit k)) (suited 31 (described.Bit k) e kind)
+      → OnGiven (Fits (described.Bit k)) (suited 63 (described.Bit k) e kind)
   bits_fit k e types.Bits h = (Strings OfBits h.0 h.1, Strings OfBits k k, h.2, tt, refl)
   bits_fit k e kind h = tt
 
-  made_string : (e : TypedExpression) (width p : ℕ) → IsTyped 31 s e (Numbers p) → HaveColumns width p
-      → IsTyped 31 s (with_one (Operate (ToCharacters width)) e) (Strings OfCharacters width width)
+  made_string : (e : TypedExpression) (width p : ℕ) → IsTyped 63 s e (Numbers p) → HaveColumns width p
+      → IsTyped 63 s (with_one (Operate (ToCharacters width)) e) (Strings OfCharacters width width)
   made_string e width p typed room =
       (Numbers p ∷ [], (Numbers p, [], refl, typed, refl), (p, refl, (room, refl)))
 
@@ -93,7 +93,7 @@ module _ (s : TypingContext) where
   characters_fit d t held fits e types.Area h = tt
 
   all_fit : (d : Description) (e : TypedExpression) (kind : ExpressionType) → HasType s e kind
-      → OnGiven (Fits d) (suited 31 d e kind)
+      → OnGiven (Fits d) (suited 63 d e kind)
   all_fit (described.FixedBinary p) e kind h = numbers_fit p e kind h
   all_fit (described.Character k) e kind h = characters_fit (described.Character k) _ refl (λ a b. tt) e kind h
   all_fit (described.Varying k) e kind h = characters_fit (described.Varying k) _ refl (λ a b. tt) e kind h
@@ -105,16 +105,16 @@ module _ (s : TypingContext) where
   all_fit (described.Structure _) e kind h = tt
 
   given_fit : (d : Description) (o : Option TypedExpression) → OnGiven (Fits d) o
-      → OnGiven (IsValueFor 31 s d) (option_map (with_one (Fit d)) o)
+      → OnGiven (IsValueFor 63 s d) (option_map (with_one (Fit d)) o)
   given_fit d (Some x) h = fitted d x h
   given_fit d None h = tt
 
   -- an expression gives pointers, or offsets
   abbrev pub IsAPointer : TypedExpression → Type 0
-  IsAPointer e = IsTyped 31 s e Pointers
+  IsAPointer e = IsTyped 63 s e Pointers
 
   abbrev pub IsAnOffset : TypedExpression → Type 0
-  IsAnOffset e = IsTyped 31 s e Offsets
+  IsAnOffset e = IsTyped 63 s e Offsets
 
   -- a locator as a pointer, and as an offset
   pub pointer_made : (e : TypedExpression) (kind : ExpressionType) → HasType s e kind → OnGiven IsAPointer (as_pointer e kind)
@@ -127,7 +127,7 @@ module _ (s : TypingContext) where
   pub null_offset_typed : IsAnOffset null_offset
   null_offset_typed = (locators.Offset 0, refl, refl)
 
-  pub offset_made : (area : Option Beginning) → IsAreaNamed 31 s area → (e : TypedExpression) (kind : ExpressionType) → HasType s e kind
+  pub offset_made : (area : Option Beginning) → IsAreaNamed 63 s area → (e : TypedExpression) (kind : ExpressionType) → HasType s e kind
       → OnGiven IsAnOffset (as_offset area e kind)
   offset_made None there e (types.Offset other) h = h.0
   offset_made (Some area) there e (types.Offset other) h = h.0
@@ -137,15 +137,15 @@ module _ (s : TypingContext) where
   offset_made area there e kind h = tt
 
   -- a locator needs no fitting
-  pub conversion_held : (area : Option Beginning) → IsAreaNamed 31 s area → (d : Description) (v : TypedValue)
-      → HasType s v.expression v.kind → OnGiven (IsValueFor 31 s d) (converted 31 area d v)
+  pub conversion_held : (area : Option Beginning) → IsAreaNamed 63 s area → (d : Description) (v : TypedValue)
+      → HasType s v.expression v.kind → OnGiven (IsValueFor 63 s d) (converted 63 area d v)
   conversion_held area there described.Pointer v h =
-      given_weaker IsAPointer (IsValueFor 31 s described.Pointer) (as_pointer v.expression v.kind)
+      given_weaker IsAPointer (IsValueFor 63 s described.Pointer) (as_pointer v.expression v.kind)
       (λ x k. (Pointers, k, (Pointers, refl, tt))) (pointer_made v.expression v.kind h)
   conversion_held area there described.Offset v h =
-      given_weaker IsAnOffset (IsValueFor 31 s described.Offset) (as_offset area v.expression v.kind)
+      given_weaker IsAnOffset (IsValueFor 63 s described.Offset) (as_offset area v.expression v.kind)
       (λ x k. (Offsets, k, (Offsets, refl, tt))) (offset_made area there v.expression v.kind h)
-  conversion_held area there d v h = given_fit d (suited 31 d v.expression v.kind) (all_fit d v.expression v.kind h)
+  conversion_held area there d v h = given_fit d (suited 63 d v.expression v.kind) (all_fit d v.expression v.kind h)
 
   -- what is printed
   abbrev pub IsItem : TypedExpression → Type 0
@@ -170,7 +170,7 @@ module _ (s : TypingContext) where
 
 pub converted_is_held : ConvertedIsHeld
 converted_is_held s area d v e there h same =
-    when_some (IsValueFor 31 s d) (converted 31 area d v) e (conversion_held s area there d v h) same
+    when_some (IsValueFor 63 s d) (converted 63 area d v) e (conversion_held s area there d v h) same
 
 pub printed_is_string : PrintedIsString
 printed_is_string s v e h same = when_some (IsItem s) (printed v) e (printing_held s v h) same

@@ -32,8 +32,8 @@ IsOfWhole s (Part root offset d subscripts) = Unit {0}
 -- area is there that its OFFSET names
 abbrev pub IsReferent : TypingContext → Referent → Type 0
 IsReferent s r =
-    IsPlaced 31 s r.reference r.description × IsTrue (may_stand 31 r.description)
-    × (r.is_parameter ≡ false → IsOfWhole s r.reference) × IsAreaNamed 31 s r.area
+    IsPlaced 63 s r.reference r.description × IsTrue (may_stand 63 r.description)
+    × (r.is_parameter ≡ false → IsOfWhole s r.reference) × IsAreaNamed 63 s r.area
 
 abbrev pub IsMeant : TypingContext → Meant → Type 0
 IsMeant s (OneValue v) = HasValue s v
@@ -51,12 +51,12 @@ AreArguments s (g ∷ gs) = IsDenoted s g.denoted × AreArguments s gs
 module _ (s : TypingContext) where
   -- what has the type that a plain scalar holds
   abbrev IsOfType : TypedExpression → Description → Type 0
-  IsOfType e d = (t : ValueType) → type_held d ≡ Some t → IsTyped 31 s e t
+  IsOfType e d = (t : ValueType) → type_held d ≡ Some t → IsTyped 63 s e t
 
-  pub scalar_typed : (area : Option Beginning) → IsAreaNamed 31 s area → (e : TypedExpression) (d : Description)
-      → IsTrue (may_stand 31 d) → IsOfType e d → OnGiven (HasType s e) (type_of area d)
+  pub scalar_typed : (area : Option Beginning) → IsAreaNamed 63 s area → (e : TypedExpression) (d : Description)
+      → IsTrue (may_stand 63 d) → IsOfType e d → OnGiven (HasType s e) (type_of area d)
   scalar_typed area there e (FixedBinary p) plain h =
-      (p, h _ refl, (omega arith, leb-true p 31 plain, leb-true p 31 plain))
+      (p, h _ refl, (omega arith, leb-true p 63 plain, leb-true p 63 plain))
   scalar_typed area there e (Character k) plain h = (k, k, h _ refl, leb-true k 32767 ((and_parts _ _ plain).1))
   scalar_typed area there e (Varying k) plain h = (0, k, h _ refl, leb-true k 32767 ((and_parts _ _ plain).1))
   scalar_typed area there e (Bit k) plain h = (k, k, h _ refl, leb-true k 32767 ((and_parts _ _ plain).1))
@@ -66,7 +66,7 @@ module _ (s : TypingContext) where
   scalar_typed area there e (Array bounds element) plain h = tt
   scalar_typed area there e (Structure _) plain h = tt
 
-  held_as : (r : TypedReference) (d : Description) → IsPlaced 31 s r d → IsOfType (Held r) d
+  held_as : (r : TypedReference) (d : Description) → IsPlaced 63 s r d → IsOfType (Held r) d
   held_as r d placed t e = (d, placed, e)
 
   -- what a variable holds

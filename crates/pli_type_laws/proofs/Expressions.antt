@@ -55,7 +55,7 @@ module _ (s : TypingContext) where
   one_meant at (WholeAggregate r) h = tt
 
   subscript_typed : (at : ℕ) (v : TypedValue) (o : Option ℕ) → OnGiven (IsNumber s v.expression) o
-      → OnRead (λ x. (p : ℕ) × IsTyped 31 s x (Numbers p))
+      → OnRead (λ x. (p : ℕ) × IsTyped 63 s x (Numbers p))
       (or_fault WrongOperandType at (option_map (λ p. v.expression) o))
   subscript_typed at v (Some P) h = (h.0, h.1)
   subscript_typed at v None h = tt
@@ -96,12 +96,12 @@ module _ (s : TypingContext) where
 module _ (based : ℕ → List Template) (areas : ℕ → Option Beginning) (meaning : ℕ → NamedAs) (s : TypingContext)
     (known : (at : ℕ) → IsMeaning s (meaning at)) where
   abbrev pub N : Naming
-  N = record { greatest = 31; based = based; returned_area = areas; meaning = meaning }
+  N = record { greatest = 63; based = based; returned_area = areas; meaning = meaning }
 
   procedure_typed : (p : NamedProcedure) → IsCallable s p → (at : ℕ) (gs : List Argument) → AreArguments s gs
       → OnRead (IsSegment s) (procedure_called N p at gs)
   procedure_typed p callable at gs h =
-      read_then (λ xs. ArePassed 31 s xs p.parameters) (IsSegment s) (arguments_passed 31 p at gs) _
+      read_then (λ xs. ArePassed 63 s xs p.parameters) (IsSegment s) (arguments_passed 63 p at gs) _
       (arguments_fit s p at gs h)
       (λ xs fit. read_then (HasValue s) (IsSegment s) (result_of at p.callee xs (type_returned p.area p.returned)) _
       (result_typed s p callable xs fit at) (λ v k. k))
@@ -122,16 +122,16 @@ module _ (based : ℕ → List Template) (areas : ℕ → Option Beginning) (mea
     denoted_typed role (Prefix operator at operand) =
         read_then (HasValue s) (IsDenoted s) (as_value (first_token operand) (denoted N AsValue operand)) _
         (value_read (first_token operand) (denoted N AsValue operand) (denoted_typed AsValue operand))
-        (λ v h. read_then (HasValue s) (IsDenoted s) (or_fault WrongOperandType at (prefix_value 31 operator v)) _
-        (read_option (HasValue s) WrongOperandType at (prefix_value 31 operator v) (prefix_has_type s operator v h))
+        (λ v h. read_then (HasValue s) (IsDenoted s) (or_fault WrongOperandType at (prefix_value 63 operator v)) _
+        (read_option (HasValue s) WrongOperandType at (prefix_value 63 operator v) (prefix_has_type s operator v h))
         (λ u g. g))
     denoted_typed role (Infix operator at left right) =
         read_then (HasValue s) (IsDenoted s) (as_value (first_token left) (denoted N AsValue left)) _
         (value_read (first_token left) (denoted N AsValue left) (denoted_typed AsValue left))
         (λ v h. read_then (HasValue s) (IsDenoted s) (as_value (first_token right) (denoted N AsValue right)) _
         (value_read (first_token right) (denoted N AsValue right) (denoted_typed AsValue right))
-        (λ w k. read_then (HasValue s) (IsDenoted s) (or_fault WrongOperandType at (infix_value 31 operator v w)) _
-        (read_option (HasValue s) WrongOperandType at (infix_value 31 operator v w)
+        (λ w k. read_then (HasValue s) (IsDenoted s) (or_fault WrongOperandType at (infix_value 63 operator v w)) _
+        (read_option (HasValue s) WrongOperandType at (infix_value 63 operator v w)
         (infix_has_type s operator v w h k)) (λ u g. g)))
 
     pub referred_typed : (role : Role) (r : Reference)
@@ -166,7 +166,7 @@ module _ (based : ℕ → List Template) (areas : ℕ → Option Beginning) (mea
         (all_arguments N (roles_or_none (roles_of function (how_many list))) list) _
         (list_typed (roles_or_none (roles_of function (how_many list))) list)
         (λ gs h. read_then (HasValue s) (IsSegment s)
-        (function_called 31 function at (roles_of function (how_many list)) gs) _
+        (function_called 63 function at (roles_of function (how_many list)) gs) _
         (calls_have_type s function at (roles_of function (how_many list)) gs h) (λ v g. given_typed s function v g))
     begun_typed (AProcedure p) k true locator located at (Given list) =
         read_then (AreArguments s) (IsSegment s) (all_arguments N [] list) _ (list_typed [] list)
@@ -185,9 +185,9 @@ module _ (based : ℕ → List Template) (areas : ℕ → Option Beginning) (mea
     indices_typed (Listed first more) =
         read_then (HasValue s) (AreIndices s) (as_value (first_token first) (denoted N AsValue first)) _
         (value_read (first_token first) (denoted N AsValue first) (denoted_typed AsValue first))
-        (λ v h. read_then (λ x. (p : ℕ) × IsTyped 31 s x (Numbers p)) (AreIndices s)
-        (subscript_value 31 (first_token first) v) _
-        (subscript_typed s (first_token first) v (precision_of 31 v.kind) (has_precision s v.expression v.kind h))
+        (λ v h. read_then (λ x. (p : ℕ) × IsTyped 63 s x (Numbers p)) (AreIndices s)
+        (subscript_value 63 (first_token first) v) _
+        (subscript_typed s (first_token first) v (precision_of 63 v.kind) (has_precision s v.expression v.kind h))
         (λ x k. read_then (AreIndices s) (AreIndices s) (all_subscripts N more) _ (indices_typed more)
         (λ xs j. (k, j))))
 

@@ -50,12 +50,12 @@ use Rattle.pli_type_tree.specs.WellTyped.{IsPossibleNumber, IsRange, IsPossibleC
 
 module _ (s : TypingContext) where
   truth_typed : (e : TypedExpression) (kind : ExpressionType) → HasType s e kind
-      → OnGiven (IsString 31 s OfBits) (truth_of (record { expression = e; kind = kind }))
+      → OnGiven (IsString 63 s OfBits) (truth_of (record { expression = e; kind = kind }))
   truth_typed e types.Bits h = (h.0, h.1, h.2)
   truth_typed e kind h = tt
 
   abbrev IsPrinted : TypedExpression → Type 0
-  IsPrinted x = (kind : StringKind) × IsString 31 s kind x
+  IsPrinted x = (kind : StringKind) × IsString 63 s kind x
 
   printed_typed : (o : Option TypedExpression) → OnGiven (IsItem s) o → OnGiven IsPrinted o
   printed_typed (Some x) h = (h.0, (h.1.0, h.1.1, h.1.2))
@@ -67,31 +67,31 @@ module _ (s : TypingContext) where
   no_area d e = absurd (false≢true e)
 
   aggregate_typed : (equals : ℕ) (target : Referent) → is_aggregate target.description ≡ true → IsReferent s target → (m : Meant) → IsMeant s m
-      → OnRead (IsTypedForm 31 s) (aggregate_assigned equals target m)
+      → OnRead (IsTypedForm 63 s) (aggregate_assigned equals target m)
   aggregate_typed equals target aggregate h (OneValue v) k = tt
   aggregate_typed equals target aggregate h (WholeAggregate source) k = by (same target.description source.description) refl
     where
       by : (b : Bool) → same target.description source.description ≡ b
-          → OnRead (IsTypedForm 31 s)
+          → OnRead (IsTypedForm 63 s)
           (if b then Ok (typed.AssignAggregate target.reference source.reference)
           else Err (record { code = CannotAssign; at = equals }))
       by true e = (
         target.description,
         h.0,
-        subst (IsPlaced 31 s source.reference)
+        subst (IsPlaced 63 s source.reference)
             (sym ((same_decides target.description source.description).0 e)) k.0,
         no_area target.description aggregate,
       )
       by false e = tt
 
   -- to an area another one, or EMPTY
-  source_put : (target : Beginning) → IsAreaReference 31 s (whole_at target) → (o : Option Beginning) → IsAreaNamed 31 s o
-      → OnGiven (IsTypedForm 31 s) (option_map (λ source. typed.AssignArea (whole_at target) (whole_at source)) o)
+  source_put : (target : Beginning) → IsAreaReference 63 s (whole_at target) → (o : Option Beginning) → IsAreaNamed 63 s o
+      → OnGiven (IsTypedForm 63 s) (option_map (λ source. typed.AssignArea (whole_at target) (whole_at source)) o)
   source_put target h (Some source) k = (h, k)
   source_put target h None k = tt
 
-  area_put_typed : (target : Option Beginning) → IsAreaNamed 31 s target → (d : Denoted) → IsDenoted s d
-      → OnGiven (IsTypedForm 31 s) (area_put target d)
+  area_put_typed : (target : Option Beginning) → IsAreaNamed 63 s target → (d : Denoted) → IsDenoted s d
+      → OnGiven (IsTypedForm 63 s) (area_put target d)
   area_put_typed None h d k = tt
   area_put_typed (Some target) h DenotesEmpty k = h
   area_put_typed (Some target) h (DenotesVariable r) k = source_put target h (area_of (DenotesVariable r)) (area_given s (DenotesVariable r) k)
@@ -103,10 +103,10 @@ module _ (based : ℕ → List Template) (areas : ℕ → Option Beginning) (mea
   M = N based areas meaning s known
 
   pub condition_typed : (e : Expression)
-      → OnRead (IsString 31 s OfBits) (condition M e)
+      → OnRead (IsString 63 s OfBits) (condition M e)
   condition_typed e =
-      read_then (HasValue s) (IsString 31 s OfBits) (value_of M e) _ (value_typed based areas meaning s known e)
-      (λ v h. read_option (IsString 31 s OfBits) WrongOperandType (first_token e) (truth_of v)
+      read_then (HasValue s) (IsString 63 s OfBits) (value_of M e) _ (value_typed based areas meaning s known e)
+      (λ v h. read_option (IsString 63 s OfBits) WrongOperandType (first_token e) (truth_of v)
       (truth_typed s v.expression v.kind h))
 
   item_typed : (e : Expression) → OnRead (IsPrinted s) (item M e)
@@ -116,37 +116,37 @@ module _ (based : ℕ → List Template) (areas : ℕ → Option Beginning) (mea
       (printed_typed s (printed v) (printing_held s v h)))
 
   pub items_typed : (es : List Expression)
-      → OnRead (AreItems 31 s) (items M es)
+      → OnRead (AreItems 63 s) (items M es)
   items_typed [] = tt
   items_typed (e ∷ es) =
-      read_then (IsPrinted s) (AreItems 31 s) (item M e) _ (item_typed e)
-      (λ x h. read_then (AreItems 31 s) (AreItems 31 s) (items M es) _ (items_typed es) (λ xs k. (h, k)))
+      read_then (IsPrinted s) (AreItems 63 s) (item M e) _ (item_typed e)
+      (λ x h. read_then (AreItems 63 s) (AreItems 63 s) (items M es) _ (items_typed es) (λ xs k. (h, k)))
 
   scalar_typed : (equals : ℕ) (target : Referent) → IsReferent s target → (e : Expression)
-      → OnRead (IsTypedForm 31 s) (scalar_assigned M equals target e)
+      → OnRead (IsTypedForm 63 s) (scalar_assigned M equals target e)
   scalar_typed equals target placed e =
       let d : Description = target.description in
-      read_then (HasValue s) (IsTypedForm 31 s) (value_of M e) _ (value_typed based areas meaning s known e)
-      (λ v h. read_then (IsValueFor 31 s d) (IsTypedForm 31 s) (or_fault CannotAssign equals (converted 31 target.area d v)) _
-      (read_option (IsValueFor 31 s d) CannotAssign equals (converted 31 target.area d v) (conversion_held s target.area placed.3 d v h))
+      read_then (HasValue s) (IsTypedForm 63 s) (value_of M e) _ (value_typed based areas meaning s known e)
+      (λ v h. read_then (IsValueFor 63 s d) (IsTypedForm 63 s) (or_fault CannotAssign equals (converted 63 target.area d v)) _
+      (read_option (IsValueFor 63 s d) CannotAssign equals (converted 63 target.area d v) (conversion_held s target.area placed.3 d v h))
       (λ x k. (d, placed.0, k)))
 
-  area_assigned_typed : (equals : ℕ) (target : Option Beginning) → IsAreaNamed 31 s target → (e : Expression)
-      → OnRead (IsTypedForm 31 s) (area_assigned M equals target e)
+  area_assigned_typed : (equals : ℕ) (target : Option Beginning) → IsAreaNamed 63 s target → (e : Expression)
+      → OnRead (IsTypedForm 63 s) (area_assigned M equals target e)
   area_assigned_typed equals target h e =
-      read_then (IsDenoted s) (IsTypedForm 31 s) (denoted M AsValue e) _ (denoted_typed based areas meaning s known AsValue e)
-      (λ d k. read_option (IsTypedForm 31 s) CannotAssign equals (area_put target d) (area_put_typed s target h d k))
+      read_then (IsDenoted s) (IsTypedForm 63 s) (denoted M AsValue e) _ (denoted_typed based areas meaning s known AsValue e)
+      (λ d k. read_option (IsTypedForm 63 s) CannotAssign equals (area_put target d) (area_put_typed s target h d k))
 
-  choice : (b : Bool) (r q : Result Form Fault) → (b ≡ true → OnRead (IsTypedForm 31 s) r) → OnRead (IsTypedForm 31 s) q
-      → OnRead (IsTypedForm 31 s) (if b then r else q)
+  choice : (b : Bool) (r q : Result Form Fault) → (b ≡ true → OnRead (IsTypedForm 63 s) r) → OnRead (IsTypedForm 63 s) q
+      → OnRead (IsTypedForm 63 s) (if b then r else q)
   choice true r q a b = a refl
   choice false r q a b = b
 
   variable_assigned_typed : (equals : ℕ) (target : Referent) → IsReferent s target → (e : Expression)
-      → OnRead (IsTypedForm 31 s) (variable_assigned M equals target e)
+      → OnRead (IsTypedForm 63 s) (variable_assigned M equals target e)
   variable_assigned_typed equals target h e =
       choice (is_aggregate target.description) _ _
-      (λ aggregate. read_then (IsMeant s) (IsTypedForm 31 s) (meant M AsArgument e) (aggregate_assigned equals target)
+      (λ aggregate. read_then (IsMeant s) (IsTypedForm 63 s) (meant M AsArgument e) (aggregate_assigned equals target)
       (meant_typed based areas meaning s known AsArgument e) (aggregate_typed s equals target aggregate h))
       (choice (is_area target.description) _ _
       (λ area. area_assigned_typed equals (area_meant target.reference target.description)
@@ -154,28 +154,28 @@ module _ (based : ℕ → List Template) (areas : ℕ → Option Beginning) (mea
       (scalar_typed equals target h e))
 
   assigned_typed : (at equals : ℕ) (d : Denoted) → IsDenoted s d → (e : Expression)
-      → OnRead (IsTypedForm 31 s) (assigned M at equals d e)
+      → OnRead (IsTypedForm 63 s) (assigned M at equals d e)
   assigned_typed at equals (DenotesVariable target) h e = variable_assigned_typed equals target h e
   assigned_typed at equals (DenotesResult v) h e = tt
   assigned_typed at equals DenotesEmpty h e = tt
 
   pub assignment_typed : (at : ℕ) (target : Reference) (equals : ℕ) (e : Expression)
-      → OnRead (IsTypedForm 31 s) (assignment M at target equals e)
+      → OnRead (IsTypedForm 63 s) (assignment M at target equals e)
   assignment_typed at target equals e =
-      read_then (IsDenoted s) (IsTypedForm 31 s) (referred M AsTarget target) _
+      read_then (IsDenoted s) (IsTypedForm 63 s) (referred M AsTarget target) _
       (referred_typed based areas meaning s known AsTarget target) (λ d h. assigned_typed at equals d h e)
 
   -- calls
-  no_function_typed : (p : NamedProcedure) (callable : IsCallable s p) (xs : TypedArguments) → ArePassed 31 s xs p.parameters
-      → (at : ℕ) (o : Option Description) → p.returned ≡ o → OnRead (IsTypedForm 31 s) (no_function at p.callee o xs)
+  no_function_typed : (p : NamedProcedure) (callable : IsCallable s p) (xs : TypedArguments) → ArePassed 63 s xs p.parameters
+      → (at : ℕ) (o : Option Description) → p.returned ≡ o → OnRead (IsTypedForm 63 s) (no_function at p.callee o xs)
   no_function_typed p callable xs fit at None e =
       (p.parameters, gives s p callable xs fit None e, fit)
   no_function_typed p callable xs fit at (Some d) e = tt
 
   call_of_typed : (at : ℕ) (a : NamedAs) → IsMeaning s a → (gs : List Argument) → AreArguments s gs
-      → OnRead (IsTypedForm 31 s) (call_of 31 at a gs)
+      → OnRead (IsTypedForm 63 s) (call_of 63 at a gs)
   call_of_typed at (AProcedure p) k gs h =
-      read_then (λ xs. ArePassed 31 s xs p.parameters) (IsTypedForm 31 s) (arguments_passed 31 p at gs) _
+      read_then (λ xs. ArePassed 63 s xs p.parameters) (IsTypedForm 63 s) (arguments_passed 63 p at gs) _
       (arguments_fit s p at gs h) (λ xs fit. no_function_typed p k xs fit at p.returned refl)
   call_of_typed at other k gs h = tt
 
@@ -184,83 +184,83 @@ module _ (based : ℕ → List Template) (areas : ℕ → Option Beginning) (mea
   arguments_read (Given list) = list_typed based areas meaning s known [] list
 
   pub call_is_typed : (name : Identifier) (a : Arguments)
-      → OnRead (IsTypedForm 31 s) (call_typed M name a)
+      → OnRead (IsTypedForm 63 s) (call_typed M name a)
   call_is_typed name a =
-      read_then (AreArguments s) (IsTypedForm 31 s) (arguments_typed M a) _ (arguments_read a)
+      read_then (AreArguments s) (IsTypedForm 63 s) (arguments_typed M a) _ (arguments_read a)
       (λ gs h. call_of_typed name.at (meaning name.at) (known name.at) gs h)
 
   -- returns
-  module _ (there : (block : ℕ) → IsAreaNamed 31 s (areas block)) (su : Surroundings) (begins : s.begins ≡ su.begins)
+  module _ (there : (block : ℕ) → IsAreaNamed 63 s (areas block)) (su : Surroundings) (begins : s.begins ≡ su.begins)
       (value : s.value ≡ su.value) where
     without_value : (at : ℕ) (o : Option Description) → su.value ≡ o
-        → OnRead (IsTypedForm 31 s) (if is_none o then Ok (typed.Return su.begins) else at_fault WrongReturn at)
+        → OnRead (IsTypedForm 63 s) (if is_none o then Ok (typed.Return su.begins) else at_fault WrongReturn at)
     without_value at None e = (sym begins, value ∙ e)
     without_value at (Some d) e = tt
 
     -- the area that RETURNS names here
-    around_there : (o : Option Enclosing) → IsAreaNamed 31 s (option_and_then (λ (b : Enclosing). areas b.number) o)
+    around_there : (o : Option Enclosing) → IsAreaNamed 63 s (option_and_then (λ (b : Enclosing). areas b.number) o)
     around_there None = tt
     around_there (Some b) = there b.number
 
-    here_there : IsAreaNamed 31 s (area_here M su)
+    here_there : IsAreaNamed 63 s (area_here M su)
     here_there = around_there (slice_get su.blocks su.begins)
 
     with_value : (at first : ℕ) (v : TypedValue) → HasValue s v → (o : Option Description) → su.value ≡ o
-        → OnRead (IsTypedForm 31 s) (returned_value 31 (area_here M su) at first su.begins o v)
+        → OnRead (IsTypedForm 63 s) (returned_value 63 (area_here M su) at first su.begins o v)
     with_value at first v h None e = tt
     with_value at first v h (Some d) e =
         let area : Option Beginning = area_here M su in
-        read_then (IsValueFor 31 s d) (IsTypedForm 31 s) (or_fault CannotAssign first (converted 31 area d v)) _
-        (read_option (IsValueFor 31 s d) CannotAssign first (converted 31 area d v) (conversion_held s area here_there d v h))
+        read_then (IsValueFor 63 s d) (IsTypedForm 63 s) (or_fault CannotAssign first (converted 63 area d v)) _
+        (read_option (IsValueFor 63 s d) CannotAssign first (converted 63 area d v) (conversion_held s area here_there d v h))
         (λ x k. (sym begins, (d, value ∙ e, k)))
 
     pub return_is_typed : (at : ℕ) (v : Option Expression)
-        → OnRead (IsTypedForm 31 s) (return_typed M su at v)
+        → OnRead (IsTypedForm 63 s) (return_typed M su at v)
     return_is_typed at None = without_value at su.value refl
     return_is_typed at (Some e) =
-        read_then (HasValue s) (IsTypedForm 31 s) (value_of M e) _ (value_typed based areas meaning s known e)
+        read_then (HasValue s) (IsTypedForm 63 s) (value_of M e) _ (value_typed based areas meaning s known e)
         (λ v h. with_value at (first_token e) v h su.value refl)
 
   -- jumps
   module _ (su : Surroundings)
       (finds : (label outward : ℕ) → label_found su.blocks label ≡ Some outward → knows_label (slice_get s.blocks outward) label) where
-    jump_found : (label : ℕ) (o : Option ℕ) → label_found su.blocks label ≡ o → OnGiven (IsTypedForm 31 s) (jump_to label o)
+    jump_found : (label : ℕ) (o : Option ℕ) → label_found su.blocks label ≡ o → OnGiven (IsTypedForm 63 s) (jump_to label o)
     jump_found label None e = tt
     jump_found label (Some outward) e = finds label outward e
 
-    jump_typed : (a : NamedAs) → OnGiven (IsTypedForm 31 s) (jump su a)
+    jump_typed : (a : NamedAs) → OnGiven (IsTypedForm 63 s) (jump su a)
     jump_typed (ALabel statement) = jump_found statement (label_found su.blocks statement) refl
     jump_typed a = tt
 
-    pub goto_is_typed : (label : Identifier) → OnRead (IsTypedForm 31 s) (goto_typed M su label)
-    goto_is_typed label = read_option (IsTypedForm 31 s) BadGoto label.at (jump su (meaning label.at)) (jump_typed (meaning label.at))
+    pub goto_is_typed : (label : Identifier) → OnRead (IsTypedForm 63 s) (goto_typed M su label)
+    goto_is_typed label = read_option (IsTypedForm 63 s) BadGoto label.at (jump su (meaning label.at)) (jump_typed (meaning label.at))
 
   -- groups with a control variable
   limit_given : (v : TypedValue) (o : Option ℕ) → OnGiven (Near.IsNumber s v.expression) o
-      → OnGiven (IsNumber 31 s) (option_map (λ p. v.expression) o)
+      → OnGiven (IsNumber 63 s) (option_map (λ p. v.expression) o)
   limit_given v (Some p) h = (h.0, h.1)
   limit_given v None h = tt
 
-  limit_typed : (e : Expression) → OnRead (IsNumber 31 s) (limit M e)
+  limit_typed : (e : Expression) → OnRead (IsNumber 63 s) (limit M e)
   limit_typed e =
-      read_then (HasValue s) (IsNumber 31 s) (value_of M e) _ (value_typed based areas meaning s known e)
-      (λ v h. read_option (IsNumber 31 s) WrongOperandType (first_token e) (number_of 31 v)
-      (limit_given v (precision_of 31 v.kind) (has_precision s v.expression v.kind h)))
+      read_then (HasValue s) (IsNumber 63 s) (value_of M e) _ (value_typed based areas meaning s known e)
+      (λ v h. read_option (IsNumber 63 s) WrongOperandType (first_token e) (number_of 63 v)
+      (limit_given v (precision_of 63 v.kind) (has_precision s v.expression v.kind h)))
 
   possible_limit_typed : (o : Option Expression)
-      → OnRead (IsPossibleNumber 31 s) (possible_limit M o)
+      → OnRead (IsPossibleNumber 63 s) (possible_limit M o)
   possible_limit_typed None = tt
   possible_limit_typed (Some e) =
-      read_then (IsNumber 31 s) (IsPossibleNumber 31 s) (limit M e) _ (limit_typed e) (λ x h. h)
+      read_then (IsNumber 63 s) (IsPossibleNumber 63 s) (limit M e) _ (limit_typed e) (λ x h. h)
 
   limits_typed : (range : Option Range) → OnRead (AreLimits s) (limits M range)
   limits_typed (Some (tree.To to by)) =
-      read_then (IsNumber 31 s) (AreLimits s) (limit M to) _ (limit_typed to)
-      (λ x h. read_then (IsPossibleNumber 31 s) (AreLimits s) (possible_limit M by) _ (possible_limit_typed by)
+      read_then (IsNumber 63 s) (AreLimits s) (limit M to) _ (limit_typed to)
+      (λ x h. read_then (IsPossibleNumber 63 s) (AreLimits s) (possible_limit M by) _ (possible_limit_typed by)
       (λ y k. (h, k)))
   limits_typed (Some (tree.By by to)) =
-      read_then (IsNumber 31 s) (AreLimits s) (limit M by) _ (limit_typed by)
-      (λ x h. read_then (IsPossibleNumber 31 s) (AreLimits s) (possible_limit M to) _ (possible_limit_typed to)
+      read_then (IsNumber 63 s) (AreLimits s) (limit M by) _ (limit_typed by)
+      (λ x h. read_then (IsPossibleNumber 63 s) (AreLimits s) (possible_limit M to) _ (possible_limit_typed to)
       (λ y k. (h, k)))
   limits_typed (Some (tree.Repeat next)) = tt
   limits_typed None = tt
@@ -284,24 +284,24 @@ module _ (based : ℕ → List Template) (areas : ℕ → Option Beginning) (mea
   controls_typed at is_located range DenotesEmpty h = tt
 
   possible_condition_typed : (o : Option Expression)
-      → OnRead (IsPossibleCondition 31 s) (possible_condition M o)
+      → OnRead (IsPossibleCondition 63 s) (possible_condition M o)
   possible_condition_typed None = tt
   possible_condition_typed (Some e) =
-      read_then (IsString 31 s OfBits) (IsPossibleCondition 31 s) (condition M e) _ (condition_typed e) (λ x h. h)
+      read_then (IsString 63 s OfBits) (IsPossibleCondition 63 s) (condition M e) _ (condition_typed e) (λ x h. h)
 
   next_typed : (r : Referent) → IsReferent s r → (c : Conversion) (e : Expression)
-      → OnRead (IsRange 31 s c r.description) (next_value M r e)
+      → OnRead (IsRange 63 s c r.description) (next_value M r e)
   next_typed r placed c e =
       let d : Description = r.description in
-      read_then (HasValue s) (IsRange 31 s c d) (value_of M e) _ (value_typed based areas meaning s known e)
-      (λ v h. read_then (IsValueFor 31 s d) (IsRange 31 s c d)
-      (or_fault CannotAssign (first_token e) (converted 31 r.area d v)) _
-      (read_option (IsValueFor 31 s d) CannotAssign (first_token e) (converted 31 r.area d v) (conversion_held s r.area placed.3 d v h))
+      read_then (HasValue s) (IsRange 63 s c d) (value_of M e) _ (value_typed based areas meaning s known e)
+      (λ v h. read_then (IsValueFor 63 s d) (IsRange 63 s c d)
+      (or_fault CannotAssign (first_token e) (converted 63 r.area d v)) _
+      (read_option (IsValueFor 63 s d) CannotAssign (first_token e) (converted 63 r.area d v) (conversion_held s r.area placed.3 d v h))
       (λ x k. k))
 
   turns_typed : (r : Referent) → IsReferent s r → (c : Conversion) (kept : TypedRange) (range : Option Range)
-      → IsRange 31 s c r.description kept
-      → OnRead (IsRange 31 s c r.description) (with_repeat M r kept range)
+      → IsRange 63 s c r.description kept
+      → OnRead (IsRange 63 s c r.description) (with_repeat M r kept range)
   turns_typed r placed c kept (Some (tree.Repeat next)) h = next_typed r placed c next
   turns_typed r placed c kept (Some (tree.To to by)) h = h
   turns_typed r placed c kept (Some (tree.By by to)) h = h
@@ -309,21 +309,21 @@ module _ (based : ℕ → List Template) (areas : ℕ → Option Beginning) (mea
 
   pub iteration_typed : (temporary : ℕ) (variable : Reference) (equals : ℕ) (first : Expression) (range : Option Range)
       (tested : Option Expression)
-      → OnRead (IsIteration 31 s) (iteration M temporary variable equals first range tested)
+      → OnRead (IsIteration 63 s) (iteration M temporary variable equals first range tested)
   iteration_typed temporary variable equals first range tested =
-      read_then (HasValue s) (IsIteration 31 s) (value_of M first) _ (value_typed based areas meaning s known first)
-      (λ v h. read_then (AreLimits s) (IsIteration 31 s) (limits M range) _ (limits_typed range)
-      (λ kept k. read_then (IsDenoted s) (IsIteration 31 s) (referred M AsLocator variable) _
+      read_then (HasValue s) (IsIteration 63 s) (value_of M first) _ (value_typed based areas meaning s known first)
+      (λ v h. read_then (AreLimits s) (IsIteration 63 s) (limits M range) _ (limits_typed range)
+      (λ kept k. read_then (IsDenoted s) (IsIteration 63 s) (referred M AsLocator variable) _
       (referred_typed based areas meaning s known AsLocator variable)
-      (λ d g. read_then (Suits kept) (IsIteration 31 s) (controls (own_token variable) (has_locator variable) kept d) _
+      (λ d g. read_then (Suits kept) (IsIteration 63 s) (controls (own_token variable) (has_locator variable) kept d) _
       (controls_typed (own_token variable) (has_locator variable) kept d g)
-      (λ r m. read_then (Converts s r.description (unconverted r.description v)) (IsIteration 31 s)
-      (or_fault CannotAssign equals (conversion 31 r.area r.description v.kind)) _
-      (read_option (Converts s r.description (unconverted r.description v)) CannotAssign equals (conversion 31 r.area r.description v.kind)
+      (λ r m. read_then (Converts s r.description (unconverted r.description v)) (IsIteration 63 s)
+      (or_fault CannotAssign equals (conversion 63 r.area r.description v.kind)) _
+      (read_option (Converts s r.description (unconverted r.description v)) CannotAssign equals (conversion 63 r.area r.description v.kind)
       (conversions_hold s r.area m.0.3 r.description v h))
-      (λ converts c. read_then (IsPossibleCondition 31 s) (IsIteration 31 s) (possible_condition M tested) _
+      (λ converts c. read_then (IsPossibleCondition 63 s) (IsIteration 63 s) (possible_condition M tested) _
       (possible_condition_typed tested)
-      (λ x w. read_then (IsRange 31 s converts r.description) (IsIteration 31 s)
+      (λ x w. read_then (IsRange 63 s converts r.description) (IsIteration 63 s)
       (with_repeat M r kept range) _
       (turns_typed r m.0 converts kept range
       (limits_range s r.description converts kept c.1 m.1 k))

@@ -68,13 +68,13 @@ module _ (s : TypingContext) where
   of_numbers operation v w None kind made h = tt
 
   greater_number : (operation : Operation)
-      → ((p q : ℕ) → Computes 31 operation (Numbers p ∷ Numbers q ∷ []) (Numbers (max p q))) → (v w : TypedValue)
+      → ((p q : ℕ) → Computes 63 operation (Numbers p ∷ Numbers q ∷ []) (Numbers (max p q))) → (v w : TypedValue)
       → HasValue s v → HasValue s w
       → OnGiven (HasValue s)
-      (calculation (Some operation) (option_map (λ ps. number_type (max ps.0 ps.1)) (precisions 31 v.kind w.kind))
+      (calculation (Some operation) (option_map (λ ps. number_type (max ps.0 ps.1)) (precisions 63 v.kind w.kind))
       (v.expression ∷ w.expression ∷ []))
   greater_number operation operates v w a b =
-      of_numbers operation v w (precisions 31 v.kind w.kind) (λ ps. number_type (max ps.0 ps.1))
+      of_numbers operation v w (precisions 63 v.kind w.kind) (λ ps. number_type (max ps.0 ps.1))
       (λ ps h. (
         max h.0.0 h.1.0,
         of_two s operation v.expression w.expression _ _ _ h.0.1 h.1.1 (operates h.0.0 h.1.0),
@@ -83,10 +83,10 @@ module _ (s : TypingContext) where
 
   of_modulo : (v w : TypedValue) → HasValue s v → HasValue s w
       → OnGiven (HasValue s)
-      (calculation (Some Modulo) (option_map (λ ps. number_type ps.1) (precisions 31 v.kind w.kind))
+      (calculation (Some Modulo) (option_map (λ ps. number_type ps.1) (precisions 63 v.kind w.kind))
       (v.expression ∷ w.expression ∷ []))
   of_modulo v w a b =
-      of_numbers Modulo v w (precisions 31 v.kind w.kind) (λ ps. number_type ps.1)
+      of_numbers Modulo v w (precisions 63 v.kind w.kind) (λ ps. number_type ps.1)
       (λ ps h. (
         h.1.0,
         of_two s Modulo v.expression w.expression _ _ _ h.0.1 h.1.1 (h.0.0, h.1.0, refl, refl),
@@ -119,9 +119,9 @@ module _ (s : TypingContext) where
   rest_of e other f (Some P) a b = tt
   rest_of e one f None a b = tt
 
-  of_three : (operation : Operation) (e f g : TypedExpression) (t u v r : ValueType) → IsTyped 31 s e t
-      → IsTyped 31 s f u → IsTyped 31 s g v → Computes 31 operation (t ∷ u ∷ v ∷ []) r
-      → IsTyped 31 s (Calculated (Operate operation) (all_operands (e ∷ f ∷ g ∷ []))) r
+  of_three : (operation : Operation) (e f g : TypedExpression) (t u v r : ValueType) → IsTyped 63 s e t
+      → IsTyped 63 s f u → IsTyped 63 s g v → Computes 63 operation (t ∷ u ∷ v ∷ []) r
+      → IsTyped 63 s (Calculated (Operate operation) (all_operands (e ∷ f ∷ g ∷ []))) r
   of_three operation e f g t u v r one two three operates =
       (t ∷ u ∷ v ∷ [], (t, u ∷ v ∷ [], refl, one, (u, v ∷ [], refl, two, (v, [], refl, three, refl))), operates)
 
@@ -139,13 +139,13 @@ module _ (s : TypingContext) where
 
   -- functions of values
   values_have_type : (function : BuiltInFunction) (vs : List TypedValue) → AreValues s vs
-      → OnGiven (HasValue s) (of_values 31 function vs)
+      → OnGiven (HasValue s) (of_values 63 function vs)
   values_have_type functions.Abs (v ∷ []) h =
-      of_number Absolute v (precision_of 31 v.kind) number_type
+      of_number Absolute v (precision_of 63 v.kind) number_type
       (λ P n. (n.0, of_one s (Operate Absolute) v.expression _ _ n.1 (n.0, refl, refl), n.2))
       (has_precision s v.expression v.kind h.0)
   values_have_type functions.Sign (v ∷ []) h =
-      of_sign v (precision_of 31 v.kind) (has_precision s v.expression v.kind h.0)
+      of_sign v (precision_of 63 v.kind) (has_precision s v.expression v.kind h.0)
   values_have_type functions.Length (v ∷ []) h = of_length v.expression v.kind h.0
   values_have_type functions.Max (v ∷ w ∷ []) h =
       greater_number Greatest (λ p q. (p, q, refl, refl)) v w h.0 h.1.0
@@ -153,21 +153,21 @@ module _ (s : TypingContext) where
   values_have_type functions.Mod (v ∷ w ∷ []) h = of_modulo v w h.0 h.1.0
   values_have_type functions.Index (v ∷ w ∷ []) h = of_index v.expression v.kind w.expression w.kind h.0 h.1.0
   values_have_type functions.Substring (v ∷ w ∷ []) h =
-      rest_of v.expression v.kind w.expression (precision_of 31 w.kind) h.0 (has_precision s w.expression w.kind h.1.0)
+      rest_of v.expression v.kind w.expression (precision_of 63 w.kind) h.0 (has_precision s w.expression w.kind h.1.0)
   values_have_type functions.Substring (v ∷ w ∷ x ∷ []) h =
-      part_of_string v.expression v.kind w.expression (precision_of 31 w.kind) x.expression (precision_of 31 x.kind)
+      part_of_string v.expression v.kind w.expression (precision_of 63 w.kind) x.expression (precision_of 63 x.kind)
       h.0 (has_precision s w.expression w.kind h.1.0) (has_precision s x.expression x.kind h.1.1.0)
   values_have_type function vs h = tt
 
   -- DIVIDE
-  quotient_of : (v w : TypedValue) (precision : ℕ) (b : Bool) → (b ≡ true → precision ≤ 31)
+  quotient_of : (v w : TypedValue) (precision : ℕ) (b : Bool) → (b ≡ true → precision ≤ 63)
       → HasValue s v → HasValue s w
       → OnGiven (HasValue s)
       (calculation (Some (Divide precision))
-      (if b then option_map (λ ps. number_type precision) (precisions 31 v.kind w.kind) else None)
+      (if b then option_map (λ ps. number_type precision) (precisions 63 v.kind w.kind) else None)
       (v.expression ∷ w.expression ∷ []))
   quotient_of v w precision true few a b =
-      of_numbers (Divide precision) v w (precisions 31 v.kind w.kind) (λ ps. number_type precision)
+      of_numbers (Divide precision) v w (precisions 63 v.kind w.kind) (λ ps. number_type precision)
       (λ ps h. (
         precision,
         of_two s (Divide precision) v.expression w.expression _ _ _ h.0.1 h.1.1 (h.0.0, h.1.0, refl, refl),
@@ -176,11 +176,11 @@ module _ (s : TypingContext) where
   quotient_of v w precision false few a b = tt
 
   division : (x y : Meant) (written : Option ℕ) → IsMeant s x → IsMeant s y
-      → OnGiven (HasValue s) (divided 31 x y written)
+      → OnGiven (HasValue s) (divided 63 x y written)
   division (OneValue v) (OneValue w) None a b = tt
   division (OneValue v) (OneValue w) (Some precision) a b =
-      quotient_of v w precision (nat_le 1 precision && nat_le precision 31)
-      (λ e. leb-true precision 31 ((and_parts _ _ e).1)) a b
+      quotient_of v w precision (nat_le 1 precision && nat_le precision 63)
+      (λ e. leb-true precision 63 ((and_parts _ _ e).1)) a b
   division (OneValue v) (WholeAggregate r) written a b = tt
   division (WholeAggregate r) y written a b = tt
 
@@ -215,7 +215,7 @@ module _ (s : TypingContext) where
   abbrev GivesSmall : (Bounds → ℤ) → Type 0
   GivesSmall which = (bs : List Bounds) → are_bounds bs ≡ true → BoundsAreSmall which bs
 
-  bound_within : (which : Bounds → ℤ) → GivesSmall which → (number : ℕ) (d : Description) → IsTrue (may_stand 31 d)
+  bound_within : (which : Bounds → ℤ) → GivesSmall which → (number : ℕ) (d : Description) → IsTrue (may_stand 63 d)
       → OnGiven (HasValue s) (bound_in which number d)
   bound_within which small number (Array [] element) plain = absurd (false≢true plain)
   bound_within which small number (Array (b ∷ bs) element) plain =
@@ -231,7 +231,7 @@ module _ (s : TypingContext) where
   bound_of which small (WholeAggregate r) (Some number) h = bound_within which small number (r.description) h.1
 
   -- numbers of generations
-  generations_typed : (r : TypedReference) (d : Description) → IsPlaced 31 s r d → OnGiven (HasValue s) (generations_in r)
+  generations_typed : (r : TypedReference) (d : Description) → IsPlaced 63 s r d → OnGiven (HasValue s) (generations_in r)
   generations_typed (Whole (NewestOf number)) d placed =
       (15, ((described_parts Controlled (slice_get s.globals number) d placed).0, refl), (omega arith, omega arith, omega arith))
   generations_typed r d placed = tt
@@ -242,7 +242,7 @@ module _ (s : TypingContext) where
   generations_given DenotesEmpty h = tt
 
   -- pointers to variables
-  address_typed : (passed : Bool) (r : TypedReference) (d : Description) → IsPlaced 31 s r d → (passed ≡ false → IsOfWhole s r)
+  address_typed : (passed : Bool) (r : TypedReference) (d : Description) → IsPlaced 63 s r d → (passed ≡ false → IsOfWhole s r)
       → OnGiven (HasValue s) (address_in passed r)
   address_typed false (Whole root) d placed own = ((own refl, (d, placed)), refl)
   address_typed passed r d placed own = tt
@@ -253,11 +253,11 @@ module _ (s : TypingContext) where
   address_given DenotesEmpty h = tt
 
   -- locators in areas
-  pub area_typed : (r : TypedReference) (d : Description) → IsPlaced 31 s r d → IsAreaNamed 31 s (area_meant r d)
-  area_typed (Whole root) (Area bytes) placed = root_named 31 s root (Area bytes) refl placed
+  pub area_typed : (r : TypedReference) (d : Description) → IsPlaced 63 s r d → IsAreaNamed 63 s (area_meant r d)
+  area_typed (Whole root) (Area bytes) placed = root_named 63 s root (Area bytes) refl placed
   area_typed r d placed = tt
 
-  pub area_given : (d : Denoted) → IsDenoted s d → IsAreaNamed 31 s (area_of d)
+  pub area_given : (d : Denoted) → IsDenoted s d → IsAreaNamed 63 s (area_of d)
   area_given (DenotesVariable r) h = area_typed r.reference r.description h.0
   area_given (DenotesResult v) h = tt
   area_given DenotesEmpty h = tt
@@ -265,7 +265,7 @@ module _ (s : TypingContext) where
   -- what makes something of a locator in an area
   abbrev MakesLocator : ((area : Beginning) → TypedExpression → ExpressionType → Option TypedValue) → Type 0
   MakesLocator make =
-      (area : Beginning) → IsAreaReference 31 s (whole_at area) → (e : TypedExpression) (kind : ExpressionType) → HasType s e kind
+      (area : Beginning) → IsAreaReference 63 s (whole_at area) → (e : TypedExpression) (kind : ExpressionType) → HasType s e kind
       → OnGiven (HasValue s) (make area e kind)
 
   offset_makes : MakesLocator offset_within
@@ -278,7 +278,7 @@ module _ (s : TypingContext) where
   pointer_makes area there e kind h = tt
 
   located_typed : (make : (area : Beginning) → TypedExpression → ExpressionType → Option TypedValue) → MakesLocator make → (m : Meant)
-      (o : Option Beginning) → IsMeant s m → IsAreaNamed 31 s o → OnGiven (HasValue s) (located_within make m o)
+      (o : Option Beginning) → IsMeant s m → IsAreaNamed 63 s o → OnGiven (HasValue s) (located_within make m o)
   located_typed make makes (OneValue v) (Some area) h there = makes area there v.expression v.kind h
   located_typed make makes m o h there = tt
 
@@ -301,16 +301,16 @@ module _ (s : TypingContext) where
       (one_value_in (meant_as g.denoted) (denoted_meant s g.denoted h.0)) (all_values_in gs h.1)
 
   given_values : (function : BuiltInFunction) (o : Option (List TypedValue)) → OnGiven (AreValues s) o
-      → OnGiven (HasValue s) (option_and_then (of_values 31 function) o)
+      → OnGiven (HasValue s) (option_and_then (of_values 63 function) o)
   given_values function (Some vs) h = values_have_type function vs h
   given_values function None h = tt
 
   by_values : (function : BuiltInFunction) (gs : List Argument) → AreArguments s gs
-      → OnGiven (HasValue s) (option_and_then (of_values 31 function) (values_in gs))
+      → OnGiven (HasValue s) (option_and_then (of_values 63 function) (values_in gs))
   by_values function gs h = given_values function (values_in gs) (all_values_in gs h)
 
   arguments_give : (function : BuiltInFunction) (gs : List Argument) → AreArguments s gs
-      → OnGiven (HasValue s) (of_arguments 31 function gs)
+      → OnGiven (HasValue s) (of_arguments 63 function gs)
   arguments_give functions.Divide (x ∷ y ∷ p ∷ []) h =
       division (meant_as x.denoted) (meant_as y.denoted) p.written (denoted_meant s x.denoted h.0)
       (denoted_meant s y.denoted h.1.0)
@@ -335,7 +335,7 @@ module _ (s : TypingContext) where
   or_bad at None h = tt
 
   pub calls_have_type : (function : BuiltInFunction) (at : ℕ) (roles : Option (List Role)) (gs : List Argument)
-      → AreArguments s gs → OnRead (HasValue s) (function_called 31 function at roles gs)
+      → AreArguments s gs → OnRead (HasValue s) (function_called 63 function at roles gs)
   calls_have_type function at None gs h = tt
   calls_have_type function at (Some roles) gs h =
-      or_bad at (of_arguments 31 function gs) (arguments_give function gs h)
+      or_bad at (of_arguments 63 function gs) (arguments_give function gs h)

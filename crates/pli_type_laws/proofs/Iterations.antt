@@ -16,20 +16,20 @@ use Rattle.pli_type_tree.specs.TypedTree.{TypedOperation, Fit, TypedExpression, 
 use Rattle.pli_type_tree.specs.ValueTypes.{ValueType, Numbers, Strings, Pointers, Offsets, OfCharacters, OfBits, type_held, IsFitted}
 use Rattle.pli_type_tree.specs.WellTyped.{TypingContext, IsTyped, Convert, IsConversion, Counts, IsNumber, IsPossibleNumber, IsRange}
 
-last : (d : Description) (t u : ValueType) → IsFitted d t → type_held d ≡ Some u → Convert 31 (Fit d ∷ []) t d
+last : (d : Description) (t u : ValueType) → IsFitted d t → type_held d ≡ Some u → Convert 63 (Fit d ∷ []) t d
 last d t u fits held = (u, (t, refl, fits, held), (u, held, within_self u))
 
 module _ (s : TypingContext) where
   -- a number counts, whatever the number is that is converted to it
   abbrev pub CountsIf : Description → Conversion → Type 0
-  CountsIf (described.FixedBinary q) c = Counts 31 s c (described.FixedBinary q)
+  CountsIf (described.FixedBinary q) c = Counts 63 s c (described.FixedBinary q)
   CountsIf other c = Unit {0}
 
   abbrev pub Converts : Description → TypedExpression → Conversion → Type 0
-  Converts d e c = ((t : ValueType) × IsTyped 31 s e t × IsConversion 31 s c t d) × CountsIf d c
+  Converts d e c = ((t : ValueType) × IsTyped 63 s e t × IsConversion 63 s c t d) × CountsIf d c
 
   numbers_convert : (area : Option Beginning) (p : ℕ) (e : TypedExpression) (kind : ExpressionType) → HasType s e kind
-      → OnGiven (Converts (described.FixedBinary p) e) (conversion 31 area (described.FixedBinary p) kind)
+      → OnGiven (Converts (described.FixedBinary p) e) (conversion 63 area (described.FixedBinary p) kind)
   numbers_convert area p e (types.FixedDecimal digits) h = (
     (Numbers h.0, h.1, last (described.FixedBinary p) (Numbers h.0) (Numbers p) tt refl),
     ((p, refl), λ q. last (described.FixedBinary p) (Numbers q) (Numbers p) tt refl),
@@ -41,14 +41,14 @@ module _ (s : TypingContext) where
   numbers_convert area p e kind h = tt
 
   bits_convert : (area : Option Beginning) (k : ℕ) (e : TypedExpression) (kind : ExpressionType) → HasType s e kind
-      → OnGiven (Converts (described.Bit k) e) (conversion 31 area (described.Bit k) kind)
+      → OnGiven (Converts (described.Bit k) e) (conversion 63 area (described.Bit k) kind)
   bits_convert area k e types.Bits h =
       ((Strings OfBits h.0 h.1, h.2, last (described.Bit k) (Strings OfBits h.0 h.1) (Strings OfBits k k) tt refl), tt)
   bits_convert area k e kind h = tt
 
   -- characters of a number or of a string
   abbrev LeadsOn : Description → TypedExpression → List TypedOperation → Type 0
-  LeadsOn d e operations = (t : ValueType) × IsTyped 31 s e t × Convert 31 (operations ++ Fit d ∷ []) t d
+  LeadsOn d e operations = (t : ValueType) × IsTyped 63 s e t × Convert 63 (operations ++ Fit d ∷ []) t d
 
   characters_convert : (d : Description) (u : ValueType) → type_held d ≡ Some u
       → ((a b : ℕ) → IsFitted d (Strings OfCharacters a b)) → (e : TypedExpression) (kind : ExpressionType)
@@ -86,7 +86,7 @@ module _ (s : TypingContext) where
   pointers_convert e (types.Offset None) h = tt
   pointers_convert e kind h = tt
 
-  offsets_convert : (area : Option Beginning) → IsAreaNamed 31 s area → (e : TypedExpression) (kind : ExpressionType) → HasType s e kind
+  offsets_convert : (area : Option Beginning) → IsAreaNamed 63 s area → (e : TypedExpression) (kind : ExpressionType) → HasType s e kind
       → OnGiven (Converts described.Offset (null_as_offset e kind)) (offset_conversion area kind)
   offsets_convert None there e (types.Offset other) h = ((Offsets, h.0, (Offsets, refl, tt)), tt)
   offsets_convert (Some area) there e (types.Offset other) h = ((Offsets, h.0, (Offsets, refl, tt)), tt)
@@ -95,8 +95,8 @@ module _ (s : TypingContext) where
   offsets_convert (Some area) there e types.Pointer h = ((Pointers, h, (there, refl, (Offsets, refl, tt))), tt)
   offsets_convert area there e kind h = tt
 
-  described_convert : (area : Option Beginning) → IsAreaNamed 31 s area → (d : Description) (e : TypedExpression) (kind : ExpressionType)
-      → HasType s e kind → OnGiven (Converts d (unconverted d (record { expression = e; kind = kind }))) (conversion 31 area d kind)
+  described_convert : (area : Option Beginning) → IsAreaNamed 63 s area → (d : Description) (e : TypedExpression) (kind : ExpressionType)
+      → HasType s e kind → OnGiven (Converts d (unconverted d (record { expression = e; kind = kind }))) (conversion 63 area d kind)
   described_convert area there (described.FixedBinary p) e kind h = numbers_convert area p e kind h
   described_convert area there (described.Character k) e kind h =
       fitted_last (described.Character k) e (string_conversions kind) (λ c. tt)
@@ -111,19 +111,19 @@ module _ (s : TypingContext) where
   described_convert area there (described.Array bounds element) e kind h = tt
   described_convert area there (described.Structure _) e kind h = tt
 
-  pub conversions_hold : (area : Option Beginning) → IsAreaNamed 31 s area → (d : Description) (v : TypedValue)
-      → HasType s v.expression v.kind → OnGiven (Converts d (unconverted d v)) (conversion 31 area d v.kind)
+  pub conversions_hold : (area : Option Beginning) → IsAreaNamed 63 s area → (d : Description) (v : TypedValue)
+      → HasType s v.expression v.kind → OnGiven (Converts d (unconverted d v)) (conversion 63 area d v.kind)
   conversions_hold area there d v h = described_convert area there d v.expression v.kind h
 
   -- TO and BY are numbers
   abbrev pub AreLimits : TypedRange → Type 0
   AreLimits Once = Unit {0}
-  AreLimits (ToBy x y) = IsNumber 31 s x × IsPossibleNumber 31 s y
-  AreLimits (ByTo x y) = IsNumber 31 s x × IsPossibleNumber 31 s y
+  AreLimits (ToBy x y) = IsNumber 63 s x × IsPossibleNumber 63 s y
+  AreLimits (ByTo x y) = IsNumber 63 s x × IsPossibleNumber 63 s y
   AreLimits (Repeated next) = ⊥
 
   pub limits_range : (d : Description) (c : Conversion) (range : TypedRange) → CountsIf d c
-      → suits_range d range ≡ true → AreLimits range → IsRange 31 s c d range
+      → suits_range d range ≡ true → AreLimits range → IsRange 63 s c d range
   limits_range d c Once counts suits h = tt
   limits_range (described.FixedBinary q) c (ToBy x y) counts suits h = (counts, h.0, h.1)
   limits_range (described.FixedBinary q) c (ByTo x y) counts suits h = (counts, h.0, h.1)

@@ -31,17 +31,17 @@ given_map P Q f (Some x) g h = g x h
 given_map P Q f None g h = tt
 
 pub sum_near : (p q r t : ℕ) → AreNear p r → AreNear q t
-    → AreNear (min 31 (max p q + 1)) (sum_precision 31 r t)
+    → AreNear (min 63 (max p q + 1)) (sum_precision 63 r t)
 sum_near p q r t a b = (omega (arith, a.0, b.0), omega arith, omega arith)
 
 pub product_near : (p q r t : ℕ) → AreNear p r → AreNear q t
-    → AreNear (min 31 (p + q + 1)) (product_precision 31 r t)
+    → AreNear (min 63 (p + q + 1)) (product_precision 63 r t)
 product_near p q r t a b = (omega (arith, a.0, b.0), omega arith, omega arith)
 
 module _ (s : TypingContext) where
   -- a number has its precision
   pub has_precision : (e : TypedExpression) (kind : ExpressionType) → HasType s e kind
-      → OnGiven (IsNumber s e) (precision_of 31 kind)
+      → OnGiven (IsNumber s e) (precision_of 63 kind)
   has_precision e (types.FixedDecimal digits) h = (h.0, h.1, h.2)
   has_precision e (types.FixedBinary precision) h = h
   has_precision e types.Characters h = tt
@@ -52,12 +52,12 @@ module _ (s : TypingContext) where
   has_precision e types.Area h = tt
 
   -- one operand, two operands
-  pub of_one : (operation : TypedOperation) (e : TypedExpression) (t u : ValueType) → IsTyped 31 s e t
-      → Operates 31 operation (t ∷ []) u → IsTyped 31 s (with_one operation e) u
+  pub of_one : (operation : TypedOperation) (e : TypedExpression) (t u : ValueType) → IsTyped 63 s e t
+      → Operates 63 operation (t ∷ []) u → IsTyped 63 s (with_one operation e) u
   of_one operation e t u typed operates = (t ∷ [], (t, [], refl, typed, refl), operates)
 
-  pub of_two : (operation : Operation) (e f : TypedExpression) (t u r : ValueType) → IsTyped 31 s e t
-      → IsTyped 31 s f u → Computes 31 operation (t ∷ u ∷ []) r → IsTyped 31 s (with_two operation e f) r
+  pub of_two : (operation : Operation) (e f : TypedExpression) (t u r : ValueType) → IsTyped 63 s e t
+      → IsTyped 63 s f u → Computes 63 operation (t ∷ u ∷ []) r → IsTyped 63 s (with_two operation e f) r
   of_two operation e f t u r one other operates =
       (t ∷ u ∷ [], (t, u ∷ [], refl, one, (u, [], refl, other, refl)), operates)
 
@@ -73,15 +73,15 @@ module _ (s : TypingContext) where
   both_paired e f None None a b = tt
 
   pub have_precisions : (v w : TypedValue) → HasValue s v → HasValue s w
-      → OnGiven (AreNumbers v.expression w.expression) (precisions 31 v.kind w.kind)
+      → OnGiven (AreNumbers v.expression w.expression) (precisions 63 v.kind w.kind)
   have_precisions v w a b =
-      both_paired v.expression w.expression (precision_of 31 v.kind) (precision_of 31 w.kind)
+      both_paired v.expression w.expression (precision_of 63 v.kind) (precision_of 63 w.kind)
       (has_precision v.expression v.kind a) (has_precision w.expression w.kind b)
 
   -- prefix operators
   minus : (e : TypedExpression) (kind : ExpressionType) (o : Option ℕ) → HasType s e kind
-      → OnGiven (IsNumber s e) (precision_of 31 kind)
-      → OnGiven (HasValue s) (with_minus (record { expression = e; kind = kind }) (precision_of 31 kind))
+      → OnGiven (IsNumber s e) (precision_of 63 kind)
+      → OnGiven (HasValue s) (with_minus (record { expression = e; kind = kind }) (precision_of 63 kind))
   minus e (types.FixedDecimal digits) o h n = (h.0, of_one (Operate Negate) e _ _ h.1 (h.0, refl, refl), h.2, h.3)
   minus e (types.FixedBinary precision) o h n = (h.0, of_one (Operate Negate) e _ _ h.1 (h.0, refl, refl), h.2)
   minus e types.Characters o h n = tt
@@ -107,8 +107,8 @@ module _ (s : TypingContext) where
   negation e types.Area h = tt
 
   pub prefix_has_type : (operator : PrefixOperator) (v : TypedValue) → HasValue s v
-      → OnGiven (HasValue s) (prefix_value 31 operator v)
-  prefix_has_type prefixes.Plus v h = plus v (precision_of 31 v.kind) h
+      → OnGiven (HasValue s) (prefix_value 63 operator v)
+  prefix_has_type prefixes.Plus v h = plus v (precision_of 63 v.kind) h
   prefix_has_type prefixes.Minus v h =
       minus v.expression v.kind None h (has_precision v.expression v.kind h)
   prefix_has_type prefixes.Not v h = negation v.expression v.kind h
@@ -117,28 +117,28 @@ module _ (s : TypingContext) where
   abbrev GivesNumber : Operation → (precision : (p q : ℕ) → ℕ) → Type 0
   GivesNumber operation precision =
       (p q r t : ℕ) → AreNear p r → AreNear q t
-      → (m : ℕ) × Computes 31 operation (Numbers p ∷ Numbers q ∷ []) (Numbers m) × AreNear m (precision r t)
+      → (m : ℕ) × Computes 63 operation (Numbers p ∷ Numbers q ∷ []) (Numbers m) × AreNear m (precision r t)
 
   numbers_give : (operation : Operation) (precision : (p q : ℕ) → ℕ) → GivesNumber operation precision
       → (v w : TypedValue) → HasValue s v → HasValue s w
-      → OnGiven (HasValue s) (on_numbers 31 operation precision v w)
+      → OnGiven (HasValue s) (on_numbers 63 operation precision v w)
   numbers_give operation precision gives v w a b =
-      given_map (AreNumbers v.expression w.expression) (HasValue s) _ (precisions 31 v.kind w.kind)
+      given_map (AreNumbers v.expression w.expression) (HasValue s) _ (precisions 63 v.kind w.kind)
       (λ ps h. made ps h) (have_precisions v w a b)
     where
       made : (ps : ℕ × ℕ) → AreNumbers v.expression w.expression ps
           → IsNumber s (with_two operation v.expression w.expression) (precision ps.0 ps.1)
       made ps h =
-          let given : (m : ℕ) × Computes 31 operation (Numbers h.0.0 ∷ Numbers h.1.0 ∷ []) (Numbers m)
+          let given : (m : ℕ) × Computes 63 operation (Numbers h.0.0 ∷ Numbers h.1.0 ∷ []) (Numbers m)
           × AreNear m (precision ps.0 ps.1) = gives h.0.0 h.1.0 ps.0 ps.1 h.0.2 h.1.2 in
           (given.0, of_two operation v.expression w.expression _ _ _ h.0.1 h.1.1 given.1, given.2)
 
-  sums : (operation : Operation) → ((p q : ℕ) → Computes 31 operation (Numbers p ∷ Numbers q ∷ []) (Numbers (min 31 (max p q + 1))))
-      → GivesNumber operation (sum_precision 31)
-  sums operation operates p q r t a b = (min 31 (max p q + 1), operates p q, sum_near p q r t a b)
+  sums : (operation : Operation) → ((p q : ℕ) → Computes 63 operation (Numbers p ∷ Numbers q ∷ []) (Numbers (min 63 (max p q + 1))))
+      → GivesNumber operation (sum_precision 63)
+  sums operation operates p q r t a b = (min 63 (max p q + 1), operates p q, sum_near p q r t a b)
 
-  products : GivesNumber Multiply (product_precision 31)
-  products p q r t a b = (min 31 (p + q + 1), (p, q, refl, refl), product_near p q r t a b)
+  products : GivesNumber Multiply (product_precision 63)
+  products p q r t a b = (min 63 (p + q + 1), (p, q, refl, refl), product_near p q r t a b)
 
   -- strings of one kind
   abbrev KindIs : StringKind → ExpressionType → Type 0
@@ -162,12 +162,12 @@ module _ (s : TypingContext) where
   strings_meet e types.Bits f types.Bits a b = (OfBits, a, b, refl)
   strings_meet e one f other a b = tt
 
-  pub one_bit : (e : TypedExpression) → IsTyped 31 s e (Strings OfBits 1 1) → IsShort s OfBits e
+  pub one_bit : (e : TypedExpression) → IsTyped 63 s e (Strings OfBits 1 1) → IsShort s OfBits e
   one_bit e h = (1, 1, h, omega arith)
 
   compared_type : (relation : Relation) (v w : TypedValue) (o : Option ExpressionType) → HasValue s v → HasValue s w
       → OnGiven (AreShort v.expression v.kind w.expression w.kind) o
-      → OnGiven (HasValue s) (compared 31 relation v w o)
+      → OnGiven (HasValue s) (compared 63 relation v w o)
   compared_type relation v w (Some kind) a b h =
       one_bit (on_strings (Compare relation) v w kind)
       (of_two (Compare relation) (string_as v.expression v.kind kind) (string_as w.expression w.kind kind)
@@ -175,9 +175,9 @@ module _ (s : TypingContext) where
       (inr (inl (h.0, h.1.0, h.1.1, h.2.0, h.2.1, refl, tt)), refl))
   compared_type relation v w None a b h =
       given_map (λ x. IsShort s OfBits x.expression) (HasValue s) (λ x. as_bits x.expression)
-      (on_numbers 31 (Compare relation) (sum_precision 31) v w) (λ x g. g)
+      (on_numbers 63 (Compare relation) (sum_precision 63) v w) (λ x g. g)
       (given_map (AreNumbers v.expression w.expression) (λ x. IsShort s OfBits x.expression) _
-      (precisions 31 v.kind w.kind) (λ ps g. of_numbers ps g) (have_precisions v w a b))
+      (precisions 63 v.kind w.kind) (λ ps g. of_numbers ps g) (have_precisions v w a b))
     where
       of_numbers : (ps : ℕ × ℕ) → AreNumbers v.expression w.expression ps
           → IsShort s OfBits (with_two (Compare relation) v.expression w.expression)
@@ -189,7 +189,7 @@ module _ (s : TypingContext) where
   -- locators, all of one type
   module _ (t : ValueType) (both : OnLocators (t ∷ t ∷ [])) where
     abbrev IsOfIt : TypedExpression → Type 0
-    IsOfIt e = IsTyped 31 s e t
+    IsOfIt e = IsTyped 63 s e t
 
     locators_type : (relation : Relation) (o q : Option TypedExpression) → OnGiven IsOfIt o → OnGiven IsOfIt q
         → OnGiven (HasValue s) (locators_compared relation o q)
@@ -221,12 +221,12 @@ module _ (s : TypingContext) where
           (pointer_made s v.expression v.kind a) (pointer_made s w.expression w.kind b)
 
   compares : (relation : Relation) (v w : TypedValue) → HasValue s v → HasValue s w
-      → OnGiven (HasValue s) (comparison 31 relation v w)
+      → OnGiven (HasValue s) (comparison 63 relation v w)
   compares relation v w a b = by (is_locator v.kind && is_locator w.kind)
     where
       by : (c : Bool)
           → OnGiven (HasValue s) (if c then locators_beside relation v w
-          else compared 31 relation v w (string_type v.kind w.kind))
+          else compared 63 relation v w (string_type v.kind w.kind))
       by true = beside_type relation v w a b
       by false =
           compared_type relation v w (string_type v.kind w.kind) a b
@@ -252,7 +252,7 @@ module _ (s : TypingContext) where
       ))
       (strings_meet v.expression v.kind w.expression w.kind a b)
 
-  bits_alone : (operation : Operation) → ((a b c d : ℕ) → Computes 31 operation (Strings OfBits a b ∷ Strings OfBits c d ∷ []) (Strings OfBits 0 (max b d)))
+  bits_alone : (operation : Operation) → ((a b c d : ℕ) → Computes 63 operation (Strings OfBits a b ∷ Strings OfBits c d ∷ []) (Strings OfBits 0 (max b d)))
       → (e f : TypedExpression) (one other : ExpressionType) → HasType s e one → HasType s f other
       → OnGiven (HasValue s) (of_bits_alone operation e f one other)
   bits_alone operation operates e f types.Bits types.Bits a b =
@@ -260,11 +260,11 @@ module _ (s : TypingContext) where
   bits_alone operation operates e f one other a b = tt
 
   pub infix_has_type : (operator : InfixOperator) (v w : TypedValue) → HasValue s v → HasValue s w
-      → OnGiven (HasValue s) (infix_value 31 operator v w)
-  infix_has_type infixes.Add = numbers_give Add (sum_precision 31) (sums Add (λ p q. (p, q, refl, refl)))
+      → OnGiven (HasValue s) (infix_value 63 operator v w)
+  infix_has_type infixes.Add = numbers_give Add (sum_precision 63) (sums Add (λ p q. (p, q, refl, refl)))
   infix_has_type infixes.Subtract =
-      numbers_give Subtract (sum_precision 31) (sums Subtract (λ p q. (p, q, refl, refl)))
-  infix_has_type infixes.Multiply = numbers_give Multiply (product_precision 31) products
+      numbers_give Subtract (sum_precision 63) (sums Subtract (λ p q. (p, q, refl, refl)))
+  infix_has_type infixes.Multiply = numbers_give Multiply (product_precision 63) products
   infix_has_type infixes.Equal = compares Equal
   infix_has_type infixes.NotEqual = compares Unequal
   infix_has_type infixes.Less = compares Less

@@ -31,32 +31,32 @@ read_if P false r q a b = b
 
 -- a variable is there, with the area that its OFFSET names, and each reference to a part of it leads to that part
 pub record IsKnown (s : TypingContext) (v : NamedVariable) : Type 0 where
-  pub begins : IsStoredIn 31 s v.storage v.whole
-  pub area : IsAreaNamed 31 s v.area
+  pub begins : IsStoredIn 63 s v.storage v.whole
+  pub area : IsAreaNamed 63 s v.area
   pub leads :
       (p q : StridedPart) (xs : List TypedExpression) → part_of v ≡ Some p → with_subscripts (length xs) p ≡ Some q
-      → LeadTo v.whole q.offset (subscripts_at q.strides xs) q.description × IsTrue (may_stand 31 q.description)
+      → LeadTo v.whole q.offset (subscripts_at q.strides xs) q.description × IsTrue (may_stand 63 q.description)
   pub whole :
       (p q : StridedPart) → v.path ≡ [] → part_of v ≡ Some p → with_subscripts 0 p ≡ Some q → q.description ≡ v.whole
 
 -- a locator in front of a name is a pointer
 abbrev pub IsLocator : TypingContext → LocatorBefore → Type 0
 IsLocator s NotLocated = Unit {0}
-IsLocator s (LocatedBy e) = IsTyped 31 s e Pointers
+IsLocator s (LocatedBy e) = IsTyped 63 s e Pointers
 IsLocator s LocatedWrongly = Unit {0}
 
 -- a variable that leads to BASED ones gives a pointer, an offset one in the area that it names
-pub pointer_given : (s : TypingContext) (locator : LocatorVariable) → IsLocatorThere 31 s locator → IsTyped 31 s (pointer_of locator) Pointers
+pub pointer_given : (s : TypingContext) (locator : LocatorVariable) → IsLocatorThere 63 s locator → IsTyped 63 s (pointer_of locator) Pointers
 pointer_given s (OfPointer reference) h = (Pointer, h, refl)
 pointer_given s (OfOffset reference area) h = ((Offset, h.0, refl), h.1, refl)
 
 -- so does one in front of an arrow
-pub located_typed : (s : TypingContext) (o : Option LocatorVariable) → IsImplied 31 s o → IsLocator s (located_by o)
+pub located_typed : (s : TypingContext) (o : Option LocatorVariable) → IsImplied 63 s o → IsLocator s (located_by o)
 located_typed s None h = tt
 located_typed s (Some locator) h = pointer_given s locator h
 
-pub locator_kept : (s : TypingContext) (r : TypedReference) (d : Description) (area : Option Beginning) → IsPlaced 31 s r d
-    → IsAreaNamed 31 s area → IsImplied 31 s (locator_at r d area)
+pub locator_kept : (s : TypingContext) (r : TypedReference) (d : Description) (area : Option Beginning) → IsPlaced 63 s r d
+    → IsAreaNamed 63 s area → IsImplied 63 s (locator_at r d area)
 locator_kept s r Pointer None placed there = placed
 locator_kept s r Pointer (Some area) placed there = placed
 locator_kept s r Offset (Some area) placed there = (placed, there)
@@ -65,7 +65,7 @@ locator_kept s r d area placed there = tt
 -- subscripts are numbers
 abbrev pub AreIndices : TypingContext → List TypedExpression → Type 0
 AreIndices s [] = Unit {0}
-AreIndices s (x ∷ xs) = ((p : ℕ) × IsTyped 31 s x (Numbers p)) × AreIndices s xs
+AreIndices s (x ∷ xs) = ((p : ℕ) × IsTyped 63 s x (Numbers p)) × AreIndices s xs
 
 pub more_indices : (s : TypingContext) (xs ys : List TypedExpression) → AreIndices s xs → AreIndices s ys
     → AreIndices s (xs ++ ys)
@@ -74,7 +74,7 @@ more_indices s (x ∷ xs) ys a b = (a.0, more_indices s xs ys a.1 b)
 
 module _ (s : TypingContext) where
   subscripts_typed : (strides : List Stride) (xs : List TypedExpression) → AreIndices s xs
-      → AreSubscripts 31 s (subscripts_at strides xs)
+      → AreSubscripts 63 s (subscripts_at strides xs)
   subscripts_typed (t ∷ ts) (x ∷ xs) h = (h.0, subscripts_typed ts xs h.1)
   subscripts_typed [] xs h = tt
   subscripts_typed (t ∷ ts) [] h = tt
@@ -84,10 +84,10 @@ module _ (s : TypingContext) where
   IsPart v q xs = LeadTo v.whole q.offset (subscripts_at q.strides xs) q.description
 
   placed : (v : NamedVariable) (q : StridedPart) (path : List ℕ) (xs : List TypedExpression) (root : Root)
-      → IsRooted 31 s root v.whole → IsPart v q xs → AreIndices s xs
+      → IsRooted 63 s root v.whole → IsPart v q xs → AreIndices s xs
       → (path ≡ [] → xs ≡ [] → q.description ≡ v.whole)
-      → IsPlaced 31 s (reference_to root path q xs) q.description
-  placed v q [] [] root begins leads indices whole = subst (IsRooted 31 s root) (sym (whole refl refl)) begins
+      → IsPlaced 63 s (reference_to root path q xs) q.description
+  placed v q [] [] root begins leads indices whole = subst (IsRooted 63 s root) (sym (whole refl refl)) begins
   placed v q [] (x ∷ xs) root begins leads indices whole =
       (refl, (v.whole, begins, leads), subscripts_typed q.strides (x ∷ xs) indices)
   placed v q (i ∷ path) xs root begins leads indices whole =
@@ -101,9 +101,9 @@ module _ (s : TypingContext) where
 
   -- where a reference begins
   abbrev IsRootOf : NamedStorage → Description → Root → Type 0
-  IsRootOf storage whole root = IsRooted 31 s root whole × (is_passed storage ≡ false → BeginsWhole s root)
+  IsRootOf storage whole root = IsRooted 63 s root whole × (is_passed storage ≡ false → BeginsWhole s root)
 
-  root_typed : (storage : NamedStorage) (whole : Description) (locator : LocatorBefore) → IsStoredIn 31 s storage whole
+  root_typed : (storage : NamedStorage) (whole : Description) (locator : LocatorBefore) → IsStoredIn 63 s storage whole
       → IsLocator s locator → OnGiven (IsRootOf storage whole) (root_by storage whole locator)
   root_typed (Begins root is_parameter) whole NotLocated h k = h
   root_typed (Begins root is_parameter) whole (LocatedBy e) h k = tt
@@ -129,7 +129,7 @@ module _ (s : TypingContext) where
         → OnGiven (IsRootOf v.storage v.whole) o → OnGiven (IsReferent s) (option_map (referent_from v xs q) o)
     with_root p q is given None h = tt
     with_root p q is given (Some root) h =
-        let leads : IsPart v q xs × IsTrue (may_stand 31 q.description) = known.leads p q xs is given in (
+        let leads : IsPart v q xs × IsTrue (may_stand 63 q.description) = known.leads p q xs is given in (
           placed v q v.path xs root h.0 leads.0 indices
               (λ no_path none. known.whole p q no_path is
               (subst (λ ys. with_subscripts (length ys) p ≡ Some q) none given)),

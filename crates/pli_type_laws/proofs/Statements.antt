@@ -91,8 +91,8 @@ pub has_end : (end : ℕ) (o : Option Description) → HasEnd (function_end o en
 has_end end None = tt
 has_end end (Some d) = tt
 
-put_typed : (t : TypingContext) (b : Bool) (x : TypedStatement) (y : TypedStatements) → IsTypedStatement 31 t x
-    → AreTypedStatements 31 t y → AreTypedStatements 31 t (put_before b x y)
+put_typed : (t : TypingContext) (b : Bool) (x : TypedStatement) (y : TypedStatements) → IsTypedStatement 63 t x
+    → AreTypedStatements 63 t y → AreTypedStatements 63 t (put_before b x y)
 put_typed t true x y h k = k
 put_typed t false x y h k = (h, k)
 
@@ -114,7 +114,7 @@ module _ (program : ExternalProcedure) (is_based : ℕ → Bool) (based : List �
       known : (at : ℕ) → IsMeaning t (meaning (numbers s) at)
       known at = known_as U facts direct t s knows home at (meaning (numbers s) at) refl
 
-      named : (block : ℕ) → IsAreaNamed 31 t (areas (numbers s) block)
+      named : (block : ℕ) → IsAreaNamed 63 t (areas (numbers s) block)
       named block = areas_known U facts direct t s knows home block
 
       -- a group of these statements
@@ -176,7 +176,7 @@ module _ (program : ExternalProcedure) (is_based : ℕ → Bool) (based : List �
         value = refl;
       }
 
-      is_ours : IsInside s.blocks → (list : TypedStatements) → AreTypedStatements 31 (Within_it list) list → IsOurs U (Made list)
+      is_ours : IsInside s.blocks → (list : TypedStatements) → AreTypedStatements 63 (Within_it list) list → IsOurs U (Made list)
       is_ours within list h = (
         own_procedure U number b,
         procedure_there U number b there kind,
@@ -221,7 +221,7 @@ module _ (program : ExternalProcedure) (is_based : ℕ → Bool) (based : List �
         value = refl;
       }
 
-      unit_ours : IsInside s.blocks → (list : TypedStatements) → AreTypedStatements 31 (Within_unit list) list
+      unit_ours : IsInside s.blocks → (list : TypedStatements) → AreTypedStatements 63 (Within_unit list) list
           → IsOurs U (MadeUnit list)
       unit_ours within list h = (
         own_unit U b,
@@ -240,10 +240,10 @@ module _ (program : ExternalProcedure) (is_based : ℕ → Bool) (based : List �
     -- a procedure or an ON-unit of a list, and what it leaves in its place
     block_ended : (left : Form) (make : TypedStatements → TypedProcedure) (S : TypedStatements → TypingContext) (number : ℕ)
         (t : TypingContext) (b : SourceBlock) (bs : List SourceBlock) (r : Result (WithProcedures TypedStatements) (List Fault))
-        → IsTypedForm 31 t left → ((list : TypedStatements) → (make list).head.number ≡ number)
-        → ((list : TypedStatements) → AreTypedStatements 31 (S list) list → IsOurs U (make list))
-        → OnTyped (Typed U (λ list. AreTypedStatements 31 (S list) list) (suc number) bs) r
-        → OnTyped (Typed U (IsTypedForm 31 t) number (b ∷ bs)) (as_procedure left make r)
+        → IsTypedForm 63 t left → ((list : TypedStatements) → (make list).head.number ≡ number)
+        → ((list : TypedStatements) → AreTypedStatements 63 (S list) list → IsOurs U (make list))
+        → OnTyped (Typed U (λ list. AreTypedStatements 63 (S list) list) (suc number) bs) r
+        → OnTyped (Typed U (IsTypedForm 63 t) number (b ∷ bs)) (as_procedure left make r)
     block_ended left make S number t b bs (Ok y) form numbered ours h = (
       form,
       ours_both U y.procedures (make y.part ∷ []) h.1 (ours y.part h.0, tt),
@@ -258,8 +258,8 @@ module _ (program : ExternalProcedure) (is_based : ℕ → Bool) (based : List �
 
     -- an ON-unit's statement as its list
     only_typed : (t : TypingContext) (number : ℕ) (bs : List SourceBlock) (unit : Statement)
-        (r : Result (WithProcedures TypedStatement) (List Fault)) → OnTyped (Typed U (IsTypedStatement 31 t) number bs) r
-        → OnTyped (Typed U (AreTypedStatements 31 t) number bs) (listed unit r (Ok (alone NoStatement)))
+        (r : Result (WithProcedures TypedStatement) (List Fault)) → OnTyped (Typed U (IsTypedStatement 63 t) number bs) r
+        → OnTyped (Typed U (AreTypedStatements 63 t) number bs) (listed unit r (Ok (alone NoStatement)))
     only_typed t number bs unit (Ok y) h = (
       put_typed t (says_nothing unit) y.part NoStatement h.0 tt,
       ours_both U y.procedures [] h.1 tt,
@@ -270,8 +270,8 @@ module _ (program : ExternalProcedure) (is_based : ℕ → Bool) (based : List �
     begin_typed : (s : Surroundings) (x : Next) (number : ℕ) (ss : Statements) (t : TypingContext) (bs : List SourceBlock)
         → slice_get All x.block ≡ Some (record { kind = kinds.Begin; statement = number; around = s.blocks; labels = source.labels_of ss })
         → (r : Result (WithProcedures TypedStatements) (List Fault))
-        → OnTyped (Typed U (λ list. AreTypedStatements 31 (trees.in_begin (head_of U x.block number ss) list t) list) (suc x.block) bs) r
-        → OnTyped (Typed U (IsTypedForm 31 t) x.block
+        → OnTyped (Typed U (λ list. AreTypedStatements 63 (trees.in_begin (head_of U x.block number ss) list t) list) (suc x.block) bs) r
+        → OnTyped (Typed U (IsTypedForm 63 t) x.block
         (record { kind = kinds.Begin; statement = number; around = s.blocks; labels = source.labels_of ss } ∷ bs))
         (made (typed.Begin (head_of U x.block number ss)) r)
     begin_typed s x number ss t bs there (Ok y) h =
@@ -281,8 +281,8 @@ module _ (program : ExternalProcedure) (is_based : ℕ → Bool) (based : List �
     group_typed : (s : Surroundings) (home : AreHome All s.blocks) (t : TypingContext) (knows : Knows U t s) (x : Next)
         (ss : Statements) (bs : List SourceBlock)
         → ((t : TypingContext) → Knows U t (source.in_group ss s)
-        → OnTyped (Typed U (AreTypedStatements 31 t) x.block bs) (statements_typed U (source.in_group ss s) x ss))
-        → OnTyped (Typed U (λ list. AreTypedStatements 31 (trees.in_group list t) list) x.block bs)
+        → OnTyped (Typed U (AreTypedStatements 63 t) x.block bs) (statements_typed U (source.in_group ss s) x ss))
+        → OnTyped (Typed U (λ list. AreTypedStatements 63 (trees.in_group list t) list) x.block bs)
         (statements_typed U (source.in_group ss s) x ss)
     group_typed s home t knows x ss bs h =
         with_list U (statements_typed U (source.in_group ss s) x ss) (λ list. trees.in_group list t)
@@ -294,18 +294,18 @@ module _ (program : ExternalProcedure) (is_based : ℕ → Bool) (based : List �
       statement_is_typed : (s : Surroundings) (x : Next) (st : Statement)
           → AreHome All s.blocks → IsInside s.blocks → Sits All x.block (begun_in s.blocks x.block st)
           → (t : TypingContext) → Knows U t s
-          → OnTyped (Typed U (IsTypedStatement 31 t) x.block (begun_in s.blocks x.block st)) (statement_typed U s x st)
+          → OnTyped (Typed U (IsTypedStatement 63 t) x.block (begun_in s.blocks x.block st)) (statement_typed U s x st)
       statement_is_typed s x (Numbered number label at body) home within sits t knows =
-          typed_made U (IsTypedForm 31 t) (IsTypedStatement 31 t) (typed.Statement number) x.block _
+          typed_made U (IsTypedForm 63 t) (IsTypedStatement 63 t) (typed.Statement number) x.block _
           (body_typed U s x number at body) (λ f h. h) (body_is_typed s x number at body home within sits t knows)
 
       body_is_typed : (s : Surroundings) (x : Next) (number at : ℕ) (body : Body)
           → AreHome All s.blocks → IsInside s.blocks → Sits All x.block (begun_by s.blocks x.block number body)
           → (t : TypingContext) → Knows U t s
-          → OnTyped (Typed U (IsTypedForm 31 t) x.block (begun_by s.blocks x.block number body)) (body_typed U s x number at body)
+          → OnTyped (Typed U (IsTypedForm 63 t) x.block (begun_by s.blocks x.block number body)) (body_typed U s x number at body)
       body_is_typed s x number at tree.Null home within sits t knows = (tt, tt, tt)
       body_is_typed s x number at (tree.Assign target equals value) home within sits t knows =
-          typed_own U (IsTypedForm 31 t) x.block (assignment (naming_at U s) at target equals value)
+          typed_own U (IsTypedForm 63 t) x.block (assignment (naming_at U s) at target equals value)
           (assignment_typed (based (numbers s)) (areas (numbers s)) (meaning (numbers s)) t (known s home t knows) at target equals value)
       body_is_typed s x number at (tree.Declare declared) home within sits t knows = (tt, tt, tt)
       body_is_typed s x number at (tree.Procedure heading ss end) home within sits t knows =
@@ -331,13 +331,13 @@ module _ (program : ExternalProcedure) (is_based : ℕ → Bool) (based : List �
           (λ y f. begun s home t knows x.block number ss _ sits.0 refl y.part f)
           (labels_kept U (source.in_begin x.block ss s) (inside x) ss)))
       body_is_typed s x number at (tree.Do None ss end) home within sits t knows =
-          typed_made U (λ list. AreTypedStatements 31 (trees.in_group list t) list) (IsTypedForm 31 t) typed.Group x.block _
+          typed_made U (λ list. AreTypedStatements 63 (trees.in_group list t) list) (IsTypedForm 63 t) typed.Group x.block _
           (statements_typed U (source.in_group ss s) x ss) (λ list h. h)
           (group_typed s home t knows x ss _
           (list_is_typed (source.in_group ss s) x ss (home_labels All (source.labels_of ss) s.blocks home)
           (inside_group (source.labels_of ss) s.blocks within) sits))
       body_is_typed s x number at (tree.Do (Some (tree.While tested)) ss end) home within sits t knows =
-          typed_with U (IsString 31 t OfBits) (λ list. AreTypedStatements 31 (trees.in_group list t) list) (IsTypedForm 31 t)
+          typed_with U (IsString 63 t OfBits) (λ list. AreTypedStatements 63 (trees.in_group list t) list) (IsTypedForm 63 t)
           typed.While x.block _ (condition (naming_at U s) tested) (statements_typed U (source.in_group ss s) x ss)
           (λ c list h k. (h, k))
           (condition_typed (based (numbers s)) (areas (numbers s)) (meaning (numbers s)) t (known s home t knows) tested)
@@ -346,7 +346,7 @@ module _ (program : ExternalProcedure) (is_based : ℕ → Bool) (based : List �
           (inside_group (source.labels_of ss) s.blocks within) sits))
       body_is_typed s x number at (tree.Do (Some (tree.Iterate variable equals start range tested)) ss end) home within sits
           t knows =
-          typed_with U (IsIteration 31 t) (λ list. AreTypedStatements 31 (trees.in_group list t) list) (IsTypedForm 31 t)
+          typed_with U (IsIteration 63 t) (λ list. AreTypedStatements 63 (trees.in_group list t) list) (IsTypedForm 63 t)
           typed.Iterate x.block _ (iteration (naming_at U s) x.temporary variable equals start range tested)
           (statements_typed U (source.in_group ss s) (behind_limits range x) ss) (λ c list h k. (h, k))
           (iteration_typed (based (numbers s)) (areas (numbers s)) (meaning (numbers s)) t (known s home t knows) x.temporary variable equals start range tested)
@@ -358,37 +358,37 @@ module _ (program : ExternalProcedure) (is_based : ℕ → Bool) (based : List �
           × Sits All (x.block + blocks.blocks_in consequence)
           (begun_behind s.blocks (x.block + blocks.blocks_in consequence) alternative) =
           sits_parts All x.block (blocks.blocks_in consequence) _ _ (begun_count s.blocks x.block consequence) sits in
-          typed_with U (IsString 31 t OfBits) (λ b. IsTypedStatement 31 t b.0 × IsTypedElse 31 t b.1) (IsTypedForm 31 t)
+          typed_with U (IsString 63 t OfBits) (λ b. IsTypedStatement 63 t b.0 × IsTypedElse 63 t b.1) (IsTypedForm 63 t)
           (λ c b. typed.If c b.0 b.1) x.block _ (condition (naming_at U s) tested)
           (together (λ y z. (y, z)) (statement_typed U s x consequence) (alternative_typed U s (behind is_based x consequence) alternative))
           (λ c b h k. (h, k.0, k.1))
           (condition_typed (based (numbers s)) (areas (numbers s)) (meaning (numbers s)) t (known s home t knows) tested)
-          (typed_both U (IsTypedStatement 31 t) (IsTypedElse 31 t) (λ b. IsTypedStatement 31 t b.0 × IsTypedElse 31 t b.1)
+          (typed_both U (IsTypedStatement 63 t) (IsTypedElse 63 t) (λ b. IsTypedStatement 63 t b.0 × IsTypedElse 63 t b.1)
           (λ y z. (y, z)) x.block (blocks.blocks_in consequence) _ _ (statement_typed U s x consequence)
           (alternative_typed U s (behind is_based x consequence) alternative) (begun_count s.blocks x.block consequence)
           (λ y z h k. (h, k)) (statement_is_typed s x consequence home within places.0 t knows)
           (alternative_is_typed s (behind is_based x consequence) alternative home within places.1 t knows))
       body_is_typed s x number at tree.Stop home within sits t knows = (tt, tt, tt)
       body_is_typed s x number at (tree.Allocate list) home within sits t knows =
-          typed_own U (IsTypedForm 31 t) x.block (allocate_typed (naming_at U s) x.temporary list)
+          typed_own U (IsTypedForm 63 t) x.block (allocate_typed (naming_at U s) x.temporary list)
           (allocate_is_typed (based (numbers s)) (areas (numbers s)) (meaning (numbers s)) t (known s home t knows) (facts.based (numbers s)) x.temporary list)
       body_is_typed s x number at (tree.Free list) home within sits t knows =
-          typed_own U (IsTypedForm 31 t) x.block (free_typed (naming_at U s) list)
+          typed_own U (IsTypedForm 63 t) x.block (free_typed (naming_at U s) list)
           (free_is_typed (based (numbers s)) (areas (numbers s)) (meaning (numbers s)) t (known s home t knows) list)
       body_is_typed s x number at (tree.Call name arguments) home within sits t knows =
-          typed_own U (IsTypedForm 31 t) x.block (call_typed (naming_at U s) name arguments)
+          typed_own U (IsTypedForm 63 t) x.block (call_typed (naming_at U s) name arguments)
           (call_is_typed (based (numbers s)) (areas (numbers s)) (meaning (numbers s)) t (known s home t knows) name arguments)
       body_is_typed s x number at (tree.Goto label) home within sits t knows =
-          typed_own U (IsTypedForm 31 t) x.block (goto_typed (naming_at U s) s label)
+          typed_own U (IsTypedForm 63 t) x.block (goto_typed (naming_at U s) s label)
           (goto_is_typed (based (numbers s)) (areas (numbers s)) (meaning (numbers s)) t (known s home t knows) s
           (λ n outward e. label_known U s.blocks t.blocks n outward knows.blocks e) label)
       body_is_typed s x number at (tree.Return value) home within sits t knows =
-          typed_own U (IsTypedForm 31 t) x.block (return_typed (naming_at U s) s at value)
+          typed_own U (IsTypedForm 63 t) x.block (return_typed (naming_at U s) s at value)
           (return_is_typed (based (numbers s)) (areas (numbers s)) (meaning (numbers s)) t (known s home t knows) (named s home t knows) s knows.begins knows.value at value)
       body_is_typed s x number at (tree.Put skip list) home within sits t knows =
-          typed_made U (AreItems 31 t) (IsTypedForm 31 t) (typed.Put skip) x.block [] (of_own (items (naming_at U s) list))
+          typed_made U (AreItems 63 t) (IsTypedForm 63 t) (typed.Put skip) x.block [] (of_own (items (naming_at U s) list))
           (λ xs h. h)
-          (typed_own U (AreItems 31 t) x.block (items (naming_at U s) list)
+          (typed_own U (AreItems 63 t) x.block (items (naming_at U s) list)
           (items_typed (based (numbers s)) (areas (numbers s)) (meaning (numbers s)) t (known s home t knows) list))
       body_is_typed s x number at (tree.On c unit) home within sits t knows =
           let inner : Surroundings = source.in_on_unit x.block unit s in
@@ -415,16 +415,16 @@ module _ (program : ExternalProcedure) (is_based : ℕ → Bool) (based : List �
       alternative_is_typed : (s : Surroundings) (x : Next) (a : Alternative)
           → AreHome All s.blocks → IsInside s.blocks → Sits All x.block (begun_behind s.blocks x.block a)
           → (t : TypingContext) → Knows U t s
-          → OnTyped (Typed U (IsTypedElse 31 t) x.block (begun_behind s.blocks x.block a)) (alternative_typed U s x a)
+          → OnTyped (Typed U (IsTypedElse 63 t) x.block (begun_behind s.blocks x.block a)) (alternative_typed U s x a)
       alternative_is_typed s x tree.NoElse home within sits t knows = (tt, tt, tt)
       alternative_is_typed s x (tree.Else st) home within sits t knows =
-          typed_made U (IsTypedStatement 31 t) (IsTypedElse 31 t) Else x.block _ (statement_typed U s x st) (λ y h. h)
+          typed_made U (IsTypedStatement 63 t) (IsTypedElse 63 t) Else x.block _ (statement_typed U s x st) (λ y h. h)
           (statement_is_typed s x st home within sits t knows)
 
       pub list_is_typed : (s : Surroundings) (x : Next) (ss : Statements)
           → AreHome All s.blocks → IsInside s.blocks → Sits All x.block (begun_among s.blocks x.block ss)
           → (t : TypingContext) → Knows U t s
-          → OnTyped (Typed U (AreTypedStatements 31 t) x.block (begun_among s.blocks x.block ss)) (statements_typed U s x ss)
+          → OnTyped (Typed U (AreTypedStatements 63 t) x.block (begun_among s.blocks x.block ss)) (statements_typed U s x ss)
       list_is_typed s x Ended home within sits t knows = (tt, tt, tt)
       list_is_typed s x (Before (Numbered number label at body) more) home within sits t knows =
           let places : Sits All x.block (begun_in s.blocks x.block (Numbered number label at body))
@@ -432,7 +432,7 @@ module _ (program : ExternalProcedure) (is_based : ℕ → Bool) (based : List �
           (begun_among s.blocks (x.block + blocks.blocks_in (Numbered number label at body)) more) =
           sits_parts All x.block (blocks.blocks_in (Numbered number label at body)) _ _
           (begun_count s.blocks x.block (Numbered number label at body)) sits in
-          typed_both U (IsTypedStatement 31 t) (AreTypedStatements 31 t) (AreTypedStatements 31 t)
+          typed_both U (IsTypedStatement 63 t) (AreTypedStatements 63 t) (AreTypedStatements 63 t)
           (put_before (leaves_nothing body)) x.block (blocks.blocks_in (Numbered number label at body)) _ _
           (statement_typed U s x (Numbered number label at body))
           (statements_typed U s (behind is_based x (Numbered number label at body)) more)

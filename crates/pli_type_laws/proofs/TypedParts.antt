@@ -117,7 +117,7 @@ module _ (u : NamedUnit) where
   abbrev pub IsOurs : TypedProcedure → Type 0
   IsOurs f =
       (p : KnownProcedure) × (known_procedures u f.head.number ≡ Some p)
-      × IsTypedProcedure 31 u.globals (known_procedures u) p f
+      × IsTypedProcedure 63 u.globals (known_procedures u) p f
 
   abbrev pub AreOurs : List TypedProcedure → Type 0
   AreOurs [] = Unit {0}
@@ -177,7 +177,7 @@ module _ (u : NamedUnit) where
   -- a list in a context that knows its labels
   pub with_list : (r : Result (WithProcedures TypedStatements) (List Fault)) (S : TypedStatements → TypingContext)
       (K : TypingContext → Type 0) (n : ℕ) (bs : List SourceBlock)
-      → ((t : TypingContext) → K t → OnTyped (Typed (AreTypedStatements 31 t) n bs) r) → OnTyped (λ y. K (S y.part)) r
-      → OnTyped (Typed (λ list. AreTypedStatements 31 (S list) list) n bs) r
+      → ((t : TypingContext) → K t → OnTyped (Typed (AreTypedStatements 63 t) n bs) r) → OnTyped (λ y. K (S y.part)) r
+      → OnTyped (Typed (λ list. AreTypedStatements 63 (S list) list) n bs) r
   with_list (Ok y) S K n bs h k = h (S y.part) k
   with_list (Err fs) S K n bs h k = tt

@@ -92,14 +92,14 @@ module _ (program : ExternalProcedure) (is_based : ℕ → Bool) (based : List �
     abbrev Inner : List SourceBlock
     Inner = begun_among (enclosing 0 program.statements ∷ []) 1 program.statements
 
-    list_typed : OnTyped (Typed V (λ list. AreTypedStatements 31 (Context list) list) 1 Inner) Result_of
+    list_typed : OnTyped (Typed V (λ list. AreTypedStatements 63 (Context list) list) 1 Inner) Result_of
     list_typed =
         with_list V Result_of Context (λ t. Knows V t (in_unit (returned 0) program.statements)) 1 Inner
         (list_is_typed program is_based based areas meaning parameters returned automatic globals facts direct
         (in_unit (returned 0) program.statements) first_inside program.statements home tt all_sit.1)
         (typed_map _ _ Result_of (λ y f. entered y.part f) (labels_kept V (in_unit (returned 0) program.statements) first_inside program.statements))
 
-    module _ (y : WithProcedures TypedStatements) (h : Typed V (λ list. AreTypedStatements 31 (Context list) list) 1 Inner y) where
+    module _ (y : WithProcedures TypedStatements) (h : Typed V (λ list. AreTypedStatements 63 (Context list) list) 1 Inner y) where
       abbrev Procedures : List TypedProcedure
       Procedures = external_of V y.part ∷ y.procedures
 
@@ -129,7 +129,7 @@ module _ (program : ExternalProcedure) (is_based : ℕ → Bool) (based : List �
       abbrev IsThere : ℕ → KnownProcedure → Type 0
       IsThere number p =
           (f : TypedProcedure) × (procedure_in Procedures number ≡ Some f)
-          × IsTypedProcedure 31 globals (known_procedures V) p f
+          × IsTypedProcedure 63 globals (known_procedures V) p f
 
       as_signed : (number : ℕ) (p : KnownProcedure) → known_procedures V number ≡ Some p
           → (f : TypedProcedure) × (procedure_in Procedures number ≡ Some f) × (f.head.number ≡ number) → IsThere number p
@@ -137,7 +137,7 @@ module _ (program : ExternalProcedure) (is_based : ℕ → Bool) (based : List �
           let own : IsOurs V f = ours_found V number f Procedures ours at in (
             f,
             at,
-            subst (λ q. IsTypedProcedure 31 globals (known_procedures V) q f)
+            subst (λ q. IsTypedProcedure 63 globals (known_procedures V) q f)
                 (same_Some own.0 p (sym own.1 ∙ ap (known_procedures V) same ∙ signed)) own.2,
           )
 
@@ -171,7 +171,7 @@ module _ (program : ExternalProcedure) (is_based : ℕ → Bool) (based : List �
           by None is = absurd (not_known number p is signed)
           by (Some b) is = of_kind number p b is signed b.kind refl
 
-      is_typed : IsTypedUnit 31 (unit_of V y)
+      is_typed : IsTypedUnit 63 (unit_of V y)
       is_typed = record {
         procedures = known_procedures V;
         outer = refl;
@@ -179,11 +179,11 @@ module _ (program : ExternalProcedure) (is_based : ℕ → Bool) (based : List �
         typed = each_procedure;
       }
 
-    pub unit_is_typed_so : (t : TypedUnit) → checked V ≡ Ok t → IsTypedUnit 31 t
+    pub unit_is_typed_so : (t : TypedUnit) → checked V ≡ Ok t → IsTypedUnit 63 t
     unfolding checked
     unit_is_typed_so t e =
-        unit_given V (IsTypedUnit 31) Result_of t
-        (λ y is. is_typed y (on_given (Typed V (λ list. AreTypedStatements 31 (Context list) list) 1 Inner) Result_of y is list_typed)) e
+        unit_given V (IsTypedUnit 63) Result_of t
+        (λ y is. is_typed y (on_given (Typed V (λ list. AreTypedStatements 63 (Context list) list) 1 Inner) Result_of y is list_typed)) e
 
 pub unit_is_typed : TypedUnitsAreTyped
 unit_is_typed program is_based based areas meaning parameters returned automatic globals facts nests t e =

@@ -24,20 +24,20 @@ below_each zero f e i lt = absurd (omega (arith, lt))
 below_each (suc n) f e i lt =
     here_or_below n f i ((and_parts _ _ e).0) (λ l. below_each n f ((and_parts _ _ e).1) i l) lt
 
--- a number of a digit more than this precision has room in its columns
+-- a number of four digits more than this precision has room in its columns
 abbrev has_room : (precision : ℕ) → Bool
 has_room q =
     nat_eq (columns (decimal_digits q)) (suc (decimal_digits q + 2))
-    && nat_le (2 ^ suc q) (10 ^ (decimal_digits q + 2))
+    && nat_le (2 ^ (q + 4)) (10 ^ (decimal_digits q + 2))
 
-rooms : (q : ℕ) → q < 32 → has_room q ≡ true
-rooms q lt = below_each 32 has_room refl q lt
+rooms : (q : ℕ) → q < 64 → has_room q ≡ true
+rooms q lt = below_each 64 has_room refl q lt
 
 pub near_has_columns : (p q : ℕ) → AreNear p q → HaveColumns (columns (decimal_digits q)) p
 near_has_columns p q near =
     let room : has_room q ≡ true = rooms q (omega (arith, near.2)) in
     let both : (nat_eq (columns (decimal_digits q)) (suc (decimal_digits q + 2)) ≡ true)
-    × (nat_le (2 ^ suc q) (10 ^ (decimal_digits q + 2)) ≡ true) = and_parts _ _ room in
-    let less : 2 ^ p ≤ 2 ^ suc q = pow-le-pow_right {n = 2} (lit< tt) {i = p} {j = suc q} (omega (arith, near.0, near.1)) in
-    let within : 2 ^ suc q ≤ 10 ^ (decimal_digits q + 2) = leb-true _ _ both.1 in
+    × (nat_le (2 ^ (q + 4)) (10 ^ (decimal_digits q + 2)) ≡ true) = and_parts _ _ room in
+    let less : 2 ^ p ≤ 2 ^ (q + 4) = pow-le-pow_right {n = 2} (lit< tt) {i = p} {j = q + 4} (omega (arith, near.0, near.2)) in
+    let within : 2 ^ (q + 4) ≤ 10 ^ (decimal_digits q + 2) = leb-true _ _ both.1 in
     (near.1, decimal_digits q + 2, eqb-true _ _ both.0, omega (arith, less, within))

@@ -6,11 +6,11 @@ use Rattle.pli_type.specs.ExpressionTypes.{literal_value}
 use Rattle.pli_type_tree.specs.ValueTypes.{longest}
 use Rattle.pli_value.specs.Value.{Value, Number, Characters, Bits}
 
--- a constant within the limits of the language, as each of a text is: a number of at most 31 binary digits, and
+-- a constant within the limits of the language, as each of a text is: a number of at most 63 binary digits, and
 -- of no more digits than are written, or a string of at most 32,767 elements
 abbrev pub IsWithinLimits : ConstantValue → Type 0
-IsWithinLimits (constants.Decimal value digits) = (value < 2 ^ 31) × (value < 10 ^ digits)
-IsWithinLimits (constants.Binary value digits) = (value < 2 ^ digits) × (digits ≤ 31)
+IsWithinLimits (constants.Decimal value digits) = (value < 2 ^ 63) × (value < 10 ^ digits)
+IsWithinLimits (constants.Binary value digits) = (value < 2 ^ digits) × (digits ≤ 63)
 IsWithinLimits (constants.Characters text) = length text ≤ longest
 IsWithinLimits (constants.Bits bits) = length bits ≤ longest
 
@@ -24,4 +24,4 @@ written_value (constants.Bits bits) = Bits bits
 -- the value of such a constant is what is written
 abbrev pub ConstantsAreAsWritten : Type 0
 ConstantsAreAsWritten =
-    (value : ConstantValue) → IsWithinLimits value → literal_value 31 value ≡ written_value value
+    (value : ConstantValue) → IsWithinLimits value → literal_value 63 value ≡ written_value value

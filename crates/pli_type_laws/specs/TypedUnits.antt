@@ -27,7 +27,7 @@ TypedUnitsAreNumbered =
     → Deeper (λ m. ListNests true m u.tree.statements) nesting_limit → KnowsBased u → checked u ≡ Ok t
     → IsWellNumbered t
 
--- a unit by its parts, where numbers have at most 31 binary digits
+-- a unit by its parts, where numbers have at most 63 binary digits
 abbrev pub unit_with : ExternalProcedure → (is_based : ℕ → Bool)
     → (based : (blocks : List ℕ) → (block : ℕ) → List Template)
     → (areas : (blocks : List ℕ) → (block : ℕ) → Option Beginning)
@@ -38,7 +38,7 @@ unit_with tree is_based based areas meaning parameters returned automatic global
   tree = tree;
   is_based = is_based;
   naming = λ blocks. record {
-    greatest = 31;
+    greatest = 63;
     based = based blocks;
     returned_area = areas blocks;
     meaning = meaning blocks;
@@ -61,7 +61,7 @@ TypedUnitsAreTyped =
     → NameFacts (unit_with tree is_based based areas meaning parameters returned automatic globals)
     → Deeper (λ m. ListNests true m tree.statements) nesting_limit → (t : TypedUnit)
     → checked (unit_with tree is_based based areas meaning parameters returned automatic globals) ≡ Ok t
-    → IsTypedUnit 31 t
+    → IsTypedUnit 63 t
 
 -- the procedure of a unit with which a program may begin takes nothing and gives nothing
 abbrev pub MainTakesNothing : TypedUnit → Type 0
@@ -72,4 +72,4 @@ MainTakesNothing u = u.is_main ≡ true → u.signature ≡ record { parameters 
 abbrev pub CheckedIsTyped : Type 0
 CheckedIsTyped =
     (texts : Tokens) (u : ExternalProcedure) → unit_of texts ≡ Ok u → (t : TypedUnit)
-    → checked_unit (resolved_unit_of u) ≡ Ok t → IsTypedUnit 31 t × IsWellNumbered t × MainTakesNothing t
+    → checked_unit (resolved_unit_of u) ≡ Ok t → IsTypedUnit 63 t × IsWellNumbered t × MainTakesNothing t

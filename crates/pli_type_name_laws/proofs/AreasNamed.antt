@@ -32,21 +32,21 @@ module _ (n : ℕ) (s : TypingContext) where
 
 module _ (r : ResolvedUnit) (blocks : List ℕ) (n : ℕ) (s : TypingContext) where
   abbrev U : NamedUnit
-  U = named_unit 31 r
+  U = named_unit 63 r
 
   module _ (globals : s.globals ≡ U.globals) (slots : HaveSlots U blocks s.blocks) where
     begun_rooted : (key : SymbolKey) (class : StorageClass) (d : Description) (t : Symbol)
         → slice_get (block_symbols r key.block) key.number ≡ Some t → IsOf class d t.kind → (root : Root)
-        → root_of 31 r blocks key class d ≡ Some root → IsRooted n s root d
+        → root_of 63 r blocks key class d ≡ Some root → IsRooted n s root d
     begun_rooted key class d t there of root is =
-        let begun = root_begins 31 r blocks key d root t there class of is in
+        let begun = root_begins 63 r blocks key d root t there class of is in
         (in_context r blocks n s (is_passed_class class) root d globals slots begun.0).0
 
     kind_named : (key : SymbolKey) (path : List ℕ) (t : Symbol) (kind : SymbolKind)
         → slice_get (block_symbols r key.block) key.number ≡ Some t → t.kind ≡ kind
-        → IsAreaNamed n s (area_in 31 r blocks key path (Some (record { identifier = t.identifier; kind = kind })))
+        → IsAreaNamed n s (area_in 63 r blocks key path (Some (record { identifier = t.identifier; kind = kind })))
     kind_named key path t (Variable d class scope initial area) there is =
-        on_named n s path d (root_of 31 r blocks key class d)
+        on_named n s path d (root_of 63 r blocks key class d)
         (λ root e. begun_rooted key class d t there (subst (IsOf class d) (sym is) (refl, refl)) root e)
     kind_named key path t (Member root p initial area) there is = tt
     kind_named key path t (Label statement) there is = tt
@@ -55,17 +55,17 @@ module _ (r : ResolvedUnit) (blocks : List ℕ) (n : ℕ) (s : TypingContext) wh
     kind_named key path t BuiltIn there is = tt
 
     symbol_named : (key : SymbolKey) (path : List ℕ) (o : Option Symbol) → slice_get (block_symbols r key.block) key.number ≡ o
-        → IsAreaNamed n s (area_in 31 r blocks key path o)
+        → IsAreaNamed n s (area_in 63 r blocks key path o)
     symbol_named key path None there = tt
     symbol_named key path (Some t) there = kind_named key path t t.kind there refl
 
     meant_named : (key : SymbolKey) (o : Option Symbol) → slice_get (block_symbols r key.block) key.number ≡ o
-        → IsAreaNamed n s (area_at 31 r blocks key o)
+        → IsAreaNamed n s (area_at 63 r blocks key o)
     meant_named key None there = tt
     meant_named key (Some t) there = by t.kind refl
       where
         by : (kind : SymbolKind) → t.kind ≡ kind
-            → IsAreaNamed n s (area_at 31 r blocks key (Some (record { identifier = t.identifier; kind = kind })))
+            → IsAreaNamed n s (area_at 63 r blocks key (Some (record { identifier = t.identifier; kind = kind })))
         by (Variable d class scope initial area) is = kind_named key [] t (Variable d class scope initial area) there is
         by (Member root path initial area) is =
             symbol_named (record { block = key.block; number = root }) path (slice_get (block_symbols r key.block) root) refl
@@ -74,6 +74,6 @@ module _ (r : ResolvedUnit) (blocks : List ℕ) (n : ℕ) (s : TypingContext) wh
         by (Entry parameters returned area) is = tt
         by BuiltIn is = tt
 
-    pub area_there : (named : Option SymbolKey) → IsAreaNamed n s (area_named 31 r blocks named)
+    pub area_there : (named : Option SymbolKey) → IsAreaNamed n s (area_named 63 r blocks named)
     area_there None = tt
     area_there (Some key) = meant_named key (symbol_at r key) refl

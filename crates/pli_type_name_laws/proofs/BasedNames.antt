@@ -5,5 +5,5 @@ use Rattle.pli_type.proofs.BasedNames.{named_anywhere}
 use Rattle.pli_type.specs.NamedUnits.{named_unit}
 use Rattle.pli_type_name_laws.specs.NameFacts.{KnowsBased}
 
-pub based_known : (r : ResolvedUnit) → KnowsBased (named_unit 31 r)
-based_known r blocks at = named_anywhere 31 r blocks [] (meaning_at r at)
+pub based_known : (r : ResolvedUnit) → KnowsBased (named_unit 63 r)
+based_known r blocks at = named_anywhere 63 r blocks [] (meaning_at r at)

@@ -24,13 +24,13 @@ use Rattle.pli_type_name_laws.proofs.RootsStand.{IsOf, root_begins}
 abbrev strided : (offset : ℕ) → Description → List Stride → StridedPart
 strided o d ss = record { offset = o; description = d; strides = ss }
 
-module _ (n : ℕ) (s : TypingContext) (root : Root) (whole : Description) (rooted : IsRooted n s root whole) (stands : may_stand 31 whole ≡ true) where
+module _ (n : ℕ) (s : TypingContext) (root : Root) (whole : Description) (rooted : IsRooted n s root whole) (stands : may_stand 63 whole ≡ true) where
   -- a part without dimensions
   scalar_placed : (path : List ℕ) (o : ℕ) (d : Description) → part_on (whole_part whole) path ≡ Some (strided o d [])
       → IsPlaced n s (reference_to root path (strided o d []) []) d
   scalar_placed [] o d is = subst (IsRooted n s root) (ap (λ (p : StridedPart). p.description) (same_Some _ _ is)) rooted
   scalar_placed (i ∷ path) o d is =
-      (refl, (whole, rooted, (path_stands 31 whole (whole_part whole) (i ∷ path) (strided o d []) (start 31 whole stands) is).leads), tt)
+      (refl, (whole, rooted, (path_stands 63 whole (whole_part whole) (i ∷ path) (strided o d []) (start 63 whole stands) is).leads), tt)
 
   module _ (area : Option Beginning) (named : IsAreaNamed n s area) where
     -- an OFFSET leads to BASED variables where its declaration names an area
@@ -63,31 +63,31 @@ module _ (n : ℕ) (s : TypingContext) (root : Root) (whole : Description) (root
 
 module _ (r : ResolvedUnit) (blocks : List ℕ) (n : ℕ) (s : TypingContext) where
   abbrev U : NamedUnit
-  U = named_unit 31 r
+  U = named_unit 63 r
 
   module _ (globals : s.globals ≡ U.globals) (slots : HaveSlots U blocks s.blocks) where
     -- the area that an OFFSET names
     abbrev area_of : Option SymbolKey → Option Beginning
-    area_of named = area_named 31 r blocks named
+    area_of named = area_named 63 r blocks named
 
     area_known : (named : Option SymbolKey) → IsAreaNamed n s (area_of named)
     area_known named = area_there r blocks n s globals slots named
 
     root_placed : (key : SymbolKey) (class : StorageClass) (d : Description) (path : List ℕ) (named : Option SymbolKey) (locator : LocatorVariable) (t : Symbol)
         → slice_get (block_symbols r key.block) key.number ≡ Some t → IsOf class d t.kind → (o : Option Root)
-        → root_of 31 r blocks key class d ≡ o → locator_on o d path (area_of named) ≡ Some locator → IsLocatorThere n s locator
+        → root_of 63 r blocks key class d ≡ o → locator_on o d path (area_of named) ≡ Some locator → IsLocatorThere n s locator
     root_placed key class d path named locator t there of None is e = absurd (none-some locator e)
     root_placed key class d path named locator t there of (Some root) is e =
-        let begun = root_begins 31 r blocks key d root t there class of is in
-        part_placed n s root d (in_context r blocks n s (is_passed_class class) root d globals slots begun.0).0 (stored_stands 31 d begun.1)
+        let begun = root_begins 63 r blocks key d root t there class of is in
+        part_placed n s root d (in_context r blocks n s (is_passed_class class) root d globals slots begun.0).0 (stored_stands 63 d begun.1)
         (area_of named) (area_known named) path (part_on (whole_part d) path) locator refl e
 
     kind_placed : (key : SymbolKey) (path : List ℕ) (named : Option SymbolKey) (locator : LocatorVariable) (t : Symbol) (kind : SymbolKind)
         → slice_get (block_symbols r key.block) key.number ≡ Some t → t.kind ≡ kind
-        → locator_in 31 r blocks key path (area_of named) (Some (record { identifier = t.identifier; kind = kind })) ≡ Some locator
+        → locator_in 63 r blocks key path (area_of named) (Some (record { identifier = t.identifier; kind = kind })) ≡ Some locator
         → IsLocatorThere n s locator
     kind_placed key path named locator t (Variable d class scope initial area) there is e =
-        root_placed key class d path named locator t there (subst (IsOf class d) (sym is) (refl, refl)) (root_of 31 r blocks key class d) refl e
+        root_placed key class d path named locator t there (subst (IsOf class d) (sym is) (refl, refl)) (root_of 63 r blocks key class d) refl e
     kind_placed key path named locator t (Member root p initial area) there is e = absurd (none-some locator e)
     kind_placed key path named locator t (Label statement) there is e = absurd (none-some locator e)
     kind_placed key path named locator t (Procedure block returned area) there is e = absurd (none-some locator e)
@@ -95,18 +95,18 @@ module _ (r : ResolvedUnit) (blocks : List ℕ) (n : ℕ) (s : TypingContext) wh
     kind_placed key path named locator t BuiltIn there is e = absurd (none-some locator e)
 
     symbol_placed : (key : SymbolKey) (path : List ℕ) (named : Option SymbolKey) (locator : LocatorVariable) (o : Option Symbol)
-        → slice_get (block_symbols r key.block) key.number ≡ o → locator_in 31 r blocks key path (area_of named) o ≡ Some locator
+        → slice_get (block_symbols r key.block) key.number ≡ o → locator_in 63 r blocks key path (area_of named) o ≡ Some locator
         → IsLocatorThere n s locator
     symbol_placed key path named locator None there e = absurd (none-some locator e)
     symbol_placed key path named locator (Some t) there e = kind_placed key path named locator t t.kind there refl e
 
     meant_placed : (key : SymbolKey) (locator : LocatorVariable) (o : Option Symbol) → slice_get (block_symbols r key.block) key.number ≡ o
-        → locator_meant 31 r blocks key o ≡ Some locator → IsLocatorThere n s locator
+        → locator_meant 63 r blocks key o ≡ Some locator → IsLocatorThere n s locator
     meant_placed key locator None there e = absurd (none-some locator e)
     meant_placed key locator (Some t) there e = by t.kind refl e
       where
         by : (kind : SymbolKind) → t.kind ≡ kind
-            → locator_meant 31 r blocks key (Some (record { identifier = t.identifier; kind = kind })) ≡ Some locator → IsLocatorThere n s locator
+            → locator_meant 63 r blocks key (Some (record { identifier = t.identifier; kind = kind })) ≡ Some locator → IsLocatorThere n s locator
         by (Variable d class scope initial area) is e =
             kind_placed key [] area locator t (Variable d class scope initial area) there is e
         by (Member root path initial area) is e =
@@ -116,10 +116,10 @@ module _ (r : ResolvedUnit) (blocks : List ℕ) (n : ℕ) (s : TypingContext) wh
         by (Entry parameters returned area) is e = absurd (none-some locator e)
         by BuiltIn is e = absurd (none-some locator e)
 
-    pub locator_there : (named : Option SymbolKey) → IsImplied n s (locator_named 31 r blocks named)
+    pub locator_there : (named : Option SymbolKey) → IsImplied n s (locator_named 63 r blocks named)
     locator_there None = tt
-    locator_there (Some key) = by (locator_meant 31 r blocks key (symbol_at r key)) refl
+    locator_there (Some key) = by (locator_meant 63 r blocks key (symbol_at r key)) refl
       where
-        by : (o : Option LocatorVariable) → locator_meant 31 r blocks key (symbol_at r key) ≡ o → IsImplied n s o
+        by : (o : Option LocatorVariable) → locator_meant 63 r blocks key (symbol_at r key) ≡ o → IsImplied n s o
         by None e = tt
         by (Some locator) e = meant_placed key locator (symbol_at r key) refl e

@@ -33,48 +33,48 @@ use Rattle.pli_type_name_laws.proofs.RootsStand.{automatic_stored, global_stored
 
 module _ (r : ResolvedUnit) where
   abbrev U : NamedUnit
-  U = named_unit 31 r
+  U = named_unit 63 r
 
   stored_in : (blocks : List ℕ) (n : ℕ) (s : TypingContext) (storage : NamedStorage) (d : Description)
-      → s.globals ≡ U.globals → HaveSlots U blocks s.blocks → StandsIn 31 r blocks storage d → IsStoredIn n s storage d
+      → s.globals ≡ U.globals → HaveSlots U blocks s.blocks → StandsIn 63 r blocks storage d → IsStoredIn n s storage d
   stored_in blocks n s (Begins root is_parameter) d globals slots h = in_context r blocks n s is_parameter root d globals slots h
   stored_in blocks n s (IsBased block number implied) d globals slots h =
       subst (IsImplied n s) (sym h.3) (locator_there r blocks n s globals slots h.0)
 
   named_there : (blocks : List ℕ) (n : ℕ) (s : TypingContext) → s.globals ≡ U.globals → HaveSlots U blocks s.blocks
-      → (area : Option Beginning) → IsNamedArea 31 r blocks area → IsAreaNamed n s area
+      → (area : Option Beginning) → IsNamedArea 63 r blocks area → IsAreaNamed n s area
   named_there blocks n s globals slots area (named, is) = subst (IsAreaNamed n s) (sym is) (area_there r blocks n s globals slots named)
 
-  variable_facts : (blocks : List ℕ) (v : NamedVariable) → IsStored 31 r blocks v → VariableFacts U blocks v
+  variable_facts : (blocks : List ℕ) (v : NamedVariable) → IsStored 63 r blocks v → VariableFacts U blocks v
   variable_facts blocks v b =
-      let plain : may_stand 31 v.whole ≡ true = stored_stands 31 v.whole b.1 in
+      let plain : may_stand 63 v.whole ≡ true = stored_stands 63 v.whole b.1 in
       record {
         begins = λ n s globals slots. stored_in blocks n s v.storage v.whole globals slots b.0;
         area = λ n s globals slots. named_there blocks n s globals slots v.area b.2;
         plain = plain;
-        leads = λ p q xs e f. subscripts_lead 31 v.whole p q xs (part_stands 31 v.whole v p refl plain e) f;
-        whole = λ p q none e f. whole_is 31 v p q plain none e f;
+        leads = λ p q xs e f. subscripts_lead 63 v.whole p q xs (part_stands 63 v.whole v p refl plain e) f;
+        whole = λ p q none e f. whole_is 63 v p q plain none e f;
       }
 
   -- ---- procedures
 
-  plain_returned : (o : Option Description) (d : Description) → gives_stored 31 o ≡ true → o ≡ Some d → is_plain 31 d ≡ true
+  plain_returned : (o : Option Description) (d : Description) → gives_stored 63 o ≡ true → o ≡ Some d → is_plain 63 d ≡ true
   plain_returned None d h e = absurd (none-some d e)
-  plain_returned (Some x) d h e = valued_plain 31 d (ap (is_valued 31) (sym (same_Some x d e)) ∙ h)
+  plain_returned (Some x) d h e = valued_plain 63 d (ap (is_valued 63) (sym (same_Some x d e)) ∙ h)
 
   -- ---- BASED variables
 
-  based_template : (class : StorageClass) (d : Description) (items : List InitialItem) → is_based 31 class d ≡ true
+  based_template : (class : StorageClass) (d : Description) (items : List InitialItem) → is_based 63 class d ≡ true
       → IsBasedTemplate (template_of d items)
   based_template (classes.Based locator) d items e =
-      (template_made 31 d items (valued_stored 31 d e), plain_no_area 31 d (valued_plain 31 d e))
+      (template_made 63 d items (valued_stored 63 d e), plain_no_area 63 d (valued_plain 63 d e))
   based_template class d items e = absurd (false≢true e)
 
-  based_templates : (block : ℕ) → AllByRecursion IsBasedTemplate (templates_of (is_based 31) (block_symbols r block))
-  based_templates block = all_hold IsBasedTemplate (is_based 31) based_template (block_symbols r block) 0 (block_symbols r block)
+  based_templates : (block : ℕ) → AllByRecursion IsBasedTemplate (templates_of (is_based 63) (block_symbols r block))
+  based_templates block = all_hold IsBasedTemplate (is_based 63) based_template (block_symbols r block) 0 (block_symbols r block)
 
   module _ (law : BlocksAreOfTree r) where
-    block_called : (blocks : List ℕ) (p : NamedProcedure) (block : ℕ) → named_procedure 31 r blocks block ≡ p
+    block_called : (blocks : List ℕ) (p : NamedProcedure) (block : ℕ) → named_procedure 63 r blocks block ≡ p
         → is_reached blocks (slice_get r.blocks block) ≡ true → BlockCalled U blocks p block
     block_called blocks p block is reached = by (slice_get r.blocks block) refl
       where
@@ -101,13 +101,13 @@ module _ (r : ResolvedUnit) where
         by (Some b) at =
             of_place b (sym (ap (is_reached blocks) at) ∙ reached) (same_place r.blocks (unit_blocks r.tree) block b law at)
 
-    called : (blocks : List ℕ) (p : NamedProcedure) (c : Callee) → IsThere 31 r blocks p c → IsCalled U blocks p c
+    called : (blocks : List ℕ) (p : NamedProcedure) (c : Callee) → IsThere 63 r blocks p c → IsCalled U blocks p c
     called blocks p (OfBlock block) h = block_called blocks p block h.0 h.1
     called blocks p (OfEntry number) h =
         ap (λ k. signature_of (slice_get U.globals k)) h.is
-        ∙ entry_stands 31 r h.key h.symbol p.parameters p.returned h.there h.entry
+        ∙ entry_stands 63 r h.key h.symbol p.parameters p.returned h.there h.entry
 
-    procedure_facts : (blocks : List ℕ) (p : NamedProcedure) → IsNamed 31 r blocks p → ProcedureFacts U blocks p
+    procedure_facts : (blocks : List ℕ) (p : NamedProcedure) → IsNamed 63 r blocks p → ProcedureFacts U blocks p
     procedure_facts blocks p h = record {
       called = called blocks p p.callee h.there;
       plain = λ d e. plain_returned p.returned d h.stored e;
@@ -141,13 +141,13 @@ module _ (r : ResolvedUnit) where
 
     pub facts_hold : NameFacts U
     facts_hold = record {
-      variables = λ blocks at v h. variable_facts blocks v (variable_begins 31 r blocks v (meaning_at r at) h);
-      procedures = λ blocks at p h. procedure_facts blocks p (procedure_named_so 31 r blocks p (meaning_at r at) h);
+      variables = λ blocks at v h. variable_facts blocks v (variable_begins 63 r blocks v (meaning_at r at) h);
+      procedures = λ blocks at p h. procedure_facts blocks p (procedure_named_so 63 r blocks p (meaning_at r at) h);
       without_parameters = λ number b there other. without number (no_numbers number b there other (slice_get r.blocks number) refl);
       automatic = λ block.
-          all_made 31 (is_automatic 31) (automatic_stored 31) (block_symbols r block) 0
+          all_made 63 (is_automatic 63) (automatic_stored 63) (block_symbols r block) 0
           (block_symbols r block);
-      globals = globals_behind 31 (global_stored 31) (all_symbols r);
+      globals = globals_behind 63 (global_stored 63) (all_symbols r);
       based = λ blocks block. based_templates block;
       returned_areas = λ blocks block n s globals slots. area_there r blocks n s globals slots (returned_area_of r block);
     }

@@ -43,10 +43,10 @@ block_there u (n ∷ ns) (b ∷ bs) block outward h at =
 
 module _ (r : ResolvedUnit) where
   abbrev U : NamedUnit
-  U = named_unit 31 r
+  U = named_unit 63 r
 
   pub in_context : (blocks : List ℕ) (n : ℕ) (s : TypingContext) (is_parameter : Bool) (root : Root) (d : Description)
-      → s.globals ≡ U.globals → HaveSlots U blocks s.blocks → Standing 31 r blocks is_parameter root d
+      → s.globals ≡ U.globals → HaveSlots U blocks s.blocks → Standing 63 r blocks is_parameter root d
       → IsRooted n s root d × (is_parameter ≡ false → BeginsWhole s root)
   in_context blocks n s is_parameter (InSlot outward slot) d globals slots h =
       let b = block_there U blocks s.blocks h.0 outward slots h.1 in (

@@ -60,13 +60,13 @@ pub record VariableFacts (u : NamedUnit) (blocks : List ℕ) (v : NamedVariable)
   pub area :
       (greatest : ℕ) (s : TypingContext) → s.globals ≡ u.globals → HaveSlots u blocks s.blocks
       → IsAreaNamed greatest s v.area
-  pub plain : IsTrue (may_stand 31 v.whole)
+  pub plain : IsTrue (may_stand 63 v.whole)
   -- with as many subscripts as it has levels, or with none where no level above it has subscripts
   pub leads :
       (p q : StridedPart) (xs : List TypedExpression) → part_of v ≡ Some p
       → with_subscripts (length xs) p ≡ Some q
       → LeadTo v.whole q.offset (subscripts_at q.strides xs) q.description
-      × IsTrue (may_stand 31 q.description)
+      × IsTrue (may_stand 63 q.description)
   -- without members and subscripts it is the whole variable
   pub whole :
       (p q : StridedPart) → v.path ≡ [] → part_of v ≡ Some p → with_subscripts 0 p ≡ Some q
@@ -97,7 +97,7 @@ IsCalled u blocks p (OfEntry number) =
 -- that its RETURNS names
 pub record ProcedureFacts (u : NamedUnit) (blocks : List ℕ) (p : NamedProcedure) : Type 0 where
   pub called : IsCalled u blocks p p.callee
-  pub plain : (d : Description) → p.returned ≡ Some d → IsTrue (is_plain 31 d)
+  pub plain : (d : Description) → p.returned ≡ Some d → IsTrue (is_plain 63 d)
   pub area :
       (greatest : ℕ) (s : TypingContext) → s.globals ≡ u.globals → HaveSlots u blocks s.blocks
       → IsAreaNamed greatest s p.area

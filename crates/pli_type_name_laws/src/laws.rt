@@ -19,7 +19,7 @@ ghost use Rattle.pli_type_name_laws.specs.UnitBlocks.{BlocksAreOfTree};
 /// a name that means a procedure means one of the tree, directly in a block around, and the area is there that its
 /// RETURNS names; and each variable begins with values that its scalars hold.
 pub fn names_mean_variables()
-    ensures { (r : ResolvedUnit) → BlocksAreOfTree r → NameFacts (named_unit 31 r) }
+    ensures { (r : ResolvedUnit) → BlocksAreOfTree r → NameFacts (named_unit 63 r) }
 {}
 
 /// A law: the blocks of a resolved unit are those of its tree, where procedures, BEGIN blocks and ON-units begin.

@@ -25,22 +25,22 @@ pub untyped_meant : (n : Names) (at : ℕ) → None ≡ meaning_at (resolved_uni
 unfolding naming_in
 untyped_meant n at e =
     let r = resolved_unit_of (unit_view n.unit) in
-    is_meant answers.Untyped (named_as 31 r n.blocks (meaning_at r at)) (ap (λ o. seen (named_as 31 r n.blocks o)) e)
+    is_meant answers.Untyped (named_as 63 r n.blocks (meaning_at r at)) (ap (λ o. seen (named_as 63 r n.blocks o)) e)
 
 pub function_meant : (n : Names) (at : ℕ) (f : BuiltInFunction)
     → Some (meanings.BuiltIn f) ≡ meaning_at (resolved_unit_of (unit_view n.unit)) at → IsMeantAs (answers.Function f) ((naming_in n).meaning at)
 unfolding naming_in
 function_meant n at f e =
     let r = resolved_unit_of (unit_view n.unit) in
-    is_meant (answers.Function f) (named_as 31 r n.blocks (meaning_at r at)) (ap (λ o. seen (named_as 31 r n.blocks o)) e)
+    is_meant (answers.Function f) (named_as 63 r n.blocks (meaning_at r at)) (ap (λ o. seen (named_as 63 r n.blocks o)) e)
 
 pub declared_meant : (n : Names) (at : ℕ) (key : SymbolKey) (a : NamedAs)
     → Some (meanings.Symbol key) ≡ meaning_at (resolved_unit_of (unit_view n.unit)) at
-    → answer_view a ≡ seen (declared_as 31 (resolved_unit_of (unit_view n.unit)) n.blocks key) → IsMeantAs a ((naming_in n).meaning at)
+    → answer_view a ≡ seen (declared_as 63 (resolved_unit_of (unit_view n.unit)) n.blocks key) → IsMeantAs a ((naming_in n).meaning at)
 unfolding naming_in
 declared_meant n at key a e is =
     let r = resolved_unit_of (unit_view n.unit) in
-    is_meant a (named_as 31 r n.blocks (meaning_at r at)) (is ∙ ap (λ o. seen (named_as 31 r n.blocks o)) e)
+    is_meant a (named_as 63 r n.blocks (meaning_at r at)) (is ∙ ap (λ o. seen (named_as 63 r n.blocks o)) e)
 
 -- ---- procedures
 
@@ -78,7 +78,7 @@ area_found r block o e = ap area_of e ∙ area_there r block (slice_get r.blocks
 -- ---- the areas that RETURNS name
 
 pub returned_area_is : (n : Names) (block : ℕ)
-    → area_named 31 (resolved_unit_of (unit_view n.unit)) n.blocks (returned_area_of (resolved_unit_of (unit_view n.unit)) block)
+    → area_named 63 (resolved_unit_of (unit_view n.unit)) n.blocks (returned_area_of (resolved_unit_of (unit_view n.unit)) block)
     ≡ (naming_in n).returned_area block
 unfolding naming_in
 returned_area_is n block = refl

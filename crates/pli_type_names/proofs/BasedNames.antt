@@ -18,7 +18,7 @@ pub based_here : (n : Names) (at : ℕ) → names_based ((naming_in n).meaning a
 unfolding naming_in based_in
 based_here n at =
     let r = resolved_unit_of (unit_view n.unit) in
-    named_anywhere 31 r n.blocks [] (meaning_at r at)
+    named_anywhere 63 r n.blocks [] (meaning_at r at)
 
 -- what an answer says of it
 

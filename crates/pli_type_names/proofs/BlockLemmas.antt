@@ -76,39 +76,39 @@ all_rows r n rows h is block =
 
 -- ---- globals
 
-globals_behind : (xss : List (List Symbol)) (xs : List Symbol) → globals_in 31 (xss ++ xs ∷ []) ≡ globals_in 31 xss + globals_before 31 xs (length xs)
+globals_behind : (xss : List (List Symbol)) (xs : List Symbol) → globals_in 63 (xss ++ xs ∷ []) ≡ globals_in 63 xss + globals_before 63 xs (length xs)
 globals_behind [] xs = omega arith
 globals_behind (ys ∷ xss) xs = omega (arith, globals_behind xss xs)
 
 pub globals_more : (xss : List (List Symbol)) (n : ℕ) (xs : List Symbol) → slice_get xss n ≡ Some xs
-    → globals_in 31 (take (n + 1) xss) ≡ globals_in 31 (take n xss) + globals_before 31 xs (length xs)
-globals_more xss n xs e = ap (globals_in 31) (take_one_more xss n xs e) ∙ globals_behind (take n xss) xs
+    → globals_in 63 (take (n + 1) xss) ≡ globals_in 63 (take n xss) + globals_before 63 xs (length xs)
+globals_more xss n xs e = ap (globals_in 63) (take_one_more xss n xs e) ∙ globals_behind (take n xss) xs
 
-tokens_counted : (ss : List Symbol) → length (global_tokens 31 ss) ≡ globals_before 31 ss (length ss)
+tokens_counted : (ss : List Symbol) → length (global_tokens 63 ss) ≡ globals_before 63 ss (length ss)
 tokens_counted [] = refl
 tokens_counted (s ∷ ss) =
     omega (
       arith,
-      length-append (replicate (one_global 31 s.kind) s.identifier.at) (global_tokens 31 ss),
-      length-replicate (one_global 31 s.kind) s.identifier.at,
+      length-append (replicate (one_global 63 s.kind) s.identifier.at) (global_tokens 63 ss),
+      length-replicate (one_global 63 s.kind) s.identifier.at,
       tokens_counted ss,
     )
 
-all_tokens_counted : (xss : List (List Symbol)) → length (all_tokens 31 xss) ≡ globals_in 31 xss
+all_tokens_counted : (xss : List (List Symbol)) → length (all_tokens 63 xss) ≡ globals_in 63 xss
 all_tokens_counted [] = refl
 all_tokens_counted (xs ∷ xss) =
-    omega (arith, length-append (global_tokens 31 xs) (all_tokens 31 xss), tokens_counted xs, all_tokens_counted xss)
+    omega (arith, length-append (global_tokens 63 xs) (all_tokens 63 xss), tokens_counted xs, all_tokens_counted xss)
 
-globals_among : (xss : List (List Symbol)) (n : ℕ) → globals_in 31 (take n xss) ≤ globals_in 31 xss
+globals_among : (xss : List (List Symbol)) (n : ℕ) → globals_in 63 (take n xss) ≤ globals_in 63 xss
 globals_among [] zero = omega arith
 globals_among [] (suc n) = omega arith
 globals_among (xs ∷ xss) zero = omega arith
 globals_among (xs ∷ xss) (suc n) = omega (arith, globals_among xss n)
 
 -- each has a place in the order of the text
-pub globals_placed : (xss : List (List Symbol)) (n : ℕ) → globals_in 31 (take n xss) ≤ length (text_places (all_tokens 31 xss))
+pub globals_placed : (xss : List (List Symbol)) (n : ℕ) → globals_in 63 (take n xss) ≤ length (text_places (all_tokens 63 xss))
 globals_placed xss n =
-    let tokens = all_tokens 31 xss in
+    let tokens = all_tokens 63 xss in
     omega (
       arith,
       globals_among xss n,

@@ -83,6 +83,6 @@ same_level variables k l same is = record {
 }
 
 -- a member of a plain structure is plain, and lies within it
-pub member_fits : (d : Description) (ms : Members) (i : ℕ) (p : PlacedPart) → may_stand 31 d ≡ true → d ≡ Structure ms
+pub member_fits : (d : Description) (ms : Members) (i : ℕ) (p : PlacedPart) → may_stand 63 d ≡ true → d ≡ Structure ms
     → Some p ≡ member_behind 0 ms i → PlainMember d p
 member_fits d ms i p plain e is = plain_step d i p plain (ap (λ x. part_at x (Member i)) e ∙ sym is)

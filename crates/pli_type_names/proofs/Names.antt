@@ -40,7 +40,7 @@ from_storage (Some storage) d path area = refl
 module _ (r : ResolvedUnit) (blocks : List ℕ) (entries : List BlockEntry) (rows : List (List Kept)) (are : AreRows r rows) where
   way_seen : (block : ℕ) (o : Option Location) (d : Description) (path : List ℕ) (area : Option SymbolKey)
       → kept_seen rows blocks entries block (on_way (begun o d) path area)
-      ≡ seen (variable_from (option_and_then (storage_from rows blocks block) o) d path (area_named 31 r blocks area))
+      ≡ seen (variable_from (option_and_then (storage_from rows blocks block) o) d path (area_named 63 r blocks area))
   way_seen block None d path area = refl
   way_seen block (Some p) d path area =
       from_storage (storage_from rows blocks block p) d path (area_under rows blocks area)
@@ -48,14 +48,14 @@ module _ (r : ResolvedUnit) (blocks : List ℕ) (entries : List BlockEntry) (row
 
   way_of_class : (key : SymbolKey) (path : List ℕ) (area : Option SymbolKey) (class : StorageClass) (d : Description)
       → kept_seen rows blocks entries key.block (on_way (begun (place_at (facts_of r key.block) key.number class d) d) path area)
-      ≡ seen (variable_from (storage_of 31 r blocks key class d) d path (area_named 31 r blocks area))
+      ≡ seen (variable_from (storage_of 63 r blocks key class d) d path (area_named 63 r blocks area))
   way_of_class key path area class d =
       way_seen key.block (place_at (facts_of r key.block) key.number class d) d path area
-      ∙ ap (λ o. seen (variable_from o d path (area_named 31 r blocks area))) (storage_is r blocks rows are key class d)
+      ∙ ap (λ o. seen (variable_from o d path (area_named 63 r blocks area))) (storage_is r blocks rows are key class d)
 
   way_of_kind : (key : SymbolKey) (path : List ℕ) (area : Option SymbolKey) (s : Symbol) (k : SymbolKind)
       → kept_seen rows blocks entries key.block (on_way (own_at (facts_of r key.block) key.number k) path area)
-      ≡ seen (variable_at 31 r blocks key path (area_named 31 r blocks area) (Some (record { identifier = s.identifier; kind = k })))
+      ≡ seen (variable_at 63 r blocks key path (area_named 63 r blocks area) (Some (record { identifier = s.identifier; kind = k })))
   way_of_kind key path area s (Variable d class scope initial named) = way_of_class key path area class d
   way_of_kind key path area s (Member root p initial named) = refl
   way_of_kind key path area s (Label statement) = refl
@@ -65,7 +65,7 @@ module _ (r : ResolvedUnit) (blocks : List ℕ) (entries : List BlockEntry) (row
 
   way_there : (key : SymbolKey) (path : List ℕ) (area : Option SymbolKey) (o : Option Symbol)
       → kept_seen rows blocks entries key.block (on_way (own_there (facts_of r key.block) key.number o) path area)
-      ≡ seen (variable_at 31 r blocks key path (area_named 31 r blocks area) o)
+      ≡ seen (variable_at 63 r blocks key path (area_named 63 r blocks area) o)
   way_there key path area None = refl
   way_there key path area (Some s) = way_of_kind key path area s s.kind
 
@@ -86,17 +86,17 @@ with_area p area = record { callee = p.callee; parameters = p.parameters; return
 module _ (r : ResolvedUnit) (blocks : List ℕ) (entries : List BlockEntry) (rows : List (List Kept)) (are : AreRows r rows) where
   procedure_there : (block : ℕ) (o : Option ResolvedBlock)
       → procedure_seen rows blocks (option_map (entry_at r block) o) block
-      ≡ seen (if is_reached blocks o && gives_stored 31 (returned_of r block) then AProcedure (named_procedure 31 r blocks block) else Untyped)
+      ≡ seen (if is_reached blocks o && gives_stored 63 (returned_of r block) then AProcedure (named_procedure 63 r blocks block) else Untyped)
   procedure_there block None = refl
   procedure_there block (Some b) =
-      ap (λ area. if (is_procedure b.kind && gives_stored 31 (returned_of r block)) && stands_around blocks b.outer
-      then SeenProcedure (with_area (named_procedure 31 r blocks block) area) else SeenUntyped) (area_is r blocks rows are (returned_area_of r block))
-      ∙ if_named (is_procedure b.kind) (gives_stored 31 (returned_of r block)) (stands_around blocks b.outer) (named_procedure 31 r blocks block)
+      ap (λ area. if (is_procedure b.kind && gives_stored 63 (returned_of r block)) && stands_around blocks b.outer
+      then SeenProcedure (with_area (named_procedure 63 r blocks block) area) else SeenUntyped) (area_is r blocks rows are (returned_area_of r block))
+      ∙ if_named (is_procedure b.kind) (gives_stored 63 (returned_of r block)) (stands_around blocks b.outer) (named_procedure 63 r blocks block)
 
   if_entry : (block number : ℕ) (parameters : List Description) (returned : Option Description) (area : Option SymbolKey) (gives : Bool)
       → kept_seen rows blocks entries block (if gives then KeptEntry number parameters returned area else KeptNothing)
       ≡ seen (if gives
-      then AProcedure (record { callee = OfEntry number; parameters = parameters; returned = returned; area = area_named 31 r blocks area })
+      then AProcedure (record { callee = OfEntry number; parameters = parameters; returned = returned; area = area_named 63 r blocks area })
       else Untyped)
   if_entry block number parameters returned area true =
       ap (λ x. SeenProcedure (record { callee = OfEntry number; parameters = parameters; returned = returned; area = x })) (area_is r blocks rows are area)
@@ -111,7 +111,7 @@ AreAll r entries = (number : ℕ) → slice_get entries number ≡ option_map (e
 module _ (r : ResolvedUnit) (blocks : List ℕ) (entries : List BlockEntry) (rows : List (List Kept)) (are : AreRows r rows) where
   kind_seen : (key : SymbolKey) (s : Symbol) (k : SymbolKind) → AreAll r entries
       → slice_get (block_symbols r key.block) key.number ≡ Some s → s.kind ≡ k
-      → kept_seen rows blocks entries key.block (kind_kept (own_variables (facts_of r key.block)) key.number (global_number 31 r key) k) ≡ seen (symbol_meant 31 r blocks key k)
+      → kept_seen rows blocks entries key.block (kind_kept (own_variables (facts_of r key.block)) key.number (global_number 63 r key) k) ≡ seen (symbol_meant 63 r blocks key k)
   kind_seen key s (Variable d class scope initial area) all e is =
       let f = facts_of r key.block in
       ap (λ o. kept_seen rows blocks entries key.block (on_way o [] area))
@@ -124,17 +124,17 @@ module _ (r : ResolvedUnit) (blocks : List ℕ) (entries : List BlockEntry) (row
   kind_seen key s (Procedure block returned area) all e is =
       ap (λ o. procedure_seen rows blocks o block) (all block) ∙ procedure_there r blocks entries rows are block (slice_get r.blocks block)
   kind_seen key s (Entry parameters returned area) all e is =
-      if_entry r blocks entries rows are key.block (global_number 31 r key) parameters returned area (gives_stored 31 returned)
+      if_entry r blocks entries rows are key.block (global_number 63 r key) parameters returned area (gives_stored 63 returned)
   kind_seen key s BuiltIn all e is = refl
 
   symbol_there : (key : SymbolKey) (o : Option Symbol) → AreAll r entries → slice_get (block_symbols r key.block) key.number ≡ o
-      → kept_seen rows blocks entries key.block (kept_there r key o) ≡ seen (declared_as 31 r blocks key)
+      → kept_seen rows blocks entries key.block (kept_there r key o) ≡ seen (declared_as 63 r blocks key)
   symbol_there key None all e = rw e refl
   symbol_there key (Some s) all e = rw e (kind_seen key s s.kind all e refl)
 
   pub declared_seen : (key : SymbolKey) (kept : Kept) → AreAll r entries
       → kept ≡ get_or (kept_symbols (facts_of r key.block)) key.number KeptNothing
-      → kept_seen rows blocks entries key.block kept ≡ seen (declared_as 31 r blocks key)
+      → kept_seen rows blocks entries key.block kept ≡ seen (declared_as 63 r blocks key)
   declared_seen key kept all is =
       ap (kept_seen rows blocks entries key.block) (is ∙ kept_get r key)
       ∙ symbol_there key (slice_get (block_symbols r key.block) key.number) all refl

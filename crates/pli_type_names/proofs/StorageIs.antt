@@ -43,17 +43,17 @@ based_nowhere blocks block true number locator = refl
 based_nowhere blocks block false number locator = refl
 
 root_is : (r : ResolvedUnit) (blocks : List ℕ) (key : SymbolKey) (class : StorageClass) (d : Description)
-    → root_of 31 r blocks key class d ≡ option_and_then (root_from blocks key.block) (place_at (facts_of r key.block) key.number class d)
+    → root_of 63 r blocks key class d ≡ option_and_then (root_from blocks key.block) (place_at (facts_of r key.block) key.number class d)
 root_is r blocks key classes.Automatic d =
-    if_placed (root_from blocks key.block) (is_stored 31 d) _
+    if_placed (root_from blocks key.block) (is_stored 63 d) _
 root_is r blocks key (classes.Parameter slot) d =
-    if_placed (root_from blocks key.block) (is_stored 31 d && is_parameter (parameter_numbers r key.block) slot key.number) (Passed slot)
+    if_placed (root_from blocks key.block) (is_stored 63 d && is_parameter (parameter_numbers r key.block) slot key.number) (Passed slot)
 root_is r blocks key classes.Static d =
-    if_placed (root_from blocks key.block) (is_stored 31 d) _
+    if_placed (root_from blocks key.block) (is_stored 63 d) _
 root_is r blocks key classes.Controlled d =
-    if_placed (root_from blocks key.block) (is_stored 31 d) _
+    if_placed (root_from blocks key.block) (is_stored 63 d) _
 root_is r blocks key (classes.Based locator) d =
-    based_nowhere blocks key.block (is_valued 31 d) _ locator
+    based_nowhere blocks key.block (is_valued 63 d) _ locator
 
 -- ---- variables of their own
 
@@ -67,7 +67,7 @@ own_get f n = each_get (λ m s. own_at f m s.kind) f.symbols 0 n n None (omega a
 
 -- what is kept of a symbol that may not be there
 abbrev pub kept_there : ResolvedUnit → SymbolKey → Option Symbol → Kept
-kept_there r key o = unwrap_or (option_map (λ (s : Symbol). kind_kept (own_variables (facts_of r key.block)) key.number (global_number 31 r key) s.kind) o) KeptNothing
+kept_there r key o = unwrap_or (option_map (λ (s : Symbol). kind_kept (own_variables (facts_of r key.block)) key.number (global_number 63 r key) s.kind) o) KeptNothing
 
 pub kept_get : (r : ResolvedUnit) (key : SymbolKey) → get_or (kept_symbols (facts_of r key.block)) key.number KeptNothing
     ≡ kept_there r key (slice_get (block_symbols r key.block) key.number)
@@ -119,14 +119,14 @@ module _ (r : ResolvedUnit) (blocks : List ℕ) where
 
   area_of_class : (key : SymbolKey) (path : List ℕ) (area : Option SymbolKey) (class : StorageClass) (d : Description)
       → area_kept blocks key.block (on_way (begun (place_at (facts_of r key.block) key.number class d) d) path area)
-      ≡ area_on path d (root_of 31 r blocks key class d)
+      ≡ area_on path d (root_of 63 r blocks key class d)
   area_of_class key path area class d =
       area_way key.block (place_at (facts_of r key.block) key.number class d) d path area
       ∙ ap (area_on path d) (sym (root_is r blocks key class d))
 
   area_way_of : (key : SymbolKey) (path : List ℕ) (area : Option SymbolKey) (s : Symbol) (k : SymbolKind)
       → area_kept blocks key.block (on_way (own_at (facts_of r key.block) key.number k) path area)
-      ≡ area_in 31 r blocks key path (Some (record { identifier = s.identifier; kind = k }))
+      ≡ area_in 63 r blocks key path (Some (record { identifier = s.identifier; kind = k }))
   area_way_of key path area s (Variable d class scope initial named) = area_of_class key path area class d
   area_way_of key path area s (Member root p initial named) = refl
   area_way_of key path area s (Label statement) = refl
@@ -135,7 +135,7 @@ module _ (r : ResolvedUnit) (blocks : List ℕ) where
   area_way_of key path area s BuiltIn = refl
 
   area_way_there : (key : SymbolKey) (path : List ℕ) (area : Option SymbolKey) (o : Option Symbol)
-      → area_kept blocks key.block (on_way (own_there (facts_of r key.block) key.number o) path area) ≡ area_in 31 r blocks key path o
+      → area_kept blocks key.block (on_way (own_there (facts_of r key.block) key.number o) path area) ≡ area_in 63 r blocks key path o
   area_way_there key path area None = refl
   area_way_there key path area (Some s) = area_way_of key path area s s.kind
 
@@ -146,8 +146,8 @@ module _ (r : ResolvedUnit) (blocks : List ℕ) where
 
   area_of_kind : (key : SymbolKey) (s : Symbol) (k : SymbolKind)
       → slice_get (block_symbols r key.block) key.number ≡ Some s → s.kind ≡ k
-      → area_kept blocks key.block (kind_kept (own_variables (facts_of r key.block)) key.number (global_number 31 r key) k)
-      ≡ area_at 31 r blocks key (Some (record { identifier = s.identifier; kind = k }))
+      → area_kept blocks key.block (kind_kept (own_variables (facts_of r key.block)) key.number (global_number 63 r key) k)
+      ≡ area_at 63 r blocks key (Some (record { identifier = s.identifier; kind = k }))
   area_of_kind key s (Variable d class scope initial area) e is =
       let f = facts_of r key.block in
       ap (λ o. area_kept blocks key.block (on_way o [] area))
@@ -159,16 +159,16 @@ module _ (r : ResolvedUnit) (blocks : List ℕ) where
   area_of_kind key s (Label statement) e is = refl
   area_of_kind key s (Procedure block returned area) e is = refl
   area_of_kind key s (Entry parameters returned area) e is =
-      no_area key.block (global_number 31 r key) parameters returned area (gives_stored 31 returned)
+      no_area key.block (global_number 63 r key) parameters returned area (gives_stored 63 returned)
   area_of_kind key s BuiltIn e is = refl
 
   area_there : (key : SymbolKey) (o : Option Symbol) → slice_get (block_symbols r key.block) key.number ≡ o
-      → area_kept blocks key.block (kept_there r key o) ≡ area_at 31 r blocks key o
+      → area_kept blocks key.block (kept_there r key o) ≡ area_at 63 r blocks key o
   area_there key None e = refl
   area_there key (Some s) e = area_of_kind key s s.kind e refl
 
   pub area_is : (rows : List (List Kept)) → AreRows r rows → (area : Option SymbolKey)
-      → area_under rows blocks area ≡ area_named 31 r blocks area
+      → area_under rows blocks area ≡ area_named 63 r blocks area
   area_is rows are None = refl
   area_is rows are (Some key) =
       ap (λ row. area_kept blocks key.block (get_or row key.number KeptNothing)) (are key.block)
@@ -215,7 +215,7 @@ from_locator (Some root) d path area = part_locator root path area (part_on (who
 module _ (r : ResolvedUnit) (blocks : List ℕ) (rows : List (List Kept)) (are : AreRows r rows) where
   locator_way : (block : ℕ) (o : Option Location) (d : Description) (path : List ℕ) (area : Option SymbolKey)
       → locator_kept rows blocks block (on_way (begun o d) path area)
-      ≡ locator_on (option_and_then (root_from blocks block) o) d path (area_named 31 r blocks area)
+      ≡ locator_on (option_and_then (root_from blocks block) o) d path (area_named 63 r blocks area)
   locator_way block None d path area = refl
   locator_way block (Some p) d path area =
       from_locator (root_from blocks block p) d path (area_under rows blocks area)
@@ -223,14 +223,14 @@ module _ (r : ResolvedUnit) (blocks : List ℕ) (rows : List (List Kept)) (are :
 
   locator_of_class : (key : SymbolKey) (path : List ℕ) (area : Option SymbolKey) (class : StorageClass) (d : Description)
       → locator_kept rows blocks key.block (on_way (begun (place_at (facts_of r key.block) key.number class d) d) path area)
-      ≡ locator_on (root_of 31 r blocks key class d) d path (area_named 31 r blocks area)
+      ≡ locator_on (root_of 63 r blocks key class d) d path (area_named 63 r blocks area)
   locator_of_class key path area class d =
       locator_way key.block (place_at (facts_of r key.block) key.number class d) d path area
-      ∙ ap (λ o. locator_on o d path (area_named 31 r blocks area)) (sym (root_is r blocks key class d))
+      ∙ ap (λ o. locator_on o d path (area_named 63 r blocks area)) (sym (root_is r blocks key class d))
 
   locator_way_of : (key : SymbolKey) (path : List ℕ) (area : Option SymbolKey) (s : Symbol) (k : SymbolKind)
       → locator_kept rows blocks key.block (on_way (own_at (facts_of r key.block) key.number k) path area)
-      ≡ locator_in 31 r blocks key path (area_named 31 r blocks area) (Some (record { identifier = s.identifier; kind = k }))
+      ≡ locator_in 63 r blocks key path (area_named 63 r blocks area) (Some (record { identifier = s.identifier; kind = k }))
   locator_way_of key path area s (Variable d class scope initial named) = locator_of_class key path area class d
   locator_way_of key path area s (Member root p initial named) = refl
   locator_way_of key path area s (Label statement) = refl
@@ -240,7 +240,7 @@ module _ (r : ResolvedUnit) (blocks : List ℕ) (rows : List (List Kept)) (are :
 
   locator_way_there : (key : SymbolKey) (path : List ℕ) (area : Option SymbolKey) (o : Option Symbol)
       → locator_kept rows blocks key.block (on_way (own_there (facts_of r key.block) key.number o) path area)
-      ≡ locator_in 31 r blocks key path (area_named 31 r blocks area) o
+      ≡ locator_in 63 r blocks key path (area_named 63 r blocks area) o
   locator_way_there key path area None = refl
   locator_way_there key path area (Some s) = locator_way_of key path area s s.kind
 
@@ -251,8 +251,8 @@ module _ (r : ResolvedUnit) (blocks : List ℕ) (rows : List (List Kept)) (are :
 
   locator_of_kind : (key : SymbolKey) (s : Symbol) (k : SymbolKind)
       → slice_get (block_symbols r key.block) key.number ≡ Some s → s.kind ≡ k
-      → locator_kept rows blocks key.block (kind_kept (own_variables (facts_of r key.block)) key.number (global_number 31 r key) k)
-      ≡ locator_meant 31 r blocks key (Some (record { identifier = s.identifier; kind = k }))
+      → locator_kept rows blocks key.block (kind_kept (own_variables (facts_of r key.block)) key.number (global_number 63 r key) k)
+      ≡ locator_meant 63 r blocks key (Some (record { identifier = s.identifier; kind = k }))
   locator_of_kind key s (Variable d class scope initial area) e is =
       let f = facts_of r key.block in
       ap (λ o. locator_kept rows blocks key.block (on_way o [] area))
@@ -264,15 +264,15 @@ module _ (r : ResolvedUnit) (blocks : List ℕ) (rows : List (List Kept)) (are :
   locator_of_kind key s (Label statement) e is = refl
   locator_of_kind key s (Procedure block returned area) e is = refl
   locator_of_kind key s (Entry parameters returned area) e is =
-      no_locator key.block (global_number 31 r key) parameters returned area (gives_stored 31 returned)
+      no_locator key.block (global_number 63 r key) parameters returned area (gives_stored 63 returned)
   locator_of_kind key s BuiltIn e is = refl
 
   locator_there : (key : SymbolKey) (o : Option Symbol) → slice_get (block_symbols r key.block) key.number ≡ o
-      → locator_kept rows blocks key.block (kept_there r key o) ≡ locator_meant 31 r blocks key o
+      → locator_kept rows blocks key.block (kept_there r key o) ≡ locator_meant 63 r blocks key o
   locator_there key None e = refl
   locator_there key (Some s) e = locator_of_kind key s s.kind e refl
 
-  locator_is : (locator : Option SymbolKey) → locator_under rows blocks locator ≡ locator_named 31 r blocks locator
+  locator_is : (locator : Option SymbolKey) → locator_under rows blocks locator ≡ locator_named 63 r blocks locator
   locator_is None = refl
   locator_is (Some key) =
       ap (λ row. locator_kept rows blocks key.block (get_or row key.number KeptNothing)) (are key.block)
@@ -297,12 +297,12 @@ module _ (r : ResolvedUnit) (blocks : List ℕ) (rows : List (List Kept)) (are :
 
   pub storage_is : (key : SymbolKey) (class : StorageClass) (d : Description)
       → option_and_then (storage_from rows blocks key.block) (place_at (facts_of r key.block) key.number class d)
-      ≡ storage_of 31 r blocks key class d
-  storage_is key classes.Automatic d = storage_placed key.block (is_stored 31 d) false _ refl
+      ≡ storage_of 63 r blocks key class d
+  storage_is key classes.Automatic d = storage_placed key.block (is_stored 63 d) false _ refl
   storage_is key (classes.Parameter slot) d =
-      storage_placed key.block (is_stored 31 d && is_parameter (parameter_numbers r key.block) slot key.number) true (Passed slot) refl
-  storage_is key classes.Static d = storage_placed key.block (is_stored 31 d) false _ refl
-  storage_is key classes.Controlled d = storage_placed key.block (is_stored 31 d) false _ refl
+      storage_placed key.block (is_stored 63 d && is_parameter (parameter_numbers r key.block) slot key.number) true (Passed slot) refl
+  storage_is key classes.Static d = storage_placed key.block (is_stored 63 d) false _ refl
+  storage_is key classes.Controlled d = storage_placed key.block (is_stored 63 d) false _ refl
   storage_is key (classes.Based locator) d =
-      storage_based key.block (such_before (is_based 31) (block_symbols r key.block) key.number) locator _ (is_valued 31 d)
+      storage_based key.block (such_before (is_based 63) (block_symbols r key.block) key.number) locator _ (is_valued 63 d)
       (locator_is locator)

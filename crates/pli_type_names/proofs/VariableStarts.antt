@@ -29,24 +29,24 @@ in_both false is place d = refl
 
 -- the variable that a symbol is, by those before it
 pub own_is : (f : BlockFacts) (number slots globals based : ℕ) (k : SymbolKind)
-    → slots ≡ length f.parameters + such_before (is_automatic 31) f.symbols number
+    → slots ≡ length f.parameters + such_before (is_automatic 63) f.symbols number
     → globals ≡ global_at f number
-    → based ≡ such_before (is_based 31) f.symbols number
+    → based ≡ such_before (is_based 63) f.symbols number
     → own_behind f.parameters slots globals based number k ≡ own_at f number k
 own_is f number slots globals based (Variable d classes.Automatic scope initial area) e g h =
-    in_order (is_stored 31 d) (InBlock slots) d
-    ∙ ap (λ n. begun (if is_stored 31 d then Some (InBlock n) else None) d) e
+    in_order (is_stored 63 d) (InBlock slots) d
+    ∙ ap (λ n. begun (if is_stored 63 d then Some (InBlock n) else None) d) e
 own_is f number slots globals based (Variable d classes.Static scope initial area) e g h =
-    in_order (is_stored 31 d) (BeforeProgram globals) d
-    ∙ ap (λ n. begun (if is_stored 31 d then Some (BeforeProgram n) else None) d) g
+    in_order (is_stored 63 d) (BeforeProgram globals) d
+    ∙ ap (λ n. begun (if is_stored 63 d then Some (BeforeProgram n) else None) d) g
 own_is f number slots globals based (Variable d (classes.Parameter slot) scope initial area) e g h =
-    in_both (is_stored 31 d) (is_parameter f.parameters slot number) (Passed slot) d
+    in_both (is_stored 63 d) (is_parameter f.parameters slot number) (Passed slot) d
 own_is f number slots globals based (Variable d classes.Controlled scope initial area) e g h =
-    in_order (is_stored 31 d) (NewestOf globals) d
-    ∙ ap (λ n. begun (if is_stored 31 d then Some (NewestOf n) else None) d) g
+    in_order (is_stored 63 d) (NewestOf globals) d
+    ∙ ap (λ n. begun (if is_stored 63 d then Some (NewestOf n) else None) d) g
 own_is f number slots globals based (Variable d (classes.Based locator) scope initial area) e g h =
-    in_order (is_valued 31 d) (Based based locator) d
-    ∙ ap (λ n. begun (if is_valued 31 d then Some (Based n locator) else None) d) h
+    in_order (is_valued 63 d) (Based based locator) d
+    ∙ ap (λ n. begun (if is_valued 63 d then Some (Based n locator) else None) d) h
 own_is f number slots globals based (Member root path initial area) e g h = refl
 own_is f number slots globals based (Label statement) e g h = refl
 own_is f number slots globals based (Procedure block returned area) e g h = refl
@@ -64,7 +64,7 @@ one_if_few false = omega arith
 
 -- a variable that is kept
 pub slots_kept : (d : Description) (class : StorageClass) → is_kept class d ≡ true
-    → one_if (is_automatic 31 class d) ≡ slots_of class
+    → one_if (is_automatic 63 class d) ≡ slots_of class
 slots_kept d classes.Automatic e = ap one_if e
 slots_kept d classes.Static e = refl
 slots_kept d (classes.Parameter slot) e = refl
@@ -72,7 +72,7 @@ slots_kept d classes.Controlled e = refl
 slots_kept d (classes.Based locator) e = refl
 
 pub globals_kept : (d : Description) (class : StorageClass) → is_kept class d ≡ true
-    → one_if (is_global 31 class d) ≡ globals_of class
+    → one_if (is_global 63 class d) ≡ globals_of class
 globals_kept d classes.Automatic e = refl
 globals_kept d classes.Static e = ap one_if e
 globals_kept d (classes.Parameter slot) e = refl
@@ -80,7 +80,7 @@ globals_kept d classes.Controlled e = ap one_if e
 globals_kept d (classes.Based locator) e = refl
 
 pub based_kept : (d : Description) (class : StorageClass) → is_kept class d ≡ true
-    → one_if (is_based 31 class d) ≡ based_of class
+    → one_if (is_based 63 class d) ≡ based_of class
 based_kept d classes.Automatic e = refl
 based_kept d classes.Static e = refl
 based_kept d (classes.Parameter slot) e = refl
@@ -89,7 +89,7 @@ based_kept d (classes.Based locator) e = ap one_if e
 
 -- one that is not
 pub slots_unkept : (d : Description) (class : StorageClass) → is_kept class d ≡ false
-    → one_if (is_automatic 31 class d) ≡ 0
+    → one_if (is_automatic 63 class d) ≡ 0
 slots_unkept d classes.Automatic e = ap one_if e
 slots_unkept d classes.Static e = refl
 slots_unkept d (classes.Parameter slot) e = refl
@@ -97,7 +97,7 @@ slots_unkept d classes.Controlled e = refl
 slots_unkept d (classes.Based locator) e = refl
 
 pub globals_unkept : (d : Description) (class : StorageClass) → is_kept class d ≡ false
-    → one_if (is_global 31 class d) ≡ 0
+    → one_if (is_global 63 class d) ≡ 0
 globals_unkept d classes.Automatic e = refl
 globals_unkept d classes.Static e = ap one_if e
 globals_unkept d (classes.Parameter slot) e = refl
@@ -105,7 +105,7 @@ globals_unkept d classes.Controlled e = ap one_if e
 globals_unkept d (classes.Based locator) e = refl
 
 pub based_unkept : (d : Description) (class : StorageClass) → is_kept class d ≡ false
-    → one_if (is_based 31 class d) ≡ 0
+    → one_if (is_based 63 class d) ≡ 0
 based_unkept d classes.Automatic e = refl
 based_unkept d classes.Static e = refl
 based_unkept d (classes.Parameter slot) e = refl
@@ -151,33 +151,33 @@ before_within f (s ∷ ss) (suc n) = omega (arith, one_at_most f s.kind, before_
 
 -- the same of globals
 
-pub no_global_before : (ss : List plain.Symbol) → globals_before 31 ss 0 ≡ 0
+pub no_global_before : (ss : List plain.Symbol) → globals_before 63 ss 0 ≡ 0
 no_global_before [] = refl
 no_global_before (s ∷ ss) = refl
 
 global_next : (ss : List Symbol) (n : ℕ) (d : Symbol) → n < length ss
-    → globals_before 31 (map symbol_view ss) (suc n)
-    ≡ globals_before 31 (map symbol_view ss) n + one_global 31 (symbol_kind_view (get_or ss n d).kind)
+    → globals_before 63 (map symbol_view ss) (suc n)
+    ≡ globals_before 63 (map symbol_view ss) n + one_global 63 (symbol_kind_view (get_or ss n d).kind)
 global_next [] n d h = absurd (omega arith)
 global_next (s ∷ ss) zero d h = omega (arith, no_global_before (map symbol_view ss))
 global_next (s ∷ ss) (suc n) d h = omega (arith, global_next ss n d (omega (arith, h)))
 
 pub global_more : (ss : List Symbol) (n : ℕ) (d : Symbol) → n < length ss
-    → globals_before 31 (map symbol_view ss) (n + 1)
-    ≡ globals_before 31 (map symbol_view ss) n + one_global 31 (symbol_kind_view (get_or ss n d).kind)
+    → globals_before 63 (map symbol_view ss) (n + 1)
+    ≡ globals_before 63 (map symbol_view ss) n + one_global 63 (symbol_kind_view (get_or ss n d).kind)
 global_more ss n d h =
     let next : n + 1 ≡ suc n = omega arith in
-    ap (globals_before 31 (map symbol_view ss)) next ∙ global_next ss n d h
+    ap (globals_before 63 (map symbol_view ss)) next ∙ global_next ss n d h
 
-one_global_at_most : (k : SymbolKind) → one_global 31 k ≤ 1
-one_global_at_most (Variable d class scope initial area) = one_if_few (is_global 31 class d)
+one_global_at_most : (k : SymbolKind) → one_global 63 k ≤ 1
+one_global_at_most (Variable d class scope initial area) = one_if_few (is_global 63 class d)
 one_global_at_most (Member root path initial area) = omega arith
 one_global_at_most (Label statement) = omega arith
 one_global_at_most (Procedure block returned area) = omega arith
 one_global_at_most (Entry parameters returned area) = omega arith
 one_global_at_most BuiltIn = omega arith
 
-pub globals_within : (ss : List plain.Symbol) (n : ℕ) → globals_before 31 ss n ≤ n
+pub globals_within : (ss : List plain.Symbol) (n : ℕ) → globals_before 63 ss n ≤ n
 globals_within [] n = omega arith
 globals_within (s ∷ ss) zero = omega arith
 globals_within (s ∷ ss) (suc n) = omega (arith, one_global_at_most s.kind, globals_within ss n)

@@ -20,7 +20,7 @@ pub record BlockEntry : Type 0 where
 -- what is found for a block
 abbrev pub entry_at : ResolvedUnit → (number : ℕ) → ResolvedBlock → BlockEntry
 entry_at r number b = record {
-  is_named = is_procedure b.kind && gives_stored 31 (returned_of r number);
+  is_named = is_procedure b.kind && gives_stored 63 (returned_of r number);
   outer = b.outer;
   parameters = parameters_of r number;
   returned = returned_of r number;

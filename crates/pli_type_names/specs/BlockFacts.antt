@@ -18,7 +18,7 @@ pub record BlockFacts : Type 0 where
 abbrev pub facts_of : ResolvedUnit → (block : ℕ) → BlockFacts
 facts_of r block = record {
   parameters = parameter_numbers r block;
-  places = text_places (all_tokens 31 (all_symbols r));
-  globals = globals_in 31 (take block (all_symbols r));
+  places = text_places (all_tokens 63 (all_symbols r));
+  globals = globals_in 63 (take block (all_symbols r));
   symbols = block_symbols r block;
 }

@@ -24,22 +24,22 @@ begun (Some place) description = Some (record { begins = place; whole = descript
 
 -- the number that the symbol of this number has among the globals of the unit, if it is one
 abbrev pub global_at : BlockFacts → (number : ℕ) → ℕ
-global_at f number = get_or f.places (f.globals + globals_before 31 f.symbols number) 0
+global_at f number = get_or f.places (f.globals + globals_before 63 f.symbols number) 0
 
 -- where a variable of a block begins: parameters have slots of their own, AUTOMATIC variables those behind
 -- them, and STATIC and CONTROLLED variables are globals; BASED variables have numbers of their own
 abbrev pub place_at : BlockFacts → (number : ℕ) → StorageClass → Description → Option Location
 place_at f number classes.Automatic d =
-    if is_stored 31 d
-    then Some (InBlock (length f.parameters + such_before (is_automatic 31) f.symbols number)) else None
+    if is_stored 63 d
+    then Some (InBlock (length f.parameters + such_before (is_automatic 63) f.symbols number)) else None
 place_at f number (classes.Parameter slot) d =
-    if is_stored 31 d && is_parameter f.parameters slot number then Some (Passed slot) else None
+    if is_stored 63 d && is_parameter f.parameters slot number then Some (Passed slot) else None
 place_at f number classes.Static d =
-    if is_stored 31 d then Some (BeforeProgram (global_at f number)) else None
+    if is_stored 63 d then Some (BeforeProgram (global_at f number)) else None
 place_at f number classes.Controlled d =
-    if is_stored 31 d then Some (NewestOf (global_at f number)) else None
+    if is_stored 63 d then Some (NewestOf (global_at f number)) else None
 place_at f number (classes.Based locator) d =
-    if is_valued 31 d then Some (Based (such_before (is_based 31) f.symbols number) locator) else None
+    if is_valued 63 d then Some (Based (such_before (is_based 63) f.symbols number) locator) else None
 
 -- the variable that is the symbol of this number, if it is one that is compiled; a member is none of its own
 abbrev pub own_at : BlockFacts → (number : ℕ) → SymbolKind → Option OwnVariable
@@ -66,8 +66,8 @@ place_behind parameters slots global based number (classes.Based locator) = Some
 
 -- a variable of this class is compiled: a BASED one is no area
 abbrev pub is_kept : StorageClass → Description → Bool
-is_kept (classes.Based locator) d = is_valued 31 d
-is_kept class d = is_stored 31 d
+is_kept (classes.Based locator) d = is_valued 63 d
+is_kept class d = is_stored 63 d
 
 -- the variable that a symbol is, there
 abbrev pub own_behind : (parameters : List ℕ) → (slots global based number : ℕ) → SymbolKind

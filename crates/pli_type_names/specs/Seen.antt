@@ -67,7 +67,7 @@ on_way (Some v) path area =
 abbrev pub entry_kept : (number : ℕ) → List Description → Option Description → (area : Option SymbolKey)
     → Kept
 entry_kept number parameters returned area =
-    if gives_stored 31 returned then KeptEntry number parameters returned area else KeptNothing
+    if gives_stored 63 returned then KeptEntry number parameters returned area else KeptNothing
 
 -- the symbol of this number, by the variables of their own; an entry has this number among the globals
 abbrev pub kind_kept : List (Option OwnVariable) → (number global : ℕ) → SymbolKind → Kept

@@ -28,17 +28,17 @@ inside n block = record { unit = n.unit; blocks = block ∷ n.blocks }
 abbrev pub outside : Names → Names
 outside n = record { unit = n.unit; blocks = drop 1 n.blocks }
 
--- numbers have at most 31 binary digits
+-- numbers have at most 63 binary digits
 unfoldable pub naming_in : Names → Naming
-naming_in n = (named_unit 31 (resolved_unit_of (unit_view n.unit))).naming n.blocks
+naming_in n = (named_unit 63 (resolved_unit_of (unit_view n.unit))).naming n.blocks
 
 -- at which tokens the name of a BASED variable stands; this is the same in all blocks
 unfoldable pub based_in : Names → (at : ℕ) → Bool
-based_in n = (named_unit 31 (resolved_unit_of (unit_view n.unit))).is_based
+based_in n = (named_unit 63 (resolved_unit_of (unit_view n.unit))).is_based
 
 -- a block as a procedure: what its parameters are, what it gives, and the area that its RETURNS names
 unfoldable pub procedure_in : Names → (block : ℕ) → NamedProcedure
-procedure_in n block = named_procedure 31 (resolved_unit_of (unit_view n.unit)) n.blocks block
+procedure_in n block = named_procedure 63 (resolved_unit_of (unit_view n.unit)) n.blocks block
 
 -- the symbols of a block
 unfoldable pub symbols_in : Procedure → (block : ℕ) → List Symbol

@@ -7,7 +7,7 @@ ghost use Rattle.pli_type.specs.NamedUnits as spec;
 use pli_map::{Bounds, Description, is_area, size};
 
 /// How many binary digits numbers have at most (own).
-pub const GREATEST: u8 = 31;
+pub const GREATEST: u8 = 63;
 
 /// How many elements a string has at most (own).
 const STRING_LIMIT: u16 = 32_767;
@@ -49,12 +49,12 @@ fn are_bounds(bounds: &[Bounds]) -> bool
     true
 }
 
-/// Whether a description is of numbers, strings and locators alone, within the limits: numbers of 31 binary digits at
+/// Whether a description is of numbers, strings and locators alone, within the limits: numbers of 63 binary digits at
 /// most, strings of 1 to 32,767 elements, arrays with elements, and structures with members (own).
 #[cycle(is_plain)]
 #[tactic(auto, using(crate::proofs::PlainLemmas::structure_plain, crate::proofs::PlainLemmas::structure_empty, crate::proofs::PlainLemmas::array_plain, crate::proofs::PlainLemmas::array_empty))]
 pub fn is_plain(description: &Description) -> bool
-    ensures { result ≡ spec.is_plain 31 (description_view description.now) }
+    ensures { result ≡ spec.is_plain 63 (description_view description.now) }
 {
     match description {
         Description::FixedBinary(precision) => *precision <= GREATEST,
@@ -72,7 +72,7 @@ pub fn is_plain(description: &Description) -> bool
 
 #[cycle(is_plain)]
 fn are_plain(members: &[Description]) -> bool
-    ensures { result ≡ spec.all_plain 31 (members_view members.now) }
+    ensures { result ≡ spec.all_plain 63 (members_view members.now) }
 {
     for member in members {
         if !is_plain(member) {
@@ -85,7 +85,7 @@ fn are_plain(members: &[Description]) -> bool
 /// Whether a description is of numbers, strings and locators alone, and of 1,000,000 bytes at most, as what a function
 /// gives is and what a BASED variable is (own).
 pub fn is_valued(description: &Description) -> bool
-    ensures { result ≡ spec.is_valued 31 (description_view description.now) }
+    ensures { result ≡ spec.is_valued 63 (description_view description.now) }
 {
     is_plain(description) && size(description).is_some()
 }
@@ -93,7 +93,7 @@ pub fn is_valued(description: &Description) -> bool
 /// Whether a variable of its own may be of this description: an area, or one of numbers, strings and locators alone, of
 /// 1,000,000 bytes at most (own).
 pub fn is_stored(description: &Description) -> bool
-    ensures { result ≡ spec.is_stored 31 (description_view description.now) }
+    ensures { result ≡ spec.is_stored 63 (description_view description.now) }
 {
     (is_area(description) || is_plain(description)) && size(description).is_some()
 }

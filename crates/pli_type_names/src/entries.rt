@@ -32,7 +32,7 @@ pub(crate) struct BlockEntry<'a> {
 
 /// Whether a variable could hold what a procedure gives, if it gives anything.
 pub(crate) fn gives_stored(returned: Option<&Description>) -> bool
-    ensures { result ≡ units.gives_stored 31 (option_map (λ d. description_view d.now) returned.entry) }
+    ensures { result ≡ units.gives_stored 63 (option_map (λ d. description_view d.now) returned.entry) }
 {
     match returned {
         None => true,

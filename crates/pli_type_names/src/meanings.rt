@@ -153,7 +153,7 @@ fn symbol_meanings<'a>(
     ensures meanings { IfOk result (λ meanings. map meant_view meanings.items
         ≡ kept_symbols (record { parameters = parameters.now; places = places.now; globals = globals.old; symbols = map symbol_view symbols.now })) }
     ensures counted { IfOk result (λ _. globals.new
-        ≡ globals.old + globals_before 31 (map symbol_view symbols.now) (length symbols.now)) }
+        ≡ globals.old + globals_before 63 (map symbol_view symbols.now) (length symbols.now)) }
 {
     let mut numbers = Vec::new(alloc);
     let variables = own_variables(alloc, symbols, parameters, places, globals, &mut numbers)?;
@@ -185,7 +185,7 @@ fn put_meanings<'r>(
           symbols = block_symbols (resolved_unit_of (unit_view resolved.now)) block;
         }) ∷ []) }
     ensures counted { OnOk result (globals.new ≡ globals.old
-        + globals_before 31 (block_symbols (resolved_unit_of (unit_view resolved.now)) block) (length (block_symbols (resolved_unit_of (unit_view resolved.now)) block))) }
+        + globals_before 63 (block_symbols (resolved_unit_of (unit_view resolved.now)) block) (length (block_symbols (resolved_unit_of (unit_view resolved.now)) block))) }
 {
     let symbols = symbols(alloc, resolved, block)?;
     let parameters = parameter_numbers(resolved, block);

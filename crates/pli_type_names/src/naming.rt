@@ -134,7 +134,7 @@ fn names_based(meant: NamedAs<'_, '_>) -> bool
 impl<'a> Naming<'a> {
     /// How many binary digits numbers have at most.
     pub fn greatest(&self) -> u8
-        ensures { result ≡ 31 }
+        ensures { result ≡ 63 }
     {
         GREATEST
     }
@@ -201,7 +201,7 @@ impl<'a> Naming<'a> {
 
     /// What the symbol under a key means here.
     fn declared(&self, key: SymbolKey) -> NamedAs<'_, 'a>
-        ensures { answer_view result ≡ seen (declared_as 31 (resolved_unit_of (unit_view self.now.unit)) self.now.blocks key) }
+        ensures { answer_view result ≡ seen (declared_as 63 (resolved_unit_of (unit_view self.now.unit)) self.now.blocks key) }
     {
         symbol_seen(&self.around, &self.entries, &self.meanings, key)
     }

@@ -17,7 +17,7 @@ use std::alloc::{AllocError, Global};
 
 /// Whether a variable is STATIC or CONTROLLED, and compiled.
 fn is_whole_program(class: StorageClass, description: &Description) -> bool
-    ensures { result ≡ units.is_global 31 class (description_view description.now) }
+    ensures { result ≡ units.is_global 63 class (description_view description.now) }
 {
     match class {
         StorageClass::Static | StorageClass::Controlled => is_stored(description),
@@ -27,7 +27,7 @@ fn is_whole_program(class: StorageClass, description: &Description) -> bool
 
 /// Whether a symbol is a global: a STATIC or CONTROLLED variable that is compiled, or an entry.
 fn is_global(kind: SymbolKind<'_>) -> bool
-    ensures { (if result then 1 else 0) ≡ one_global 31 (symbol_kind_view kind.entry) }
+    ensures { (if result then 1 else 0) ≡ one_global 63 (symbol_kind_view kind.entry) }
 {
     match kind {
         SymbolKind::Variable {
@@ -42,7 +42,7 @@ fn is_global(kind: SymbolKind<'_>) -> bool
 
 /// Puts the tokens of the names of globals among the symbols of a block.
 fn put_tokens(symbols: &[Symbol<'_>], tokens: &mut Vec<usize>) -> Result<(), AllocError>
-    ensures { OnOk result (tokens.new.items ≡ tokens.old.items ++ global_tokens 31 (map symbol_view symbols.now)) }
+    ensures { OnOk result (tokens.new.items ≡ tokens.old.items ++ global_tokens 63 (map symbol_view symbols.now)) }
 {
     for symbol in symbols {
         if is_global(symbol.kind) {
@@ -60,7 +60,7 @@ fn put_block_tokens<'r>(
     block: usize,
     tokens: &mut Vec<usize>,
 ) -> Result<(), AllocError>
-    ensures { OnOk result (tokens.new.items ≡ tokens.old.items ++ global_tokens 31 (block_symbols (resolved_unit_of (unit_view resolved.now)) block)) }
+    ensures { OnOk result (tokens.new.items ≡ tokens.old.items ++ global_tokens 63 (block_symbols (resolved_unit_of (unit_view resolved.now)) block)) }
 {
     let symbols = symbols(alloc, resolved, block)?;
     put_tokens(&symbols, tokens)
@@ -68,7 +68,7 @@ fn put_block_tokens<'r>(
 
 /// The tokens of the names of a unit's globals, block after block.
 fn unit_tokens<'r>(alloc: Global, resolved: &'r ResolvedUnit<'r>) -> Result<Vec<usize>, AllocError>
-    ensures { IfOk result (λ tokens. tokens.items ≡ all_tokens 31 (all_symbols (resolved_unit_of (unit_view resolved.now)))) }
+    ensures { IfOk result (λ tokens. tokens.items ≡ all_tokens 63 (all_symbols (resolved_unit_of (unit_view resolved.now)))) }
 {
     let outermost = resolved.block_count();
     let mut tokens = Vec::new(alloc);
@@ -130,7 +130,7 @@ pub(crate) fn global_places<'r>(
     resolved: &'r ResolvedUnit<'r>,
 ) -> Result<Vec<usize>, AllocError>
     ensures { IfOk result (λ places. places.items
-        ≡ text_places (all_tokens 31 (all_symbols (resolved_unit_of (unit_view resolved.now))))) }
+        ≡ text_places (all_tokens 63 (all_symbols (resolved_unit_of (unit_view resolved.now))))) }
 {
     let tokens = unit_tokens(alloc, resolved)?;
     let numbers = sorted_numbers(alloc, &tokens)?;

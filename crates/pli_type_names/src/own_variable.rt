@@ -11,5 +11,5 @@ use pli_map::Description;
 pub(crate) struct OwnVariable<'a> {
     pub begins: Location,
     pub description: &'a Description,
-    ghost stored: { is_stored 31 (description_view description.now) ≡ true },
+    ghost stored: { is_stored 63 (description_view description.now) ≡ true },
 }

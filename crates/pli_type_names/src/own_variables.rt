@@ -100,7 +100,7 @@ fn place(
 #[tactic(auto, using(crate::proofs::PlainLemmas::valued_stored))]
 fn is_kept(class: StorageClass, description: &Description) -> bool
     ensures kept { result ≡ spec.is_kept class (description_view description.now) }
-    ensures stored { result ≡ true → units.is_stored 31 (description_view description.now) ≡ true }
+    ensures stored { result ≡ true → units.is_stored 63 (description_view description.now) ≡ true }
 {
     match class {
         StorageClass::Based(_) => is_valued(description),
@@ -122,9 +122,9 @@ fn own_variable<'a>(
     requires based { free.old.based < 18446744073709551615 }
     ensures variable { option_map own_view result
         ≡ own_behind parameters.now free.old.slot (get_or places.now free.old.globals 0) free.old.based number (symbol_kind_view kind.entry) }
-    ensures slots { free.new.slot ≡ free.old.slot + one_such (is_automatic 31) (symbol_kind_view kind.entry) }
-    ensures globals { free.new.globals ≡ free.old.globals + one_global 31 (symbol_kind_view kind.entry) }
-    ensures based { free.new.based ≡ free.old.based + one_such (is_based 31) (symbol_kind_view kind.entry) }
+    ensures slots { free.new.slot ≡ free.old.slot + one_such (is_automatic 63) (symbol_kind_view kind.entry) }
+    ensures globals { free.new.globals ≡ free.old.globals + one_global 63 (symbol_kind_view kind.entry) }
+    ensures based { free.new.based ≡ free.old.based + one_such (is_based 63) (symbol_kind_view kind.entry) }
 {
     match kind {
         SymbolKind::Variable {
@@ -164,9 +164,9 @@ pub(crate) fn own_variables<'a>(
     ensures variables { IfOk result (λ variables. map (option_map own_view) variables.items
         ≡ spec.own_variables (record { parameters = parameters.now; places = places.now; globals = globals.old; symbols = map symbol_view symbols.now })) }
     ensures counted { IfOk result (λ _. globals.new
-        ≡ globals.old + globals_before 31 (map symbol_view symbols.now) (length symbols.now)) }
+        ≡ globals.old + globals_before 63 (map symbol_view symbols.now) (length symbols.now)) }
     ensures numbers { IfOk result (λ _. numbers.new.items ≡ numbers.old.items
-        ++ each_from (λ number s. get_or places.now (globals.old + globals_before 31 (map symbol_view symbols.now) number) 0) 0 (map symbol_view symbols.now)) }
+        ++ each_from (λ number s. get_or places.now (globals.old + globals_before 63 (map symbol_view symbols.now) number) 0) 0 (map symbol_view symbols.now)) }
 {
     let mut free = Free {
         slot: parameters.len(),

@@ -21,7 +21,7 @@ pub struct StridedPart<'a> {
     pub description: &'a Description,
     /// The dimensions above it, of all its levels in turn.
     pub strides: Vec<Stride>,
-    ghost plain: { may_stand 31 (description_view description.now) ≡ true },
+    ghost plain: { may_stand 63 (description_view description.now) ≡ true },
     ghost within: { offset + size_of (description_view description.now) ≤ 1000000 },
 }
 
@@ -62,7 +62,7 @@ impl<'a> StridedPart<'a> {
 
     /// A whole variable of its own.
     pub fn whole(alloc: Global, description: &'a Description) -> StridedPart<'a>
-        requires { is_stored 31 (description_view description.now) ≡ true }
+        requires { is_stored 63 (description_view description.now) ≡ true }
         ensures { part_view result ≡ record { offset = 0; description = description_view description.now; strides = [] } }
     {
         StridedPart {
@@ -120,7 +120,7 @@ impl<'a> StridedPart<'a> {
 
     /// A member of it that stands there, where it is a structure.
     pub(crate) fn into_placed(self, member: PlacedPart<'a>) -> StridedPart<'a>
-        requires plain { may_stand 31 (description_view member.description.now) ≡ true }
+        requires plain { may_stand 63 (description_view member.description.now) ≡ true }
         requires within { member.offset + size_of (description_view member.description.now) ≤ size_of (description_view self.description.now) }
         ensures { part_view result ≡ record {
           offset = self.entry.offset + member.entry.offset;

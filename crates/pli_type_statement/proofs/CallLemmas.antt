@@ -51,20 +51,20 @@ meant_procedure p (AFunction f) h = absurd h
 meant_procedure p (ALabel s) h = absurd h
 meant_procedure p Untyped h = absurd h
 
-pub greatest_is : (names : Names) → (naming_in names).greatest ≡ 31
+pub greatest_is : (names : Names) → (naming_in names).greatest ≡ 63
 unfolding naming_in
 greatest_is names = refl
 
 call_passed : (names : Names) (name : Identifier) (list : Arguments) (gs : List Argument) (q : NamedProcedure)
     → arguments_typed (naming_in names) list ≡ Ok gs → (naming_in names).meaning name.at ≡ AProcedure q
     → call_typed (naming_in names) name list
-    ≡ (arguments_passed 31 q name.at gs >>= no_function name.at q.callee q.returned)
+    ≡ (arguments_passed 63 q name.at gs >>= no_function name.at q.callee q.returned)
 call_passed names name list gs q typed meant =
     ap (λ r. r >>= λ gs. call_of (naming_in names).greatest name.at ((naming_in names).meaning name.at) gs) typed
     ∙ ap (λ m. call_of (naming_in names).greatest name.at m gs) meant
     ∙ ap (λ g. arguments_passed g q name.at gs >>= no_function name.at q.callee q.returned) (greatest_is names)
 
-pub call_fails : (names : Names) (name : Identifier) (list : Arguments) (gs : List Argument) (q : NamedProcedure) (e : Failure Fault) (g : ℕ) → g ≡ 31
+pub call_fails : (names : Names) (name : Identifier) (list : Arguments) (gs : List Argument) (q : NamedProcedure) (e : Failure Fault) (g : ℕ) → g ≡ 63
     → arguments_typed (naming_in names) list ≡ Ok gs → (naming_in names).meaning name.at ≡ AProcedure q
     → Fails e (arguments_passed g q name.at gs) → Fails e (call_typed (naming_in names) name list)
 call_fails names name list gs q errors.OutOfMemory g is typed meant h = tt
@@ -73,7 +73,7 @@ call_fails names name list gs q (errors.Fault f) g is typed meant h =
     ∙ ap (λ r. r >>= no_function name.at q.callee q.returned) h
 
 pub call_done : (names : Names) (name : Identifier) (list : Arguments) (gs : List Argument) (q : NamedProcedure) (xs : TypedArguments)
-    (returned : Option Description) (callee : typed.Callee) (g : ℕ) → g ≡ 31 → arguments_typed (naming_in names) list ≡ Ok gs
+    (returned : Option Description) (callee : typed.Callee) (g : ℕ) → g ≡ 63 → arguments_typed (naming_in names) list ≡ Ok gs
     → (naming_in names).meaning name.at ≡ AProcedure q → arguments_passed g q name.at gs ≡ Ok xs
     → callee ≡ q.callee → returned ≡ q.returned
     → call_typed (naming_in names) name list ≡ no_function name.at callee returned xs
@@ -176,7 +176,7 @@ return_fails names s at e value error is h =
 
 pub return_goes_on : {X : Type 0} (view : X → Form) (result : Result X (Failure Fault)) (names : Names) (s : Surroundings) (at : ℕ)
     (e : program_tree.Expression) (value : Option program_tree.Expression) (v : TypedValue) (greatest first : ℕ) (area : Option Beginning)
-    → value ≡ Some e → value_of (naming_in names) (syntax_view.expression_view e) ≡ Ok v → greatest ≡ 31
+    → value ≡ Some e → value_of (naming_in names) (syntax_view.expression_view e) ≡ Ok v → greatest ≡ 63
     → first ≡ first_token (syntax_view.expression_view e) → area ≡ area_here (naming_in names) s
     → Gives view result (returned_value greatest area at first s.begins s.value v)
     → Gives view result (return_typed (naming_in names) s at (option_map syntax_view.expression_view value))

@@ -47,7 +47,7 @@ not_first k le is = omega (arith, le, is)
 -- what the variables of its blocks are made from
 abbrev pub Templates : Procedure → UnitTemplates → Type 0
 Templates u t =
-    (block : ℕ) → automatic_at t block ≡ (named_unit 31 (resolved_unit_of (unit_view u))).automatic block
+    (block : ℕ) → automatic_at t block ≡ (named_unit 63 (resolved_unit_of (unit_view u))).automatic block
 
 pub templates_first : (u : Procedure) (t : UnitTemplates) → Templates u t
     → (block : ℕ) → automatic_at t block ≡ (unit_named u).automatic block
@@ -57,7 +57,7 @@ templates_first u t automatic block = automatic block
 -- and what the BASED ones are
 abbrev pub BasedTemplates : Procedure → UnitTemplates → Type 0
 BasedTemplates u t =
-    (block : ℕ) → based_at t block ≡ templates_of (is_based 31) (block_symbols (resolved_unit_of (unit_view u)) block)
+    (block : ℕ) → based_at t block ≡ templates_of (is_based 63) (block_symbols (resolved_unit_of (unit_view u)) block)
 
 based_first : (u : Procedure) (t : UnitTemplates) → BasedTemplates u t
     → (block : ℕ) → based_at t block ≡ ((unit_named u).naming []).based block
@@ -65,7 +65,7 @@ unfolding unit_named
 based_first u t based block = based block
 
 pub globals_first : (u : Procedure) (globals : List Global)
-    → globals ≡ (named_unit 31 (resolved_unit_of (unit_view u))).globals → globals ≡ (unit_named u).globals
+    → globals ≡ (named_unit 63 (resolved_unit_of (unit_view u))).globals → globals ≡ (unit_named u).globals
 unfolding unit_named
 globals_first u globals is = is
 

@@ -41,7 +41,7 @@ own_adds (Err f) xs ys e = tt
 -- names are looked at from the blocks round the place
 pub named_at : (w : TypingWalk) → IsPlaced w → naming_in w.naming ≡ naming_at (unit_at w) (around w)
 unfolding unit_named naming_in
-named_at w p = ap (named_unit 31 (resolved_unit_of (unit_view w.naming.unit))).naming p.blocks
+named_at w p = ap (named_unit 63 (resolved_unit_of (unit_view w.naming.unit))).naming p.blocks
 
 -- what BASED variables are made from, as names know it
 pub based_named : (n : Names) (block : ℕ) → ((unit_named n.unit).naming []).based block ≡ (naming_in n).based block

@@ -77,4 +77,4 @@ behind_list is_based x ss =
 
 -- a unit as types see it
 unfoldable pub unit_named : Procedure → NamedUnit
-unit_named u = named_unit 31 (resolved_unit_of (unit_view u))
+unit_named u = named_unit 63 (resolved_unit_of (unit_view u))

@@ -58,7 +58,7 @@ made_has_item wanted marks at members (Entry parameters returned area) m e h = c
 made_has_item wanted marks at members BuiltIn m e h = cc
 
 globals_made_at : (all : List Symbol) (number at : ℕ) (name : Name) (k : SymbolKind)
-    → global_with 31 all number name k ≡ global_as at name (member_items number all) k
+    → global_with 63 all number name k ≡ global_as at name (member_items number all) k
 globals_made_at all number at name (Variable description class scope initial area) =
     ap (map (global_of scope (kind_of_class class) name)) (made_at lifetimes.Program all number at (Variable description class scope initial area))
 globals_made_at all number at name (Member root path initial area) = refl
@@ -69,10 +69,10 @@ globals_made_at all number at name BuiltIn = refl
 
 pub one_global : (all : List Symbol) (number : ℕ) (s : Symbol) (left : List Symbol) (members : List InitialItem)
     → members ≡ member_items number all
-    → globals_from 31 all number (s ∷ left)
-    ≡ map (placed s.identifier.at) (global_made s members) ++ globals_from 31 all (number + 1) left
+    → globals_from 63 all number (s ∷ left)
+    ≡ map (placed s.identifier.at) (global_made s members) ++ globals_from 63 all (number + 1) left
 one_global all number s left members are =
     let own : List InitialItem → List PlacedGlobal = λ ms. map (placed s.identifier.at) (global_made s ms) in
-    ap (λ ts. ts ++ globals_from 31 all (suc number) left)
+    ap (λ ts. ts ++ globals_from 63 all (suc number) left)
     (ap (map (placed s.identifier.at)) (globals_made_at all number s.identifier.at s.identifier.name s.kind) ∙ ap own (sym are))
-    ∙ ap (λ n. own members ++ globals_from 31 all n left) (sym (add-one number))
+    ∙ ap (λ n. own members ++ globals_from 63 all n left) (sym (add-one number))

@@ -30,13 +30,13 @@ pub few_bits : (n : ℕ) → is_compiled_scalar (Bit n) ≡ true → n ≤ 32767
 few_bits n h = few n h
 
 -- members of a plain structure are plain
-pub members_plain : (ds : Members) → is_plain 31 (Structure ds) ≡ true → all_plain 31 ds ≡ true
+pub members_plain : (ds : Members) → is_plain 63 (Structure ds) ≡ true → all_plain 63 ds ≡ true
 members_plain NoMembers h = refl
 members_plain (MemberThen d ds) h = h
 
 -- an element of an array takes bytes
 mutual
-  pub plain_positive : (d : Description) → is_plain 31 d ≡ true → 0 < size_of d
+  pub plain_positive : (d : Description) → is_plain 63 d ≡ true → 0 < size_of d
   plain_positive (FixedBinary p) h = grind arith
   plain_positive (Character n) h = ltb-true 0 n (and_parts (nat_lt 0 n) (nat_le n 32767) h).0
   plain_positive (Varying n) h = omega arith
@@ -52,7 +52,7 @@ mutual
       omega (arith, one, fits, more)
   plain_positive (Structure NoMembers) h = cc
   plain_positive (Structure (MemberThen d ds)) h =
-      let one = plain_positive d (and_parts (is_plain 31 d) (all_plain 31 ds) h).0 in
+      let one = plain_positive d (and_parts (is_plain 63 d) (all_plain 63 ds) h).0 in
       let end = later (next_multiple_of 0 (alignment_of d) + size_of d) ds in
       omega (arith, one, end)
 
@@ -63,7 +63,7 @@ pub record ArrayFits (bs : List Bounds) (e : Description) (first : ℕ) : Type 0
   pub stride : stride_of e ≤ 1000000
   pub element : first + size_of e ≤ 1000000
 
-pub array_fits : (bs : List Bounds) (e : Description) (first : ℕ) → 0 < count_of bs → is_plain 31 e ≡ true
+pub array_fits : (bs : List Bounds) (e : Description) (first : ℕ) → 0 < count_of bs → is_plain 63 e ≡ true
     → first + count_of bs * stride_of e ≤ 1000000 → ArrayFits bs e first
 array_fits bs e first some plain room =
     let one = plain_positive e plain in
@@ -90,11 +90,11 @@ member_room xs i x ended whole h is end =
 
 -- the member at hand is plain, and so are those behind it
 pub member_plain : (xs : List program.Description) (i : ℕ) (x : program.Description) → i < length xs → x ≡ get_or xs i x
-    → all_plain 31 (members_view (drop i xs)) ≡ true
-    → (is_plain 31 (description_view x) ≡ true) × (all_plain 31 (members_view (drop (i + 1) xs)) ≡ true)
+    → all_plain 63 (members_view (drop i xs)) ≡ true
+    → (is_plain 63 (description_view x) ≡ true) × (all_plain 63 (members_view (drop (i + 1) xs)) ≡ true)
 member_plain xs i x h is plain =
-    and_parts (is_plain 31 (description_view x)) (all_plain 31 (members_view (drop (i + 1) xs)))
-    (sym (ap (all_plain 31) (next_member xs i x h is)) ∙ plain)
+    and_parts (is_plain 63 (description_view x)) (all_plain 63 (members_view (drop (i + 1) xs)))
+    (sym (ap (all_plain 63) (next_member xs i x h is)) ∙ plain)
 
 -- a structure has one description more in it than its members
 pub members_counted : (d : program.Description) (v : Vec program.Description Global) (xs : List program.Description) → d ≡ made.Structure v → xs ≡ v.items
@@ -104,12 +104,12 @@ members_counted d v xs e there =
 
 -- the members of a structure that is plain and ends within so many bytes
 pub members_stored : (d : program.Description) (v : Vec program.Description Global) (xs : List program.Description) (first : ℕ) → d ≡ made.Structure v → xs ≡ v.items
-    → is_plain 31 (description_view d) ≡ true → first + size_of (description_view d) ≤ 1000000
-    → (all_plain 31 (members_view xs) ≡ true) × (first + end_behind 0 (members_view xs) ≤ 1000000)
+    → is_plain 63 (description_view d) ≡ true → first + size_of (description_view d) ≤ 1000000
+    → (all_plain 63 (members_view xs) ≡ true) × (first + end_behind 0 (members_view xs) ≤ 1000000)
 members_stored d v xs first e there plain room =
     let is : description_view d ≡ Structure (members_view xs) = structure_view d v e ∙ ap (λ ys. Structure (members_view ys)) (sym there) in
     let sized : size_of (description_view d) ≡ end_behind 0 (members_view xs) = ap size_of is in
-    (members_plain (members_view xs) (sym (ap (is_plain 31) is) ∙ plain), omega (arith, room, sized))
+    (members_plain (members_view xs) (sym (ap (is_plain 63) is) ∙ plain), omega (arith, room, sized))
 
 -- ---- elements of arrays in one another
 
@@ -147,7 +147,7 @@ of_array (Some leaf) levels from bs e some s =
     }
 
 mutual
-  pub stored_on : (d : Description) (from : ℕ) (path : List ℕ) → is_plain 31 d ≡ true
+  pub stored_on : (d : Description) (from : ℕ) (path : List ℕ) → is_plain 63 d ≡ true
       → IfSome (leaf_in (plan_from from d) path) (IsStoredLeaf from (size_of d) (levels_in (plan_from from d) path))
   stored_on (FixedBinary p) from path h = record { first = omega arith; over = omega arith; nested = tt; scalar = h }
   stored_on (Character n) from path h = record { first = omega arith; over = omega arith; nested = tt; scalar = h }
@@ -162,17 +162,17 @@ mutual
   stored_on (Structure ds) from [] h = tt
   stored_on (Structure ds) from (i ∷ path) h = stored_in ds i path from 0 (members_plain ds h)
 
-  stored_in : (ds : Members) (i : ℕ) (path : List ℕ) (from ended : ℕ) → all_plain 31 ds ≡ true
+  stored_in : (ds : Members) (i : ℕ) (path : List ℕ) (from ended : ℕ) → all_plain 63 ds ≡ true
       → IfSome (leaf_in_member (plans_from from ended ds) i path) (IsStoredLeaf from (end_behind ended ds) (levels_in_member (plans_from from ended ds) i path))
   stored_in NoMembers i path from ended h = tt
   stored_in (MemberThen d ds) zero path from ended h =
       let start = next_multiple_of ended (alignment_of d) in
-      let plain = and_parts (is_plain 31 d) (all_plain 31 ds) h in
+      let plain = and_parts (is_plain 63 d) (all_plain 63 ds) h in
       let end = later (start + size_of d) ds in
       within (leaf_in (plan_from (from + start) d) path) (levels_in (plan_from (from + start) d) path) from (end_behind ended (MemberThen d ds)) (from + start) (size_of d)
       (omega arith) (omega (arith, end)) (stored_on d (from + start) path plain.0)
   stored_in (MemberThen d ds) (suc i) path from ended h =
-      let plain = and_parts (is_plain 31 d) (all_plain 31 ds) h in
+      let plain = and_parts (is_plain 63 d) (all_plain 63 ds) h in
       stored_in ds i path from (next_multiple_of ended (alignment_of d) + size_of d) plain.1
 
 pub stored_leaf : (p : Plan) (path : List ℕ) (leaf : Leaf) → IsStoredPlan p → leaf_in p path ≡ Some leaf
@@ -182,14 +182,14 @@ stored_leaf p path leaf s e = subst (λ o. IfSome o (IsStoredLeaf 0 1000000 (lev
 -- ---- the plan of a variable
 
 -- of one of values
-valued_plan : (d : Description) → is_valued 31 d ≡ true → IsStoredPlan (plan_from 0 d)
+valued_plan : (d : Description) → is_valued 63 d ≡ true → IsStoredPlan (plan_from 0 d)
 valued_plan d h path =
-    let both = and_parts (is_plain 31 d) (nat_le (size_of d) 1000000) h in
+    let both = and_parts (is_plain 63 d) (nat_le (size_of d) 1000000) h in
     let room = leb-true (size_of d) 1000000 both.1 in
     within (leaf_in (plan_from 0 d) path) (levels_in (plan_from 0 d) path) 0 1000000 0 (size_of d) (omega arith) (omega (arith, room)) (stored_on d 0 path both.0)
 
 -- of any
-pub stored_plan : (d : Description) → is_stored 31 d ≡ true → IsStoredPlan (plan_from 0 d)
+pub stored_plan : (d : Description) → is_stored 63 d ≡ true → IsStoredPlan (plan_from 0 d)
 stored_plan (FixedBinary p) h path = valued_plan (FixedBinary p) h path
 stored_plan (Character n) h path = valued_plan (Character n) h path
 stored_plan (Varying n) h path = valued_plan (Varying n) h path
@@ -214,11 +214,11 @@ area_plan (Array bounds element) h = cc
 area_plan (Structure members) h = cc
 
 -- what is no area is plain
-pub stored_plain : (d : Description) → is_stored 31 d ≡ true → is_area d ≡ false → is_plain 31 d ≡ true
+pub stored_plain : (d : Description) → is_stored 63 d ≡ true → is_area d ≡ false → is_plain 63 d ≡ true
 stored_plain d h other =
-    ap (λ b. b || is_plain 31 d) (sym other) ∙ (and_parts (may_stand 31 d) (nat_le (size_of d) 1000000) h).0
+    ap (λ b. b || is_plain 63 d) (sym other) ∙ (and_parts (may_stand 63 d) (nat_le (size_of d) 1000000) h).0
 
-pub stored_room : (d : Description) → is_stored 31 d ≡ true → 0 + size_of d ≤ 1000000
+pub stored_room : (d : Description) → is_stored 63 d ≡ true → 0 + size_of d ≤ 1000000
 stored_room d h =
-    let room = leb-true (size_of d) 1000000 ((and_parts (may_stand 31 d) (nat_le (size_of d) 1000000) h).1) in
+    let room = leb-true (size_of d) 1000000 ((and_parts (may_stand 63 d) (nat_le (size_of d) 1000000) h).1) in
     omega (arith, room)

@@ -1,6 +1,7 @@
 -- The values that stand in INITIAL, one value after another.
-use Rattle.std.proofs.Common.{◌≡◌, ℕ, zero, suc, ◌+◌, ◌-◌, min, true, Some, None, List, [], ◌∷◌, ◌++◌, length, replicate, take, drop, refl, ap, sym, ◌∙◌}
+use Rattle.std.proofs.Common.{◌≡◌, ℕ, zero, suc, ◌+◌, ◌-◌, ◌^◌, ◌≤◌, ◌<◌, min, nat_le, true, false, ℤ, pos, unsigned_abs, Some, None, List, [], ◌∷◌, ◌++◌, length, replicate, take, drop, refl, ap, sym, ◌∙◌, pow_mono, arith}
 use Rattle.std.specs.Option.{unwrap_or}
+use Rattle.std.proofs.lemmas.Bool.{leb-false, leb-true, le-ltb}
 use Rattle.std.proofs.lemmas.List.{length-append, length-replicate, take_min, drop_min, drop-drop, length-drop}
 use Rattle.pli_base.specs.declared.declaration.InitialValue.{InitialValue}
 use Rattle.pli_base.specs.declared.declaration.InitialValue.TheVariants as initial
@@ -9,7 +10,8 @@ use Rattle.pli_map.specs.Values.{first_value}
 use Rattle.pli_type.specs.InitialScalars.{as_held, each_with, values_written}
 use Rattle.pli_type_templates.specs.Items.{all_with, elements_of, value_of}
 use Rattle.pli_type_templates.specs.Plans.{is_compiled_scalar, placed_as}
-use Rattle.pli_value.specs.Value.{Value, Located}
+use Rattle.pli_value.specs.Numbers.{has_digits}
+use Rattle.pli_value.specs.Value.{Value, Located, Number}
 use Rattle.pli_value.specs.declared.locator.Locator.{Locator}
 
 -- what stands first says its value for as many elements as it stands for
@@ -43,6 +45,25 @@ first_in_any_case (Structure members) v w h = cc
 pub null_is_first : (d : Description) (l : Locator) → as_held d (Located l) ≡ unwrap_or (first_value d) (Located l)
 null_is_first (FixedBinary p) l = refl
 null_is_first d l = refl
+
+-- a number of more digits than any scalar has leaves the value with which a scalar begins
+pub far_is_first : (d : Description) (x : ℤ) → is_compiled_scalar d ≡ true
+    → nat_le (unsigned_abs x) 9223372036854775807 ≡ false → as_held d (Number x) ≡ unwrap_or (first_value d) (Number (pos 0))
+far_is_first (FixedBinary p) x h far = first (none (pow_mono (leb-true p 63 h)) (leb-false (unsigned_abs x) 9223372036854775807 far))
+  where
+    none : 2 ^ p ≤ 2 ^ 63 → 9223372036854775807 < unsigned_abs x → has_digits p x ≡ false
+    none power great = le-ltb (unsigned_abs x) (2 ^ p) (omega (arith, power, great))
+
+    first : has_digits p x ≡ false → as_held (FixedBinary p) (Number x) ≡ Number (pos 0)
+    first e = rw e refl
+far_is_first (Character n) x h far = refl
+far_is_first (Varying n) x h far = refl
+far_is_first (Bit n) x h far = refl
+far_is_first Pointer x h far = refl
+far_is_first Offset x h far = refl
+far_is_first (Area n) x h far = cc
+far_is_first (Array bounds element) x h far = cc
+far_is_first (Structure members) x h far = cc
 
 -- no scalars without values without values
 pub no_values : (d : Description) (ns : List ℕ) → each_with (placed_as d ns) [] ≡ []

@@ -19,9 +19,9 @@ use Rattle.pli_type_tree.specs.TypedTree.{Global, EntryPoint}
 
 -- variables of this lifetime such as are made
 abbrev pub is_such : (wanted : Lifetime) → StorageClass → Description → Bool
-is_such lifetimes.Activation class d = is_automatic 31 class d
-is_such lifetimes.Program class d = is_global 31 class d
-is_such lifetimes.Allocation class d = is_based 31 class d
+is_such lifetimes.Activation class d = is_automatic 63 class d
+is_such lifetimes.Program class d = is_global 63 class d
+is_such lifetimes.Allocation class d = is_based 63 class d
 
 -- a variable that is made: the token of its name, the values in its INITIAL, and its members
 pub record MadeVariable : Type 0 where

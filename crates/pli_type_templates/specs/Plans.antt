@@ -96,7 +96,7 @@ scalars_planned p path = placed (leaf_in p path) (levels_in p path) 0
 
 -- a scalar that is compiled: a number or a string within the language's limits, or a locator
 abbrev pub is_compiled_scalar : Description → Bool
-is_compiled_scalar (FixedBinary precision) = nat_le precision 31
+is_compiled_scalar (FixedBinary precision) = nat_le precision 63
 is_compiled_scalar (Character n) = is_length n
 is_compiled_scalar (Varying n) = is_length n
 is_compiled_scalar (Bit n) = is_length n

@@ -100,7 +100,7 @@ pub(crate) fn put_globals<'a>(
 ) -> Result<(), AllocError>
     requires { AreMembers (rows_view members.now) (map symbol_view symbols.now) }
     ensures globals { OnOk result (map placed_view globals.new.items
-        ≡ map placed_view globals.old.items ++ globals_of 31 (map symbol_view symbols.now)) }
+        ≡ map placed_view globals.old.items ++ globals_of 63 (map symbol_view symbols.now)) }
     ensures items { OnOk result ((marks : List PlacedMark) → All (AreOfItems marks) (map symbol_view symbols.now)
         → All (HasGlobalItem marks) globals.old.items → All (HasGlobalItem marks) globals.new.items) }
 {

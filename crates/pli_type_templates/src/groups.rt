@@ -26,7 +26,7 @@ use std::alloc::{AllocError, Global};
 #[tactic(auto, using(pli_type_names::proofs::PlainLemmas::valued_stored))]
 fn is_such(wanted: Lifetime, class: StorageClass, description: &Description) -> bool
     ensures value { result ≡ is_such wanted class (description_view description.now) }
-    ensures stored { result ≡ true → is_stored 31 (description_view description.now) ≡ true }
+    ensures stored { result ≡ true → is_stored 63 (description_view description.now) ≡ true }
 {
     match (wanted, class) {
         (Lifetime::Activation, StorageClass::Automatic)

@@ -17,5 +17,5 @@ pub(crate) struct MadeVariable<'a> {
     pub values: &'a [InitialValue],
     /// Its members with INITIAL.
     pub members: &'a [ValuedItem<'a>],
-    ghost stored: { is_stored 31 (description_view description.now) ≡ true },
+    ghost stored: { is_stored 63 (description_view description.now) ≡ true },
 }

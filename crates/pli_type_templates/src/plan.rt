@@ -87,7 +87,7 @@ fn plan_from<'a>(
     description: &'a Description,
     first: u32,
 ) -> Result<Planned<'a>, AllocError>
-    requires plain { is_plain 31 (description_view description.now) ≡ true }
+    requires plain { is_plain 63 (description_view description.now) ≡ true }
     requires room { first + size_of (description_view description.now) ≤ 1000000 }
     ensures { IfOk result (λ made. (plan_view made.plan ≡ plan_from first (description_view description.now))
         × (made.end ≡ first + size_of (description_view description.now))) }
@@ -118,7 +118,7 @@ fn array_from<'a>(
     first: u32,
 ) -> Result<Planned<'a>, AllocError>
     requires elements { 0 < count_of bounds.now }
-    requires plain { is_plain 31 (description_view element.now) ≡ true }
+    requires plain { is_plain 63 (description_view element.now) ≡ true }
     requires room { first + count_of bounds.now * stride_of (description_view element.now) ≤ 1000000 }
     ensures { IfOk result (λ made. (plan_view made.plan
         ≡ planned.OfArray (record { count = count_of bounds.now; distance = stride_of (description_view element.now) }) (plan_from first (description_view element.now)))
@@ -142,7 +142,7 @@ fn members_from<'a>(
     members: &'a [Description],
     first: u32,
 ) -> Result<Planned<'a>, AllocError>
-    requires plain { all_plain 31 (members_view members.now) ≡ true }
+    requires plain { all_plain 63 (members_view members.now) ≡ true }
     requires room { first + end_behind 0 (members_view members.now) ≤ 1000000 }
     ensures { IfOk result (λ made. (plan_view made.plan ≡ planned.OfStructure (plans_from first 0 (members_view members.now)))
         × (made.end ≡ first + end_behind 0 (members_view members.now))) }
@@ -167,7 +167,7 @@ pub(crate) fn variable_plan<'a>(
     alloc: Global,
     description: &'a Description,
 ) -> Result<Plan<'a>, AllocError>
-    requires { is_stored 31 (description_view description.now) ≡ true }
+    requires { is_stored 63 (description_view description.now) ≡ true }
     ensures { IfOk result (λ made. plan_view made ≡ plan_from 0 (description_view description.now)) }
 {
     if is_area(description) {

@@ -129,7 +129,7 @@ fn unit_globals<'a>(
     blocks: &'a [BlockNames<'a>],
 ) -> Result<Vec<PlacedGlobal<'a>>, AllocError>
     requires { All AreKnown blocks.now }
-    ensures globals { IfOk result (λ made. map placed_view made.items ≡ block_globals 31 (map block_symbols blocks.now)) }
+    ensures globals { IfOk result (λ made. map placed_view made.items ≡ block_globals 63 (map block_symbols blocks.now)) }
     ensures items { IfOk result (λ made. (marks : List PlacedMark) → All (All (AreOfItems marks)) (map block_symbols blocks.now)
         → All (HasGlobalItem marks) made.items) }
 {
@@ -148,7 +148,7 @@ fn sorted_groups<'a>(
 ) -> Result<Vec<GlobalGroup>, AllocError>
     requires known { All AreKnown blocks.now }
     requires items { All (All (AreOfItems (marks_of items.now))) (map block_symbols blocks.now) }
-    ensures { IfOk result (λ made. globals_view made.items ≡ all_globals 31 (map block_symbols blocks.now)) }
+    ensures { IfOk result (λ made. globals_view made.items ≡ all_globals 63 (map block_symbols blocks.now)) }
 {
     let mut globals = unit_globals(alloc, blocks)?;
     sort(&mut globals)?;
@@ -161,11 +161,11 @@ fn sorted_groups<'a>(
 /// that stand in a row. Takes time for the text, for the values that are kept, and for sorting the globals.
 pub fn templates(alloc: Global, resolved: &ResolvedUnit<'_>) -> Result<UnitTemplates, AllocError>
     ensures automatic { IfOk result (λ made. (block : ℕ) → automatic_at made block
-        ≡ (named_unit 31 (resolved_unit_of (unit_view resolved.now))).automatic block) }
+        ≡ (named_unit 63 (resolved_unit_of (unit_view resolved.now))).automatic block) }
     ensures based { IfOk result (λ made. (block : ℕ) → based_at made block
-        ≡ templates_of (is_based 31) (units.block_symbols (resolved_unit_of (unit_view resolved.now)) block)) }
+        ≡ templates_of (is_based 63) (units.block_symbols (resolved_unit_of (unit_view resolved.now)) block)) }
     ensures globals { IfOk result (λ made. globals_view made.globals.items
-        ≡ (named_unit 31 (resolved_unit_of (unit_view resolved.now))).globals) }
+        ≡ (named_unit 63 (resolved_unit_of (unit_view resolved.now))).globals) }
     ensures regions { IfOk result (λ _. HasFewRegions (unit_view resolved.now)) }
 {
     let blocks = block_names(alloc, resolved)?;

@@ -1,5 +1,5 @@
 //! Values in INITIAL, as scalars hold them.
-ghost use Rattle.std.specs.Prelude.{◌≡◌, ◌≤◌, ◌++◌, IfOk, get_or, length, option_map, false, true};
+ghost use Rattle.std.specs.Prelude.{◌≡◌, ◌≤◌, ◌++◌, IfOk, get_or, length, nat_le, option_map, unsigned_abs, false, true};
 ghost use Rattle.std.specs.Option.{unwrap_or};
 ghost use Rattle.pli_map.specs.Values.{first_value};
 ghost use Rattle.pli_map.specs.views.DescriptionView.{description_view};
@@ -18,7 +18,7 @@ use pli_value::{Locator, Value, character};
 use std::alloc::{AllocError, Global};
 
 /// For how many elements a value in INITIAL stands.
-pub(crate) fn elements(written: &InitialValue) -> u32
+pub(crate) fn elements(written: &InitialValue) -> u64
     ensures { result ≡ elements_of written.now }
 {
     match written {
@@ -104,6 +104,26 @@ fn held_number(alloc: Global, description: &Description, number: i64) -> Result<
     }
 }
 
+/// Whether a number has at most 63 binary digits.
+fn is_near(number: i128) -> bool
+    ensures { result ≡ nat_le (unsigned_abs number) 9223372036854775807 }
+{
+    number.unsigned_abs() <= 9_223_372_036_854_775_807
+}
+
+/// An integer as a scalar holds it: itself, where it is within the precision (X3.74).
+#[tactic(auto, using(crate::proofs::ValuesWritten::far_is_first))]
+fn held_integer(alloc: Global, description: &Description, number: i128) -> Result<Value, AllocError>
+    requires { is_compiled_scalar (description_view description.now) ≡ true }
+    ensures { IfOk result (λ held. value_view held ≡ as_held (description_view description.now) (plain.Number number)) }
+{
+    if is_near(number) {
+        held_number(alloc, description, number as i64)
+    } else {
+        unsuited(alloc, description, Value::Number(0))
+    }
+}
+
 /// Characters as a scalar holds them: cut on the right, or extended there with blanks (X3.74).
 fn held_characters(
     alloc: Global,
@@ -165,7 +185,7 @@ pub(crate) fn held(
     ensures { IfOk result (λ held. value_view held ≡ as_held (description_view description.now) (value_of written.now)) }
 {
     match written {
-        InitialValue::Integer { value, .. } => held_number(alloc, description, value.number()),
+        InitialValue::Integer { value, .. } => held_integer(alloc, description, value.number()),
         InitialValue::Characters(text) => held_characters(alloc, description, text.bytes()),
         InitialValue::Bits(bits) => held_bits(alloc, description, bits.bits()),
         InitialValue::Null => held_null(alloc, description),

@@ -97,7 +97,7 @@ count_precision = 15
 
 -- numbers of so many binary digits have room in so many columns, with a sign
 abbrev pub HaveColumns : (width digits : ℕ) → Type 0
-HaveColumns width p = (p ≤ 31) × (n : ℕ) × (width ≡ suc n) × (2 ^ p ≤ 10 ^ n)
+HaveColumns width p = (p ≤ 63) × (n : ℕ) × (width ≡ suc n) × (2 ^ p ≤ 10 ^ n)
 
 -- the operands are one number, of a precision that is such
 abbrev pub OnNumber : List ValueType → (ℕ → Type 0) → Type 0

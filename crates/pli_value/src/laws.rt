@@ -1,6 +1,6 @@
 //! Laws and worked examples of the operations on values.
 ghost use Rattle.pli_value.specs.Locators.{SameLocatorIsEqual};
-ghost use Rattle.pli_value.specs.examples.NumberExamples.{GreatestNumbers, Quotients, Remainders, SignsAndOrders};
+ghost use Rattle.pli_value.specs.examples.NumberExamples.{GreatestNumbers, WidestNumbers, Quotients, Remainders, SignsAndOrders};
 ghost use Rattle.pli_value.specs.Numbers.{RemaindersAreLeast};
 ghost use Rattle.pli_value.specs.examples.StringExamples.{CharacterOrders, BitOrders, Places, Parts, Assigned, BitOperations, Converted, Conditions, Packed};
 ghost use Rattle.pli_value.specs.Strings.{IndexIsTheFirstPlace};
@@ -24,6 +24,7 @@ pub fn same_locator_is_equal()
 /// Worked examples of numbers.
 pub fn number_examples()
     ensures greatest { GreatestNumbers }
+    ensures widest { WidestNumbers }
     ensures quotients { Quotients }
     ensures remainders { Remainders }
     ensures signs { SignsAndOrders }

@@ -1,9 +1,12 @@
 //! Decks and modules of texts.
-ghost use Rattle.std.specs.Prelude.{◌≤◌, length};
+ghost use Rattle.std.specs.Prelude.{◌≡◌, ◌≤◌, true, length, map};
+ghost use Rattle.pli_link.specs.Units.{AreWritten};
+ghost use Rattle.pli_link.specs.views.UnitView.{compiled_view};
 
 use crate::tests::bytes::{SMALLEST, is_exact};
 use crate::tests::outcome::{Kind, Outcome, outcome_of};
 use pli_base::{Line, Name, TokenText};
+use pli_code::Version;
 use pli_deck::{Compiled, Compiler};
 use pli_deck_write::write_deck;
 use pli_lex::lex;
@@ -20,7 +23,8 @@ static PROGRAMS: &str = "\
 M: PROC OPTIONS(MAIN); END;
 M: PROC OPTIONS(MAIN); DCL T(0:1, 2) CHAR(2) INIT('A', 'B', 'C', 'D'), 1 S STATIC, 2 A FIXED BIN(15) INIT(-1), 2 B BIT(9) INIT('110000001'B), 2 V CHAR(8) VAR INIT('AB'), I FIXED BIN(31); DO I = 1 TO 2; T(0, I) = V || T(1, I); END; GOTO L; L: PUT LIST(T(0, 1), A, ^B); END;
 M: PROC OPTIONS(MAIN); DCL N FIXED BIN(15); BEGIN; DCL N FIXED BIN(31) INIT(5); CALL P((N), 'A'); END; P: PROC(X, C); DCL X FIXED BIN(31), C CHAR(3); IF X > 0 THEN CALL P(X - 1, C); ELSE PUT SKIP LIST(F(C, X)); END P; F: PROC(C, X) RETURNS(CHAR(6) VAR); DCL C CHAR(3), X FIXED BIN(31); RETURN(SUBSTR(C || 'XYZ', X + 1, 2)); END F; END M;
-M: PROC OPTIONS(MAIN); DCL X(2) FIXED BIN(31) STATIC EXTERNAL INIT(3, 4), F ENTRY(FIXED BIN(31)) RETURNS(CHAR(3)); PUT LIST(F(X(1)), F(X(2))); END; / F: PROC(N) RETURNS(CHAR(3)); DCL N FIXED BIN(31), X(2) FIXED BIN(31) STATIC EXTERNAL INIT(3, 4), G ENTRY; CALL G; RETURN('F'); END; / G: PROC; DCL Y BIT(12) EXTERNAL; Y = '1'B; END;";
+M: PROC OPTIONS(MAIN); DCL X(2) FIXED BIN(31) STATIC EXTERNAL INIT(3, 4), F ENTRY(FIXED BIN(31)) RETURNS(CHAR(3)); PUT LIST(F(X(1)), F(X(2))); END; / F: PROC(N) RETURNS(CHAR(3)); DCL N FIXED BIN(31), X(2) FIXED BIN(31) STATIC EXTERNAL INIT(3, 4), G ENTRY; CALL G; RETURN('F'); END; / G: PROC; DCL Y BIT(12) EXTERNAL; Y = '1'B; END;
+M: PROC OPTIONS(MAIN); DCL X FIXED BIN(63) INIT(-9223372036854775807), 1 S(2) STATIC, 2 A FIXED BIN(15), 2 B FIXED BIN(40) INIT(1099511627775), F ENTRY(FIXED BIN(63)) RETURNS(FIXED BIN(32)); PUT LIST(F(X), DIVIDE(S(2).B, 3, 63), 9223372036854775807); END; / F: PROC(N) RETURNS(FIXED BIN(32)); DCL N FIXED BIN(63); RETURN(MOD(N, 4294967296)); END;";
 
 /// The token texts of a line.
 fn tokens_of(rt: &impl Abort, alloc: Global, text: &str) -> Vec<TokenText>
@@ -66,6 +70,19 @@ fn named<'a>(rt: &impl Abort, alloc: Global, place: usize, unit: &'a Compiled) -
     }
 }
 
+/// Whether all decks have the version in which decks are written.
+fn are_written(units: &[NamedUnit<'_>]) -> bool
+    ensures { result ≡ true → AreWritten (map compiled_view units.now) }
+{
+    for unit in units {
+        match unit.deck.version {
+            Version::First => return false,
+            Version::Second => {}
+        }
+    }
+    true
+}
+
 /// The bytes of the module of compiled units.
 fn module_of(rt: &impl Abort, alloc: Global, compiled: &[Compiled]) -> Vec<u8> {
     let mut units = Vec::new(alloc);
@@ -75,6 +92,7 @@ fn module_of(rt: &impl Abort, alloc: Global, compiled: &[Compiled]) -> Vec<u8> {
             panic!(rt; "memory");
         }
     }
+    assert!(rt; are_written(&units));
     let module = link(alloc, &units).ok().expect(rt, "a module");
     module.bytes(alloc).expect(rt, "memory")
 }

@@ -18,7 +18,7 @@ static ROWS: &str = "\
 9000000|0|steps|no step
 504c494d03000100000000014d00000027504c494401014d0100ffff0000000000000000000100ffff000000000000000000000100010\
 9000000|0|2|another version of a module
-504c494d01000100000000014d00000027504c494402014d0100ffff0000000000000000000100ffff000000000000000000000100010\
+504c494d01000100000000014d00000027504c494403014d0100ffff0000000000000000000100ffff000000000000000000000100010\
 9000000|0|2|another version of its deck
 504c494d01000100000000014d00000027504c494401014d0100ffff0000000000000000000100ffff000000000000000000000100014\
 0000000|0|5|an unknown instruction
@@ -348,7 +348,7 @@ tatic bytes
 |units in any order of names
 514c494401014d0100ffff0000000000000000000100ffff000000000000000000000100010900|deck|1|other letters of a deck
 504c49|deck|1|three bytes of a deck
-504c494402014d0100ffff0000000000000000000100ffff000000000000000000000100010900|deck|2|another version of a de\
+504c494403014d0100ffff0000000000000000000100ffff000000000000000000000100010900|deck|2|another version of a de\
 ck
 504c494401014d0100ffff0000000000000000000100ffff0000000000000000000001000109|deck|3|a deck without its last b\
 yte
@@ -582,16 +582,21 @@ fn digit_of(fault: DeckFault) -> &'static str {
     "012345678".get(number..number + 1).unwrap_or("")
 }
 
-/// What comes of a run.
-fn ending_of(alloc: Global, module: &Module, steps: u64) -> &'static str {
-    let Ok(ran) = run(alloc, module, steps, &mut Device::over(Vec::new(alloc))) else {
-        return "refused";
-    };
-    match ran.ending {
+/// How a run has ended.
+pub fn ending_label(ending: Ending) -> &'static str {
+    match ending {
         Ending::Ended => "ended",
         Ending::OutOfSteps => "steps",
         Ending::Error { error, .. } => error.label(),
         Ending::MachineFault => "fault",
+    }
+}
+
+/// What comes of a run.
+fn ending_of(alloc: Global, module: &Module, steps: u64) -> &'static str {
+    match run(alloc, module, steps, &mut Device::over(Vec::new(alloc))) {
+        Ok(ran) => ending_label(ran.ending),
+        Err(_) => "refused",
     }
 }
 
@@ -614,7 +619,7 @@ fn module_found(alloc: Global, bytes: &[u8], steps: u64) -> &'static str {
 }
 
 /// Whether what a row wants is found.
-fn holds(rt: &impl Abort, alloc: Global, row: &str) -> bool {
+pub fn holds(rt: &impl Abort, alloc: Global, row: &str) -> bool {
     let mut parts = row.split('|');
     let bytes = bytes_of(rt, alloc, parts.next().unwrap_or(""));
     let found = match parts.next().unwrap_or("").parse::<u64>() {

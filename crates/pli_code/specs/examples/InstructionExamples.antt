@@ -1,14 +1,16 @@
--- Worked examples: instructions, each with its bytes.
+-- Worked examples: instructions, each with its bytes, in any version and in one.
 use Rattle.std.specs.Prelude.{◌≡◌, [], ◌∷◌, Ok, Err}
 use Rattle.pli_base.specs.declared.statement.Condition.TheVariants as conditions
 use Rattle.pli_run.specs.declared.ending.RunError.TheVariants as errors
-use Rattle.pli_operation.specs.declared.operation.Operation.TheVariants.{Compare}
+use Rattle.pli_operation.specs.declared.operation.Operation.TheVariants.{Compare, Divide}
 use Rattle.pli_operation.specs.declared.operation.Relation.TheVariants as relations
 use Rattle.pli_code.specs.declared.fault.DeckFault.TheVariants.{OutOfRange}
 use Rattle.pli_code.specs.declared.instruction.Instruction.TheVariants as op
-use Rattle.pli_code.specs.Instructions.{instruction}
+use Rattle.pli_code.specs.declared.version.Version.TheVariants.{First, Second}
+use Rattle.pli_code.specs.Instructions.{instruction, instruction_in}
 
--- instructions with an error, a relation and a condition; the first and the last number of each
+-- instructions with an error, a relation and a condition; the first and the last number of each; the
+-- precision of a quotient in each version
 abbrev pub NumberedSo : Type 0
 NumberedSo =
     (instruction.bytes_of (op.Raise errors.SubscriptRange) ≡ 11 ∷ 1 ∷ [])
@@ -20,3 +22,7 @@ NumberedSo =
     × (instruction.read (11 ∷ 10 ∷ 60 ∷ []) ≡ Ok (op.Raise errors.ZeroDivide, 60 ∷ []))
     × (instruction.read (11 ∷ 0 ∷ []) ≡ Err OutOfRange) × (instruction.read (11 ∷ 14 ∷ []) ≡ Err OutOfRange)
     × (instruction.read (36 ∷ 6 ∷ []) ≡ Err OutOfRange) × (instruction.read (57 ∷ 3 ∷ []) ≡ Err OutOfRange)
+    × ((instruction_in First).read (30 ∷ 31 ∷ []) ≡ Ok (op.Operate (Divide 31), []))
+    × ((instruction_in First).read (30 ∷ 32 ∷ []) ≡ Err OutOfRange)
+    × ((instruction_in Second).read (30 ∷ 63 ∷ []) ≡ Ok (op.Operate (Divide 63), []))
+    × ((instruction_in Second).read (30 ∷ 64 ∷ []) ≡ Err OutOfRange)

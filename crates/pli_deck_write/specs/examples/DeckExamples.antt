@@ -1,9 +1,11 @@
--- Worked examples: decks, each with its bytes.
-use Rattle.std.specs.Prelude.{◌≡◌, ℕ, true, false, List, [], ◌∷◌, None, Ok, Err, take, ◌++◌}
-use Rattle.pli_map.specs.Description.{Bit, Pointer, Offset, Area}
-use Rattle.pli_value.specs.Value.{Located}
+-- Worked examples: decks, each with its bytes, of the second version save where it is said otherwise.
+use Rattle.std.specs.Prelude.{◌≡◌, ℕ, true, false, pos, List, [], ◌∷◌, None, Ok, Err, take, ◌++◌, slice_set}
+use Rattle.pli_map.specs.Description.{FixedBinary, Bit, Pointer, Offset, Area}
+use Rattle.pli_value.specs.Value.{Number, Located}
 use Rattle.pli_value.specs.declared.locator.Locator.TheVariants as locators
-use Rattle.pli_code.specs.declared.fault.DeckFault.TheVariants.{BadMagic, Truncated, Trailing}
+use Rattle.pli_code.specs.declared.fault.DeckFault.TheVariants.{BadMagic, BadVersion, Truncated, Trailing}
+use Rattle.pli_code.specs.declared.fault.DeckFault.TheVariants.{OutOfRange}
+use Rattle.pli_code.specs.declared.version.Version.TheVariants.{First, Second}
 use Rattle.pli_program.specs.Program.{Procedure}
 use Rattle.pli_code.specs.CodeTables.{CodedTemplate, CodedBlock, CodedSignature, Code, Deck}
 use Rattle.pli_code.specs.CodeTables.{OwnVariable, ExternalVariable, EntryPoint}
@@ -45,12 +47,12 @@ smallest_code = record {
 
 -- its deck
 abbrev pub smallest : Deck
-smallest = record { name = 77 ∷ []; is_main = true; code = smallest_code }
+smallest = record { version = Second; name = 77 ∷ []; is_main = true; code = smallest_code }
 
 -- its bytes
 abbrev pub smallest_bytes : List ℕ
 smallest_bytes =
-    80 ∷ 76 ∷ 73 ∷ 68 ∷ 1 ∷ 1 ∷ 77 ∷ 1 ∷ 0 ∷ 255 ∷ 255 ∷ 0 ∷ 0 ∷ 0 ∷ 0 ∷ 0 ∷ 0 ∷ 0 ∷ 0 ∷ 0 ∷ 1 ∷ 0 ∷
+    80 ∷ 76 ∷ 73 ∷ 68 ∷ 2 ∷ 1 ∷ 77 ∷ 1 ∷ 0 ∷ 255 ∷ 255 ∷ 0 ∷ 0 ∷ 0 ∷ 0 ∷ 0 ∷ 0 ∷ 0 ∷ 0 ∷ 0 ∷ 1 ∷ 0 ∷
     255 ∷ 255 ∷ 0 ∷ 0 ∷ 0 ∷ 0 ∷ 0 ∷ 0 ∷ 0 ∷ 0 ∷ 0 ∷ 0 ∷ 1 ∷ 0 ∷ 1 ∷ 9 ∷ 0 ∷ []
 
 -- what a BIT variable is made from
@@ -71,12 +73,12 @@ calling_code = record {
 
 -- its deck
 abbrev pub calling : Deck
-calling = record { name = 77 ∷ []; is_main = true; code = calling_code }
+calling = record { version = Second; name = 77 ∷ []; is_main = true; code = calling_code }
 
 -- its bytes
 abbrev pub calling_bytes : List ℕ
 calling_bytes =
-    80 ∷ 76 ∷ 73 ∷ 68 ∷ 1 ∷ 1 ∷ 77 ∷ 1 ∷ 0 ∷ 255 ∷ 255 ∷ 0 ∷ 1 ∷ 4 ∷ 0 ∷ 1 ∷ 0 ∷ 1 ∷ 0 ∷ 0 ∷ 0 ∷ 0 ∷ 0 ∷
+    80 ∷ 76 ∷ 73 ∷ 68 ∷ 2 ∷ 1 ∷ 77 ∷ 1 ∷ 0 ∷ 255 ∷ 255 ∷ 0 ∷ 1 ∷ 4 ∷ 0 ∷ 1 ∷ 0 ∷ 1 ∷ 0 ∷ 0 ∷ 0 ∷ 0 ∷ 0 ∷
     0 ∷ 0 ∷ 0 ∷ 0 ∷ 2 ∷ 2 ∷ 1 ∷ 88 ∷ 0 ∷ 0 ∷ 4 ∷ 1 ∷ 81 ∷ 1 ∷ 0 ∷ 0 ∷ 255 ∷ 255 ∷ 0 ∷ 1 ∷ 0 ∷ 255 ∷ 255 ∷
     0 ∷ 0 ∷ 0 ∷ 0 ∷ 0 ∷ 0 ∷ 0 ∷ 0 ∷ 0 ∷ 0 ∷ 1 ∷ 0 ∷ 4 ∷ 1 ∷ 0 ∷ 0 ∷ 0 ∷ 3 ∷ 14 ∷ 0 ∷ 0 ∷ 7 ∷ 0 ∷ 1 ∷ 1 ∷
     9 ∷ 0 ∷ []
@@ -96,12 +98,12 @@ called_code = record {
 
 -- its deck
 abbrev pub called : Deck
-called = record { name = 81 ∷ []; is_main = false; code = called_code }
+called = record { version = Second; name = 81 ∷ []; is_main = false; code = called_code }
 
 -- its bytes
 abbrev pub called_bytes : List ℕ
 called_bytes =
-    80 ∷ 76 ∷ 73 ∷ 68 ∷ 1 ∷ 1 ∷ 81 ∷ 0 ∷ 1 ∷ 0 ∷ 0 ∷ 255 ∷ 255 ∷ 0 ∷ 1 ∷ 4 ∷ 0 ∷ 1 ∷ 0 ∷ 1 ∷ 0 ∷ 0 ∷ 0 ∷
+    80 ∷ 76 ∷ 73 ∷ 68 ∷ 2 ∷ 1 ∷ 81 ∷ 0 ∷ 1 ∷ 0 ∷ 0 ∷ 255 ∷ 255 ∷ 0 ∷ 1 ∷ 4 ∷ 0 ∷ 1 ∷ 0 ∷ 1 ∷ 0 ∷ 0 ∷ 0 ∷
     0 ∷ 0 ∷ 0 ∷ 0 ∷ 0 ∷ 0 ∷ 1 ∷ 2 ∷ 1 ∷ 88 ∷ 0 ∷ 0 ∷ 0 ∷ 1 ∷ 0 ∷ 255 ∷ 255 ∷ 1 ∷ 0 ∷ 0 ∷ 0 ∷ 0 ∷ 0 ∷ 0 ∷
     0 ∷ 0 ∷ 0 ∷ 1 ∷ 0 ∷ 7 ∷ 1 ∷ 0 ∷ 0 ∷ 0 ∷ 3 ∷ 14 ∷ 0 ∷ 0 ∷ 13 ∷ 0 ∷ 0 ∷ 0 ∷ 19 ∷ 23 ∷ 0 ∷ 0 ∷ 20 ∷ 9 ∷
     0 ∷ []
@@ -122,12 +124,12 @@ stacking_code = record {
 
 -- its deck
 abbrev pub stacking : Deck
-stacking = record { name = 77 ∷ []; is_main = true; code = stacking_code }
+stacking = record { version = Second; name = 77 ∷ []; is_main = true; code = stacking_code }
 
 -- its bytes
 abbrev pub stacking_bytes : List ℕ
 stacking_bytes =
-    80 ∷ 76 ∷ 73 ∷ 68 ∷ 1 ∷ 1 ∷ 77 ∷ 1 ∷ 0 ∷ 255 ∷ 255 ∷ 0 ∷ 1 ∷ 4 ∷ 0 ∷ 1 ∷ 0 ∷ 1 ∷ 0 ∷ 0 ∷ 0 ∷ 0 ∷ 0 ∷
+    80 ∷ 76 ∷ 73 ∷ 68 ∷ 2 ∷ 1 ∷ 77 ∷ 1 ∷ 0 ∷ 255 ∷ 255 ∷ 0 ∷ 1 ∷ 4 ∷ 0 ∷ 1 ∷ 0 ∷ 1 ∷ 0 ∷ 0 ∷ 0 ∷ 0 ∷ 0 ∷
     0 ∷ 0 ∷ 0 ∷ 0 ∷ 2 ∷ 1 ∷ 0 ∷ 0 ∷ 3 ∷ 1 ∷ 88 ∷ 0 ∷ 0 ∷ 0 ∷ 1 ∷ 0 ∷ 255 ∷ 255 ∷ 0 ∷ 0 ∷ 0 ∷ 0 ∷ 0 ∷ 0 ∷
     0 ∷ 0 ∷ 0 ∷ 0 ∷ 1 ∷ 0 ∷ 6 ∷ 1 ∷ 0 ∷ 0 ∷ 0 ∷ 3 ∷ 48 ∷ 0 ∷ 0 ∷ 48 ∷ 0 ∷ 1 ∷ 1 ∷ 0 ∷ 0 ∷ 0 ∷ 4 ∷ 49 ∷
     0 ∷ 0 ∷ 9 ∷ 0 ∷ []
@@ -152,12 +154,12 @@ pointing_code = record {
 
 -- its deck
 abbrev pub pointing : Deck
-pointing = record { name = 77 ∷ []; is_main = true; code = pointing_code }
+pointing = record { version = Second; name = 77 ∷ []; is_main = true; code = pointing_code }
 
 -- its bytes
 abbrev pub pointing_bytes : List ℕ
 pointing_bytes =
-    80 ∷ 76 ∷ 73 ∷ 68 ∷ 1 ∷ 1 ∷ 77 ∷ 1 ∷ 0 ∷ 255 ∷ 255 ∷ 0 ∷ 2 ∷ 5 ∷ 4 ∷ 0 ∷ 1 ∷ 0 ∷ 2 ∷ 0 ∷ 0 ∷ 0 ∷ 0 ∷ 0 ∷
+    80 ∷ 76 ∷ 73 ∷ 68 ∷ 2 ∷ 1 ∷ 77 ∷ 1 ∷ 0 ∷ 255 ∷ 255 ∷ 0 ∷ 2 ∷ 5 ∷ 4 ∷ 0 ∷ 1 ∷ 0 ∷ 2 ∷ 0 ∷ 0 ∷ 0 ∷ 0 ∷ 0 ∷
     0 ∷ 0 ∷ 1 ∷ 0 ∷ 0 ∷ 0 ∷ 0 ∷ 0 ∷ 1 ∷ 4 ∷ 0 ∷ 2 ∷ 0 ∷ 0 ∷ 0 ∷ 0 ∷ 0 ∷ 1 ∷ 0 ∷ 1 ∷ 0 ∷ 255 ∷ 255 ∷ 0 ∷ 0 ∷
     0 ∷ 0 ∷ 1 ∷ 0 ∷ 0 ∷ 0 ∷ 0 ∷ 0 ∷ 1 ∷ 0 ∷ 28 ∷ 1 ∷ 0 ∷ 0 ∷ 0 ∷ 3 ∷ 51 ∷ 0 ∷ 1 ∷ 61 ∷ 0 ∷ 0 ∷ 14 ∷ 0 ∷ 0 ∷
     62 ∷ 0 ∷ 0 ∷ 20 ∷ 1 ∷ 0 ∷ 0 ∷ 0 ∷ 4 ∷ 14 ∷ 0 ∷ 0 ∷ 14 ∷ 0 ∷ 1 ∷ 45 ∷ 20 ∷ 1 ∷ 0 ∷ 0 ∷ 0 ∷ 5 ∷ 14 ∷ 0 ∷
@@ -187,12 +189,12 @@ holding_code = record {
 
 -- its deck
 abbrev pub holding : Deck
-holding = record { name = 77 ∷ []; is_main = true; code = holding_code }
+holding = record { version = Second; name = 77 ∷ []; is_main = true; code = holding_code }
 
 -- its bytes
 abbrev pub holding_bytes : List ℕ
 holding_bytes =
-    80 ∷ 76 ∷ 73 ∷ 68 ∷ 1 ∷ 1 ∷ 77 ∷ 1 ∷ 0 ∷ 255 ∷ 255 ∷ 0 ∷ 3 ∷ 7 ∷ 0 ∷ 0 ∷ 0 ∷ 16 ∷ 6 ∷ 4 ∷ 0 ∷ 1 ∷ 0 ∷
+    80 ∷ 76 ∷ 73 ∷ 68 ∷ 2 ∷ 1 ∷ 77 ∷ 1 ∷ 0 ∷ 255 ∷ 255 ∷ 0 ∷ 3 ∷ 7 ∷ 0 ∷ 0 ∷ 0 ∷ 16 ∷ 6 ∷ 4 ∷ 0 ∷ 1 ∷ 0 ∷
     3 ∷ 0 ∷ 0 ∷ 0 ∷ 0 ∷ 0 ∷ 0 ∷ 0 ∷ 1 ∷ 0 ∷ 0 ∷ 0 ∷ 0 ∷ 0 ∷ 2 ∷ 0 ∷ 0 ∷ 0 ∷ 0 ∷ 0 ∷ 1 ∷ 5 ∷ 0 ∷ 2 ∷ 0 ∷
     0 ∷ 0 ∷ 0 ∷ 0 ∷ 1 ∷ 0 ∷ 1 ∷ 0 ∷ 255 ∷ 255 ∷ 0 ∷ 0 ∷ 0 ∷ 0 ∷ 1 ∷ 0 ∷ 0 ∷ 0 ∷ 0 ∷ 0 ∷ 1 ∷ 0 ∷ 27 ∷ 1 ∷
     0 ∷ 0 ∷ 0 ∷ 3 ∷ 14 ∷ 0 ∷ 0 ∷ 52 ∷ 0 ∷ 2 ∷ 0 ∷ 1 ∷ 61 ∷ 0 ∷ 0 ∷ 14 ∷ 0 ∷ 1 ∷ 62 ∷ 0 ∷ 0 ∷ 14 ∷ 0 ∷ 0 ∷
@@ -200,19 +202,65 @@ holding_bytes =
     14 ∷ 0 ∷ 1 ∷ 18 ∷ 0 ∷ 0 ∷ 20 ∷ 1 ∷ 0 ∷ 0 ∷ 0 ∷ 6 ∷ 14 ∷ 0 ∷ 0 ∷ 14 ∷ 0 ∷ 0 ∷ 54 ∷ 1 ∷ 0 ∷ 0 ∷ 0 ∷ 7 ∷
     14 ∷ 0 ∷ 0 ∷ 55 ∷ 9 ∷ 0 ∷ []
 
+-- M: PROC OPTIONS(MAIN); DCL X FIXED BIN(p) STATIC INIT(5); END;
+abbrev pub counting_code : (precision : ℕ) → Code
+counting_code precision = record {
+  signature = without_parameters;
+  descriptions = FixedBinary precision ∷ [];
+  templates =
+      record { description = 0; initial = record { offset = 0; value = Number (pos 5) } ∷ [] } ∷ [];
+  values = [];
+  globals = OwnVariable Static 0 ∷ [];
+  blocks = outermost 0 ∷ [];
+  instructions = op.Return 0 ∷ [];
+}
+
+-- its deck with 31 digits in the first version
+abbrev pub narrow : Deck
+narrow = record { version = First; name = 77 ∷ []; is_main = true; code = counting_code 31 }
+
+-- its bytes, four of which have the number
+abbrev pub narrow_bytes : List ℕ
+narrow_bytes =
+    80 ∷ 76 ∷ 73 ∷ 68 ∷ 1 ∷ 1 ∷ 77 ∷ 1 ∷ 0 ∷ 255 ∷ 255 ∷ 0 ∷ 1 ∷ 1 ∷ 31 ∷ 0 ∷ 1 ∷ 0 ∷ 0 ∷ 0 ∷ 0 ∷ 0 ∷ 1 ∷
+    0 ∷ 0 ∷ 0 ∷ 0 ∷ 1 ∷ 0 ∷ 0 ∷ 0 ∷ 5 ∷ 0 ∷ 0 ∷ 0 ∷ 1 ∷ 0 ∷ 0 ∷ 0 ∷ 0 ∷ 1 ∷ 0 ∷ 255 ∷ 255 ∷ 0 ∷ 0 ∷ 0 ∷
+    0 ∷ 0 ∷ 0 ∷ 0 ∷ 0 ∷ 0 ∷ 0 ∷ 1 ∷ 0 ∷ 1 ∷ 9 ∷ 0 ∷ []
+
+-- its deck with 63 digits
+abbrev pub wide : Deck
+wide = record { version = Second; name = 77 ∷ []; is_main = true; code = counting_code 63 }
+
+-- its bytes, eight of which have the number
+abbrev pub wide_bytes : List ℕ
+wide_bytes =
+    80 ∷ 76 ∷ 73 ∷ 68 ∷ 2 ∷ 1 ∷ 77 ∷ 1 ∷ 0 ∷ 255 ∷ 255 ∷ 0 ∷ 1 ∷ 1 ∷ 63 ∷ 0 ∷ 1 ∷ 0 ∷ 0 ∷ 0 ∷ 0 ∷ 0 ∷ 1 ∷
+    0 ∷ 0 ∷ 0 ∷ 0 ∷ 1 ∷ 0 ∷ 0 ∷ 0 ∷ 0 ∷ 0 ∷ 0 ∷ 0 ∷ 5 ∷ 0 ∷ 0 ∷ 0 ∷ 1 ∷ 0 ∷ 0 ∷ 0 ∷ 0 ∷ 1 ∷ 0 ∷ 255 ∷
+    255 ∷ 0 ∷ 0 ∷ 0 ∷ 0 ∷ 0 ∷ 0 ∷ 0 ∷ 0 ∷ 0 ∷ 0 ∷ 1 ∷ 0 ∷ 1 ∷ 9 ∷ 0 ∷ []
+
+-- the smallest deck in the first version
+abbrev pub smallest_before : Deck
+smallest_before = record smallest { version = First }
+
 -- how they are written
 abbrev pub WrittenSo : Type 0
 WrittenSo =
     (deck_bytes smallest ≡ smallest_bytes) × (deck_bytes calling ≡ calling_bytes)
     × (deck_bytes called ≡ called_bytes) × (deck_bytes stacking ≡ stacking_bytes)
     × (deck_bytes pointing ≡ pointing_bytes) × (deck_bytes holding ≡ holding_bytes)
+    × (deck_bytes smallest_before ≡ slice_set smallest_bytes 4 1)
+    × (deck_bytes narrow ≡ narrow_bytes) × (deck_bytes wide ≡ wide_bytes)
 
--- how they are read, and what is wrong where a byte is missing or one stands behind
+-- how they are read, and what is wrong where a byte is missing, one stands behind, the version is another, or
+-- a precision is none of its version
 abbrev pub ReadSo : Type 0
 ReadSo =
     (deck_read smallest_bytes ≡ Ok smallest) × (deck_read calling_bytes ≡ Ok calling)
     × (deck_read called_bytes ≡ Ok called) × (deck_read stacking_bytes ≡ Ok stacking)
     × (deck_read pointing_bytes ≡ Ok pointing) × (deck_read holding_bytes ≡ Ok holding)
+    × (deck_read (slice_set smallest_bytes 4 1) ≡ Ok smallest_before)
+    × (deck_read narrow_bytes ≡ Ok narrow) × (deck_read wide_bytes ≡ Ok wide)
+    × (deck_read (slice_set smallest_bytes 4 3) ≡ Err BadVersion)
+    × (deck_read (slice_set wide_bytes 4 1) ≡ Err OutOfRange)
     × (deck_read [] ≡ Err BadMagic)
     × (deck_read (take 3 smallest_bytes) ≡ Err BadMagic)
     × (deck_read (take 4 smallest_bytes) ≡ Err Truncated)

@@ -79,12 +79,12 @@ Answers o faults = outline_faults o o.marks ≡ faults
 abbrev pub declares : List Item → List PlacedMark
 declares items = in_region 0 (Declared items) ∷ []
 
--- `DCL X BIT, X BIT;`; `DCL X FIXED BIN(32);`; `DCL C CHAR(0);`; `DCL X FIXED BIN(15) INIT(40000);`
+-- `DCL X BIT, X BIT;`; `DCL X FIXED BIN(64);`; `DCL C CHAR(0);`; `DCL X FIXED BIN(15) INIT(40000);`
 abbrev pub OfOneName : Type 0
 OfOneName =
     Answers (unit [] (declares (plain (at (codes "X") 4) bit ∷ plain (at (codes "X") 7) bit
     ∷ []))) (fault DeclaredTwice 7 ∷ [])
-    × Answers (unit [] (declares (plain (at (codes "X") 4) (binary 32) ∷ []))) (fault BadPrecision 4 ∷ [])
+    × Answers (unit [] (declares (plain (at (codes "X") 4) (binary 64) ∷ []))) (fault BadPrecision 4 ∷ [])
     × Answers (unit [] (declares (plain (at (codes "C") 4) (Simple (Character (Some 0)) ∷ [])
     ∷ []))) (fault BadLength 4 ∷ [])
     × Answers (unit [] (declares (plain (at (codes "X") 4) (Simple (Fixed None) ∷ Simple (Binary (Some 15))

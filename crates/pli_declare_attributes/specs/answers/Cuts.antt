@@ -2,9 +2,9 @@
 use Rattle.std.specs.Prelude.{ℕ, ◌^◌, min, Option, option_map}
 use Rattle.pli_declare_attributes.specs.declared.place.ItemPlace.{ItemPlace}
 
--- the values of one INITIAL are for no more elements
+-- 2 ^ 128 - 1: the values of one INITIAL are for no more elements
 abbrev pub most_elements : ℕ
-most_elements = 79228162514264337593543950336
+most_elements = 340282366920938463463374607431768211455
 
 -- a count up to the limit
 abbrev pub cut : Option ℕ → Option ℕ

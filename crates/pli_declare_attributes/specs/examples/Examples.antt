@@ -112,11 +112,11 @@ variable d where_from known =
       initial = [];
     })
 
--- `BIN(31) FIXED`, `FIXED BIN`, `BIT`, `AREA`, and `CHAR VAR` of a parameter
+-- `BIN(63) FIXED`, `FIXED BIN`, `BIT`, `AREA`, and `CHAR VAR` of a parameter
 abbrev pub Defaults : Type 0
 Defaults =
-    Is alone (simple (Binary (Some 31) ∷ Fixed None
-    ∷ [])) (variable (type.FixedBinary 31) (Some storage.Automatic) scope.Internal)
+    Is alone (simple (Binary (Some 63) ∷ Fixed None
+    ∷ [])) (variable (type.FixedBinary 63) (Some storage.Automatic) scope.Internal)
     × Is alone (simple (Fixed None ∷ Binary None
     ∷ [])) (variable (type.FixedBinary 15) (Some storage.Automatic) scope.Internal)
     × Is alone (simple (Bit None ∷ [])) (variable (type.Bit 1) (Some storage.Automatic) scope.Internal)
@@ -218,7 +218,7 @@ Missing =
 -- a precision, a size and a bound over their limits; a length and an upper bound of 0; nine dimensions
 abbrev pub BadNumbers : Type 0
 BadNumbers =
-    Faulty alone (simple (Fixed (Some 32) ∷ Binary None ∷ [])) BadPrecision
+    Faulty alone (simple (Fixed (Some 64) ∷ Binary None ∷ [])) BadPrecision
     × Faulty alone (simple (Character (Some 0) ∷ [])) BadLength
     × Faulty alone (simple (Area (Some 1000001) ∷ [])) BadLength
     × Faulty alone (item (up_to 0 ∷ []) (Simple Pointer ∷ [])) BadBounds
@@ -250,7 +250,7 @@ abbrev pub PartsOfEntries : Type 0
 PartsOfEntries =
     Faulty alone (item [] (Entry (Some (
     record { dimensions = []; attributes = Plain (Bit (Some 0)) ∷ [] }
-    ∷ record { dimensions = []; attributes = Plain (Fixed (Some 40)) ∷ Plain (Binary None) ∷ [] } ∷ []))
+    ∷ record { dimensions = []; attributes = Plain (Fixed (Some 64)) ∷ Plain (Binary None) ∷ [] } ∷ []))
     ∷ []))
     BadPrecision
     × Faulty alone (item [] (Entry (Some (record { dimensions = []; attributes = AnyEntry ∷ [] } ∷ []))

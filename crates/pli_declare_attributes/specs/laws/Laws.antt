@@ -17,7 +17,7 @@ SetsAreOfWhatStands =
 
 -- a type that is neither an array nor a structure, with its number within the limits
 abbrev pub IsScalar : Description → Type 0
-IsScalar (FixedBinary p) = (1 ≤ p) × (p ≤ 31)
+IsScalar (FixedBinary p) = (1 ≤ p) × (p ≤ 63)
 IsScalar (Character n) = (1 ≤ n) × (n ≤ 32767)
 IsScalar (Varying n) = (1 ≤ n) × (n ≤ 32767)
 IsScalar (Bit n) = (1 ≤ n) × (n ≤ 32767)

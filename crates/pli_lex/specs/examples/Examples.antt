@@ -106,18 +106,19 @@ BadNumbers =
     Fails (codes "12B") BadNumber × Fails (codes "1A") BadNumber × Fails (codes "12.5") BadNumber
     × Fails (codes "101B2") BadNumber × Fails (codes "101B.") BadNumber
 
--- eleven digits are too many, and so are 32 binary ones
+-- 20 digits are too many, and so are 64 binary ones
 abbrev pub TooManyDigits : Type 0
 TooManyDigits =
-    Fails (codes "00000000001") BadNumber × Fails (codes "00000000000000000000000000000001B") BadNumber
+    Fails (codes "00000000000000000001") BadNumber
+    × Fails (codes "0000000000000000000000000000000000000000000000000000000000000001B") BadNumber
 
 -- the greatest constants, and the next
 abbrev pub GreatestNumbers : Type 0
 GreatestNumbers =
     Says
-    (codes "2147483647 1111111111111111111111111111111B")
-    (Decimal 2147483647 10 ∷ Binary 2147483647 31 ∷ [])
-    × Fails (codes "2147483648") BadNumber
+    (codes "9223372036854775807 111111111111111111111111111111111111111111111111111111111111111B")
+    (Decimal 9223372036854775807 19 ∷ Binary 9223372036854775807 63 ∷ [])
+    × Fails (codes "9223372036854775808") BadNumber
 
 -- digits that are too great, a width that is none, and a name character directly behind
 abbrev pub BadBitConstants : Type 0

@@ -5,7 +5,7 @@ use Rattle.pli_base.specs.Name.{Name}
 use Rattle.pli_map.specs.Description.{Description, Array, Bit, Character, FixedBinary}
 use Rattle.pli_link.specs.Link.{link_of}
 use Rattle.pli_link.specs.Links.{module_of}
-use Rattle.pli_link.specs.Units.{Compiled}
+use Rattle.pli_link.specs.Units.{Compiled, as_unit}
 use Rattle.pli_link.specs.declared.linking.LinkFault.TheVariants.{NoMainProcedure, TwoMainProcedures}
 use Rattle.pli_link.specs.declared.linking.LinkFault.TheVariants.{Unresolved, DefinedTwice, Mismatch}
 use Rattle.pli_link.specs.declared.linking.LinkFault.TheVariants.{ModuleTooLarge}
@@ -15,6 +15,7 @@ use Rattle.pli_code.specs.CodeTables.{EntryPoint}
 use Rattle.pli_program.specs.declared.kind.VariableKind.{VariableKind}
 use Rattle.pli_program.specs.declared.kind.VariableKind.TheVariants.{Static, Controlled}
 use Rattle.pli_code.specs.Modules.{External, Member, Module}
+use Rattle.pli_code.specs.Versions.{written}
 use Rattle.pli_code.specs.declared.instruction.Instruction.TheVariants as op
 
 -- what a procedure without parameters takes and gives
@@ -40,7 +41,7 @@ plain = code_with nothing [] []
 -- a compiled unit
 abbrev pub unit : Name → (procedure : Name) → Bool → Code → Compiled
 unit n procedure is_main code =
-    record { unit = n; deck = record { name = procedure; is_main = is_main; code = code } }
+    as_unit n (record { version = written; name = procedure; is_main = is_main; code = code })
 
 -- a name with its unit
 abbrev pub named : Name → (unit : Name) → LinkedName
@@ -56,7 +57,8 @@ external name unit global = record { name = name; kind = 2; unit = unit; global 
 
 -- a module
 abbrev pub linked_to : (main : ℕ) → List External → List Member → Module
-linked_to main externals units = record { main = main; externals = externals; units = units }
+linked_to main externals units =
+    record { version = written; main = main; externals = externals; units = units }
 
 -- one text in two members
 abbrev pub TwoUnits : Type 0

@@ -7,11 +7,12 @@ use Rattle.pli_run.specs.declared.ending.Ending.TheVariants.{Ended, OutOfSteps, 
 use Rattle.pli_run.specs.declared.ending.RunError.TheVariants.{TooManyActivations, SubscriptRange}
 use Rattle.pli_run.specs.declared.ending.RunError.TheVariants.{StringRange, NoGeneration, NullLocator}
 use Rattle.pli_run.specs.declared.ending.RunError.TheVariants.{DeadLocator, DescriptionMismatch}
+use Rattle.pli_run.specs.declared.ending.RunError.TheVariants.{FixedOverflow}
 use Rattle.pli_map.specs.Description.{Description, FixedBinary, Array, Pointer}
 use Rattle.pli_operation.specs.declared.operation.Operation.{Operation}
 use Rattle.pli_operation.specs.declared.operation.Operation.TheVariants.{ToCharacters, Add, Compare}
 use Rattle.pli_operation.specs.declared.operation.Operation.TheVariants.{Substring}
-use Rattle.pli_operation.specs.declared.operation.Relation.TheVariants.{AtMost, Less}
+use Rattle.pli_operation.specs.declared.operation.Relation.TheVariants.{Equal, AtMost, Less}
 use Rattle.pli_value.specs.Value.{Value, Number, Characters, Bits, Located}
 use Rattle.pli_value.specs.declared.locator.Locator.TheVariants.{Null}
 use Rattle.pli_map.specs.Values.{first_values}
@@ -359,6 +360,22 @@ abbrev pub ComparisonPrints : Type 0
 ComparisonPrints =
     after (printing (Characters (codes "A") ∷ Characters (codes "A B") ∷ []) (Compare Less)) 1 5
     ≡ Some (gives (codes "'1'B ") Ended 6)
+
+-- whether 2147483647 + 1 is 2147483648, printed
+abbrev pub far_sum : List Instruction
+far_sum =
+    number 2147483647 ∷ number 1 ∷ Operate Add ∷ number 2147483648 ∷ Operate (Compare Equal) ∷ Put
+    ∷ Return 0 ∷ []
+
+-- the same where numbers have this greatest precision
+abbrev pub summing : (greatest : ℕ) → Program
+summing greatest = record (program [] far_sum) { greatest = greatest }
+
+-- with 31 binary digits the sum is an error, with 63 it is a number
+abbrev pub SumsAreAsWide : Type 0
+SumsAreAsWide =
+    (after (summing 31) 1 3 ≡ Some (gives [] (Error FixedOverflow (codes "M") 1) 1))
+    × (after (summing 63) 1 7 ≡ Some (gives (codes "'1'B ") Ended 6))
 
 -- bits are printed as a constant
 abbrev pub BitsPrint : Type 0

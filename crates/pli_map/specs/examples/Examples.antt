@@ -45,6 +45,15 @@ MixedMembers = Takes mixed 21 4
     × (place_of mixed (Member 4 ∷ []) ≡ Some (record { offset = 19; description = Bit 9 }))
     × (place_of mixed (Member 5 ∷ []) ≡ None)
 
+-- FIXED BINARY(15), FIXED BINARY(63)
+abbrev pub wide : Description
+wide = structure (FixedBinary 15 ∷ FixedBinary 63 ∷ [])
+
+-- a number of eight bytes stands at a multiple of 8
+abbrev pub WideMembers : Type 0
+WideMembers = Takes wide 16 8
+    × (place_of wide (Member 1 ∷ []) ≡ Some (record { offset = 8; description = FixedBinary 63 }))
+
 -- (2:3, -1:1) CHARACTER(4): six elements, the last subscript fastest
 abbrev pub table : Description
 table =

@@ -10,6 +10,7 @@ use Rattle.pli_operation.specs.declared.operation.Operation.TheVariants.{Add, To
 use Rattle.pli_program.specs.Program.{Procedure}
 use Rattle.pli_code.specs.CodeTables.{Deck}
 use Rattle.pli_code.specs.Modules.{Module}
+use Rattle.pli_code.specs.Versions.{written}
 use Rattle.pli_machine_step.specs.ModuleRuns.{RunsTo}
 use Rattle.pli_code.specs.declared.instruction.Instruction.TheVariants as op
 use Rattle.pli_value.specs.Value.{Number}
@@ -29,6 +30,7 @@ first_members =
 -- its deck
 abbrev pub first_deck : Deck
 first_deck = record {
+  version = written;
   name = codes "M";
   is_main = true;
   code = record {
@@ -55,6 +57,7 @@ first_deck = record {
 -- its module
 abbrev pub first_module : Module
 first_module = record {
+  version = written;
   main = 0;
   externals = [];
   units = record { name = codes "M"; deck = first_deck; links = [] } ∷ [];

@@ -195,6 +195,6 @@ NoAreaIsError =
           (Statement 3 (Put false (Held (Whole
           (Located (AsPointer (Whole (NewestOf 0)) (held_in 0 0)) (Character 4))) ∷ [])) ∷ [])) ∷ []) ∷ [];
       main = 0;
-      greatest = 31;
+      greatest = 63;
     }) 9
     ≡ Some (record { output = []; ending = Error error.NoGeneration (codes "M") 3; column = 1 })

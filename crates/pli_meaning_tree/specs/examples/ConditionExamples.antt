@@ -105,15 +105,15 @@ NamesAreOfOn =
     calls : TypedExpression → Form
     calls e = Call (OfBlock 1) (ByDummy (FixedBinary 31) e NoArgument)
 
--- `DCL X FIXED BIN(3); ON FOFL PUT LIST('F'); X = 2147483647 + 1 + 100; PUT LIST(X);`: the sum is 0, and 100
--- does not fit
+-- `DCL X FIXED BIN(3); ON FOFL PUT LIST('F'); X = 9223372036854775807 + 1 + 100; PUT LIST(X);`: the sum is 0,
+-- and 100 does not fit
 abbrev pub ZeroStandsBehind : Type 0
 ZeroStandsBehind =
     Prints
     (main_with (FixedBinary 3 ∷ [])
     (Statement 3 (On condition.FixedOverflow 1)
-    ∷ Statement 5 (Assign (slot 0 0) (Calculated (Fit (FixedBinary 3))
-    (OperandThen (with_two Add (with_two Add (number 2147483647) (number 1)) (number 100)) NoOperand)))
+    ∷ Statement 5 (Assign (slot 0 0) (Calculated (Fit (FixedBinary 3)) (OperandThen
+    (with_two Add (with_two Add (number 9223372036854775807) (number 1)) (number 100)) NoOperand)))
     ∷ Statement 6 (prints_number (held_in 0 0)) ∷ [])
     ∷ unit_in 1 3 0 (Statement 4 (prints (codes "F"))) ∷ [])
     8 (codes "F                       F                          0 ") Ended 54
@@ -253,7 +253,7 @@ AreaIsEvaluatedAnew =
               ∷ allocated 6 ∷ allocated 7 ∷ Statement 8 (prints_number (Generations 0)) ∷ [])
               ∷ unit_in 1 4 0 (Statement 5 unit) ∷ []) ∷ [];
           main = 0;
-          greatest = 31;
+          greatest = 63;
         }) 10
         ≡ Some (record { output = output; ending = e; column = column })
 
@@ -281,6 +281,6 @@ GotoLeavesUnits =
           ∷ unit_in 1 2 0 (Statement 3 (Goto 1 6)) ∷ [])
           ∷ unit_of (codes "N") nothing_given [] (main_with [] (signals 2 ∷ []) ∷ []) ∷ [];
       main = 0;
-      greatest = 31;
+      greatest = 63;
     }) 8
     ≡ Some (record { output = codes "B "; ending = Ended; column = 3 })

@@ -86,7 +86,7 @@ abbrev pub program_of : List TypedProcedure → TypedProgram
 program_of procedures = record {
   units = unit_of (codes "M") nothing_given [] procedures ∷ [];
   main = 0;
-  greatest = 31;
+  greatest = 63;
 }
 
 -- what so many steps of a program give
@@ -174,11 +174,11 @@ IfChooses =
     (Statement 3 (prints (codes "A"))) (Else (Statement 4 (prints (codes "B"))))) ∷ []))
     3 (codes "A ") Ended 3
 
--- `A(3) = 2147483647 + 1;` with A(2): the error of the target comes before the value is evaluated
+-- `A(3) = 9223372036854775807 + 1;` with A(2): the error of the target comes before the value is evaluated
 abbrev pub SubscriptIsTested : Type 0
 SubscriptIsTested =
     Prints (alone (pair ∷ [])
-    (Statement 2 (Assign (element 0 3) (with_two Add (number 2147483647) (number 1))) ∷ []))
+    (Statement 2 (Assign (element 0 3) (with_two Add (number 9223372036854775807) (number 1))) ∷ []))
     9 [] (Error SubscriptRange (codes "M") 2) 1
 
 -- `A(2) = 7; B = A; PUT LIST(B(2));`: what one aggregate holds is copied to the other
@@ -200,7 +200,7 @@ BitsArePrinted =
 abbrev pub ItemBeforeIsWritten : Type 0
 ItemBeforeIsWritten =
     Prints (alone [] (Statement 2 (Put false (text (codes "A")
-    ∷ shown (with_two Add (number 2147483647) (number 1)) ∷ [])) ∷ []))
+    ∷ shown (with_two Add (number 9223372036854775807) (number 1)) ∷ [])) ∷ []))
     9 (codes "A ") (Error FixedOverflow (codes "M") 2) 3
 
 -- `PUT LIST(F(3));` and a function F(N): `IF N < 1 THEN RETURN(0); RETURN(N + F(N - 1));`
@@ -392,7 +392,7 @@ two_units statements = record {
         statements = listed statements;
       } ∷ []) ∷ [];
   main = 0;
-  greatest = 31;
+  greatest = 63;
 }
 
 -- `X = A; RETURN(A + A);`: the activations, PUT, and two statements
@@ -409,7 +409,8 @@ UnitsShare =
 -- an error in N names it
 abbrev pub UnitFails : Type 0
 UnitFails =
-    whole_run (two_units (Statement 2 (Assign shared (with_two Add (number 2147483647) (number 1))) ∷ [])) 9
+    whole_run
+    (two_units (Statement 2 (Assign shared (with_two Add (number 9223372036854775807) (number 1))) ∷ [])) 9
     ≡ Some (record { output = []; ending = Error FixedOverflow (codes "N") 2; column = 1 })
 
 -- a program whose unit M has a CONTROLLED variable C that begins with 7, and these statements
@@ -423,7 +424,7 @@ controlled statements = record {
       }) ∷ [])
       (main_of [] (listed statements) ∷ []) ∷ [];
   main = 0;
-  greatest = 31;
+  greatest = 63;
 }
 
 -- C

@@ -33,7 +33,7 @@ fn characters_are_told() -> bool {
         && !is_digit(b':')
         && is_name_character(b'$')
         && !is_name_character(b'-')
-        && decimal_value(b"999999999999999999") == 999_999_999_999_999_999
+        && decimal_value(b"9999999999999999999") == 9_999_999_999_999_999_999
 }
 
 #[test]

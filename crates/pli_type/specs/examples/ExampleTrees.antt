@@ -186,10 +186,10 @@ abbrev pub based_in : (block : ℕ) → List Template
 based_in block =
     if nat_eq block 1 then record { description = FixedBinary 15; initial = [] } ∷ [] else []
 
--- what names mean, where numbers have at most 31 binary digits
+-- what names mean, where numbers have at most 63 binary digits
 abbrev pub naming : List (ℕ × NamedAs) → Naming
 naming meanings = record {
-  greatest = 31;
+  greatest = 63;
   based = based_in;
   returned_area = λ block. None;
   meaning = meaning_in meanings;

@@ -308,9 +308,9 @@ BareConstants =
     (faults ((0, n) ∷ (2, divide) ∷ []) (assign 1 0 (alone_named (codes "N") 0) 1 (Referred (Named (called
     (codes "DIVIDE") 2) (Given (Listed (decimal 1 1 4) (Listed (decimal 1 1 6) (Listed (decimal 15 2 8)
     Empty)))) Alone))) ≡ good)
-    -- N = DIVIDE(1, 1, 031);
+    -- N = DIVIDE(1, 1, 063);
     × (faults ((0, n) ∷ (2, divide) ∷ []) (assign 1 0 (alone_named (codes "N") 0) 1 (Referred (Named (called
-    (codes "DIVIDE") 2) (Given (Listed (decimal 1 1 4) (Listed (decimal 1 1 6) (Listed (decimal 31 3 8)
+    (codes "DIVIDE") 2) (Given (Listed (decimal 1 1 4) (Listed (decimal 1 1 6) (Listed (decimal 63 3 8)
     Empty)))) Alone))) ≡ good)
     -- N = DIVIDE(1, 1, (15));
     × (faults ((0, n) ∷ (2, divide) ∷ []) (assign 1 0 (alone_named (codes "N") 0) 1 (Referred (Named (called
@@ -324,9 +324,9 @@ BareConstants =
     × (faults ((0, n) ∷ (2, divide) ∷ []) (assign 1 0 (alone_named (codes "N") 0) 1 (Referred (Named (called
     (codes "DIVIDE") 2) (Given (Listed (decimal 1 1 4) (Listed (decimal 1 1 6) (Listed (binary 1 1 8)
     Empty)))) Alone))) ≡ one WrongBuiltInArgument 2)
-    -- N = DIVIDE(1, 1, 32);
+    -- N = DIVIDE(1, 1, 64);
     × (faults ((0, n) ∷ (2, divide) ∷ []) (assign 1 0 (alone_named (codes "N") 0) 1 (Referred (Named (called
-    (codes "DIVIDE") 2) (Given (Listed (decimal 1 1 4) (Listed (decimal 1 1 6) (Listed (decimal 32 2 8)
+    (codes "DIVIDE") 2) (Given (Listed (decimal 1 1 4) (Listed (decimal 1 1 6) (Listed (decimal 64 2 8)
     Empty)))) Alone))) ≡ one WrongBuiltInArgument 2)
     -- N = DIVIDE(1, 1, 0);
     × (faults ((0, n) ∷ (2, divide) ∷ []) (assign 1 0 (alone_named (codes "N") 0) 1 (Referred (Named (called

@@ -116,7 +116,7 @@ resolved = record {
 
 -- what the name at a token means, inside M
 abbrev pub meant_at : (at : ℕ) → NamedAs
-meant_at at = named_as 31 resolved (0 ∷ []) (used at)
+meant_at at = named_as 63 resolved (0 ∷ []) (used at)
 
 -- a variable of its own, or a member, that is no OFFSET
 abbrev pub variable : NamedStorage → Description → (path : List ℕ) → NamedAs
@@ -161,16 +161,16 @@ NamesOfUnit =
 -- globals: S, whose second byte is B, E, Z, C, and D
 abbrev pub VariablesOfUnit : Type 0
 VariablesOfUnit =
-    ((named_unit 31 resolved).automatic 0
+    ((named_unit 63 resolved).automatic 0
     ≡ record { description = Bit 1; initial = [] }
     ∷ record { description = FixedBinary 15; initial = record { offset = 0; value = Number (pos 3) } ∷ [] }
     ∷ record { description = Pointer; initial = [] } ∷ record { description = Area 64; initial = [] }
     ∷ record { description = holder; initial = [] } ∷ [])
-    × (((named_unit 31 resolved).naming []).based 0
+    × (((named_unit 63 resolved).naming []).based 0
     ≡ record { description = Bit 1; initial = [] }
     ∷ record { description = single; initial = record { offset = 0; value = Bits (true ∷ []) } ∷ [] }
     ∷ record { description = Bit 1; initial = [] } ∷ [])
-    × ((named_unit 31 resolved).globals
+    × ((named_unit 63 resolved).globals
     ≡ OwnVariable Static
     (record { description = pair; initial = record { offset = 1; value = Bits (true ∷ []) } ∷ [] })
     ∷ EntryPoint (codes "E") (record { parameters = Bit 1 ∷ []; result = Some Offset })

@@ -58,12 +58,12 @@ nested = record {
 
 -- what the Z of a block is inside of both
 abbrev pub shared_in : (block : ℕ) → NamedAs
-shared_in block = declared_as 31 nested (1 ∷ 0 ∷ []) (record { block = block; number = 0 })
+shared_in block = declared_as 63 nested (1 ∷ 0 ∷ []) (record { block = block; number = 0 })
 
 -- the inner Z comes first, as its name does; inside both blocks each of them means its own global
 abbrev pub GlobalsOfUnit : Type 0
 GlobalsOfUnit =
-    ((named_unit 31 nested).globals
+    ((named_unit 63 nested).globals
     ≡ ExternalVariable (codes "Z") Static (record { description = Bit 1; initial = [] })
     ∷ ExternalVariable (codes "Z") Static (record { description = Character 1; initial = [] }) ∷ [])
     × (shared_in 0

@@ -42,20 +42,20 @@ ConstantsAreDecimal =
 abbrev pub ConstantsHaveRoom : Type 0
 ConstantsHaveRoom =
     -- 0012
-    (literal_value 31 (Decimal 12 4) ≡ Number (pos 12))
-    -- 2147483647
-    × (literal_value 31 (Decimal 2147483647 10) ≡ Number (pos 2147483647))
+    (literal_value 63 (Decimal 12 4) ≡ Number (pos 12))
+    -- 9223372036854775807
+    × (literal_value 63 (Decimal 9223372036854775807 19) ≡ Number (pos 9223372036854775807))
     -- 101B
-    × (literal_value 31 (Binary 5 3) ≡ Number (pos 5))
+    × (literal_value 63 (Binary 5 3) ≡ Number (pos 5))
     -- 'AB'
-    × (literal_value 31 (Characters (codes "AB")) ≡ values.Characters (codes "AB"))
+    × (literal_value 63 (Characters (codes "AB")) ≡ values.Characters (codes "AB"))
     -- '10'B
-    × (literal_value 31 (Bits (true ∷ false ∷ [])) ≡ values.Bits (true ∷ false ∷ []))
-    -- 99999999999
-    × (literal_value 31 (Decimal 99999999999 11) ≡ Number (pos 2147483647))
+    × (literal_value 63 (Bits (true ∷ false ∷ [])) ≡ values.Bits (true ∷ false ∷ []))
+    -- 99999999999999999999
+    × (literal_value 63 (Decimal 99999999999999999999 20) ≡ Number (pos 9223372036854775807))
 
 -- A constant of p digits is an operand of 1 + 3.32p binary digits; a sum has one digit more than the longer
--- operand, a product one more than both, and none more than 31; a sign keeps the precision
+-- operand, a product one more than both, and none more than 63; a sign keeps the precision
 abbrev pub PrecisionsOfOperations : Type 0
 PrecisionsOfOperations =
     -- 1 + 1
@@ -79,16 +79,22 @@ PrecisionsOfOperations =
     (types.FixedBinary 21))
     -- I + I
     × (type_given ((0, i) ∷ (2, i) ∷ []) (Infix infixes.Add 1 (named (codes "I") 0) (named (codes "I") 2)) ≡
-    Some (types.FixedBinary 31))
+    Some (types.FixedBinary 32))
+    -- I * I
+    × (type_given ((0, i) ∷ (2, i) ∷ []) (Infix infixes.Multiply 1 (named (codes "I") 0) (named (codes "I")
+    2)) ≡ Some (types.FixedBinary 63))
     -- I * N
     × (type_given ((0, i) ∷ (2, n) ∷ []) (Infix infixes.Multiply 1 (named (codes "I") 0) (named (codes "N")
-    2)) ≡ Some (types.FixedBinary 31))
+    2)) ≡ Some (types.FixedBinary 47))
     -- -N
     × (type_given ((1, n) ∷ []) (Prefix prefixes.Minus 0 (named (codes "N") 1)) ≡ Some (types.FixedBinary
     15))
     -- 2147483647 + 1
     × (type_given [] (Infix infixes.Add 1 (decimal 2147483647 10 0) (decimal 1 1 2)) ≡ Some
-    (types.FixedBinary 31))
+    (types.FixedBinary 36))
+    -- 9223372036854775807 + 1
+    × (type_given [] (Infix infixes.Add 1 (decimal 9223372036854775807 19 0) (decimal 1 1 2)) ≡ Some
+    (types.FixedBinary 63))
     -- 333 + 1B
     × (type_given [] (Infix infixes.Add 1 (decimal 333 3 0) (binary 1 1 2)) ≡ Some (types.FixedBinary 12))
 

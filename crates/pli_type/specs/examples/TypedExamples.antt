@@ -37,11 +37,11 @@ ConversionsStand =
     × (form_of ((0, v) ∷ []) (assign 1 0 (alone_named (codes "V") 0) 1 (Infix infixes.Add 3 (decimal 5 1 2)
     (decimal 5 1 4))) ≡ Some (typed.Assign (Whole (InSlot 0 3)) (with_one (Fit (Varying 20)) (with_one
     (Operate (ToCharacters 6)) (with_two Add (a_number 5) (a_number 5))))))
-    -- N = DIVIDE(1, 1, 031);
+    -- N = DIVIDE(1, 1, 063);
     × (form_of ((0, n) ∷ (2, divide) ∷ []) (assign 1 0 (alone_named (codes "N") 0) 1 (Referred (Named
-    (called (codes "DIVIDE") 2) (Given (Listed (decimal 1 1 4) (Listed (decimal 1 1 6) (Listed (decimal 31 3
+    (called (codes "DIVIDE") 2) (Given (Listed (decimal 1 1 4) (Listed (decimal 1 1 6) (Listed (decimal 63 3
     8) Empty)))) Alone))) ≡ Some (typed.Assign (Whole (InSlot 0 1)) (with_one (Fit (FixedBinary 15))
-    (with_two (Divide 31) (a_number 1) (a_number 1)))))
+    (with_two (Divide 63) (a_number 1) (a_number 1)))))
     -- N = HBOUND(R, 1);
     × (form_of ((0, n) ∷ (2, high_bound) ∷ (4, r) ∷ []) (assign 1 0 (alone_named (codes "N") 0) 1 (Referred
     (Named (called (codes "HBOUND") 2) (Given (Listed (named (codes "R") 4) (Listed (decimal 1 1 6) Empty)))

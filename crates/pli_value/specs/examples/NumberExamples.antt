@@ -14,6 +14,14 @@ GreatestNumbers = (within 31 (pos 2147483646 +ℤ pos 1) ≡ Ok (pos 2147483647)
     × (within 3 (pos 7) ≡ Ok (pos 7)) × (within 3 (negsuc 6) ≡ Ok (negsuc 6))
     × (within 3 (negsuc 7) ≡ Err Overflow)
 
+-- 9223372036854775807 has 63 binary digits, and so has -9223372036854775807; one more on either side has 64
+abbrev pub WidestNumbers : Type 0
+WidestNumbers = (within 63 (pos 9223372036854775806 +ℤ pos 1) ≡ Ok (pos 9223372036854775807))
+    × (within 63 (pos 9223372036854775807 +ℤ pos 1) ≡ Err Overflow)
+    × (within 63 (negsuc 9223372036854775805 -ℤ pos 1) ≡ Ok (negsuc 9223372036854775806))
+    × (within 63 (negsuc 9223372036854775806 -ℤ pos 1) ≡ Err Overflow)
+    × (within 63 (pos 4294967296 *ℤ pos 2147483648) ≡ Err Overflow)
+
 -- 7 and -7 divided by 2 and -2, rounded toward zero; a quotient of too many digits; a divisor that is zero
 abbrev pub Quotients : Type 0
 Quotients = (quotient 31 (pos 7) (pos 2) ≡ Ok (pos 3)) × (quotient 31 (negsuc 6) (pos 2) ≡ Ok (negsuc 2))

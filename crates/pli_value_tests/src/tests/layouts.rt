@@ -72,6 +72,24 @@ fn records(rt: HostRuntime) {
     assert!(rt; is_laid_out(&rt, rt.alloc(), &record(&rt, rt.alloc())));
 }
 
+/// Numbers of 15 and of 63 binary digits.
+fn wide_pair(rt: &impl Abort, alloc: Global) -> Description {
+    let numbers = [Description::FixedBinary(15), Description::FixedBinary(63)];
+    Description::Structure(Vec::from_array(alloc, numbers).expect(rt, "memory"))
+}
+
+/// Whether the second of such a pair has eight bytes, which begin at byte 8.
+fn is_wide(pair: &Description) -> bool {
+    offset_of(pair, &[PathStep::Member(1)]) == Some(8)
+        && size(pair) == Some(16)
+        && alignment(pair) == 8
+}
+
+#[test]
+fn wide_members(rt: HostRuntime) {
+    assert!(rt; is_wide(&wide_pair(&rt, rt.alloc())));
+}
+
 /// Whether areas are equal, and have a size, where they should.
 fn areas_are_told() -> bool {
     size(&Description::Area(1_000_000)) == Some(1_000_000)

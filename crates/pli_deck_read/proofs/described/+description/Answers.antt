@@ -12,45 +12,45 @@ use Rattle.pli_deck_read.proofs.described.+description.Goals as goal
 pub members_at-returns-in_err-member : goal.members_at-returns-in_err-member
 members_at-returns-in_err-member t c =
     let p = err_from_is_err_and c.from_residual.result c.from_residual.ensures.1 in
-    let read = (description_within c.args.levels).read in
+    let read = (description_within c.args.version c.args.levels).read in
     rw (p.1, p.2) (ends read c.in_err-member.field-0.0 (map description_view c.loop.members.items) c.args.count c.loop.counter c.loop.rest.now (many read c.args.count c.args.bytes.now) c.loop-test.true c.in_err-member.ensures c.loop.invariant)
 
 pub members_at-loop-preserved : goal.members_at-loop-preserved
 members_at-loop-preserved t c =
-    let read = (description_within c.args.levels).read in
+    let read = (description_within c.args.version c.args.levels).read in
     let n = c.in_ok-member.member in
     let e : map description_view c.push.new.self.items ≡ map description_view c.loop.members.items ++ description_view n ∷ [] = rw c.in_ok-push.ensures.items (map_push _ c.loop.members.items n) in
     rw e (goes_on read (map description_view c.loop.members.items) c.args.count c.loop.counter c.loop.rest.now (description_view n) c.in_ok-member.behind.now (many read c.args.count c.args.bytes.now) c.loop-test.true c.in_ok-member.ensures c.loop.invariant)
 
 pub members_at-returns : goal.members_at-returns
 members_at-returns t c =
-    let read = (description_within c.args.levels).read in
+    let read = (description_within c.args.version c.args.levels).read in
     is_done read (map description_view c.loop.members.items) c.args.count c.loop.counter c.loop.rest.now (many read c.args.count c.args.bytes.now) c.loop-test.false c.loop.invariant
 
 pub description_at-returns-in_err-tag : goal.description_at-returns-in_err-tag
 description_at-returns-in_err-tag t c =
     let p = err_from_is_err_and c.from_residual.result c.from_residual.ensures.1 in
-    rw (p.1, p.2) (without_tag c.args.levels c.args.bytes.now c.in_err-tag.field-0.0 c.in_err-tag.ensures)
+    rw (p.1, p.2) (without_tag c.args.version c.args.levels c.args.bytes.now c.in_err-tag.field-0.0 c.in_err-tag.ensures)
 
 pub description_at-returns-then-levels-eq0 : goal.description_at-returns-then-levels-eq0
 description_at-returns-then-levels-eq0 t c =
-    below_all c.args.levels c.args.bytes.now c.in_ok-tag.tag c.in_ok-tag.rest.now (omega (arith, c.if-levels-eq0.true)) c.in_ok-tag.ensures
+    below_all c.args.version c.args.levels c.args.bytes.now c.in_ok-tag.tag c.in_ok-tag.rest.now (omega (arith, c.if-levels-eq0.true)) c.in_ok-tag.ensures
 
 pub description_at-returns-in-8 : goal.description_at-returns-in-8
 description_at-returns-in-8 t c =
-    rw (behind_tag c.args.levels c.args.bytes.now c.in_ok-tag.tag c.in_ok-tag.rest.now (omega (arith, c.if-levels-eq0.false)) c.in_ok-tag.ensures, c.in-8.is) c.array_at.ensures
+    rw (behind_tag c.args.version c.args.levels c.args.bytes.now c.in_ok-tag.tag c.in_ok-tag.rest.now (omega (arith, c.if-levels-eq0.false)) c.in_ok-tag.ensures, c.in-8.is) c.array_at.ensures
 
 pub description_at-returns-in-9 : goal.description_at-returns-in-9
 description_at-returns-in-9 t c =
-    rw (behind_tag c.args.levels c.args.bytes.now c.in_ok-tag.tag c.in_ok-tag.rest.now (omega (arith, c.if-levels-eq0.false)) c.in_ok-tag.ensures, c.in-9.is) c.structure_at.ensures
+    rw (behind_tag c.args.version c.args.levels c.args.bytes.now c.in_ok-tag.tag c.in_ok-tag.rest.now (omega (arith, c.if-levels-eq0.false)) c.in_ok-tag.ensures, c.in-9.is) c.structure_at.ensures
 
 pub description_at-returns-in-1-to-7 : goal.description_at-returns-in-1-to-7
 description_at-returns-in-1-to-7 t c =
-    rw (behind_tag c.args.levels c.args.bytes.now c.in_ok-tag.tag c.in_ok-tag.rest.now (omega (arith, c.if-levels-eq0.false)) c.in_ok-tag.ensures) (c.scalar_of.ensures (description_within (c.args.levels - 1)))
+    rw (behind_tag c.args.version c.args.levels c.args.bytes.now c.in_ok-tag.tag c.in_ok-tag.rest.now (omega (arith, c.if-levels-eq0.false)) c.in_ok-tag.ensures) (c.scalar_of.ensures (description_within c.args.version (c.args.levels - 1)))
 
 pub description_at-returns-in_default : goal.description_at-returns-in_default
 description_at-returns-in_default t c =
     let tag = c.in_ok-tag.tag in
     let other : (tag ≡ 0) ⊎ (9 < tag) = elim (cases_lt tag 1) [ inl lt ↦ inl (omega arith) | inr le ↦ inr (omega (arith, le, c.in_default)) ] in
-    behind_tag c.args.levels c.args.bytes.now tag c.in_ok-tag.rest.now (omega (arith, c.if-levels-eq0.false)) c.in_ok-tag.ensures
-    ∙ no_form (description_within (c.args.levels - 1)) tag c.in_ok-tag.rest.now other
+    behind_tag c.args.version c.args.levels c.args.bytes.now tag c.in_ok-tag.rest.now (omega (arith, c.if-levels-eq0.false)) c.in_ok-tag.ensures
+    ∙ no_form c.args.version (description_within c.args.version (c.args.levels - 1)) tag c.in_ok-tag.rest.now other

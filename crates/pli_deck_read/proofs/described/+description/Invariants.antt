@@ -21,5 +21,5 @@ decreases-structure_at l = 4 * l.levels + 2
 -- the members that were read, in front of those that are left, are all of them
 abbrev pub invariant-members_at-loop : goal.invariant-members_at-loop
 invariant-members_at-loop l =
-    let read = (description_within l.levels).read in
+    let read = (description_within l.version l.levels).read in
     with_front (map description_view l.members.items) (many read (l.count - l.counter) l.rest) ≡ many read l.count l.bytes

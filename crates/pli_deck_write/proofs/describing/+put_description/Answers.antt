@@ -1,6 +1,7 @@
 use Rattle.std.proofs.Common.{◌≡◌, ◌<◌, ◌-◌, ◌++◌, ◌∷◌, [], length, map, refl, ap, sym, ◌∙◌, arith}
 use Rattle.std.specs.List.{flat_map}
 use Rattle.byteorder.specs.Endian.{big_bytes}
+use Rattle.pli_code.specs.Versions.{written}
 use Rattle.pli_deck_write.specs.Descriptions.{dimensions, description_within}
 use Rattle.std.proofs.lemmas.Result.{on_ok_weaker}
 use Rattle.pli_deck_write.proofs.DescriptionPuts.{too_deep_bytes, fixed_bytes, character_bytes, varying_bytes, bit_bytes, pointer_bytes, offset_bytes, area_bytes, array_bytes, structure_bytes}
@@ -51,7 +52,7 @@ put_within-returns-in_ok-put_dimensions-in-Array t c =
     (c.in_ok-put_dimensions-in-Array.ensures ∙ ap (λ bs. tagged ++ dimensions.bytes_of bs) c.deref.ensures.value) in
     on_ok_weaker c.put_within.result
     (λ e. then_put _ _ _ _ _ _ first (array_bytes c.args.levels c.args.value.now bounds element some c.in-Array.is)
-    (e ∙ ap (λ d. sized ++ (description_within (c.args.levels - 1)).bytes_of (description_view d)) c.deref-in-Array.ensures))
+    (e ∙ ap (λ d. sized ++ (description_within written (c.args.levels - 1)).bytes_of (description_view d)) c.deref-in-Array.ensures))
     c.put_within.ensures
 
 pub put_within-returns-in_ok-put_count-in-Structure : goal.put_within-returns-in_ok-put_count-in-Structure
@@ -66,5 +67,5 @@ put_within-returns-in_ok-put_count-in-Structure t c =
     (c.in_ok-put_count-in-Structure.ensures ∙ ap (λ n. tagged ++ big_bytes 2 n) long) in
     on_ok_weaker c.put_members.result
     (λ e. then_put _ _ _ _ _ _ first (structure_bytes c.args.levels c.args.value.now members some c.in-Structure.is)
-    (e ∙ ap (λ ds. counted ++ flat_map (description_within (c.args.levels - 1)).bytes_of (map description_view ds)) c.deref-in-Structure.ensures.value))
+    (e ∙ ap (λ ds. counted ++ flat_map (description_within written (c.args.levels - 1)).bytes_of (map description_view ds)) c.deref-in-Structure.ensures.value))
     c.put_members.ensures

@@ -1,4 +1,5 @@
-use Rattle.std.proofs.Common.{FitsSigned, w16, w64, subst, sym}
+use Rattle.std.proofs.Common.{FitsSigned, w16, subst, sym}
+use Rattle.std.specs.Int.{w128}
 use Rattle.std.proofs.lemmas.Int.{to_z-of_z}
 use Rattle.std.proofs.Math.Facts.{sfits_widen}
 use Rattle.pli_declare_attributes.specs.Extents.{low_of}
@@ -8,9 +9,9 @@ use Rattle.pli_declare_attributes.proofs.extents.described.Goals as goal
 pub overflow_cast-result : goal.overflow_cast-result
 overflow_cast-result c =
     let fit = subst (FitsSigned w16) (sym c.low.ensures) (bounds_fit (low_of c.args.bounds.low) _ c.requires).0 in
-    subst (FitsSigned w16) (sym (to_z-of_z w64 c.low.result (sfits_widen tt fit))) fit
+    subst (FitsSigned w16) (sym (to_z-of_z w128 c.low.result (sfits_widen tt fit))) fit
 
 pub overflow_cast-result-2 : goal.overflow_cast-result-2
 overflow_cast-result-2 c =
     let fit = subst (FitsSigned w16) (sym c.number.ensures) (bounds_fit (low_of c.args.bounds.low) _ c.requires).1 in
-    subst (FitsSigned w16) (sym (to_z-of_z w64 c.number.result (sfits_widen tt fit))) fit
+    subst (FitsSigned w16) (sym (to_z-of_z w128 c.number.result (sfits_widen tt fit))) fit

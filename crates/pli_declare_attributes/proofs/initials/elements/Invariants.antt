@@ -8,7 +8,7 @@ use Rattle.pli_declare_attributes.proofs.initials.elements.Given as goal
 abbrev pub invariant-loop-bounds : goal.invariant-loop-bounds
 invariant-loop-bounds l =
     record {
-      whole : min (l.count * count_of (all_bounds (drop l.bounds-index l.dimensions))) 79228162514264337593543950336 ≡ min (l.above * count_of (all_bounds l.dimensions)) 79228162514264337593543950336;
-      limit : l.count ≤ 79228162514264337593543950336;
+      whole : min (l.count * count_of (all_bounds (drop l.bounds-index l.dimensions))) 340282366920938463463374607431768211455 ≡ min (l.above * count_of (all_bounds l.dimensions)) 340282366920938463463374607431768211455;
+      limit : l.count ≤ 340282366920938463463374607431768211455;
       good : list_all are_good (drop l.bounds-index l.dimensions) ≡ true;
     }

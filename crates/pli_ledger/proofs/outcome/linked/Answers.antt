@@ -1,9 +1,16 @@
-use Rattle.std.proofs.Common.{ap, map, sym, ◌∙◌}
+use Rattle.std.proofs.Common.{ap, map, subst, sym, ◌∙◌}
+use Rattle.pli_build_laws.proofs.BuiltModules.{units_are_written}
 use Rattle.pli_code.specs.views.CodeView.{lent_module_view}
+use Rattle.pli_link.specs.Units.{AreWritten}
 use Rattle.pli_link.specs.views.UnitView.{compiled_view}
 use Rattle.pli_ledger.specs.answers.Lending.{decks_of}
 use Rattle.pli_ledger.proofs.ModulesStored.{decks_linked}
 use Rattle.pli_ledger.proofs.outcome.linked.Goals as goal
+
+pub link-requires : goal.link-requires
+link-requires c =
+    let same = ap (map compiled_view) c.deref.ensures.value ∙ c.in_ok-lent.ensures ∙ c.requires.units in
+    subst AreWritten (sym same) (units_are_written c.args.members.now.entries c.requires.text)
 
 pub stored-requires : goal.stored-requires
 stored-requires c =

@@ -1,4 +1,4 @@
-use Rattle.std.proofs.Common.{refl, ◌∙◌}
+use Rattle.std.proofs.Common.{sym, ◌∙◌}
 use Rattle.std.proofs.lemmas.Result.{IfOk-weaker}
 use Rattle.pli_code.specs.Modules.{program_of}
 use Rattle.pli_machine_activations.specs.views.ImageView.{image_of}
@@ -11,5 +11,5 @@ returns c =
     let image = image_of c.args.unit.now.loaded.now in
     IfOk-weaker c.settle.result _ _
     (λ s settles u put.
-    c.in_ok-halt.ensures (program_of image.linked) refl (frame_view m.here) (frames_of m.waiting.items) (world_of image m put) (left_of m) ∙ settles put)
+    c.in_ok-halt.ensures (program_of image.linked) (sym c.greatest_precision-greatest.ensures.value) (frame_view m.here) (frames_of m.waiting.items) (world_of image m put) (left_of m) ∙ settles put)
     c.settle.ensures

@@ -8,4 +8,4 @@ pub returns : goal.returns
 returns c =
     operates (calculation_view c.in_ok-calculation.calculation) c.args.operands.now.items c.pop_three.new.operands.items c.give.new.operands.items c.give.result
     c.args.operation 3 (value_view c.in-Some.first ∷ value_view c.in-Some.second ∷ value_view c.in-Some.third ∷ [])
-    (rw c.in-Some.is at c.in_ok-first.ensures) (c.in_ok-calculation.ensures ∙ of_three _ _ _ _) c.give.ensures
+    (rw c.in-Some.is at c.in_ok-first.ensures) (λ greatest. c.in_ok-calculation.ensures ∙ of_three greatest _ _ _ _) c.give.ensures

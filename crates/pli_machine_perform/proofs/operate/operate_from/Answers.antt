@@ -10,4 +10,4 @@ returns c =
     let taken = rw c.in-Some.is at c.in_ok-value.ensures in
     operates (calculation_view c.in_ok-calculation.calculation) c.args.operands.now.items c.pop_value.new.operands.items c.give.new.operands.items c.give.result
     c.args.operation 1 (value_view c.in-Some.value ∷ [])
-    (ap (values_off 1 []) taken) (c.in_ok-calculation.ensures ∙ of_one _ _) c.give.ensures
+    (ap (values_off 1 []) taken) (λ greatest. c.in_ok-calculation.ensures ∙ of_one greatest _ _) c.give.ensures

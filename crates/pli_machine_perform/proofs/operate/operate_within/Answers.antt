@@ -16,5 +16,6 @@ returns-in-Some c =
     c.args.operands.now.items c.take_three_numbers.new.operands.items c.give_immediate.new.operands.items c.give_immediate.result
     Within 3 (Number c.in-Some.number ∷ Number c.in-Some.limit ∷ Number c.in-Some.step ∷ [])
     (ap (values_off 3 []) (rw c.in-Some.is at c.take_three_numbers.ensures))
-    (rw (to_z-of_z w64 c.in-Some.number number, to_z-of_z w64 c.in-Some.limit limit, to_z-of_z w64 c.in-Some.step step) at c.is_within.ensures
-    ∙ of_three Within (Number c.in-Some.number) (Number c.in-Some.limit) (Number c.in-Some.step)) c.give_immediate.ensures
+    (λ greatest.
+    rw (to_z-of_z w64 c.in-Some.number number, to_z-of_z w64 c.in-Some.limit limit, to_z-of_z w64 c.in-Some.step step) at c.is_within.ensures
+    ∙ of_three greatest Within (Number c.in-Some.number) (Number c.in-Some.limit) (Number c.in-Some.step)) c.give_immediate.ensures

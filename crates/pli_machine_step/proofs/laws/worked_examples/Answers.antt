@@ -98,6 +98,9 @@ returns-clause-part_fails c = run.part_fails
 pub returns-clause-comparison_prints : goal.returns-clause-comparison_prints
 returns-clause-comparison_prints c = run.comparison_prints
 
+pub returns-clause-sums_are_as_wide : goal.returns-clause-sums_are_as_wide
+returns-clause-sums_are_as_wide c = run.sums_are_as_wide
+
 pub returns-clause-bits_print : goal.returns-clause-bits_print
 returns-clause-bits_print c = run.bits_print
 

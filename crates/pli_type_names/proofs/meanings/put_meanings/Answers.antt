@@ -25,7 +25,7 @@ returns c =
     c.in_ok-row.ensures.meanings
     ∙ ap (λ p. kept p (map symbol_view ss)) c.parameter_numbers-parameters.ensures
     ∙ ap (kept (parameter_numbers r n)) same in
-    let count : List Symbol → ℕ → ℕ = globals_before 31 in
+    let count : List Symbol → ℕ → ℕ = globals_before 63 in
     record {
       meanings = ap (map row_view) c.in_ok-push.ensures.items ∙ map-append row_view old (c.in_ok-row.row ∷ []) ∙ ap (λ x. map row_view old ++ x ∷ []) row;
       counted = c.in_ok-row.ensures.counted

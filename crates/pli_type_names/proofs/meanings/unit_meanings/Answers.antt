@@ -26,7 +26,7 @@ loop-block-preserved c =
     let n = l.block in
     let within : n < length r.blocks + 1 = omega (arith, c.block_count-outermost.ensures, c.loop-block-test.true) in
     let qs = c.deref.result.now in
-    let places : List ℕ = text_places (all_tokens 31 (all_symbols r)) in
+    let places : List ℕ = text_places (all_tokens 63 (all_symbols r)) in
     let kept : List ℕ → ℕ → List Kept = λ q k. kept_symbols (record { parameters = parameter_numbers r n; places = q; globals = k; symbols = block_symbols r n }) in
     let row : kept qs l.globals ≡ kept_symbols (facts_of r n) =
     ap (λ q. kept q l.globals) (c.deref.ensures.value ∙ c.in_ok-places.ensures) ∙ ap (kept places) l.invariant.globals in
@@ -48,9 +48,9 @@ returns c =
     let within : n < length r.blocks + 1 = omega (arith, c.block_count-outermost.ensures) in
     let beyond : length r.blocks + 1 ≤ n + 1 = omega (arith, c.block_count-outermost.ensures) in
     let qs = c.deref-2.result.now in
-    let places : List ℕ = text_places (all_tokens 31 (all_symbols r)) in
+    let places : List ℕ = text_places (all_tokens 63 (all_symbols r)) in
     let kept : List ℕ → ℕ → List Kept = λ q k. kept_symbols (record { parameters = parameter_numbers r n; places = q; globals = k; symbols = block_symbols r n }) in
-    let globals : l.globals ≡ globals_in 31 (take n (all_symbols r)) = l.invariant.globals ∙ ap (λ k. globals_in 31 (take k (all_symbols r))) last in
+    let globals : l.globals ≡ globals_in 63 (take n (all_symbols r)) = l.invariant.globals ∙ ap (λ k. globals_in 63 (take k (all_symbols r))) last in
     let row : kept qs l.globals ≡ kept_symbols (facts_of r n) =
     ap (λ q. kept q l.globals) (c.deref-2.ensures.value ∙ c.in_ok-places.ensures) ∙ ap (kept places) globals in
     record {

@@ -10,5 +10,5 @@ use Rattle.pli_type_names.proofs.meanings.unit_meanings.Given as goal
 abbrev pub invariant-loop-block : goal.invariant-loop-block
 invariant-loop-block l = record {
   rows : map row_view l.made.items ≡ take l.block (rows_of (resolved_unit_of (unit_view l.resolved)));
-  globals : l.globals ≡ globals_in 31 (take l.block (all_symbols (resolved_unit_of (unit_view l.resolved))));
+  globals : l.globals ≡ globals_in 63 (take l.block (all_symbols (resolved_unit_of (unit_view l.resolved))));
 }

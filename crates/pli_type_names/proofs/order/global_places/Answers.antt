@@ -11,7 +11,7 @@ use Rattle.pli_type_names.proofs.order.global_places.Goals as goal
 
 pub places_among-requires : goal.places_among-requires
 places_among-requires c =
-    let tokens : List ℕ = all_tokens 31 (all_symbols (resolved_unit_of (unit_view c.args.resolved.now))) in
+    let tokens : List ℕ = all_tokens 63 (all_symbols (resolved_unit_of (unit_view c.args.resolved.now))) in
     let sorted : c.deref-2.result.now ≡ text_order tokens =
     c.deref-2.ensures.value ∙ c.in_ok-numbers.ensures ∙ ap text_order (c.deref.ensures.value ∙ c.in_ok-tokens.ensures) in
     subst (λ ns. All (λ number. number < length ns) ns) (sym sorted)
@@ -19,7 +19,7 @@ places_among-requires c =
 
 pub returns : goal.returns
 returns c =
-    let tokens : List ℕ = all_tokens 31 (all_symbols (resolved_unit_of (unit_view c.args.resolved.now))) in
+    let tokens : List ℕ = all_tokens 63 (all_symbols (resolved_unit_of (unit_view c.args.resolved.now))) in
     let sorted : c.deref-2.result.now ≡ text_order tokens =
     c.deref-2.ensures.value ∙ c.in_ok-numbers.ensures ∙ ap text_order (c.deref.ensures.value ∙ c.in_ok-tokens.ensures) in
     subst

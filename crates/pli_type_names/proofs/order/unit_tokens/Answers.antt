@@ -11,7 +11,7 @@ pub loop-block-preserved : goal.loop-block-preserved
 loop-block-preserved c =
     let l = c.loop-block in
     let r = resolved_unit_of (unit_view c.args.resolved.now) in
-    let f : List Symbol → List ℕ = global_tokens 31 in
+    let f : List Symbol → List ℕ = global_tokens 63 in
     let within : l.block < length r.blocks + 1 = omega (arith, c.block_count-outermost.ensures, c.loop-block-test.true) in
     c.in_ok-put_block_tokens.ensures
     ∙ ap (λ ts. ts ++ f (block_symbols r l.block)) l.invariant
@@ -21,7 +21,7 @@ pub returns : goal.returns
 returns c =
     let l = c.loop-block in
     let r = resolved_unit_of (unit_view c.args.resolved.now) in
-    let f : List Symbol → List ℕ = global_tokens 31 in
+    let f : List Symbol → List ℕ = global_tokens 63 in
     let n = c.block_count-outermost.result in
     let last : l.block ≡ n = omega (arith, c.loop-block-test.false) in
     let within : n < length r.blocks + 1 = omega (arith, c.block_count-outermost.ensures) in

@@ -8,4 +8,4 @@ use Rattle.pli_type_names.proofs.order.unit_tokens.Given as goal
 -- those of the blocks so far
 abbrev pub invariant-loop-block : goal.invariant-loop-block
 invariant-loop-block l =
-    l.tokens.items ≡ flat_map (global_tokens 31) (take l.block (all_symbols (resolved_unit_of (unit_view l.resolved))))
+    l.tokens.items ≡ flat_map (global_tokens 63) (take l.block (all_symbols (resolved_unit_of (unit_view l.resolved))))

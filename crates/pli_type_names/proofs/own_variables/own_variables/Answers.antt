@@ -15,9 +15,9 @@ loop-number-init c =
     let all = map symbol_view c.args.symbols.now in
     let f : BlockFacts = record { parameters = c.args.parameters.now; places = c.args.places.now; globals = c.args.globals.now; symbols = all } in
     record {
-      slots = omega (arith, none_before (is_automatic 31) all);
+      slots = omega (arith, none_before (is_automatic 63) all);
       globals = omega (arith, no_global_before all);
-      based = omega (arith, none_before (is_based 31) all);
+      based = omega (arith, none_before (is_based 63) all);
       numbers = refl;
       variables = ap (λ xs. map (option_map own_view) xs ++ spec.own_variables f) c.new-variables.ensures.items;
     }
@@ -26,7 +26,7 @@ pub own_variable-variable-requires-clause-slot : goal.own_variable-variable-requ
 own_variable-variable-requires-clause-slot c =
     let l = c.loop-number in
     let all = map symbol_view c.args.symbols.now in
-    omega (arith, l.invariant.slots, before_within (is_automatic 31) all l.number, c.loop-number-test.true)
+    omega (arith, l.invariant.slots, before_within (is_automatic 63) all l.number, c.loop-number-test.true)
 
 pub own_variable-variable-requires-clause-global : goal.own_variable-variable-requires-clause-global
 own_variable-variable-requires-clause-global c =
@@ -38,7 +38,7 @@ pub own_variable-variable-requires-clause-based : goal.own_variable-variable-req
 own_variable-variable-requires-clause-based c =
     let l = c.loop-number in
     let all = map symbol_view c.args.symbols.now in
-    omega (arith, l.invariant.based, before_within (is_based 31) all l.number, c.loop-number-test.true)
+    omega (arith, l.invariant.based, before_within (is_based 63) all l.number, c.loop-number-test.true)
 
 pub loop-number-preserved : goal.loop-number-preserved
 loop-number-preserved c =
@@ -54,14 +54,14 @@ loop-number-preserved c =
     let kind = symbol_kind_view s.kind in
     let f : ℕ → plain.Symbol → Option spec.OwnVariable = λ number x. spec.own_at facts number x.kind in
     let same : kind ≡ symbol_kind_view (get_or ss n s).kind = ap (λ x. symbol_kind_view x.kind) c.index-symbols-number.is in
-    let slots : c.own_variable-variable.new.free.slot ≡ a + one_such (is_automatic 31) (symbol_kind_view (get_or ss n s).kind) =
-    c.own_variable-variable.ensures.slots ∙ ap (λ k. a + one_such (is_automatic 31) k) same in
-    let globals : c.own_variable-variable.new.free.globals ≡ b + one_global 31 (symbol_kind_view (get_or ss n s).kind) =
-    c.own_variable-variable.ensures.globals ∙ ap (λ k. b + one_global 31 k) same in
-    let based : c.own_variable-variable.new.free.based ≡ l.free.based + one_such (is_based 31) (symbol_kind_view (get_or ss n s).kind) =
-    c.own_variable-variable.ensures.based ∙ ap (λ k. l.free.based + one_such (is_based 31) k) same in
-    let more_based = before_more (is_based 31) ss n s c.loop-number-test.true in
-    let more_slots = before_more (is_automatic 31) ss n s c.loop-number-test.true in
+    let slots : c.own_variable-variable.new.free.slot ≡ a + one_such (is_automatic 63) (symbol_kind_view (get_or ss n s).kind) =
+    c.own_variable-variable.ensures.slots ∙ ap (λ k. a + one_such (is_automatic 63) k) same in
+    let globals : c.own_variable-variable.new.free.globals ≡ b + one_global 63 (symbol_kind_view (get_or ss n s).kind) =
+    c.own_variable-variable.ensures.globals ∙ ap (λ k. b + one_global 63 k) same in
+    let based : c.own_variable-variable.new.free.based ≡ l.free.based + one_such (is_based 63) (symbol_kind_view (get_or ss n s).kind) =
+    c.own_variable-variable.ensures.based ∙ ap (λ k. l.free.based + one_such (is_based 63) k) same in
+    let more_based = before_more (is_based 63) ss n s c.loop-number-test.true in
+    let more_slots = before_more (is_automatic 63) ss n s c.loop-number-test.true in
     let more_globals = global_more ss n s c.loop-number-test.true in
     let g : ℕ → plain.Symbol → ℕ = λ number x. spec.global_at facts number in
     let numbered : next ≡ spec.global_at facts n = ap (λ k. get_or c.args.places.now k 0) l.invariant.globals in

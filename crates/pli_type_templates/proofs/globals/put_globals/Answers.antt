@@ -26,14 +26,14 @@ loop-number-preserved c =
     ap items_view c.deref.ensures.value ∙ ap items c.index-members-number.is
     ∙ sym (get_or-map items c.args.members.now l.number v [] owned) ∙ c.requires.owned l.number within in
     let so_far = map placed_view l.globals.items in
-    let rest = globals_from 31 all (l.number + 1) (map symbol_view others) in
+    let rest = globals_from 63 all (l.number + 1) (map symbol_view others) in
     let here : get_or all l.number (symbol_view s) ≡ symbol_view s =
     get_or-map symbol_view c.args.symbols.now l.number s (symbol_view s) c.loop-number-test.true ∙ ap symbol_view (sym c.index-symbols-number.is) in
     record {
       globals = ap (λ ts. ts ++ rest) c.in_ok-put_global.ensures.globals
           ∙ append_assoc so_far _ rest
           ∙ ap (λ ts. so_far ++ ts) (sym (one_global all l.number (symbol_view s) (map symbol_view others) _ members))
-          ∙ ap (λ left. so_far ++ globals_from 31 all l.number (map symbol_view left)) (sym step)
+          ∙ ap (λ left. so_far ++ globals_from 63 all l.number (map symbol_view left)) (sym step)
           ∙ l.invariant.globals;
       items = λ marks h old. c.in_ok-put_global.ensures.items marks (subst (AreOfItems marks) here (h l.number (symbol_view s) within)) (l.invariant.items marks h old);
     }
@@ -43,7 +43,7 @@ returns c =
     let l = c.loop-number in
     let all = map symbol_view c.args.symbols.now in
     let none = drop_all l.number c.args.symbols.now c.loop-number-test.false in
-    let nothing = ap (λ left. globals_from 31 all l.number (map symbol_view left)) none in
+    let nothing = ap (λ left. globals_from 63 all l.number (map symbol_view left)) none in
     record {
       globals = sym (append-nil (map placed_view l.globals.items)) ∙ ap (λ ts. map placed_view l.globals.items ++ ts) (sym nothing) ∙ l.invariant.globals;
       items = l.invariant.items;

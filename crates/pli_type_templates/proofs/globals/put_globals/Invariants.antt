@@ -11,8 +11,8 @@ use Rattle.pli_type_templates.proofs.globals.put_globals.Given as goal
 abbrev pub invariant-loop-number : goal.invariant-loop-number
 invariant-loop-number l = record {
   globals : map placed_view l.globals.items
-      ++ globals_from 31 (map symbol_view l.symbols) l.number (map symbol_view (drop l.number l.symbols))
-      ≡ map placed_view l.fn.globals.items ++ globals_of 31 (map symbol_view l.symbols);
+      ++ globals_from 63 (map symbol_view l.symbols) l.number (map symbol_view (drop l.number l.symbols))
+      ≡ map placed_view l.fn.globals.items ++ globals_of 63 (map symbol_view l.symbols);
   items : (marks : List PlacedMark) → All (AreOfItems marks) (map symbol_view l.symbols)
       → All (HasGlobalItem marks) l.fn.globals.items → All (HasGlobalItem marks) l.globals.items;
 }

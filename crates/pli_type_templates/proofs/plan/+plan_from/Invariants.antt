@@ -24,5 +24,5 @@ invariant-members_from-loop-member l = record {
       ≡ plans_from l.fn.first 0 (members_view l.members);
   end : end_behind (l.end - l.fn.first) (members_view (drop l.member-index l.members)) ≡ end_behind 0 (members_view l.members);
   from : l.fn.first ≤ l.end;
-  plain : all_plain 31 (members_view (drop l.member-index l.members)) ≡ true;
+  plain : all_plain 63 (members_view (drop l.member-index l.members)) ≡ true;
 }

@@ -21,7 +21,7 @@ groups-requires c =
 pub returns : goal.returns
 returns c =
     let sorted = c.sort.new.globals.items in
-    let all : map global_view sorted ≡ all_globals 31 (map block_symbols c.args.blocks.now) =
+    let all : map global_view sorted ≡ all_globals 63 (map block_symbols c.args.blocks.now) =
     globals_alone sorted
     ∙ ap (map (λ (p : units.PlacedGlobal). p.global)) (c.in_ok-sort.ensures.order ∙ ap (in_order (λ (p : units.PlacedGlobal). p.at)) c.in_ok-globals.ensures.globals) in
     IfOk-weaker c.groups.result _ _ (λ made e. e ∙ ap (map global_view) c.deref.ensures.value ∙ all) c.groups.ensures

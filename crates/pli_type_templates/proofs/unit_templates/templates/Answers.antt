@@ -43,10 +43,10 @@ returns c =
     let second = ap (map block_symbols) c.deref-2.ensures.value ∙ c.in_ok-blocks.ensures.symbols in
     let third = ap (map block_symbols) c.deref-3.ensures.value ∙ c.in_ok-blocks.ensures.symbols in
     record {
-      automatic = rows_found (resolved_unit_of u) (is_automatic 31) (map row_view c.in_ok-automatic.automatic.items)
-          (c.in_ok-automatic.ensures ∙ ap (map (templates_of (is_automatic 31))) first);
-      based = rows_found (resolved_unit_of u) (is_based 31) (map row_view c.in_ok-based.based.items)
-          (c.in_ok-based.ensures ∙ ap (map (templates_of (is_based 31))) second);
-      globals = c.in_ok-globals.ensures ∙ ap (all_globals 31) third;
+      automatic = rows_found (resolved_unit_of u) (is_automatic 63) (map row_view c.in_ok-automatic.automatic.items)
+          (c.in_ok-automatic.ensures ∙ ap (map (templates_of (is_automatic 63))) first);
+      based = rows_found (resolved_unit_of u) (is_based 63) (map row_view c.in_ok-based.based.items)
+          (c.in_ok-based.ensures ∙ ap (map (templates_of (is_based 63))) second);
+      globals = c.in_ok-globals.ensures ∙ ap (all_globals 63) third;
       regions = subst (λ (p : Procedure). HasFewRegions (unit_view p)) c.unit.ensures c.in_ok-items.ensures.regions;
     }

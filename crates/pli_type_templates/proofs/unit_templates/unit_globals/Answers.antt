@@ -19,11 +19,11 @@ loop-block-preserved c =
     let step = drop_more blocks l.block-index b c.loop-block-test.true ∙ ap (λ x. x ∷ others) (sym c.block-item.is) in
     let same : map symbol_view c.deref.result.now ≡ block_symbols b = ap (map symbol_view) c.deref.ensures.value in
     let so_far = map placed_view l.globals.items in
-    let rest = block_globals 31 (map block_symbols others) in
+    let rest = block_globals 63 (map block_symbols others) in
     record {
-      globals = ap (λ ts. ts ++ rest) (c.in_ok-put_globals.ensures.globals ∙ ap (λ ss. so_far ++ globals_of 31 ss) same)
-          ∙ append_assoc so_far (globals_of 31 (block_symbols b)) rest
-          ∙ ap (λ left. so_far ++ block_globals 31 (map block_symbols left)) (sym step)
+      globals = ap (λ ts. ts ++ rest) (c.in_ok-put_globals.ensures.globals ∙ ap (λ ss. so_far ++ globals_of 63 ss) same)
+          ∙ append_assoc so_far (globals_of 63 (block_symbols b)) rest
+          ∙ ap (λ left. so_far ++ block_globals 63 (map block_symbols left)) (sym step)
           ∙ l.invariant.globals;
       items = λ marks h. c.in_ok-put_globals.ensures.items marks
           (subst (λ (ss : List Symbol). All (AreOfItems marks) ss) (sym same) (all_mapped (All (AreOfItems marks)) block_symbols blocks l.block-index b c.loop-block-test.true c.block-item.is h))

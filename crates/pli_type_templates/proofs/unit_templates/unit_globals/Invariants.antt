@@ -10,7 +10,7 @@ use Rattle.pli_type_templates.proofs.unit_templates.unit_globals.Given as goal
 -- the globals so far, with those of the blocks that are left, are those of all; items say what they are
 abbrev pub invariant-loop-block : goal.invariant-loop-block
 invariant-loop-block l = record {
-  globals : map placed_view l.globals.items ++ block_globals 31 (map block_symbols (drop l.block-index l.blocks))
-      ≡ block_globals 31 (map block_symbols l.blocks);
+  globals : map placed_view l.globals.items ++ block_globals 63 (map block_symbols (drop l.block-index l.blocks))
+      ≡ block_globals 63 (map block_symbols l.blocks);
   items : (marks : List PlacedMark) → All (All (AreOfItems marks)) (map block_symbols l.blocks) → All (HasGlobalItem marks) l.globals.items;
 }

@@ -25,5 +25,5 @@ returns c =
     ∙ ap (λ ms. kept_seen (map row_view ms) (reverse inside.around.items) entries key.block (get_or (get_or (map row_view ms) key.block []) key.number KeptNothing)) c.deref-3.ensures.value
     ∙ declared_seen r (reverse inside.around.items) entries rows c.self.invariant.0.found key kept c.self.invariant.1.found
     (ap (λ row. get_or row key.number KeptNothing) (c.self.invariant.0.found key.block))
-    ∙ ap (λ u. seen (declared_as 31 (resolved_unit_of (unit_view u)) (reverse inside.around.items) key)) unit
-    ∙ ap (λ bs. seen (declared_as 31 (resolved_unit_of (unit_view names.unit)) bs key)) blocks
+    ∙ ap (λ u. seen (declared_as 63 (resolved_unit_of (unit_view u)) (reverse inside.around.items) key)) unit
+    ∙ ap (λ bs. seen (declared_as 63 (resolved_unit_of (unit_view names.unit)) bs key)) blocks

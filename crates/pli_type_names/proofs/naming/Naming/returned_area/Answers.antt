@@ -25,10 +25,10 @@ returns c =
     ∙ ap (λ xs. area_under (map row_view c.deref-2.result.now) (reverse xs) key) c.deref.ensures.value
     ∙ ap (λ ms. area_under (map row_view ms) around key) c.deref-2.ensures.value
     ∙ area_is r around rows c.self.invariant.0.found key
-    ∙ ap (area_named 31 r around)
+    ∙ ap (area_named 63 r around)
     (c.area_at.ensures
     ∙ ap (λ es. area_of (slice_get (map entry_view es) b)) c.deref-3.ensures.value
     ∙ area_found r b (slice_get (map entry_view inside.entries.items) b) (c.self.invariant.1.found b))
-    ∙ ap (λ u. area_named 31 (resolved_unit_of (unit_view u)) around (returned_area_of (resolved_unit_of (unit_view u)) b)) unit
-    ∙ ap (λ bs. area_named 31 (resolved_unit_of (unit_view names.unit)) bs (returned_area_of (resolved_unit_of (unit_view names.unit)) b)) blocks
+    ∙ ap (λ u. area_named 63 (resolved_unit_of (unit_view u)) around (returned_area_of (resolved_unit_of (unit_view u)) b)) unit
+    ∙ ap (λ bs. area_named 63 (resolved_unit_of (unit_view names.unit)) bs (returned_area_of (resolved_unit_of (unit_view names.unit)) b)) blocks
     ∙ returned_area_is names b

@@ -13,7 +13,7 @@ invariant_of-result c =
     let is : description_view c.args.self.description.now ≡ tree.Array c.in-Array.bounds.items e =
     array_view c.args.self.description.now c.in-Array.bounds c.in-Array.element c.in-Array.is
     ∙ ap (λ x. tree.Array c.in-Array.bounds.items (description_view x)) (sym c.deref-in-Array-2.ensures) in
-    let inner = plain_array c.in-Array.bounds.items e (ap (may_stand 31) (sym is) ∙ c.args.self.plain) in
+    let inner = plain_array c.in-Array.bounds.items e (ap (may_stand 63) (sym is) ∙ c.args.self.plain) in
     let fits = element_size c.in-Array.bounds.items e inner.elements in
     let whole = ap size_of is in
     record { plain = plain_stands e inner.element; within = omega (arith, fits, whole, c.args.self.within) }
