@@ -1,8 +1,9 @@
 -- What a build from scratch makes is spelled by its bytes.
-use Rattle.std.specs.Prelude.{◌≡◌, ℕ, ◌≤◌, Result, Ok, Err, List, [], ◌∷◌, length, map, position, refl}
+use Rattle.std.specs.Prelude.{◌≡◌, ℕ, ◌≤◌, ◌<◌, false, Result, Ok, Err, List, [], ◌∷◌, length, map, position, refl}
 use Rattle.std.specs.List.{AllByRecursion}
 use Rattle.std.specs.Map.{keys_of}
 use Rattle.std.proofs.Common.{ap, sym, subst, ◌∙◌, arith}
+use Rattle.std.proofs.lemmas.Bool.{ltb-false}
 use Rattle.std.proofs.lemmas.List.{length-append}
 use Rattle.pli_base.specs.Name.{Name}
 use Rattle.pli_deck_laws.specs.WellFormed.{IsWellFormed}
@@ -14,15 +15,17 @@ use Rattle.pli_link.specs.Links.{linked_unit, module_of}
 use Rattle.pli_link.specs.Names.{externals, procedures}
 use Rattle.pli_link.specs.Units.{Compiled, AreWritten}
 use Rattle.pli_link.specs.declared.linking.LinkFault.{LinkFault}
-use Rattle.pli_link_laws.specs.LinkedModules.{HasShortDeck, IsSaidAlone}
+use Rattle.pli_deck_write.specs.Spelling.{deck_bytes}
+use Rattle.pli_link_laws.specs.LinkedModules.{IsSaidAlone}
 use Rattle.pli_link_laws.proofs.LinkedFrom.{of_faultless}
 use Rattle.pli_link_laws.proofs.ModulesSay.{linked_modules_are_spelled}
-use Rattle.pli_meaning.specs.Scratch.{Diagnostic, scratch, built, linked, Made, all_text, all_units, units_in, units_of, compiled_of}
+use Rattle.pli_meaning.specs.Scratch.{Diagnostic, scratch, built, linked, Made, all_text, all_units, is_long, units_in, units_of, compiled_of}
 use Rattle.pli_meaning.proofs.UnitsOfTrees.{coded_tree, AreOfMembers, all_coded}
 use Rattle.pli_members.specs.Members.{Member}
 use Rattle.pli_members.specs.declared.kind.MemberKind.{MemberKind}
 use Rattle.pli_members.specs.declared.kind.MemberKind.TheVariants.{Source, Include}
 use Rattle.pli_type_tree.specs.TypedTree.{TypedUnit}
+use Rattle.pli_code.specs.CodeTables.{Deck}
 use Rattle.pli_code.specs.Modules.{Module}
 use Rattle.pli_build_laws.specs.BuiltModules.{BuiltModulesAreSpelled}
 use Rattle.pli_build_laws.proofs.FormedMembers.{tree_formed, named_formed}
@@ -40,20 +43,24 @@ made_of : (text : List ℕ) (cs : List Compiled) (m : Module) → built text cs 
 made_of [] cs m h = record { none = refl; of = linked_made (link_of cs) m h }
 made_of (b ∷ text) cs m h = let bad : ⊥ = cc in absurd bad
 
+-- a deck that is not too long has few bytes
+few_bytes : (d : Deck) → is_long d ≡ false → length (deck_bytes d) < 4294967296
+few_bytes d short = let few = ltb-false 4294967295 (length (deck_bytes d)) short in omega (arith, few)
+
 module _ (entries : List (Name × Member)) where
   -- each unit has a spelling for itself, whatever it is linked to
   module _ (names : List Name) (numbers : List (Name × ℕ)) where
     all_said : (us : List TypedUnit) → AreOfMembers entries us → AllByRecursion IsTypedUnit (map (linked_unit names numbers) (map coded_tree us))
-        → AllByRecursion HasShortDeck (map (linked_unit names numbers) (map coded_tree us)) → AllByRecursion IsSaidAlone (map (linked_unit names numbers) (map coded_tree us))
-    all_said [] h typed short = tt
-    all_said (u ∷ us) h typed short =
+        → AllByRecursion IsSaidAlone (map (linked_unit names numbers) (map coded_tree us))
+    all_said [] h typed = tt
+    all_said (u ∷ us) h typed =
         let formed = subst IsWellFormed (sym h.0.is) (named_formed u.name h.0.tree (tree_formed entries u.name h.0.tree h.0.spelled)) in (
           record {
             named = fits_name u.name typed.0.name;
             is_deck = units_are_said u (coded_tree u).deck h.0.numbered formed h.0.fits refl refl typed.0.deck;
-            short = short.0;
+            short = few_bytes (coded_tree u).deck h.0.short;
           },
-          all_said us h.1 typed.1 short.1,
+          all_said us h.1 typed.1,
         )
 
   one_at_most : (r : Result Compiled (List Diagnostic)) → length (units_of r) ≤ 1
@@ -84,14 +91,14 @@ units_are_written entries none =
 
 pub built_modules_are_spelled : BuiltModulesAreSpelled
 unfolding scratch
-built_modules_are_spelled entries m few is typed short =
+built_modules_are_spelled entries m few is typed =
     let cs = all_units entries entries in
     let made = made_of (all_text entries entries) cs m is in
     let trees = all_coded entries entries made.none in
     let coded = map coded_tree trees.trees in
     let o = of_faultless (link_faults cs) (position (λ (c : Compiled). c.deck.is_main) cs) cs m made.of in
     let same : module_of coded o.main ≡ m = ap (λ xs. module_of xs o.main) (sym trees.coded) ∙ o.is in
-    let said = subst (λ (n : Module). AllByRecursion IsTypedUnit n.units → AllByRecursion HasShortDeck n.units → AllByRecursion IsSaidAlone n.units) same
+    let said = subst (λ (n : Module). AllByRecursion IsTypedUnit n.units → AllByRecursion IsSaidAlone n.units) same
     (all_said entries (keys_of (externals coded)) (procedures coded) trees.trees trees.good) in
     let fewer = units_few entries entries in
-    linked_modules_are_spelled cs m (units_are_written entries made.none) made.of (omega (arith, fewer, few)) (said typed short)
+    linked_modules_are_spelled cs m (units_are_written entries made.none) made.of (omega (arith, fewer, few)) (said typed)

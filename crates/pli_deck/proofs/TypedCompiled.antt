@@ -1,13 +1,19 @@
--- Where reading and the declarations have no fault, types decide what a unit is compiled to.
-use Rattle.std.specs.Prelude.{◌≡◌, Ok, []}
+-- Where reading and the declarations have no fault, types decide what a unit is compiled to; where types have none and
+-- code is not too long, its deck decides.
+use Rattle.std.specs.Prelude.{◌≡◌, false, Ok, Err, [], ◌∷◌, if◌then◌else◌}
 use Rattle.std.proofs.Common.{ap, sym, ◌∙◌}
 use Rattle.pli_base.specs.Statements.{ExternalProcedure}
 use Rattle.pli_base.specs.Words.{Tokens}
+use Rattle.pli_code.specs.CodeTables.{Code}
+use Rattle.pli_code.specs.Versions.{written}
 use Rattle.pli_declare.specs.Resolution.{resolution_faults}
+use Rattle.pli_gen.specs.Limits.{is_too_long}
+use Rattle.pli_gen_emit.specs.Encoding.{code_of}
 use Rattle.pli_parse_statement.specs.StatementReading.{unit_of}
 use Rattle.pli_resolve.specs.ResolvedUnits.{resolved_unit_of}
 use Rattle.pli_type.specs.NamedUnits.{checked_unit}
-use Rattle.pli_meaning.specs.Scratch.{typed_unless, program_from, coded_from, compiled_texts}
+use Rattle.pli_type_tree.specs.TypedTree.{TypedUnit}
+use Rattle.pli_meaning.specs.Scratch.{typed_unless, program_from, too_long, compiled_tree, short_deck, coded, coded_from, compiled_texts}
 
 -- where reading has no fault, the tree that was read decides
 pub tree_decides : (texts : Tokens) (u : ExternalProcedure) → unit_of texts ≡ Ok u → compiled_texts texts ≡ coded_from (typed_unless (resolution_faults u) u)
@@ -16,3 +22,9 @@ tree_decides texts u read = ap (λ r. coded_from (program_from r)) read
 -- and where the declarations have none, types
 pub types_decide : (u v : ExternalProcedure) → resolution_faults u ≡ [] → v ≡ u → coded_from (typed_unless (resolution_faults u) u) ≡ coded_from (checked_unit (resolved_unit_of v))
 types_decide u v none same = ap (λ fs. coded_from (typed_unless fs u)) none ∙ ap (λ x. coded_from (checked_unit (resolved_unit_of x))) (sym same)
+
+-- and where code is not too long, its deck
+pub deck_decides : (u : TypedUnit) (c : Code) → is_too_long (code_of u) ≡ false → c ≡ code_of u → short_deck (record { version = written; name = u.procedure; is_main = u.is_main; code = c }) ≡ coded u
+deck_decides u c fits same =
+    ap (λ (x : Code). short_deck (record { version = written; name = u.procedure; is_main = u.is_main; code = x })) same
+    ∙ sym (ap (λ b. if b then Err (too_long ∷ []) else short_deck (compiled_tree u)) fits)

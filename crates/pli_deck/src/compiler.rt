@@ -6,7 +6,6 @@ ghost use Rattle.pli_meaning.specs.Scratch.{compiled_texts};
 
 use crate::compiled::Compiled;
 use crate::passes::{CompileError, compile_texts};
-use crate::spelled::SpelledDeck;
 use pli_base::TokenText;
 use std::alloc::{AllocError, Global};
 use std::marker::Model;
@@ -32,7 +31,7 @@ fn outcome_of(alloc: Global, texts: &[TokenText]) -> Result<Compiled, AllocError
     ensures { IfOk result (λ compiled. outcome_view compiled ≡ compiled_texts texts.now) }
 {
     match compile_texts(alloc, texts) {
-        Ok(deck) => Ok(Compiled::whole(alloc, SpelledDeck::new(alloc, deck)?)),
+        Ok(deck) => Ok(Compiled::whole(alloc, deck)),
         Err(CompileError::Fault(fault)) => {
             Ok(Compiled::faulty(Vec::from_slice(alloc, &[fault])?))
         }
@@ -57,9 +56,9 @@ impl Compiler {
     }
 
     /// What the tokens of a unit, at most 200,000, are compiled to: its deck, or all faults, one at least, of the first
-    /// pass that has any: of reading, of declarations, of types, or of the length of code. Nothing else counts, neither
-    /// what the unit's member is called nor where its tokens come from. Refused for want of memory alone, and then not
-    /// counted.
+    /// pass that has any: of reading, of declarations, of types, or of the length of code and of its deck. Nothing else
+    /// counts, neither what the unit's member is called nor where its tokens come from. Refused for want of memory alone,
+    /// and then not counted.
     pub fn compile(&mut self, texts: &[TokenText]) -> Result<Compiled, AllocError>
         requires { length texts.now ≤ 200000 }
         ensures compiled { IfOk result (λ compiled. outcome_view compiled ≡ compiled_texts texts.now) }

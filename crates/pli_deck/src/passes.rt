@@ -1,12 +1,17 @@
 //! The passes of the compiler over the tokens of a unit.
 ghost use Rattle.std.specs.Prelude.{◌≡◌, ◌≤◌, length};
 ghost use Rattle.pli_base.specs.views.StatementView.{unit_view};
+ghost use Rattle.pli_code.specs.views.CodeView.{deck_view};
 ghost use Rattle.pli_resolve.specs.ResolvedUnits.{resolved_unit_of};
 ghost use Rattle.pli_type.specs.NamedUnits.{checked_unit};
 ghost use Rattle.pli_declare.specs.Resolution.{resolution_faults};
-ghost use Rattle.pli_meaning.specs.Scratch.{coded_from, compiled_texts, typed_unless};
+ghost use Rattle.pli_type_tree.specs.views.TypedView as typed;
+ghost use Rattle.pli_meaning.specs.Scratch.{coded, coded_from, compiled_texts, short_deck, typed_unless};
 ghost use Rattle.pli_deck.specs.answers.Outcomes.{Compiles, of_fault, of_faults, of_generating};
+ghost use Rattle.pli_deck.specs.declared.passes.CompileError.TheVariants.{OutOfMemory};
+ghost use Rattle.pli_gen.specs.declared.generating.GenerateError.TheVariants.{TooLong};
 
+use crate::spelled::SpelledDeck;
 use pli_base::{Code, Failure, Fault, TokenText, Unit};
 use pli_code::{Deck, Version};
 use pli_gen::{GenerateError, generate};
@@ -14,7 +19,8 @@ use pli_parse::parse;
 use pli_resolve::ResolvedUnit;
 use pli_resolve_unit::resolve_unit;
 use pli_type_statement::check;
-use std::alloc::Global;
+use pli_type_tree::TypedUnit;
+use std::alloc::{AllocError, Global};
 
 /// Why the tokens of a unit are not compiled.
 #[derive(Drop)]
@@ -24,6 +30,24 @@ pub(crate) enum CompileError {
     /// All faults of the declarations and uses of names, or of types, in the order of their tokens.
     Faults(Vec<Fault>),
     OutOfMemory,
+}
+
+/// G1, at the first token.
+fn too_long() -> CompileError
+    ensures { result ≡ of_generating TooLong }
+{
+    CompileError::Fault(Fault {
+        code: Code::CodeTooLong,
+        at: 0,
+    })
+}
+
+impl From<AllocError> for CompileError {
+    ghost from_gives = { λ _ e. e ≡ OutOfMemory };
+
+    fn from(_error: AllocError) -> CompileError {
+        CompileError::OutOfMemory
+    }
 }
 
 impl From<Failure<Fault>> for CompileError {
@@ -53,31 +77,52 @@ impl From<GenerateError> for CompileError {
 
     fn from(error: GenerateError) -> CompileError {
         match error {
-            GenerateError::TooLong => CompileError::Fault(Fault {
-                code: Code::CodeTooLong,
-                at: 0,
-            }),
+            GenerateError::TooLong => too_long(),
             GenerateError::OutOfMemory => CompileError::OutOfMemory,
         }
     }
 }
 
-/// A unit without faults of declarations, compiled, or its faults of types, or that its code is too long.
-fn compile_resolved(alloc: Global, resolved: &ResolvedUnit<'_>) -> Result<Deck, CompileError>
+/// A deck with its bytes, or that they are too many.
+fn with_bytes(alloc: Global, deck: Deck) -> Result<SpelledDeck, CompileError>
+    ensures { Compiles result (short_deck (deck_view deck)) }
+{
+    let spelled = SpelledDeck::new(alloc, deck)?;
+    if spelled.is_long() {
+        drop(spelled);
+        return Err(too_long());
+    }
+    Ok(spelled)
+}
+
+/// A typed unit, compiled, or that its code or its deck is too long.
+fn compile_typed(alloc: Global, unit: &TypedUnit) -> Result<SpelledDeck, CompileError>
+    ensures { Compiles result (coded (typed.unit_view unit.now)) }
+{
+    let code = generate(alloc, unit)?;
+    with_bytes(
+        alloc,
+        Deck {
+            version: Version::WRITTEN,
+            name: unit.procedure,
+            is_main: unit.is_main,
+            code,
+        },
+    )
+}
+
+/// A unit without faults of declarations, compiled, or its faults of types, or that its code or its deck is too long.
+fn compile_resolved(alloc: Global, resolved: &ResolvedUnit<'_>) -> Result<SpelledDeck, CompileError>
     ensures { Compiles result (coded_from (checked_unit (resolved_unit_of (unit_view resolved.now)))) }
 {
-    let typed = check(alloc, resolved)?;
-    let code = generate(alloc, &typed)?;
-    Ok(Deck {
-        version: Version::WRITTEN,
-        name: typed.procedure,
-        is_main: typed.is_main,
-        code,
-    })
+    let unit = check(alloc, resolved)?;
+    let compiled = compile_typed(alloc, &unit);
+    drop(unit);
+    compiled
 }
 
 /// A unit's tree, compiled, or the faults of the first pass behind reading that has any.
-fn compile_tree(alloc: Global, tree: &Unit) -> Result<Deck, CompileError>
+fn compile_tree(alloc: Global, tree: &Unit) -> Result<SpelledDeck, CompileError>
     ensures { let unit = unit_view tree.now in
         Compiles result (coded_from (typed_unless (resolution_faults unit) unit)) }
 {
@@ -88,7 +133,7 @@ fn compile_tree(alloc: Global, tree: &Unit) -> Result<Deck, CompileError>
 }
 
 /// The tokens of a unit, compiled, or the faults of the first pass that has any.
-pub(crate) fn compile_texts(alloc: Global, texts: &[TokenText]) -> Result<Deck, CompileError>
+pub(crate) fn compile_texts(alloc: Global, texts: &[TokenText]) -> Result<SpelledDeck, CompileError>
     requires { length texts.now ≤ 200000 }
     ensures { Compiles result (compiled_texts texts.now) }
 {

@@ -2,12 +2,16 @@
 ghost use Rattle.std.specs.Prelude.{◌≡◌, IfOk};
 ghost use Rattle.pli_code.specs.views.CodeView.{deck_view};
 ghost use Rattle.pli_deck_write.specs.Spelling.{deck_bytes};
+ghost use Rattle.pli_meaning.specs.Scratch.{is_long};
 
 use crate::copying::copied_deck;
 use pli_code::Deck;
 use pli_deck_write::write_deck;
 use std::alloc::{AllocError, Global};
 use std::marker::Model;
+
+/// The greatest number of bytes of a deck: its length in a module has four bytes (own).
+const BYTE_LIMIT: usize = 4_294_967_295;
 
 /// A deck with the bytes that it is written as, so that a module of it is made without writing it again. Contracts see
 /// the deck.
@@ -56,6 +60,13 @@ impl SpelledDeck {
         ensures { result.now ≡ deck_bytes (deck_view self.now) }
     {
         self.bytes.as_slice()
+    }
+
+    /// Whether they are more than the four bytes of a deck's length in a module can count (own).
+    pub fn is_long(&self) -> bool
+        ensures { result ≡ is_long (deck_view self.now) }
+    {
+        self.bytes.len() > BYTE_LIMIT
     }
 
     /// A copy, which equals the original. An error comes where memory runs out.

@@ -14,7 +14,7 @@ use Rattle.pli_gen.specs.Limits.{is_too_long}
 use Rattle.pli_include.specs.Expanded.{look_in}
 use Rattle.pli_include.specs.Expansion.{token_limit}
 use Rattle.pli_include.proofs.StepsKeep.{texts_have_origins}
-use Rattle.pli_meaning.specs.Scratch.{Diagnostic, origin_of, located, typed_unless, program_from, program_of, all_located, too_long, compiled_tree, coded_from, compiled_texts, with_unit, compiled_from, compiled_of}
+use Rattle.pli_meaning.specs.Scratch.{Diagnostic, origin_of, located, typed_unless, program_from, program_of, all_located, too_long, compiled_tree, is_long, short_deck, coded_from, compiled_texts, with_unit, compiled_from, compiled_of}
 use Rattle.pli_parse.proofs.StatementFaultPlaces.{unit_fault_stands}
 use Rattle.pli_parse_statement.specs.StatementReading.{unit_of}
 use Rattle.pli_resolve.specs.ResolvedUnits.{resolved_unit_of}
@@ -58,9 +58,13 @@ first_stands : (ts : Tokens) → StandsAtToken ts too_long
 first_stands [] = refl
 first_stands (t ∷ ts) = omega arith
 
-long_stands : (ts : Tokens) (b : Bool) (c : Deck) (fs : List Fault) → (if b then Err (too_long ∷ []) else Ok c) ≡ Err fs → AllStand ts fs
-long_stands ts true c fs e = subst (AllStand ts) (ap faults_in e) (first_stands ts, tt)
-long_stands ts false c fs e = absurd (cc)
+deck_stands : (ts : Tokens) (b : Bool) (d : Deck) (fs : List Fault) → (if b then Err (too_long ∷ []) else Ok d) ≡ Err fs → AllStand ts fs
+deck_stands ts true d fs e = subst (AllStand ts) (ap faults_in e) (first_stands ts, tt)
+deck_stands ts false d fs e = absurd (cc)
+
+long_stands : (ts : Tokens) (b : Bool) (d : Deck) (fs : List Fault) → (if b then Err (too_long ∷ []) else short_deck d) ≡ Err fs → AllStand ts fs
+long_stands ts true d fs e = subst (AllStand ts) (ap faults_in e) (first_stands ts, tt)
+long_stands ts false d fs e = deck_stands ts (is_long d) d fs e
 
 coded_stand : (ts : Tokens) (r : Result TypedUnit (List Fault)) (fs : List Fault) → ((gs : List Fault) → r ≡ Err gs → AllStand ts gs) → coded_from r ≡ Err fs → AllStand ts fs
 coded_stand ts (Ok u) fs h e = long_stands ts (is_too_long (code_of u)) (compiled_tree u) fs e

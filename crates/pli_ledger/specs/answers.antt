@@ -3,4 +3,3 @@ pub mod Built
 pub mod Compiling
 pub mod Lending
 pub mod Passing
-pub mod Storing

@@ -4,7 +4,6 @@ pub mod ModuleFits
 pub mod ModuleLimits
 pub mod ModulesSay
 pub mod ResolvedEntries
-pub mod ShortDecks
 pub mod Sums
 pub mod UnitDeclarations
 pub mod UnitLinks

@@ -31,8 +31,3 @@ abbrev pub LinkingKeepsDecks : Type 0
 LinkingKeepsDecks =
     (cs : List Compiled) (m : Module) → link_of cs ≡ Ok m
     → map (λ (u : Member). u.deck) m.units ≡ map (λ (c : Compiled). c.deck) cs
-
--- where all bytes of a module are so few, those of each deck are
-abbrev pub ShortModulesHaveShortDecks : Type 0
-ShortModulesHaveShortDecks =
-    (m : Module) → length (module_bytes m) < 4294967296 → AllByRecursion HasShortDeck m.units

@@ -1,5 +1,5 @@
 //! Laws of linked modules: which bytes spell them, and which decks they have.
-ghost use Rattle.pli_link_laws.specs.LinkedModules.{LinkedModulesAreSpelled, LinkingKeepsDecks, ShortModulesHaveShortDecks};
+ghost use Rattle.pli_link_laws.specs.LinkedModules.{LinkedModulesAreSpelled, LinkingKeepsDecks};
 
 /// A law: where at most 999 units are linked, and the name and the deck of each have a spelling, the deck's in the version
 /// in which modules are written, the bytes of the module spell it, and no other: its externals stand in the order of
@@ -14,10 +14,4 @@ pub fn linked_modules_are_spelled()
 #[tactic(auto, using(crate::proofs::LinkedFrom::linking_keeps_decks))]
 pub fn linking_keeps_decks()
     ensures { LinkingKeepsDecks }
-{}
-
-/// A law: where a number of four bytes can count all bytes of a module, it can count those of each of its decks.
-#[tactic(auto, using(crate::proofs::ShortDecks::short_decks))]
-pub fn short_modules_have_short_decks()
-    ensures { ShortModulesHaveShortDecks }
 {}

@@ -3,4 +3,4 @@
 
 mod laws;
 
-pub use laws::{linked_modules_are_spelled, linking_keeps_decks, short_modules_have_short_decks};
+pub use laws::{linked_modules_are_spelled, linking_keeps_decks};

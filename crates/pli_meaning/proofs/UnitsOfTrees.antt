@@ -31,7 +31,7 @@ use Rattle.pli_base.specs.Statements.{ExternalProcedure}
 use Rattle.pli_base.specs.Words.{Tokens}
 use Rattle.pli_declare.specs.Resolution.{resolution_faults}
 use Rattle.pli_meaning.specs.Programs.{of_member}
-use Rattle.pli_meaning.specs.Scratch.{Diagnostic, typed_unless, program_from, program_of, units_of, located, all_located, parsed_from, parsed_of, too_long, compiled_tree, coded_from, compiled_texts, with_unit, compiled_from, compiled_of, diagnostics_in, diagnostic_line, all_text, all_units, text_in, units_in, sources, source_in, with_tree, trees_of}
+use Rattle.pli_meaning.specs.Scratch.{Diagnostic, typed_unless, program_from, program_of, units_of, located, all_located, parsed_from, parsed_of, too_long, compiled_tree, is_long, short_deck, coded_from, compiled_texts, with_unit, compiled_from, compiled_of, diagnostics_in, diagnostic_line, all_text, all_units, text_in, units_in, sources, source_in, with_tree, trees_of}
 
 -- a list with an element is not empty
 filled : {A : Type 0} (xs ys : List A) (y : A) → xs ++ y ∷ ys ≡ [] → ⊥
@@ -77,9 +77,13 @@ abbrev pub IsToldOfCompiling : Result Deck (List Fault) → Type 0
 IsToldOfCompiling (Ok c) = Unit {0}
 IsToldOfCompiling (Err faults) = IsFault faults
 
-long_told : (u : TypedUnit) (b : Bool) → IsToldOfCompiling (if b then Err (too_long ∷ []) else Ok (compiled_tree u))
+deck_told : (d : Deck) (b : Bool) → IsToldOfCompiling (if b then Err (too_long ∷ []) else Ok d)
+deck_told d true = tt
+deck_told d false = tt
+
+long_told : (u : TypedUnit) (b : Bool) → IsToldOfCompiling (if b then Err (too_long ∷ []) else short_deck (compiled_tree u))
 long_told u true = tt
-long_told u false = tt
+long_told u false = deck_told (compiled_tree u) (is_long (compiled_tree u))
 
 coded_told : (r : Result TypedUnit (List Fault)) → IsRead r → IsToldOfCompiling (coded_from r)
 coded_told (Ok u) h = long_told u (is_too_long (code_of u))
@@ -93,19 +97,27 @@ compiled_told texts = coded_told (program_of texts) (program_read texts)
 abbrev unit_code : Name → TypedUnit → Compiled
 unit_code name u = as_unit name (compiled_tree u)
 
--- a unit without diagnostics: its tree is typed and numbered well, and this is its code, which is not too long
+-- a unit without diagnostics: its tree is typed and numbered well, and this is its deck, which is not too long, and
+-- neither is its code
 record IsClean (name : Name) (r : Result TypedUnit (List Diagnostic)) (c : Result Compiled (List Diagnostic)) : Type 0 where
   tree : TypedUnit
   spelled : r ≡ Ok tree
   good : IsGood tree
   fits : is_too_long (code_of tree) ≡ false
+  short : is_long (compiled_tree tree) ≡ false
   code : c ≡ Ok (unit_code name tree)
 
-chosen_clean : (name : Name) (origins : List Origin) (u : TypedUnit) (b : Bool) → is_too_long (code_of u) ≡ b → IsGood u
+short_clean : (name : Name) (origins : List Origin) (u : TypedUnit) (b : Bool) → is_too_long (code_of u) ≡ false → is_long (compiled_tree u) ≡ b → IsGood u
     → diagnostics_in name (all_located name origins (with_unit name (if b then Err (too_long ∷ []) else Ok (compiled_tree u)))) ≡ []
     → IsClean name (Ok u) (all_located name origins (with_unit name (if b then Err (too_long ∷ []) else Ok (compiled_tree u))))
+short_clean name origins u true fits long good e = absurd (text_filled name (located name origins too_long) [] e)
+short_clean name origins u false fits short good e = record { tree = u; spelled = refl; good = good; fits = fits; short = short; code = refl }
+
+chosen_clean : (name : Name) (origins : List Origin) (u : TypedUnit) (b : Bool) → is_too_long (code_of u) ≡ b → IsGood u
+    → diagnostics_in name (all_located name origins (with_unit name (if b then Err (too_long ∷ []) else short_deck (compiled_tree u)))) ≡ []
+    → IsClean name (Ok u) (all_located name origins (with_unit name (if b then Err (too_long ∷ []) else short_deck (compiled_tree u))))
 chosen_clean name origins u true is good e = absurd (text_filled name (located name origins too_long) [] e)
-chosen_clean name origins u false is good e = record { tree = u; spelled = refl; good = good; fits = is; code = refl }
+chosen_clean name origins u false is good e = short_clean name origins u (is_long (compiled_tree u)) is refl good e
 
 read_clean : (name : Name) (origins : List Origin) (r : Result TypedUnit (List Fault)) → IsRead r
     → diagnostics_in name (all_located name origins (with_unit name (coded_from r))) ≡ [] → IsClean name (all_located name origins r) (all_located name origins (with_unit name (coded_from r)))
@@ -127,7 +139,8 @@ unit_clean entries name e = compiled_clean name (outcome_of entries name) e
 abbrev pub coded_tree : TypedUnit → Compiled
 coded_tree u = unit_code u.name u
 
--- a tree of a member: it is typed and numbered well, takes nothing where it is MAIN, and its code is not too long
+-- a tree of a member: it is typed and numbered well, takes nothing where it is MAIN, and neither its code nor its deck
+-- is too long
 pub record IsOfMember (entries : List (Name × Member)) (u : TypedUnit) : Type 0 where
   pub tree : TypedUnit
   pub spelled : parsed_of entries u.name ≡ Ok tree
@@ -136,6 +149,7 @@ pub record IsOfMember (entries : List (Name × Member)) (u : TypedUnit) : Type 0
   pub numbered : IsWellNumbered u
   pub main : MainTakesNothing u
   pub fits : is_too_long (code_of u) ≡ false
+  pub short : is_long (compiled_tree u) ≡ false
 
 abbrev pub AreOfMembers : List (Name × Member) → List TypedUnit → Type 0
 AreOfMembers entries [] = Unit {0}
@@ -182,6 +196,7 @@ module _ (entries : List (Name × Member)) where
             numbered = named_numbered name clean.tree clean.good.1;
             main = clean.good.2;
             fits = clean.fits;
+            short = clean.short;
           },
           more.good,
         );

@@ -1,6 +1,6 @@
 -- A build from scratch: the diagnostics or the module that members give, and what their program means.
-use Rattle.std.specs.Prelude.{◌≡◌, ℕ, Option, Some, None, Result, Ok, Err, List, [], ◌∷◌, ◌++◌, map, decimal}
-use Rattle.std.specs.Prelude.{slice_get, if◌then◌else◌}
+use Rattle.std.specs.Prelude.{◌≡◌, ℕ, nat_lt, Bool, Option, Some, None, Result, Ok, Err, List, [], ◌∷◌, ◌++◌}
+use Rattle.std.specs.Prelude.{map, length, decimal, slice_get, if◌then◌else◌}
 use Rattle.std.specs.List.{flat_map}
 use Rattle.pli_base.specs.Name.{Name}
 use Rattle.pli_base.specs.Codes.{code_label, code_text}
@@ -29,6 +29,7 @@ use Rattle.pli_machine_step.specs.Runs.{Outcome}
 use Rattle.pli_code.specs.CodeTables.{Deck}
 use Rattle.pli_code.specs.Modules.{Module}
 use Rattle.pli_code.specs.Versions.{written}
+use Rattle.pli_deck_write.specs.Spelling.{deck_bytes}
 use Rattle.pli_gen_emit.specs.Encoding.{code_of}
 use Rattle.pli_gen.specs.Limits.{is_too_long}
 use Rattle.pli_meaning_tree.specs.TreeMeaning.{whole_run}
@@ -84,7 +85,7 @@ parsed_from unit (Ok p) = all_located unit p.origins (program_of p.texts)
 unfoldable pub parsed_of : List (Name × Member) → Name → Result TypedUnit (List Diagnostic)
 parsed_of entries unit = parsed_from unit (outcome_of entries unit)
 
--- code is too long, at the first token
+-- code is too long, or a deck, at the first token
 abbrev pub too_long : Fault
 too_long = record { code = code.CodeTooLong; at = 0 }
 
@@ -92,9 +93,17 @@ too_long = record { code = code.CodeTooLong; at = 0 }
 abbrev pub compiled_tree : TypedUnit → Deck
 compiled_tree u = record { version = written; name = u.procedure; is_main = u.is_main; code = code_of u }
 
--- the deck of a tree, if its code is not too long
+-- a deck has more bytes than the four bytes of its length in a module can count (own)
+abbrev pub is_long : Deck → Bool
+is_long d = nat_lt 4294967295 (length (deck_bytes d))
+
+-- a deck, if it is not too long
+abbrev pub short_deck : Deck → Result Deck (List Fault)
+short_deck d = if is_long d then Err (too_long ∷ []) else Ok d
+
+-- the deck of a tree, if neither its code nor the deck is too long
 abbrev pub coded : TypedUnit → Result Deck (List Fault)
-coded u = if is_too_long (code_of u) then Err (too_long ∷ []) else Ok (compiled_tree u)
+coded u = if is_too_long (code_of u) then Err (too_long ∷ []) else short_deck (compiled_tree u)
 
 -- the deck of what was typed, or its faults
 abbrev pub coded_from : Result TypedUnit (List Fault) → Result Deck (List Fault)

@@ -1,5 +1,5 @@
 //! ALLOCATE.
-ghost use Rattle.std.specs.Prelude.{◌≡◌, ℕ, Bool, [], map, option_map, IfOk};
+ghost use Rattle.std.specs.Prelude.{◌≡◌, ◌≤◌, ◌+◌, ℕ, Bool, [], length, map, option_map, IfOk};
 ghost use Rattle.pli_base.specs.answers.FailureAnswers.{Gives};
 ghost use Rattle.pli_base.specs.views.StatementView.{allocation_view};
 ghost use Rattle.pli_base.specs.views.SyntaxView.{reference_view};
@@ -15,7 +15,6 @@ ghost use Rattle.pli_type_templates.specs.views.UnitView.{based_at};
 ghost use Rattle.pli_type_tree.specs.views.TemplateView.{template_view};
 ghost use Rattle.pli_type_tree.specs.views.TypedView.{allocated_view, form_view};
 
-use crate::temporaries::counted;
 use crate::variables::only_variable;
 use pli_base::statement::Allocation;
 use pli_base::syntax::Reference;
@@ -286,7 +285,8 @@ fn allocated(
 
 /// How many temporaries an item has.
 fn kept_for(item: &AllocatedItem) -> usize
-    ensures { result ≡ spec.kept_for (allocated_view item.now) }
+    ensures few { result ≤ 1 }
+    ensures value { result ≡ spec.kept_for (allocated_view item.now) }
 {
     match item {
         AllocatedItem::Controlled { .. } => 0,
@@ -302,7 +302,8 @@ fn all_allocated(
     temporary: usize,
     items: &[Allocation],
 ) -> Result<Vec<AllocatedItem>, TypeError>
-    requires { (block : ℕ) → based_at templates.now block ≡ (naming_in naming.now).based block }
+    requires based { (block : ℕ) → based_at templates.now block ≡ (naming_in naming.now).based block }
+    requires room { temporary + length (map allocation_view items.now) ≤ 9223372036854775808 }
     ensures { Gives (λ made. map allocated_view made.items) result
         (spec.all_allocated (naming_in naming.now) temporary (map allocation_view items.now)) }
 {
@@ -312,7 +313,7 @@ fn all_allocated(
         let one = allocated(alloc, naming, templates, next, item)?;
         let kept = kept_for(&one);
         made.push(one)?;
-        next = counted(next, kept)?;
+        next += kept;
     }
     Ok(made)
 }
@@ -326,7 +327,8 @@ pub fn allocate(
     temporary: usize,
     items: &[Allocation],
 ) -> Result<Form, TypeError>
-    requires { (block : ℕ) → based_at templates.now block ≡ (naming_in naming.now).based block }
+    requires based { (block : ℕ) → based_at templates.now block ≡ (naming_in naming.now).based block }
+    requires room { temporary + length (map allocation_view items.now) ≤ 9223372036854775808 }
     ensures { Gives form_view result (allocate_typed (naming_in naming.now) temporary (map allocation_view items.now)) }
 {
     let items = all_allocated(alloc, naming, templates, temporary, items)?;

@@ -3,9 +3,7 @@
 
 mod allocating;
 mod freeing;
-mod temporaries;
 mod variables;
 
 pub use allocating::allocate;
 pub use freeing::free;
-pub use temporaries::counted;

@@ -1,6 +1,7 @@
 pub mod Around
 pub mod Headers
 pub mod Iterations
+pub mod NumbersTaken
 pub mod Parts
 pub mod Simple
 pub mod Walking

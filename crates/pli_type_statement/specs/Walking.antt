@@ -56,9 +56,9 @@ pub record IsPlaced (w : TypingWalk) : Type 0 where
   pub based : (block : ℕ) → based_at w.templates block ≡ ((unit_at w).naming []).based block
   pub deep : IsDeep (around_view w.surroundings)
 
--- a word has room for the numbers of the blocks in so many regions
-abbrev pub HasRoom : Next → (regions : ℕ) → Type 0
-HasRoom x regions = x.block + regions ≤ 1152921504606846976
+-- a word has room for so many numbers more, of blocks and of temporaries
+abbrev pub HasRoom : Next → (taken : ℕ) → Type 0
+HasRoom x taken = x.block + x.temporary + taken ≤ 9223372036854775808
 
 -- it is where it was
 pub record IsBack (old new : TypingWalk) : Type 0 where

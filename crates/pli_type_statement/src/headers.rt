@@ -38,6 +38,7 @@ fn limits_kept(range: &Option<Range>) -> usize
 /// How many temporaries a group has: with a control variable one for the value that this begins with, and those of its
 /// limits.
 pub(crate) fn kept_by(control: &Option<Control>) -> usize
+    ensures few { result ≤ 3 }
     ensures value { result ≡ spec.kept_by (option_map control_view control.now) }
 {
     match control {

@@ -1,10 +1,11 @@
 //! Statements without statements in them.
-ghost use Rattle.std.specs.Prelude.{◌≡◌, ℕ, false, map};
+ghost use Rattle.std.specs.Prelude.{◌≡◌, ◌≤◌, ◌+◌, ℕ, false, map};
 ghost use Rattle.pli_base.specs.views.StatementView as source;
 ghost use Rattle.pli_base.specs.views.SyntaxView as syntax;
 ghost use Rattle.pli_base.specs.answers.FailureAnswers.{Gives};
 ghost use Rattle.pli_type_names.specs.UnitNaming.{naming_in};
 ghost use Rattle.pli_type_statement.specs.Around.{surroundings_of};
+ghost use Rattle.pli_type_statement.specs.NumbersTaken.{taken_of};
 ghost use Rattle.pli_type_statement.specs.Simple.{is_compound, put_typed, simple_typed};
 ghost use Rattle.pli_type_statement.specs.views.AroundView.{around_view};
 ghost use Rattle.pli_type_templates.specs.views.UnitView.{based_at};
@@ -52,6 +53,7 @@ pub(crate) fn simple(
     requires blocks { naming.now.blocks ≡ map (λ b. b.number) (surroundings_of (around_view around.now)).blocks }
     requires based { (block : ℕ) → based_at templates.now block ≡ (naming_in naming.now).based block }
     requires simple { is_compound (source.body_view body.now) ≡ false }
+    requires room { temporary + taken_of (source.body_view body.now) ≤ 9223372036854775808 }
     ensures { Gives form_view result
         (simple_typed (naming_in naming.now) (surroundings_of (around_view around.now)) temporary at (source.body_view body.now)) }
 {

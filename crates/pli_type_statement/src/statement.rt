@@ -2,11 +2,11 @@
 ghost use Rattle.std.specs.Prelude.{◌≡◌, ◌≤◌, ◌+◌, None, false, length, option_map, IfOk};
 ghost use Rattle.pli_base.specs.views.StatementView as source;
 ghost use Rattle.pli_base.specs.views.SyntaxView as syntax;
-ghost use Rattle.pli_declare_outline.specs.Outlines.{regions_among, regions_in, regions_of};
 ghost use Rattle.pli_map.specs.views.DescriptionView.{description_view};
 ghost use Rattle.pli_type.specs.StatementTyping as spec;
 ghost use Rattle.pli_type.specs.Temporaries.{behind, kept_by, temporaries_of};
 ghost use Rattle.pli_type_statement.specs.Headers.{Header as PlainHeader, header_typed};
+ghost use Rattle.pli_type_statement.specs.NumbersTaken.{taken_among, taken_in, taken_of};
 ghost use Rattle.pli_type_statement.specs.Simple.{is_compound, simple_typed};
 ghost use Rattle.pli_type_statement.specs.Walking.{Finishes, HasRoom, IsPlaced, ended_as, in_block, unit_ended, Walks, WalksBlock, WalksBody, WalksList, around, based_names, next_at, unit_at};
 ghost use Rattle.pli_type_statement.specs.views.AroundView.{around_view};
@@ -26,7 +26,6 @@ use crate::walk::{TypingWalk, enter_block, leave_block};
 use pli_base::statement::{Body, Condition, Control, Statement};
 use pli_base::syntax::Expression;
 use pli_map::Description;
-use pli_type_allocation::counted;
 use pli_type_tree::{BlockHead, Form, TypedExpression, TypedProcedure, TypedStatement};
 use std::alloc::{AllocError, Global};
 use std::slice;
@@ -57,6 +56,7 @@ fn type_simple(
 ) -> Result<Option<Form>, AllocError>
     requires placed { IsPlaced walk.old }
     requires simple { is_compound (source.body_view body.now) ≡ false }
+    requires room { HasRoom (next_at walk.old) (taken_of (source.body_view body.now)) }
     ensures walked { IfOk result (λ form. Walks plain.Form walk.old walk.new
         (record { block = walk.old.next.block; temporary = walk.old.next.temporary + temporaries_of (based_names walk.old) (source.body_view body.now) })
         (spec.of_own (simple_typed (spec.naming_at (unit_at walk.old) (around walk.old)) (around walk.old) walk.old.next.temporary at
@@ -64,7 +64,8 @@ fn type_simple(
     ensures simple { is_compound (source.body_view body.now) ≡ false }
 {
     let temporary = walk.next.temporary;
-    walk.next.temporary = counted(temporary, kept_in(&walk.naming, body))?;
+    let after = temporary + kept_in(&walk.naming, body);
+    walk.next.temporary = after;
     let form = simple(
         alloc,
         &walk.naming,
@@ -98,14 +99,16 @@ fn type_header(
     walk: &mut TypingWalk<'_>,
     control: &Option<Control>,
 ) -> Result<Option<Header>, AllocError>
-    requires { IsPlaced walk.old }
+    requires placed { IsPlaced walk.old }
+    requires room { HasRoom (next_at walk.old) 4 }
     ensures { IfOk result (λ header. Walks PlainHeader walk.old walk.new
         (record { block = walk.old.next.block; temporary = walk.old.next.temporary + kept_by (option_map source.control_view control.now) })
         (spec.of_own (header_typed (spec.naming_at (unit_at walk.old) (around walk.old)) walk.old.next.temporary
         (option_map source.control_view control.now))) (option_map header_view header)) }
 {
     let temporary = walk.next.temporary;
-    walk.next.temporary = counted(temporary, kept_by(control))?;
+    let after = temporary + kept_by(control);
+    walk.next.temporary = after;
     let header = specified(alloc, &walk.naming, temporary, control);
     noted(header, &mut walk.faults)
 }
@@ -174,7 +177,7 @@ fn type_statement(
     statement: &Statement,
 ) -> Result<Option<TypedStatement>, AllocError>
     requires placed { IsPlaced walk.old }
-    requires room { HasRoom (next_at walk.old) (regions_in (source.statement_view statement.now)) }
+    requires room { HasRoom (next_at walk.old) (taken_in (source.statement_view statement.now)) }
     ensures { IfOk result (λ typed. Walks plain.TypedStatement walk.old walk.new
         (behind (based_names walk.old) (next_at walk.old) (source.statement_view statement.now))
         (spec.statement_typed (unit_at walk.old) (around walk.old) (next_at walk.old) (source.statement_view statement.now))
@@ -194,7 +197,7 @@ fn type_body<'a>(
     body: &Body,
 ) -> Result<Option<Form>, AllocError>
     requires placed { IsPlaced walk.old }
-    requires room { HasRoom (next_at walk.old) (regions_of (source.body_view body.now)) }
+    requires room { HasRoom (next_at walk.old) (taken_of (source.body_view body.now)) }
     ensures { IfOk result (λ form. WalksBody walk.old walk.new number at (source.body_view body.now) (option_map form_view form)) }
 {
     match body {
@@ -266,7 +269,7 @@ fn type_block<'a>(
     statements: &[Statement],
 ) -> Result<TypedBlock, AllocError>
     requires placed { IsPlaced walk.old }
-    requires room { HasRoom (next_at walk.old) (1 + regions_among (source.statements_view statements.now)) }
+    requires room { HasRoom (next_at walk.old) (4 + taken_among (source.statements_view statements.now)) }
     requires deep { begins ≤ 1 + length (around_view walk.old.surroundings).lists }
     ensures { IfOk result (λ block. WalksBlock walk.old walk.new
         (in_block walk.old is_on_unit begins (option_map (λ d. description_view d.now) value.entry) (source.statements_view statements.now))
@@ -286,7 +289,7 @@ fn type_group(
     statements: &[Statement],
 ) -> Result<Option<Vec<TypedStatement>>, AllocError>
     requires placed { IsPlaced walk.old }
-    requires room { HasRoom (next_at walk.old) (regions_among (source.statements_view statements.now)) }
+    requires room { HasRoom (next_at walk.old) (taken_among (source.statements_view statements.now)) }
     ensures { IfOk result (λ typed. WalksList walk.old walk.new
         (spec.in_group (source.statements_view statements.now) (around walk.old)) (source.statements_view statements.now)
         (option_map (λ list. statements_view list.items) typed)) }
@@ -307,7 +310,7 @@ pub(crate) fn type_statements(
     statements: &[Statement],
 ) -> Result<Option<Vec<TypedStatement>>, AllocError>
     requires placed { IsPlaced walk.old }
-    requires room { HasRoom (next_at walk.old) (regions_among (source.statements_view statements.now)) }
+    requires room { HasRoom (next_at walk.old) (taken_among (source.statements_view statements.now)) }
     ensures { IfOk result (λ typed. WalksList walk.old walk.new (around walk.old) (source.statements_view statements.now)
         (option_map (λ list. statements_view list.items) typed)) }
 {

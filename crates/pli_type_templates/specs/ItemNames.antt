@@ -60,3 +60,7 @@ AreOfItems marks s = IsOfItem marks s.identifier.at s.kind
 -- no more regions than a vector may hold
 abbrev pub HasFewRegions : ExternalProcedure → Type 0
 HasFewRegions u = length (outline_of u).regions ≤ 1152921504606846976
+
+-- no more marks than a vector may hold
+abbrev pub HasFewMarks : ExternalProcedure → Type 0
+HasFewMarks u = length (outline_of u).marks ≤ 1152921504606846976

@@ -6,7 +6,7 @@ ghost use Rattle.pli_base.specs.views.DeclarationView.{item_view};
 ghost use Rattle.pli_base.specs.views.StatementView.{unit_view};
 ghost use Rattle.pli_declare_outline.specs.Outlines.{outline_of};
 ghost use Rattle.pli_declare_outline.specs.views.OutlineView.{mark_view, marks_view};
-ghost use Rattle.pli_type_templates.specs.ItemNames.{HasFewRegions, IsNameOf, items_of};
+ghost use Rattle.pli_type_templates.specs.ItemNames.{HasFewMarks, HasFewRegions, IsNameOf, items_of};
 ghost use Rattle.pli_type_templates.specs.NotedNames.{AreOfOne, IsNoted, IsOnly, KeepNotes, NoteItems, NoteMarks, NoteNames, TellItems};
 ghost use Rattle.pli_type_templates.specs.declared.item_number.ItemNumber.{ItemNumber};
 
@@ -108,6 +108,7 @@ impl<'a> ItemNumbers<'a> {
     pub(crate) fn of(alloc: Global, unit: &'a Procedure) -> Result<ItemNumbers<'a>, AllocError>
         ensures unit { IfOk result (λ made. made.unit.now ≡ unit.now) }
         ensures regions { IfOk result (λ _. HasFewRegions (unit_view unit.now)) }
+        ensures marks { IfOk result (λ _. HasFewMarks (unit_view unit.now)) }
     {
         let outline = outline(alloc, unit)?;
         let numbers = note_marks(alloc, &outline.marks)?;

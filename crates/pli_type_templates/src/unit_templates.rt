@@ -7,7 +7,7 @@ ghost use Rattle.pli_resolve.specs.ResolvedUnits.{resolved_unit_of};
 ghost use Rattle.pli_type.specs.NamedUnits as units;
 ghost use Rattle.pli_type.specs.NamedUnits.{all_globals, block_globals, is_based, named_unit, templates_of};
 ghost use Rattle.pli_type_templates.specs.Groups.{is_such};
-ghost use Rattle.pli_type_templates.specs.ItemNames.{AreOfItems, HasFewRegions};
+ghost use Rattle.pli_type_templates.specs.ItemNames.{AreOfItems, HasFewMarks, HasFewRegions};
 ghost use Rattle.pli_type_templates.specs.views.BlockView.{AreKnown, block_symbols};
 ghost use Rattle.pli_type_templates.specs.views.NumberView.{marks_of};
 ghost use Rattle.pli_type_templates.specs.views.PlacedView.{HasGlobalItem, placed_view};
@@ -167,6 +167,7 @@ pub fn templates(alloc: Global, resolved: &ResolvedUnit<'_>) -> Result<UnitTempl
     ensures globals { IfOk result (λ made. globals_view made.globals.items
         ≡ (named_unit 63 (resolved_unit_of (unit_view resolved.now))).globals) }
     ensures regions { IfOk result (λ _. HasFewRegions (unit_view resolved.now)) }
+    ensures marks { IfOk result (λ _. HasFewMarks (unit_view resolved.now)) }
 {
     let blocks = block_names(alloc, resolved)?;
     let items = ItemNumbers::of(alloc, resolved.unit())?;

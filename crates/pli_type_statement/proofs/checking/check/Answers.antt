@@ -29,7 +29,7 @@ type_statements-requires c =
           placed_first u _ _ _ c.in_ok-templates.templates named c.in_ok-surroundings.ensures refl
           c.in_ok-templates.ensures.automatic c.take-variables.ensures.others
           c.in_ok-templates.ensures.based c.take-variables.ensures.based;
-      room = room_at_first u c.as_slice-statements.result.now same c.in_ok-templates.ensures.regions;
+      room = room_at_first u c.as_slice-statements.result.now same c.in_ok-templates.ensures.regions c.in_ok-templates.ensures.marks;
     }
 
 pub returns-in-Some : goal.returns-in-Some

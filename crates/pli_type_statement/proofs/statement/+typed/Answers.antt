@@ -4,17 +4,17 @@ use Rattle.pli_base.specs.declared.statement.Procedure.{out-Procedure}
 use Rattle.pli_base.specs.laws.StatementLaws as laws
 use Rattle.pli_base.specs.views.StatementView as source
 use Rattle.pli_base.specs.views.SyntaxView as syntax
-use Rattle.pli_declare_outline.specs.Outlines.{regions_among, regions_else, regions_in, regions_of}
 use Rattle.pli_map.specs.views.DescriptionView.{description_view}
 use Rattle.pli_type.specs.StatementTyping as spec
 use Rattle.pli_type.specs.Temporaries.{behind}
 use Rattle.pli_type_tree.specs.TypedTree as plain
 use Rattle.pli_type_tree.specs.declared.statement.TypedStatement.{TypedStatement}
 use Rattle.pli_type_tree.specs.views.TypedView.{form_view, statement_view, statements_view}
+use Rattle.pli_type_statement.specs.NumbersTaken.{taken_among, taken_else, taken_in, taken_of}
 use Rattle.pli_type_statement.specs.Walking.{HasRoom, WalksBlock, WalksBody, WalksList, in_block, around, based_names, next_at, unit_at}
 use Rattle.pli_type_statement.specs.views.HeaderView.{header_view}
 use Rattle.pli_type_statement.proofs.Blocks.{begin_walked, block_placed, block_walked, group_placed, group_walked, in_group_around, procedure_answer, returned_is, unit_answer}
-use Rattle.pli_type_statement.proofs.RoomLeft.{room_behind, room_controlled, room_else, room_first, room_if, room_inside, room_next, room_unit}
+use Rattle.pli_type_statement.proofs.RoomLeft.{room_behind, room_controlled, room_else, room_first, room_header, room_if, room_inside, room_next, room_unit}
 use Rattle.pli_type_statement.proofs.SizeLemmas.{statement_size, body_size, list_size, alternative_size, item_size}
 use Rattle.pli_type_statement.proofs.TurnLemmas.{all_walked, do_walked, goes_on_first, goes_on_next, if_next_none, if_next_some, in_front, none_walked, simple_answer}
 use Rattle.pli_type_statement.proofs.WalkLemmas.{as_typed, if_walked, made_walked, back_then, moved, nothing_walked, same_based}
@@ -39,7 +39,7 @@ type_block-type_statements-requires t c =
       omega (arith, c.decreases),
       (
         block_placed c.args.walk.now _ c.in_ok-block.block c.args.is_on_unit _ _ _ c.requires.deep c.requires.placed c.in_ok-block.ensures,
-        subst (λ x. HasRoom x (regions_among ss)) (sym c.in_ok-block.ensures.next) (room_inside (next_at c.args.walk.now) (regions_among ss) c.requires.room),
+        subst (λ x. HasRoom x (taken_among ss)) (sym c.in_ok-block.ensures.next) (room_inside (next_at c.args.walk.now) (taken_among ss) c.requires.room),
       ),
     )
 
@@ -60,7 +60,7 @@ type_body-type_block-requires t c =
       omega (arith, c.decreases, ap body_size is),
       (
         c.requires.placed,
-        (subst (λ b. HasRoom (next_at c.args.walk.now) (regions_of b)) is c.requires.room, omega arith),
+        (subst (λ b. HasRoom (next_at c.args.walk.now) (taken_of b)) is c.requires.room, omega arith),
       ),
     )
 
@@ -88,7 +88,7 @@ type_body-type_block-requires-in-Begin t c =
       (
         c.requires.placed,
         (
-          subst (λ b. HasRoom (next_at c.args.walk.now) (regions_of b)) is c.requires.room,
+          subst (λ b. HasRoom (next_at c.args.walk.now) (taken_of b)) is c.requires.room,
           omega (arith, c.requires.placed.deep),
         ),
       ),
@@ -117,7 +117,7 @@ type_body-type_block-requires-in-On t c =
       (
         c.requires.placed,
         (
-          subst (λ ss. HasRoom (next_at c.args.walk.now) (1 + regions_among ss)) (sym list)
+          subst (λ ss. HasRoom (next_at c.args.walk.now) (4 + taken_among ss)) (sym list)
               (room_unit (next_at c.args.walk.now) _ b.condition s is c.requires.room),
           omega arith,
         ),
@@ -142,7 +142,12 @@ type_body-returns-in_ok-block-in-On t c =
 -- groups
 
 pub type_body-type_header-requires : goal.type_body-type_header-requires
-type_body-type_header-requires t c = c.requires.placed
+type_body-type_header-requires t c =
+    let b = c.in-Do in
+    record {
+      placed = c.requires.placed;
+      room = room_header (next_at c.args.walk.now) _ _ _ _ (ap source.body_view b.is ∙ laws.do_made b.control b.statements b.end) c.requires.room;
+    }
 
 pub type_body-type_group-requires : goal.type_body-type_group-requires
 type_body-type_group-requires t c =
@@ -154,9 +159,9 @@ type_body-type_group-requires t c =
       omega (arith, c.decreases, ap body_size is),
       (
         c.in_ok-header-in-Do.ensures.back.placed,
-        subst (λ x. HasRoom x (regions_among ss)) (sym c.in_ok-header-in-Do.ensures.next)
-            (room_controlled (next_at c.args.walk.now) (option_map source.control_view b.control) (regions_among ss)
-            (subst (λ b. HasRoom (next_at c.args.walk.now) (regions_of b)) is c.requires.room)),
+        subst (λ x. HasRoom x (taken_among ss)) (sym c.in_ok-header-in-Do.ensures.next)
+            (room_controlled (next_at c.args.walk.now) (option_map source.control_view b.control) (taken_among ss)
+            (subst (λ b. HasRoom (next_at c.args.walk.now) (taken_of b)) is c.requires.room)),
       ),
     )
 
@@ -203,7 +208,7 @@ type_body-type_statement-requires t c =
       omega (arith, c.decreases, ap body_size is, ap (λ s. statement_size (source.statement_view s)) c.deref.ensures),
       (
         c.in_ok-tested-in-If.ensures.back.placed,
-        room_first (next_at c.type_condition.new.walk) (regions_in (source.statement_view c.deref.result.now)) (regions_else (laws.boxed_view b.alternative))
+        room_first (next_at c.type_condition.new.walk) (taken_in (source.statement_view c.deref.result.now)) (taken_else (laws.boxed_view b.alternative))
             (room_if (next_at c.args.walk.now) _ _ (syntax.expression_view b.condition) (source.statement_view b.consequence.value) _ (laws.boxed_view b.alternative) is
             c.in_ok-tested-in-If.ensures.next (ap source.statement_view c.deref.ensures) c.requires.room),
       ),
@@ -249,7 +254,7 @@ type_statements-type_statement-requires t c =
       omega (arith, c.decreases, item_size ss l.statement-index c.statement-item.result inside c.statement-item.is),
       (
         l.invariant.back.placed,
-        room_first (next_at l.walk) (regions_in (source.statement_view c.statement-item.result)) (regions_among (source.statements_view (drop (l.statement-index + 1) ss)))
+        room_first (next_at l.walk) (taken_in (source.statement_view c.statement-item.result)) (taken_among (source.statements_view (drop (l.statement-index + 1) ss)))
             (room_next (next_at l.walk) ss l.statement-index c.statement-item.result c.statement-item.is inside l.invariant.room),
       ),
     )
@@ -270,7 +275,7 @@ type_statements-loop-statement-preserved t c =
           (map statement_view c.keep.new.statements.items) (source.statements_view ss) ss i s (option_map statement_view c.in_ok-kept.kept)
           c.statement-item.is inside c.leaves_nothing-leaves_nothing.ensures c.in_ok-is_kept.ensures.kept both c.in_ok-is_kept.ensures.statements
           c.in_ok-kept.ensures l.invariant.goes;
-      room = subst (λ x. HasRoom x (regions_among (source.statements_view (drop (i + 1) ss)))) (sym c.in_ok-kept.ensures.next)
+      room = subst (λ x. HasRoom x (taken_among (source.statements_view (drop (i + 1) ss)))) (sym c.in_ok-kept.ensures.next)
           (room_behind (based_names l.walk) (next_at l.walk) (source.statement_view s) _ (room_next (next_at l.walk) ss i s c.statement-item.is inside l.invariant.room));
     }
 

@@ -1,7 +1,7 @@
 use Rattle.std.proofs.Common.{◌+◌, map, drop}
 use Rattle.pli_base.specs.views.StatementView as source
-use Rattle.pli_declare_outline.specs.Outlines.{regions_among}
 use Rattle.pli_type_tree.specs.views.TypedView.{statement_view}
+use Rattle.pli_type_statement.specs.NumbersTaken.{taken_among}
 use Rattle.pli_type_statement.specs.Walking.{HasRoom, IsBack, next_at}
 use Rattle.pli_type_statement.proofs.SizeLemmas.{statement_size, body_size, list_size}
 use Rattle.pli_type_statement.proofs.TurnLemmas.{GoesOn}
@@ -13,7 +13,7 @@ invariant-type_statements-loop-statement l = record {
   back : IsBack l.initial.walk l.walk;
   goes : GoesOn l.initial.walk l.walk l.complete (map statement_view l.typed.items) (source.statements_view l.statements)
       (source.statements_view (drop l.statement-index l.statements));
-  room : HasRoom (next_at l.walk) (regions_among (source.statements_view (drop l.statement-index l.statements)));
+  room : HasRoom (next_at l.walk) (taken_among (source.statements_view (drop l.statement-index l.statements)));
 }
 
 abbrev pub decreases-type_statement : goal.decreases-type_statement

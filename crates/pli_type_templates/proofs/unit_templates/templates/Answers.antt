@@ -6,7 +6,7 @@ use Rattle.pli_base.specs.views.StatementView.{unit_view}
 use Rattle.pli_declare_outline.specs.Outlines.{outline_of}
 use Rattle.pli_resolve.specs.ResolvedUnits.{all_symbols, resolved_unit_of}
 use Rattle.pli_type.specs.NamedUnits.{all_globals, is_automatic, is_based, templates_of}
-use Rattle.pli_type_templates.specs.ItemNames.{AreOfItems, HasFewRegions}
+use Rattle.pli_type_templates.specs.ItemNames.{AreOfItems, HasFewMarks, HasFewRegions}
 use Rattle.pli_type_templates.specs.declared.block_names.BlockNames.{BlockNames}
 use Rattle.pli_type_templates.specs.views.BlockView.{block_symbols}
 use Rattle.pli_type_templates.specs.views.UnitView.{row_view}
@@ -49,4 +49,5 @@ returns c =
           (c.in_ok-based.ensures ∙ ap (map (templates_of (is_based 63))) second);
       globals = c.in_ok-globals.ensures ∙ ap (all_globals 63) third;
       regions = subst (λ (p : Procedure). HasFewRegions (unit_view p)) c.unit.ensures c.in_ok-items.ensures.regions;
+      marks = subst (λ (p : Procedure). HasFewMarks (unit_view p)) c.unit.ensures c.in_ok-items.ensures.marks;
     }
